@@ -1,0 +1,48 @@
+//! File systems by mount point.
+
+ghost use Rattle.std.specs.Prelude.{◌≡◌, slice_get};
+ghost use Rattle.std.specs.Option.{option_copied, option_map};
+
+use desk_text::{Path, Sequence, Text};
+use std::marker::Model;
+
+/// The place of a mount point in byte order of the printed mount points, from 0.
+#[derive(Clone, Copy, Debug, PartialEq, Eq, PartialOrd, Ord)]
+pub struct FsId(pub u32);
+
+/// A listed mount point, and the custodians who keep its exports file.
+#[derive(Debug, Drop)]
+pub struct Mount {
+    pub path: Path,
+    pub custodians: Sequence<Text>,
+}
+
+/// The listed mount points, at most 256, in byte order of their printed forms.
+#[derive(Debug, Drop)]
+pub struct FileSystems {
+    mounts: Sequence<Mount>,
+}
+
+impl Model for FileSystems {
+    ghost use Rattle.std.specs.Prelude.{◌≤◌, List, length};
+    ghost use Rattle.desk_tables.specs.declared.filesystems.Mount.{Mount};
+    ghost use Rattle.desk_tables.specs.Mounts.{AreAscending};
+
+    ghost Value = { List Mount };
+
+    ghost view = { λ f. f.mounts };
+
+    ghost invariant = { λ f. AreAscending f.mounts × (length f.mounts ≤ 256) };
+}
+
+impl FileSystems {
+    /// The mount point of a file system.
+    pub fn mount(&self, id: FsId) -> Option<&Path>
+        ensures { option_copied result ≡ option_map (λ m. m.path) (slice_get self.now id.0) }
+    {
+        self.mounts
+            .as_slice()
+            .get(id.0 as usize)
+            .map(|mount| &mount.path)
+    }
+}

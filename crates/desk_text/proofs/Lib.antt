@@ -1,0 +1,14 @@
+pub mod AddrParts
+pub mod Trim
+pub mod Skip
+pub mod Pieces
+pub mod Groups
+pub mod Atoms
+pub mod Quoted
+pub mod Runs
+pub mod WordList
+pub mod Placed
+pub mod Slashes
+pub mod OneGrouping
+pub mod Values
+pub mod Below

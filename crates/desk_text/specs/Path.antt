@@ -1,0 +1,41 @@
+-- Paths as lists of components.
+use Rattle.std.specs.Prelude.{ℕ, ◌==◌, nat_lt, nat_le, Bool, true, false, not, ◌&&◌, List, [], ◌∷◌, length, slice_index, filter, Result, Ok, Err, if◌then◌else◌}
+use Rattle.std.specs.List.{slice_split, list_any, list_all, join_with_byte}
+use Rattle.std.specs.Str.{bytes_eq}
+use Rattle.desk_text.specs.declared.path.PathFault.{PathFault}
+use Rattle.desk_text.specs.declared.path.PathFault.TheVariants.{NotAbsolute, DotComponent, TooLong, NulByte}
+
+-- a text that begins with a slash
+abbrev pub is_absolute : List ℕ → Bool
+is_absolute text = slice_index text 0 == 47
+
+-- the components of a text: what stands between slashes, where it is not empty
+abbrev pub components : List ℕ → List (List ℕ)
+components text = filter (λ part. not (length part == 0)) (slice_split (λ b. b == 47) text)
+
+-- a path as it is printed
+abbrev pub path_text : List (List ℕ) → List ℕ
+path_text path = 47 ∷ join_with_byte 47 path
+
+-- `.` or `..`
+abbrev pub is_dots : List ℕ → Bool
+is_dots part = nat_lt 0 (length part) && (nat_le (length part) 2 && list_all (λ b. b == 46) part)
+
+-- a path is under another whose components its own begin with
+abbrev pub is_under : List (List ℕ) → List (List ℕ) → Bool
+is_under path [] = true
+is_under [] (part ∷ above) = false
+is_under (own ∷ path) (part ∷ above) = bytes_eq own part && is_under path above
+
+-- two paths are the same where they are printed alike
+abbrev pub same_path : List (List ℕ) → List (List ℕ) → Bool
+same_path path other = bytes_eq (path_text path) (path_text other)
+
+-- the path that a text writes, or its first fault
+abbrev pub read_path : List ℕ → Result (List (List ℕ)) PathFault
+read_path text =
+    if not (is_absolute text) then Err NotAbsolute
+    else (if list_any is_dots (slice_split (λ b. b == 47) text) then Err DotComponent
+    else (if nat_lt 1024 (length text) then Err TooLong
+    else (if list_any (λ b. b == 0) text then Err NulByte
+    else Ok (components text))))

@@ -1,0 +1,165 @@
+//! IPv4 addresses.
+
+ghost use Rattle.std.specs.Prelude.{◌≡◌, ℕ, ◌<◌, ◌≤◌, ◌^◌, min, Some, IsTrue, length};
+ghost use Rattle.std.specs.Char.{digit_value};
+ghost use Rattle.std.specs.List.{list_all, list_any};
+ghost use Rattle.std.specs.Result.{result_map_both};
+ghost use Rattle.std.specs.Str.Parse.{digits_value};
+ghost use Rattle.desk_text.specs.Addr.{addr_text, dotted_parts, has_leading_zero, is_byte, is_digits, is_dotted, number_of, parts_value, read_addr, read_parts};
+
+use std::fmt;
+use thiserror::Error;
+
+/// An IPv4 address. Its order is that of its numbers.
+#[derive(Clone, Copy, Debug, PartialEq, Eq, PartialOrd, Ord, Hash)]
+pub struct Addr {
+    number: u32,
+}
+
+/// Why a text is no address, or no network. Of several faults the first in this order is told.
+#[derive(Clone, Copy, Debug, PartialEq, Eq, Error)]
+pub enum AddrFault {
+    #[error("an address has four parts with dots between them")]
+    Parts,
+    #[error("a part is empty or has something other than digits")]
+    Digits,
+    #[error("a part is over 255")]
+    Range,
+    #[error("a part begins with a 0 that says nothing")]
+    LeadingZero,
+    #[error("the prefix is no decimal of 0 to 32")]
+    Prefix,
+}
+
+impl Addr {
+    /// The address with this number, the first part the highest.
+    pub fn from_number(number: u32) -> Addr
+        ensures { number_of result ≡ number }
+    {
+        Addr { number }
+    }
+
+    /// The number of the address, the first part the highest.
+    pub fn number(self) -> u32
+        ensures { result ≡ number_of self }
+    {
+        self.number
+    }
+
+    /// Reads four decimal parts of 0 to 255 with dots between them.
+    pub fn read(text: &str) -> Result<Addr, AddrFault>
+        ensures { result_map_both number_of (λ fault. fault) result ≡ read_addr text.now }
+    {
+        if part_count(text) != 4 {
+            return Err(AddrFault::Parts);
+        }
+        let number = read_parts(text)?;
+        Ok(Addr { number })
+    }
+}
+
+fn part_count(text: &str) -> usize
+    ensures { result ≡ length (dotted_parts text.now) }
+{
+    text.split('.').count()
+}
+
+/// Reads the parts of an address, of which there are at most four.
+fn read_parts(text: &str) -> Result<u32, AddrFault>
+    requires { length (dotted_parts text.now) ≤ 4 }
+    ensures { result ≡ read_parts (dotted_parts text.now) }
+{
+    if !all_digits(text) {
+        return Err(AddrFault::Digits);
+    }
+    if !all_bytes(text) {
+        return Err(AddrFault::Range);
+    }
+    if any_leading_zero(text) {
+        return Err(AddrFault::LeadingZero);
+    }
+    Ok(parts_value(text))
+}
+
+fn all_digits(text: &str) -> bool
+    ensures { result ≡ list_all is_digits (dotted_parts text.now) }
+{
+    text.split('.').all(|part| is_digits(part))
+}
+
+fn all_bytes(text: &str) -> bool
+    ensures { result ≡ list_all is_byte (dotted_parts text.now) }
+{
+    text.split('.').all(|part| capped_value(part) <= 255)
+}
+
+fn any_leading_zero(text: &str) -> bool
+    ensures { result ≡ list_any has_leading_zero (dotted_parts text.now) }
+{
+    text.split('.').any(|part| has_leading_zero(part))
+}
+
+fn parts_value(text: &str) -> u32
+    requires few { length (dotted_parts text.now) ≤ 4 }
+    requires bytes { IsTrue (list_all is_byte (dotted_parts text.now)) }
+    ensures { result ≡ parts_value (dotted_parts text.now) }
+{
+    let mut number = 0;
+    for part in text.split('.') {
+        let value = capped_value(part);
+        number = number * 256 + value;
+    }
+    number
+}
+
+fn is_digits(part: &str) -> bool
+    ensures { result ≡ is_digits part.now }
+{
+    !part.is_empty() && part.as_bytes().iter().all(|b| b.is_ascii_digit())
+}
+
+/// The number that the digits write, and 256 for each number above 255.
+fn capped_value(part: &str) -> u32
+    ensures { result ≡ min 256 (digits_value 10 part.now) }
+{
+    let bytes = part.as_bytes();
+    let mut value = 0;
+    for b in bytes {
+        value = (value * 10 + digit_value(*b)).min(256);
+    }
+    value
+}
+
+/// The value of a digit, and more than any digit's for another byte.
+fn digit_value(byte: u8) -> u32
+    ensures { result ≡ digit_value byte }
+{
+    char::from(byte).to_digit(36).unwrap_or(36)
+}
+
+/// Whether a text is of digits and dots alone.
+pub fn is_dotted(text: &str) -> bool
+    ensures { result ≡ is_dotted text.now }
+{
+    text.as_bytes()
+        .iter()
+        .all(|b| b.is_ascii_digit() || *b == b'.')
+}
+
+fn has_leading_zero(part: &str) -> bool
+    ensures { result ≡ has_leading_zero part.now }
+{
+    part.len() > 1 && part.as_bytes()[0] == b'0'
+}
+
+impl fmt::Display for Addr {
+    ghost use Rattle.std.specs.Prelude.{Some};
+    ghost use Rattle.desk_text.specs.Addr.{addr_text, number_of};
+
+    ghost output = { λ a. Some (addr_text (number_of a)) };
+
+    fn fmt<W: fmt::Write>(&self, f: &mut fmt::Formatter<W>) -> fmt::Result {
+        let [a, b, c, d] = self.number.to_be_bytes();
+        write!(f, "{a}.{b}.{c}.{d}")
+    }
+}

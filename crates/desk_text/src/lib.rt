@@ -1,0 +1,21 @@
+//! The texts of an export policy: addresses, paths, logical lines and words. (exports(5))
+#![tactic(auto)]
+
+pub mod address;
+pub mod lines;
+pub mod path;
+pub mod quoting;
+pub mod reading;
+pub mod sequence;
+pub mod text;
+
+pub use address::{Addr, AddrFault, is_dotted};
+pub use lines::{Line, Part, logical_lines, one_grouping};
+pub use path::{Path, PathFault};
+pub use quoting::{OpenQuote, Word, unquote, words};
+pub use reading::ReadError;
+pub use sequence::Sequence;
+pub use text::{Text, split_at};
+
+#[cfg(test)]
+mod tests;

@@ -1,0 +1,197 @@
+//! Paths of directories.
+
+ghost use Rattle.std.specs.Prelude.{◌≡◌, ℕ, ◌++◌, ◌∷◌, IfOk, IfErr, List, length};
+ghost use Rattle.std.specs.List.{list_any, list_all, slice_split};
+ghost use Rattle.std.specs.String.{string_bytes};
+ghost use Rattle.std.specs.Bool.{◌==◌};
+ghost use Rattle.desk_text.specs.Path.{components, is_absolute, is_dots, is_under, path_text, read_path};
+ghost use Rattle.desk_text.specs.Reading.{Reads};
+ghost use Rattle.desk_text.specs.Scan.{ends_component, goes_below};
+
+use crate::reading::ReadError;
+use std::alloc::{AllocError, Global};
+use std::cmp::Ordering;
+use std::marker::Model;
+use thiserror::Error;
+
+/// An absolute path, seen as its components.
+#[derive(Debug, Drop)]
+pub struct Path {
+    text: String,
+}
+
+impl Model for Path {
+    ghost use Rattle.std.specs.Prelude.{◌≡◌, ℕ, List};
+    ghost use Rattle.std.specs.String.{string_bytes};
+    ghost use Rattle.desk_text.specs.Path.{components, path_text};
+
+    ghost Value = { List (List ℕ) };
+
+    ghost view = { λ p. components (string_bytes p.text) };
+
+    ghost invariant = { λ p. path_text (components (string_bytes p.text)) ≡ string_bytes p.text };
+}
+
+impl PartialEq for Path {
+    ghost use Rattle.std.proofs.Common.{rules};
+    ghost use Rattle.std.specs.Bool.{◌==◌};
+    ghost use Rattle.std.specs.Cmp.Rules.{comparing};
+    ghost use Rattle.std.specs.Cmp.Lexicographic.{pointwise};
+    ghost use Rattle.std.specs.Ordering.{on};
+    ghost use Rattle.desk_text.specs.Path.{path_text};
+
+    ghost eq = { on path_text (pointwise ◌==◌) };
+
+    ghost laws = { Prim.search (comparing, rules) };
+
+    fn eq(&self, other: &Path) -> bool {
+        self.text == other.text
+    }
+}
+
+impl Eq for Path {
+    ghost use Rattle.std.proofs.Common.{rules};
+    ghost use Rattle.std.specs.Cmp.Rules.{comparing};
+
+    ghost laws = { Prim.search (comparing, rules) };
+}
+
+/// Paths are in byte order of their printed forms.
+impl Ord for Path {
+    ghost use Rattle.std.proofs.Common.{rules};
+    ghost use Rattle.std.specs.Cmp.Rules.{comparing};
+    ghost use Rattle.std.specs.Cmp.Lexicographic.{slice_cmp};
+    ghost use Rattle.std.specs.Ordering.{nat_cmp, on};
+    ghost use Rattle.desk_text.specs.Path.{path_text};
+
+    ghost cmp = { on path_text (slice_cmp nat_cmp) };
+
+    ghost total = { Prim.search (comparing, rules) };
+
+    ghost matches_partial_cmp = { Prim.search (comparing, rules) };
+
+    ghost matches_eq = { Prim.search (comparing, rules) };
+
+    fn cmp(&self, other: &Path) -> Ordering {
+        self.text.cmp(&other.text)
+    }
+}
+
+impl PartialOrd for Path {
+    ghost use Rattle.std.proofs.Common.{rules};
+    ghost use Rattle.std.specs.Cmp.{partial_order_from_own_ties};
+    ghost use Rattle.std.specs.Cmp.Rules.{comparing};
+    ghost use Rattle.std.specs.Cmp.Lexicographic.{slice_cmp};
+    ghost use Rattle.std.specs.Ordering.{as_partial_cmp, nat_cmp, on};
+    ghost use Rattle.desk_text.specs.Path.{path_text};
+
+    ghost partial_cmp = { as_partial_cmp (on path_text (slice_cmp nat_cmp)) };
+
+    ghost laws = { partial_order_from_own_ties (Prim.search (comparing, rules)) (Prim.search (comparing, rules)) };
+
+    fn partial_cmp(&self, other: &Path) -> Option<Ordering> {
+        Some(self.cmp(other))
+    }
+}
+
+/// Why a text is no path. Of several faults the first in this order is told.
+#[derive(Clone, Copy, Debug, PartialEq, Eq, Error)]
+pub enum PathFault {
+    #[error("it does not begin with a slash")]
+    NotAbsolute,
+    #[error("a component is `.` or `..`")]
+    DotComponent,
+    #[error("it is over 1024 bytes long")]
+    TooLong,
+    #[error("it has a NUL byte")]
+    NulByte,
+}
+
+impl Path {
+    pub fn read(alloc: Global, text: &str) -> Result<Path, ReadError<PathFault>>
+        ensures { Reads result (read_path text.now) }
+    {
+        let bytes = text.as_bytes();
+        if bytes.is_empty() || bytes[0] != b'/' {
+            return Err(ReadError::Fault(PathFault::NotAbsolute));
+        }
+        if has_dots(text) {
+            return Err(ReadError::Fault(PathFault::DotComponent));
+        }
+        if text.len() > 1024 {
+            return Err(ReadError::Fault(PathFault::TooLong));
+        }
+        if bytes.contains(&0) {
+            return Err(ReadError::Fault(PathFault::NulByte));
+        }
+        let text = printed(alloc, text)?;
+        Ok(Path { text })
+    }
+
+    /// Whether the path is the other one or lies below it.
+    pub fn is_under(&self, above: &Path) -> bool
+        ensures { result ≡ is_under self.now above.now }
+    {
+        let (path, above) = (self.text.as_str(), above.text.as_str());
+        above == "/" || goes_below(path, above)
+    }
+
+    /// The path as it is printed.
+    pub fn text(&self) -> &str
+        ensures { result.now ≡ path_text self.now }
+    {
+        self.text.as_str()
+    }
+}
+
+/// Whether a printed path is another one, or goes on behind it with a slash.
+fn goes_below(path: &str, above: &str) -> bool
+    ensures { result ≡ goes_below path.now above.now }
+{
+    match path.strip_prefix(above) {
+        Some(rest) => ends_component(rest),
+        None => false,
+    }
+}
+
+fn ends_component(text: &str) -> bool
+    ensures { result ≡ ends_component text.now }
+{
+    text.is_empty() || text.as_bytes()[0] == b'/'
+}
+
+fn is_dots(part: &str) -> bool
+    ensures { result ≡ is_dots part.now }
+{
+    let bytes = part.as_bytes();
+    0 < bytes.len() && bytes.len() <= 2 && only_dots(bytes)
+}
+
+fn only_dots(bytes: &[u8]) -> bool
+    ensures { result ≡ list_all (λ b. b == 46) bytes.now }
+{
+    bytes.iter().all(|b| *b == b'.')
+}
+
+fn has_dots(text: &str) -> bool
+    ensures { result ≡ list_any is_dots (slice_split (λ b. b == 47) text.now) }
+{
+    text.split('/').any(|part| is_dots(part))
+}
+
+/// The components with a slash before each, or one slash where there is none.
+fn printed(alloc: Global, text: &str) -> Result<String, AllocError>
+    ensures { IfOk result (λ s. string_bytes s ≡ path_text (components text.now)) }
+{
+    let mut out = String::new(alloc);
+    for part in text.split('/') {
+        if !part.is_empty() {
+            out.push('/')?;
+            out.push_str(part)?;
+        }
+    }
+    if out.is_empty() {
+        out.push('/')?;
+    }
+    Ok(out)
+}

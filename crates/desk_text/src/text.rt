@@ -1,0 +1,47 @@
+//! A text that contracts see as its bytes.
+#![tactic(auto)]
+
+ghost use Rattle.std.specs.Prelude.{◌≡◌, ◌==◌, ◌<◌, ℕ, List, IfOk, map};
+ghost use Rattle.std.specs.List.{slice_split};
+
+use std::alloc::{AllocError, Global};
+use std::marker::Model;
+
+/// A text of its own.
+#[derive(Debug, Drop)]
+pub struct Text {
+    inner: String,
+}
+
+impl Model for Text {
+    ghost use Rattle.std.specs.Prelude.{List, ℕ, string_bytes};
+
+    ghost Value = { List ℕ };
+
+    ghost view = { λ t. string_bytes t.inner };
+}
+
+impl Text {
+    /// A copy of a text.
+    pub fn copy(alloc: Global, text: &str) -> Result<Text, AllocError>
+        ensures { IfOk result (λ t. t ≡ text.now) }
+    {
+        let inner = String::from_str(alloc, text)?;
+        Ok(Text { inner })
+    }
+
+    /// The text.
+    pub fn as_str(&self) -> &str
+        ensures { result.now ≡ self.now }
+    {
+        self.inner.as_str()
+    }
+}
+
+/// The parts of a text round an ASCII character.
+pub fn split_at(alloc: Global, text: &str, at: char) -> Result<Vec<&str>, AllocError>
+    requires { at < 128 }
+    ensures { IfOk result (λ v. map (λ x. x.now) v.items ≡ slice_split (λ b. b == at) text.now) }
+{
+    text.split(at).collect(alloc)
+}
