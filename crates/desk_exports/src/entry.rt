@@ -13,7 +13,7 @@ pub enum Flavour {
 }
 
 /// Who acts as which credential. (exports(5), `-maproot` and `-mapall`)
-#[derive(Debug, Drop)]
+#[derive(Clone, Debug, Drop)]
 pub enum Mapping {
     /// Uid 0 acts as the credential.
     Root(Cred),
@@ -23,7 +23,7 @@ pub enum Mapping {
 
 /// On what terms a mount is granted: read-only or not, the accepted flavours, most preferred first,
 /// and who acts as whom.
-#[derive(Debug, Drop)]
+#[derive(Clone, Debug, Drop)]
 pub struct Terms {
     pub ro: bool,
     pub flavours: Sequence<Flavour>,
@@ -31,7 +31,7 @@ pub struct Terms {
 }
 
 /// Whom a line is for.
-#[derive(Debug, Drop)]
+#[derive(Clone, Debug, Drop)]
 pub enum Clients {
     /// The written names, in their order.
     Hosts(Sequence<Text>),
@@ -40,7 +40,7 @@ pub enum Clients {
 }
 
 /// A line of an exports file that has no fault.
-#[derive(Debug, Drop)]
+#[derive(Clone, Debug, Drop)]
 pub struct Entry {
     /// The number of its first physical line, from 1.
     pub line: u32,

@@ -7,7 +7,7 @@ use std::fmt;
 use std::marker::Model;
 
 /// Up to sixteen group numbers, in the order written.
-#[derive(Debug, Drop)]
+#[derive(Clone, Debug, Drop)]
 pub struct GroupIds {
     items: ArrayVec<u32, 16>,
 }
@@ -30,7 +30,7 @@ impl GroupIds {
 }
 
 /// A user's number and the numbers of its groups.
-#[derive(Debug, Drop)]
+#[derive(Clone, Debug, Drop)]
 pub struct Cred {
     pub uid: u32,
     pub gids: GroupIds,

@@ -11,14 +11,14 @@ use std::marker::Model;
 pub struct FsId(pub u32);
 
 /// A listed mount point, and the custodians who keep its exports file.
-#[derive(Debug, Drop)]
+#[derive(Clone, Debug, Drop)]
 pub struct Mount {
     pub path: Path,
     pub custodians: Sequence<Text>,
 }
 
 /// The listed mount points, at most 256, in byte order of their printed forms.
-#[derive(Debug, Drop)]
+#[derive(Clone, Debug, Drop)]
 pub struct FileSystems {
     mounts: Sequence<Mount>,
 }

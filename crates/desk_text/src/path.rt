@@ -15,7 +15,7 @@ use std::marker::Model;
 use thiserror::Error;
 
 /// An absolute path, seen as its components.
-#[derive(Debug, Drop)]
+#[derive(Clone, Debug, Drop)]
 pub struct Path {
     text: String,
 }

@@ -7,7 +7,7 @@ use std::alloc::{AllocError, Global};
 use std::marker::Model;
 
 /// Values in a row.
-#[derive(Debug, Drop)]
+#[derive(Clone, Debug, Drop)]
 pub struct Sequence<T> {
     items: Vec<T>,
 }
