@@ -12,3 +12,6 @@ pub mod Slashes
 pub mod OneGrouping
 pub mod Values
 pub mod Below
+pub mod AtomLaws
+pub mod LineLaws
+pub mod WordLaws

@@ -2,6 +2,7 @@
 #![tactic(auto)]
 
 pub mod address;
+pub mod laws;
 pub mod lines;
 pub mod path;
 pub mod quoting;
@@ -10,7 +11,7 @@ pub mod sequence;
 pub mod text;
 
 pub use address::{Addr, AddrFault, is_dotted};
-pub use lines::{Line, Part, logical_lines, one_grouping};
+pub use lines::{Line, Part, logical_lines};
 pub use path::{Path, PathFault};
 pub use quoting::{OpenQuote, Word, unquote, words};
 pub use reading::ReadError;

@@ -1,0 +1,88 @@
+-- Laws of logical lines and words: what their definitions, which walk, come to.
+use Rattle.std.specs.Prelude.{◌≡◌, ℕ, ◌+◌, ◌<◌, ◌≤◌, Bool, true, false, List, [], ◌∷◌, ◌++◌, length, take, drop, map}
+use Rattle.std.specs.List.{AllByRecursion, AllPairs, flat_map}
+use Rattle.std.specs.Str.Lines.{lines}
+use Rattle.desk_text.specs.Lines.{Piece, LogicalLine, physical_lines, logical_lines}
+use Rattle.desk_text.specs.Words.{Atom, RawWord, atoms, atom_text, is_separator, line_words, raw_word, words_at}
+
+-- The physical lines are the lines of the text as std has them, with their places.
+abbrev pub PhysicalLinesAreLines : Type 0
+PhysicalLinesAreLines = (text : List ℕ) → map (λ part. part.whole) (physical_lines text) ≡ lines text
+
+-- The logical lines ascend by their numbers.
+abbrev pub LinesAscend : Type 0
+LinesAscend = (text : List ℕ) → AllPairs (λ line later. line.number < later.number) (logical_lines text)
+
+-- a part of a text: its place, and its bytes
+pub record Slice : Type 0 where
+  pub start : ℕ
+  pub bytes : List ℕ
+
+-- each is the slice of the text at its place, and ends before the next one begins; all lie between low and high
+abbrev pub AreSlices : List ℕ → ℕ → ℕ → List Slice → Type 0
+AreSlices text low high [] = low ≤ high
+AreSlices text low high (slice ∷ more) =
+    (low ≤ slice.start) × (take (length slice.bytes) (drop slice.start text) ≡ slice.bytes) × AreSlices text (slice.start + length slice.bytes) high more
+
+abbrev pub whole_slice : Piece → Slice
+whole_slice part = record { start = part.start; bytes = part.whole }
+
+abbrev pub text_slice : Piece → Slice
+text_slice part = record { start = part.start; bytes = part.text }
+
+abbrev pub raw_slice : RawWord → Slice
+raw_slice word = record { start = word.start; bytes = word.raw }
+
+-- the physical lines of logical lines
+abbrev pub parts_of : List LogicalLine → List Piece
+parts_of lines = flat_map (λ line. line.parts) lines
+
+-- The physical lines of the logical lines, whole and without their continuations, are slices of the text, in ascending order.
+abbrev pub PartsAreSlices : Type 0
+PartsAreSlices =
+    (text : List ℕ) → AreSlices text 0 (length text) (map whole_slice (parts_of (logical_lines text))) × AreSlices text 0 (length text) (map text_slice (parts_of (logical_lines text)))
+
+-- The raw words of the logical lines are slices of the text, in ascending order.
+abbrev pub WordsAreSlices : Type 0
+WordsAreSlices = (text : List ℕ) → AreSlices text 0 (length text) (map raw_slice (flat_map line_words (logical_lines text)))
+
+-- The atoms of a text write it back.
+abbrev pub AtomsWriteText : Type 0
+AtomsWriteText = (text : List ℕ) → flat_map atom_text (atoms text) ≡ text
+
+-- blanks, and a run of atoms without a blank behind them
+pub record Run : Type 0 where
+  pub blanks : List Atom
+  pub atoms : List Atom
+
+-- The runs are maximal: each has an atom, none of its atoms is a blank, and blanks stand between it and the one before.
+abbrev pub AreMaximal : Bool → List Run → Type 0
+AreMaximal behind_another [] = Unit {0}
+AreMaximal behind_another (run ∷ more) =
+    (behind_another ≡ true → 0 < length run.blanks) × AllByRecursion (λ atom. is_separator atom ≡ true) run.blanks
+    × (0 < length run.atoms) × AllByRecursion (λ atom. is_separator atom ≡ false) run.atoms × AreMaximal true more
+
+-- the atoms of the runs, and blanks behind them
+abbrev pub atoms_in : List Run → List Atom → List Atom
+atoms_in runs blanks = flat_map (λ run. run.blanks ++ run.atoms) runs ++ blanks
+
+-- how atoms are written
+abbrev pub written : List Atom → List ℕ
+written run = flat_map atom_text run
+
+-- the words that the runs write, the first of which begins at start, with its blanks
+abbrev pub words_in : ℕ → List Run → List RawWord
+words_in start [] = []
+words_in start (run ∷ more) =
+    raw_word (start + length (written run.blanks)) (written run.atoms) ∷ words_in (start + length (written run.blanks) + length (written run.atoms)) more
+
+-- a text falls into these maximal runs
+pub record FallsInto (text : List ℕ) (runs : List Run) : Type 0 where
+  pub maximal : AreMaximal false runs
+  pub blanks : List Atom
+  pub blank : AllByRecursion (λ atom. is_separator atom ≡ true) blanks
+  pub whole : atoms text ≡ atoms_in runs blanks
+
+-- The words of a text are its maximal runs of atoms without a blank.
+abbrev pub WordsAreMaximalRuns : Type 0
+WordsAreMaximalRuns = (start : ℕ) (text : List ℕ) → (runs : List Run) × FallsInto text runs × (words_at start text ≡ words_in start runs)

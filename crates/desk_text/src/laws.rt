@@ -1,0 +1,40 @@
+//! Laws of logical lines and words. Each is proved as the contract of a function that does nothing:
+//! the definitions walk over a text, and these say what they come to.
+
+ghost use Rattle.desk_text.specs.Laws.{AtomsWriteText, LinesAscend, PartsAreSlices, PhysicalLinesAreLines, WordsAreMaximalRuns, WordsAreSlices};
+ghost use Rattle.desk_text.specs.Lines.{OneGrouping};
+
+/// The physical lines of a text fall into groups in one way.
+pub fn one_grouping()
+    ensures { OneGrouping }
+{}
+
+/// The physical lines are std's lines of the text.
+pub fn physical_lines_are_lines()
+    ensures { PhysicalLinesAreLines }
+{}
+
+/// The logical lines ascend by their numbers.
+pub fn lines_ascend()
+    ensures { LinesAscend }
+{}
+
+/// The physical lines of the logical lines are slices of the text, in ascending order.
+pub fn parts_are_slices()
+    ensures { PartsAreSlices }
+{}
+
+/// The raw words are slices of the text, in ascending order.
+pub fn words_are_slices()
+    ensures { WordsAreSlices }
+{}
+
+/// The atoms of a text write it back.
+pub fn atoms_write_text()
+    ensures { AtomsWriteText }
+{}
+
+/// The words of a text are its maximal runs of atoms without a blank.
+pub fn words_are_maximal_runs()
+    ensures { WordsAreMaximalRuns }
+{}
