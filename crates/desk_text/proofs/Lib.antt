@@ -1,7 +1,7 @@
 pub mod AddrParts
 pub mod Trim
 pub mod Skip
-pub mod Pieces
+pub mod PhysicalLines
 pub mod Groups
 pub mod Atoms
 pub mod Quoted
@@ -15,3 +15,4 @@ pub mod Below
 pub mod AtomLaws
 pub mod LineLaws
 pub mod WordLaws
+pub mod PathLaws

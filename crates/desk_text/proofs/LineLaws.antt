@@ -9,15 +9,15 @@ use Rattle.std.proofs.lemmas.List.Concat.{flat_map-append}
 use Rattle.std.proofs.lemmas.List.Elements.{All-cons}
 use Rattle.std.proofs.lemmas.List.Kept.{AllPairs-cons, AllPairs-filter}
 use Rattle.std.proofs.lemmas.List.Splits.{join_with_byte-slice_split}
-use Rattle.desk_text.specs.Lines.{Piece, piece, pieces_from, physical_lines, LogicalLine, is_continued, trimmed, without_continuation, groups, numbered, kept, is_skipped, logical_lines}
+use Rattle.desk_text.specs.Lines.{PhysicalLine, physical_line, physical_lines_from, physical_lines, LogicalLine, is_continued, trimmed, without_continuation, groups, numbered, kept, is_skipped, logical_lines}
 use Rattle.desk_text.specs.Laws.{Slice, AreSlices, whole_slice, text_slice, parts_of, PhysicalLinesAreLines, LinesAscend, PartsAreSlices}
 use Rattle.desk_text.proofs.OneGrouping.{all_lines}
 
-wholes : (start : ℕ) (parts : List (List ℕ)) → map (λ (part : Piece). part.whole) (pieces_from start parts) ≡ lines_of_parts parts
+wholes : (start : ℕ) (parts : List (List ℕ)) → map (λ (part : PhysicalLine). part.whole) (physical_lines_from start parts) ≡ lines_of_parts parts
 wholes start [] = refl
 wholes start (part ∷ []) = either (eqb (length part) 0)
   where
-    either : (b : Bool) → map (λ (p : Piece). p.whole) (cond b [] (piece start part ∷ [])) ≡ cond b [] (part ∷ [])
+    either : (b : Bool) → map (λ (p : PhysicalLine). p.whole) (cond b [] (physical_line start part ∷ [])) ≡ cond b [] (part ∷ [])
     either true = refl
     either false = refl
 wholes start (part ∷ next ∷ parts) = ap (λ ls. strip_carriage_return part ∷ ls) (wholes (start + length part + 1) (next ∷ parts))
@@ -26,24 +26,24 @@ pub physical_lines_are_lines : PhysicalLinesAreLines
 physical_lines_are_lines text = wholes 0 (slice_split (λ b. eqb b 10) text)
 
 -- each group has a line
-abbrev AreFilled : List (List Piece) → Type 0
-AreFilled gs = AllByRecursion (λ (g : List Piece). 0 < length g) gs
+abbrev AreFilled : List (List PhysicalLine) → Type 0
+AreFilled gs = AllByRecursion (λ (g : List PhysicalLine). 0 < length g) gs
 
-onto_filled : (line : Piece) (gs : List (List Piece)) → AreFilled gs → AreFilled (onto_first line gs)
+onto_filled : (line : PhysicalLine) (gs : List (List PhysicalLine)) → AreFilled gs → AreFilled (onto_first line gs)
 onto_filled line [] h = (omega arith, tt)
 onto_filled line (g ∷ gs) h = (omega arith, h.1)
 
-groups_filled : (lines : List Piece) → AreFilled (groups lines)
+groups_filled : (lines : List PhysicalLine) → AreFilled (groups lines)
 groups_filled [] = tt
 groups_filled (line ∷ lines) =
     let rest = groups_filled lines in
     cond_both (is_continued line.whole) (onto_first line (groups lines)) ((line ∷ []) ∷ groups lines) (λ gs. AreFilled gs) (λ _. onto_filled line (groups lines) rest) (λ _. (omega arith, rest))
 
-from_number : (low number : ℕ) (gs : List (List Piece)) → low ≤ number → All (λ (line : LogicalLine). low ≤ line.number) (numbered number gs)
+from_number : (low number : ℕ) (gs : List (List PhysicalLine)) → low ≤ number → All (λ (line : LogicalLine). low ≤ line.number) (numbered number gs)
 from_number low number [] h = λ i d l. absurd (omega arith)
 from_number low number (g ∷ gs) h = All-cons (λ (line : LogicalLine). low ≤ line.number) _ (numbered (number + length g) gs) h (from_number low (number + length g) gs (omega arith))
 
-ascend : (number : ℕ) (gs : List (List Piece)) → AreFilled gs → AllPairs (λ (line later : LogicalLine). line.number < later.number) (numbered number gs)
+ascend : (number : ℕ) (gs : List (List PhysicalLine)) → AreFilled gs → AllPairs (λ (line later : LogicalLine). line.number < later.number) (numbered number gs)
 ascend number [] h = λ i j d l k. absurd (omega arith)
 ascend number (g ∷ gs) h =
     AllPairs-cons (λ (line later : LogicalLine). line.number < later.number) (record { number = number; parts = g }) (numbered (number + length g) gs)
@@ -76,10 +76,10 @@ slice-front front part after n =
     ap (take (length (take n part))) (drop-append_seam front (part ++ after)) ∙ take-append-le (length (take n part)) part after (length-take-within n part) ∙ take-length-take n part
 
 -- how the slice of a physical line is made: at its start, of a front of the line
-pub record IsFront (w : Piece → Slice) : Type 0 where
-  pub start : (s : ℕ) (line : List ℕ) → (w (piece s line)).start ≡ s
+pub record IsFront (w : PhysicalLine → Slice) : Type 0 where
+  pub start : (s : ℕ) (line : List ℕ) → (w (physical_line s line)).start ≡ s
   pub size : List ℕ → ℕ
-  pub bytes : (s : ℕ) (line : List ℕ) → (w (piece s line)).bytes ≡ take (size line) line
+  pub bytes : (s : ℕ) (line : List ℕ) → (w (physical_line s line)).bytes ≡ take (size line) line
 
 whole_front : IsFront whole_slice
 whole_front = record { start = λ s line. refl; size = length; bytes = λ s line. sym (take-length line) }
@@ -101,19 +101,19 @@ strip_size line =
     cond_both (eqb (get_or line (length line - 1) 0) 13) (take (length line - 1) line) line (λ t. (n : ℕ) × (t ≡ take n line))
     (λ _. (length line - 1, refl)) (λ _. (length line, sym (take-length line)))
 
-module _ (w : Piece → Slice) (f : IsFront w) (text : List ℕ) where
+module _ (w : PhysicalLine → Slice) (f : IsFront w) (text : List ℕ) where
   -- the slice of a physical line that stands behind a front of the text, and is a front of a part there
   at_front : (front part after : List ℕ) (line : List ℕ) (n : ℕ) → text ≡ front ++ (part ++ after) → line ≡ take n part
-      → (w (piece (length front) line)).start ≡ length front
-      × (take (length (w (piece (length front) line)).bytes) (drop (w (piece (length front) line)).start text) ≡ (w (piece (length front) line)).bytes)
-      × (length (w (piece (length front) line)).bytes ≤ length part)
+      → (w (physical_line (length front) line)).start ≡ length front
+      × (take (length (w (physical_line (length front) line)).bytes) (drop (w (physical_line (length front) line)).start text) ≡ (w (physical_line (length front) line)).bytes)
+      × (length (w (physical_line (length front) line)).bytes ≤ length part)
   at_front front part after line n e cut =
       let bytes = f.bytes (length front) line in
       let start = f.start (length front) line in
       let short : take (f.size line) line ≡ take (min (f.size line) n) part = ap (take (f.size line)) cut ∙ take-take' (f.size line) n part in
-      let is : (w (piece (length front) line)).bytes ≡ take (min (f.size line) n) part = bytes ∙ short in (
+      let is : (w (physical_line (length front) line)).bytes ≡ take (min (f.size line) n) part = bytes ∙ short in (
         start,
-        ap (λ s. take (length (w (piece (length front) line)).bytes) (drop s text)) start
+        ap (λ s. take (length (w (physical_line (length front) line)).bytes) (drop s text)) start
             ∙ ap (λ bs. take (length bs) (drop (length front) text)) is ∙ ap (λ t. take (length (take (min (f.size line) n) part)) (drop (length front) t)) e
             ∙ slice-front front part after (min (f.size line) n) ∙ sym is,
         omega (arith, ap length is, length-take-within (min (f.size line) n) part),
@@ -126,12 +126,12 @@ module _ (w : Piece → Slice) (f : IsFront w) (text : List ℕ) where
             | inr le ↦ let least : b ≡ min a b = omega arith in take_all a (take b xs) (omega (arith, length-take b xs)) ∙ ap (λ k. take k xs) least
           ]
 
-  slices_from : (parts : List (List ℕ)) (front : List ℕ) → text ≡ front ++ join_with_byte 10 parts → AreSlices text (length front) (length text) (map w (pieces_from (length front) parts))
+  slices_from : (parts : List (List ℕ)) (front : List ℕ) → text ≡ front ++ join_with_byte 10 parts → AreSlices text (length front) (length text) (map w (physical_lines_from (length front) parts))
   slices_from [] front e = omega (arith, ap length e, length-append front [])
   slices_from (part ∷ []) front e =
       let long : length text ≡ length front + length part = ap length e ∙ length-append front part in
       let at = at_front front part [] part (length part) (e ∙ ap (λ t. front ++ t) (sym (append-nil part))) (sym (take-length part)) in
-      cond_both (eqb (length part) 0) [] (piece (length front) part ∷ []) (λ ps. AreSlices text (length front) (length text) (map w ps))
+      cond_both (eqb (length part) 0) [] (physical_line (length front) part ∷ []) (λ ps. AreSlices text (length front) (length text) (map w ps))
       (λ _. omega arith) (λ _. (omega (arith, at.0), at.1, omega (arith, at.0, at.2)))
   slices_from (part ∷ next ∷ parts) front e =
       let cut = strip_size part in
@@ -145,23 +145,23 @@ module _ (w : Piece → Slice) (f : IsFront w) (text : List ℕ) where
         omega (arith, at.0),
         at.1,
         AreSlices-weaken text _ (length front + length part + 1) (length text) _ (omega (arith, at.0, at.2))
-            (subst (λ k. AreSlices text k (length text) (map w (pieces_from k (next ∷ parts)))) size more),
+            (subst (λ k. AreSlices text k (length text) (map w (physical_lines_from k (next ∷ parts)))) size more),
       )
 
   -- what follows a front that is left out
-  without_front : (group rest : List Piece) (low high : ℕ) → AreSlices text low high (map w (group ++ rest)) → AreSlices text low high (map w rest)
+  without_front : (group rest : List PhysicalLine) (low high : ℕ) → AreSlices text low high (map w (group ++ rest)) → AreSlices text low high (map w rest)
   without_front [] rest low high h = h
   without_front (p ∷ group) rest low high h =
       AreSlices-weaken text low ((w p).start + length (w p).bytes) high (map w rest) (omega (arith, h.0)) (without_front group rest ((w p).start + length (w p).bytes) high h.2)
 
   -- other slices behind the same front
-  behind_front : (group rest rest' : List Piece) (high : ℕ) → ((low : ℕ) → AreSlices text low high (map w rest) → AreSlices text low high (map w rest'))
+  behind_front : (group rest rest' : List PhysicalLine) (high : ℕ) → ((low : ℕ) → AreSlices text low high (map w rest) → AreSlices text low high (map w rest'))
       → (low : ℕ) → AreSlices text low high (map w (group ++ rest)) → AreSlices text low high (map w (group ++ rest'))
   behind_front [] rest rest' high f low h = f low h
   behind_front (p ∷ group) rest rest' high f low h = (h.0, h.1, behind_front group rest rest' high f ((w p).start + length (w p).bytes) h.2)
 
   -- the slices of the groups that are kept
-  kept_slices : (gs : List (List Piece)) (number low high : ℕ) → AreSlices text low high (map w (flat_map (λ g. g) gs)) → AreSlices text low high (map w (parts_of (kept (numbered number gs))))
+  kept_slices : (gs : List (List PhysicalLine)) (number low high : ℕ) → AreSlices text low high (map w (flat_map (λ g. g) gs)) → AreSlices text low high (map w (parts_of (kept (numbered number gs))))
   kept_slices [] number low high h = h
   kept_slices (g ∷ gs) number low high h =
       let line : LogicalLine = record { number = number; parts = g } in

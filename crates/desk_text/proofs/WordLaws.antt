@@ -7,7 +7,7 @@ use Rattle.std.proofs.Math.Seq.{drop-append_seam, take-append_seam}
 use Rattle.std.proofs.lemmas.List.Concat.{flat_map-append}
 use Rattle.std.proofs.lemmas.List.Elements.{All-from_recursion}
 use Rattle.std.proofs.lemmas.List.Splits.{slice_split_at, slice_split_none, slice_split-cons_yes}
-use Rattle.desk_text.specs.Lines.{Piece, LogicalLine, logical_lines}
+use Rattle.desk_text.specs.Lines.{PhysicalLine, LogicalLine, logical_lines}
 use Rattle.desk_text.specs.Words.{Bare, Escaped, Lone, Atom, Single, Quoted, Unclosed, atoms, atom_text, is_separator, RawWord, raw_word, words_from, words_at, line_words}
 use Rattle.desk_text.specs.Laws.{Slice, AreSlices, text_slice, raw_slice, parts_of, WordsAreSlices, Run, AreMaximal, atoms_in, written, words_in, FallsInto, WordsAreMaximalRuns}
 use Rattle.desk_text.proofs.AtomLaws.{atoms_write_text}
@@ -133,19 +133,19 @@ module _ (text : List ℕ) where
       (subst (λ t. AreSlices text (length front) (length front + length t) (map raw_slice (words_from (length front) (slice_split is_separator (atoms part))))) back slices)
 
   -- the words of slices of the text
-  parts_words : (parts : List Piece) (low : ℕ) → AreSlices text low (length text) (map text_slice parts)
-      → AreSlices text low (length text) (map raw_slice (flat_map (λ (p : Piece). words_at p.start p.text) parts))
+  parts_words : (parts : List PhysicalLine) (low : ℕ) → AreSlices text low (length text) (map text_slice parts)
+      → AreSlices text low (length text) (map raw_slice (flat_map (λ (p : PhysicalLine). words_at p.start p.text) parts))
   parts_words [] low h = h
   parts_words (p ∷ parts) low h =
       let within = slices_end (p.start + length p.text) (length text) (map text_slice parts) h.2 in
-      subst (λ ss. AreSlices text low (length text) ss) (sym (map-append raw_slice (words_at p.start p.text) (flat_map (λ (q : Piece). words_at q.start q.text) parts)))
+      subst (λ ss. AreSlices text low (length text) ss) (sym (map-append raw_slice (words_at p.start p.text) (flat_map (λ (q : PhysicalLine). words_at q.start q.text) parts)))
       (slices-append low (p.start + length p.text) (length text) (map raw_slice (words_at p.start p.text)) _
       (AreSlices-weaken text low p.start (p.start + length p.text) _ h.0 (slice_words p.start p.text h.1 within)) (parts_words parts (p.start + length p.text) h.2))
 
-words_of_parts : (lines : List LogicalLine) → flat_map line_words lines ≡ flat_map (λ (p : Piece). words_at p.start p.text) (parts_of lines)
+words_of_parts : (lines : List LogicalLine) → flat_map line_words lines ≡ flat_map (λ (p : PhysicalLine). words_at p.start p.text) (parts_of lines)
 words_of_parts [] = refl
 words_of_parts (line ∷ lines) =
-    ap (λ ws. line_words line ++ ws) (words_of_parts lines) ∙ sym (flat_map-append (λ (p : Piece). words_at p.start p.text) line.parts (parts_of lines))
+    ap (λ ws. line_words line ++ ws) (words_of_parts lines) ∙ sym (flat_map-append (λ (p : PhysicalLine). words_at p.start p.text) line.parts (parts_of lines))
 
 pub words_are_slices : WordsAreSlices
 words_are_slices text =

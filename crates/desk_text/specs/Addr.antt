@@ -8,7 +8,7 @@ use Rattle.desk_text.specs.declared.address.Addr.{Addr}
 use Rattle.desk_text.specs.declared.address.AddrFault.{AddrFault}
 use Rattle.desk_text.specs.declared.address.AddrFault.TheVariants.{Parts, Digits, Range, LeadingZero}
 
--- an address is a number below 2^32
+-- the number of an address, its first part the highest; it is below 2^32
 abbrev pub number_of : Addr → ℕ
 number_of address = address.number
 
@@ -20,10 +20,11 @@ dotted_parts text = slice_split (λ b. b == 46) text
 abbrev pub is_digits : List ℕ → Bool
 is_digits part = not (length part == 0) && list_all is_ascii_digit part
 
+-- the number that the digits write is at most 255
 abbrev pub is_byte : List ℕ → Bool
 is_byte part = nat_le (digits_value 10 part) 255
 
--- a decimal is `0`, or does not begin with `0`
+-- the part begins with `0` and goes on, so it is no decimal
 abbrev pub has_leading_zero : List ℕ → Bool
 has_leading_zero part = nat_lt 1 (length part) && (slice_index part 0 == 48)
 
@@ -47,11 +48,11 @@ read_addr text = if length (dotted_parts text) == 4 then read_parts (dotted_part
 abbrev pub is_address : List ℕ → Bool
 is_address text = is_ok (read_addr text)
 
--- a text of digits and dots alone, which is never taken for the name of a host or a group
+-- a text of digits and dots alone, which is never taken for the name of a host or a group (the empty text is one, too)
 abbrev pub is_dotted : List ℕ → Bool
 is_dotted text = list_all (λ b. is_ascii_digit b || b == 46) text
 
--- the four parts of an address
+-- the four octets of an address, the first the highest
 abbrev pub octets : ℕ → List ℕ
 octets a = a / 2 ^ 24 ∷ a / 2 ^ 16 % 256 ∷ a / 2 ^ 8 % 256 ∷ a % 256 ∷ []
 

@@ -1,8 +1,9 @@
--- Laws of logical lines and words: what their definitions, which walk, come to.
-use Rattle.std.specs.Prelude.{◌≡◌, ℕ, ◌+◌, ◌<◌, ◌≤◌, Bool, true, false, List, [], ◌∷◌, ◌++◌, length, take, drop, map}
+-- Laws of paths, logical lines and words: what their definitions come to.
+use Rattle.std.specs.Prelude.{◌≡◌, ℕ, ◌+◌, ◌<◌, ◌≤◌, Bool, true, false, List, [], ◌∷◌, ◌++◌, length, take, drop, map, Ok}
 use Rattle.std.specs.List.{AllByRecursion, AllPairs, flat_map}
 use Rattle.std.specs.Str.Lines.{lines}
-use Rattle.desk_text.specs.Lines.{Piece, LogicalLine, physical_lines, logical_lines}
+use Rattle.desk_text.specs.Path.{path_text, read_path}
+use Rattle.desk_text.specs.Lines.{PhysicalLine, LogicalLine, physical_lines, logical_lines}
 use Rattle.desk_text.specs.Words.{Atom, RawWord, atoms, atom_text, is_separator, line_words, raw_word, words_at}
 
 -- The physical lines are the lines of the text as std has them, with their places.
@@ -24,17 +25,17 @@ AreSlices text low high [] = low ≤ high
 AreSlices text low high (slice ∷ more) =
     (low ≤ slice.start) × (take (length slice.bytes) (drop slice.start text) ≡ slice.bytes) × AreSlices text (slice.start + length slice.bytes) high more
 
-abbrev pub whole_slice : Piece → Slice
+abbrev pub whole_slice : PhysicalLine → Slice
 whole_slice part = record { start = part.start; bytes = part.whole }
 
-abbrev pub text_slice : Piece → Slice
+abbrev pub text_slice : PhysicalLine → Slice
 text_slice part = record { start = part.start; bytes = part.text }
 
 abbrev pub raw_slice : RawWord → Slice
 raw_slice word = record { start = word.start; bytes = word.raw }
 
 -- the physical lines of logical lines
-abbrev pub parts_of : List LogicalLine → List Piece
+abbrev pub parts_of : List LogicalLine → List PhysicalLine
 parts_of lines = flat_map (λ line. line.parts) lines
 
 -- The physical lines of the logical lines, whole and without their continuations, are slices of the text, in ascending order.
@@ -86,3 +87,8 @@ pub record FallsInto (text : List ℕ) (runs : List Run) : Type 0 where
 -- The words of a text are its maximal runs of atoms without a blank.
 abbrev pub WordsAreMaximalRuns : Type 0
 WordsAreMaximalRuns = (start : ℕ) (text : List ℕ) → (runs : List Run) × FallsInto text runs × (words_at start text ≡ words_in start runs)
+
+-- Paths that texts write and that are printed alike have the same components.
+abbrev pub PrintedPathsDiffer : Type 0
+PrintedPathsDiffer =
+    (text other : List ℕ) (path path' : List (List ℕ)) → read_path text ≡ Ok path → read_path other ≡ Ok path' → path_text path ≡ path_text path' → path ≡ path'

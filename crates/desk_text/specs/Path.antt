@@ -13,29 +13,33 @@ is_absolute text = slice_index text 0 == 47
 abbrev pub components : List ℕ → List (List ℕ)
 components text = filter (λ part. not (length part == 0)) (slice_split (λ b. b == 47) text)
 
--- a path as it is printed
+-- a path as it is printed: `/`, and the components with `/` between them
 abbrev pub path_text : List (List ℕ) → List ℕ
 path_text path = 47 ∷ join_with_byte 47 path
 
--- `.` or `..`
-abbrev pub is_dots : List ℕ → Bool
-is_dots part = nat_lt 0 (length part) && (nat_le (length part) 2 && list_all (λ b. b == 46) part)
+-- a component that is `.` or `..`
+abbrev pub is_dot_component : List ℕ → Bool
+is_dot_component part = nat_lt 0 (length part) && (nat_le (length part) 2 && list_all (λ b. b == 46) part)
 
--- a path is under another whose components its own begin with
+-- a path is under another whose components are a prefix of its own
 abbrev pub is_under : List (List ℕ) → List (List ℕ) → Bool
 is_under path [] = true
 is_under [] (part ∷ above) = false
 is_under (own ∷ path) (part ∷ above) = bytes_eq own part && is_under path above
 
--- two paths are the same where they are printed alike
+-- two paths are the same where they are printed alike (of paths that texts write, just those with the same components)
 abbrev pub same_path : List (List ℕ) → List (List ℕ) → Bool
 same_path path other = bytes_eq (path_text path) (path_text other)
+
+-- the most bytes that the text of a path may have
+abbrev pub longest_path : ℕ
+longest_path = 1024
 
 -- the path that a text writes, or its first fault
 abbrev pub read_path : List ℕ → Result (List (List ℕ)) PathFault
 read_path text =
     if not (is_absolute text) then Err NotAbsolute
-    else (if list_any is_dots (slice_split (λ b. b == 47) text) then Err DotComponent
-    else (if nat_lt 1024 (length text) then Err TooLong
+    else (if list_any is_dot_component (slice_split (λ b. b == 47) text) then Err DotComponent
+    else (if nat_lt longest_path (length text) then Err TooLong
     else (if list_any (λ b. b == 0) text then Err NulByte
     else Ok (components text))))

@@ -4,27 +4,31 @@ use Rattle.std.specs.List.{slice_split, flat_map, list_any}
 use Rattle.desk_text.specs.Lines.{is_blank, LogicalLine}
 use Rattle.desk_text.specs.declared.quoting.OpenQuote.{OpenQuote}
 
--- a character of a line: itself, behind a backslash, or a backslash with nothing after it
+-- A byte of a line, bare or behind a backslash, or a backslash with nothing after it. (Of a longer character behind a
+-- backslash only the first byte is taken; what the word stands for is the same.)
 pub data Character : Type 0 where
   Bare : ℕ → Character
   Escaped : ℕ → Character
   Lone : Character
 
--- a backslash takes the character after it
+-- a backslash takes the byte after it
 abbrev pub characters : List ℕ → List Character
 characters [] = []
 characters (c ∷ []) = if c == 92 then Lone ∷ [] else Bare c ∷ []
 characters (c ∷ d ∷ cs) = if c == 92 then Escaped d ∷ characters cs else Bare c ∷ characters (d ∷ cs)
 
--- an atom of a line: a character, a quoted run, or a quote with no end and what stands behind it
+-- An atom of a line: a character, a quoted run, or a quote with no end and what stands behind it. A bare blank is an atom
+-- too, and separates words.
 pub data Atom : Type 0 where
   Single : Character → Atom
   Quoted : ℕ → List Character → Atom
   Unclosed : ℕ → List Character → Atom
 
+-- a quote is `"` or `'`
 abbrev pub is_quote : ℕ → Bool
 is_quote c = (c == 34) || (c == 39)
 
+-- the character is a bare q
 abbrev pub is_bare : ℕ → Character → Bool
 is_bare q (Bare c) = c == q
 is_bare q (Escaped c) = false
@@ -67,6 +71,7 @@ atom_value (Single c) = character_value c
 atom_value (Quoted q inner) = flat_map character_value inner
 atom_value (Unclosed q inner) = flat_map character_value inner
 
+-- a bare blank separates words
 abbrev pub is_separator : Atom → Bool
 is_separator (Single (Bare c)) = is_blank c
 is_separator (Single (Escaped c)) = false
@@ -74,6 +79,7 @@ is_separator (Single Lone) = false
 is_separator (Quoted q inner) = false
 is_separator (Unclosed q inner) = false
 
+-- a quote with no end
 abbrev pub is_unclosed : Atom → Bool
 is_unclosed (Single c) = false
 is_unclosed (Quoted q inner) = false
@@ -85,6 +91,7 @@ pub record RawWord : Type 0 where
   pub start : ℕ
   pub dashed : Bool
 
+-- a raw word at its place
 abbrev pub raw_word : ℕ → List ℕ → RawWord
 raw_word start raw = record { raw = raw; start = start; dashed = slice_index raw 0 == 45 }
 
@@ -110,7 +117,7 @@ line_words line = flat_map (λ part. words_at part.start part.text) line.parts
 abbrev pub line_has_open_quote : LogicalLine → Bool
 line_has_open_quote line = list_any (λ part. has_open_quote part.text) line.parts
 
--- the words of a logical line, where each quote closes in its physical line
+-- the words of a logical line, where each quote closes in its physical line; else an open quote
 abbrev pub read_words : LogicalLine → Result (List RawWord) OpenQuote
 read_words line = if line_has_open_quote line then Err (record {}) else Ok (line_words line)
 

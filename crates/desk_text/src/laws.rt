@@ -1,7 +1,7 @@
-//! Laws of logical lines and words. Each is proved as the contract of a function that does nothing:
-//! the definitions walk over a text, and these say what they come to.
+//! Laws of paths, logical lines and words. Each is proved as the contract of a function that does
+//! nothing: the definitions walk over a text, and these say what they come to.
 
-ghost use Rattle.desk_text.specs.Laws.{AtomsWriteText, LinesAscend, PartsAreSlices, PhysicalLinesAreLines, WordsAreMaximalRuns, WordsAreSlices};
+ghost use Rattle.desk_text.specs.Laws.{AtomsWriteText, LinesAscend, PartsAreSlices, PhysicalLinesAreLines, PrintedPathsDiffer, WordsAreMaximalRuns, WordsAreSlices};
 ghost use Rattle.desk_text.specs.Lines.{OneGrouping};
 
 /// The physical lines of a text fall into groups in one way.
@@ -37,4 +37,9 @@ pub fn atoms_write_text()
 /// The words of a text are its maximal runs of atoms without a blank.
 pub fn words_are_maximal_runs()
     ensures { WordsAreMaximalRuns }
+{}
+
+/// Paths that texts write and that are printed alike have the same components.
+pub fn printed_paths_differ()
+    ensures { PrintedPathsDiffer }
 {}

@@ -4,7 +4,7 @@ ghost use Rattle.std.specs.Prelude.{◌≡◌, ℕ, ◌++◌, ◌∷◌, IfOk, I
 ghost use Rattle.std.specs.List.{list_any, list_all, slice_split};
 ghost use Rattle.std.specs.String.{string_bytes};
 ghost use Rattle.std.specs.Bool.{◌==◌};
-ghost use Rattle.desk_text.specs.Path.{components, is_absolute, is_dots, is_under, path_text, read_path};
+ghost use Rattle.desk_text.specs.Path.{components, is_absolute, is_dot_component, is_under, path_text, read_path};
 ghost use Rattle.desk_text.specs.Reading.{Reads};
 ghost use Rattle.desk_text.specs.Scan.{ends_component, goes_below};
 
@@ -13,6 +13,9 @@ use std::alloc::{AllocError, Global};
 use std::cmp::Ordering;
 use std::marker::Model;
 use thiserror::Error;
+
+/// The most bytes that the text of a path may have.
+pub const LONGEST_PATH: usize = 1024;
 
 /// An absolute path, seen as its components.
 #[derive(Clone, Debug, Drop)]
@@ -118,7 +121,7 @@ impl Path {
         if has_dots(text) {
             return Err(ReadError::Fault(PathFault::DotComponent));
         }
-        if text.len() > 1024 {
+        if text.len() > LONGEST_PATH {
             return Err(ReadError::Fault(PathFault::TooLong));
         }
         if bytes.contains(&0) {
@@ -160,8 +163,8 @@ fn ends_component(text: &str) -> bool
     text.is_empty() || text.as_bytes()[0] == b'/'
 }
 
-fn is_dots(part: &str) -> bool
-    ensures { result ≡ is_dots part.now }
+fn is_dot_component(part: &str) -> bool
+    ensures { result ≡ is_dot_component part.now }
 {
     let bytes = part.as_bytes();
     0 < bytes.len() && bytes.len() <= 2 && only_dots(bytes)
@@ -174,9 +177,9 @@ fn only_dots(bytes: &[u8]) -> bool
 }
 
 fn has_dots(text: &str) -> bool
-    ensures { result ≡ list_any is_dots (slice_split (λ b. b == 47) text.now) }
+    ensures { result ≡ list_any is_dot_component (slice_split (λ b. b == 47) text.now) }
 {
-    text.split('/').any(|part| is_dots(part))
+    text.split('/').any(|part| is_dot_component(part))
 }
 
 /// The components with a slash before each, or one slash where there is none.

@@ -4,7 +4,7 @@ ghost use Rattle.std.specs.Prelude.{◌≡◌, ℕ, ◌+◌, ◌<◌, ◌≤◌,
 ghost use Rattle.std.specs.String.{string_bytes};
 ghost use Rattle.desk_text.specs.Lines.{is_blank};
 ghost use Rattle.desk_text.specs.Words.{read_words, word_value, words_at, has_open_quote, is_quote};
-ghost use Rattle.desk_text.specs.Parts.{piece_of, word_of};
+ghost use Rattle.desk_text.specs.Shown.{line_of_part, word_of};
 ghost use Rattle.desk_text.specs.Reading.{ReadsAs};
 ghost use Rattle.desk_text.specs.Scan.{IsAtomLen, IsWordLen, is_mark};
 
