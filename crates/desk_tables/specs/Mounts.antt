@@ -1,5 +1,5 @@
 -- The table of file systems, and the file system of a path.
-use Rattle.std.specs.Prelude.{ℕ, Bool, not, ◌&&◌, ◌||◌, ◌≡◌, List, Option, Contains, map, nat_le, length, position, true}
+use Rattle.std.specs.Prelude.{ℕ, Bool, not, ◌&&◌, ◌||◌, ◌≡◌, List, Option, map, nat_le, length, position, true}
 use Rattle.std.specs.List.{AllPairs, list_all}
 use Rattle.std.specs.Ordering.{is_lt, nat_cmp}
 use Rattle.std.specs.Cmp.Lexicographic.{slice_cmp}

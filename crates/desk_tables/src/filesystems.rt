@@ -2,6 +2,7 @@
 
 ghost use Rattle.std.specs.Prelude.{◌≡◌, slice_get};
 ghost use Rattle.std.specs.Option.{option_copied, option_map};
+ghost use Rattle.desk_tables.specs.Mounts.{fs_of};
 
 use desk_text::{Path, Sequence, Text};
 use std::marker::Model;
@@ -36,6 +37,20 @@ impl Model for FileSystems {
 }
 
 impl FileSystems {
+    /// The file system of a path: the longest mount point that the path is or lies below. In byte order a longer mount
+    /// point above the path stands later, so the last one is it.
+    pub fn of(&self, path: &Path) -> Option<FsId>
+        ensures { result ≡ option_map (λ i. record { 0 = i }) (fs_of self.now path.now) }
+    {
+        let mounts = self.mounts.as_slice();
+        for index in (0..mounts.len()).rev() {
+            if path.is_under(&mounts[index].path) {
+                return Some(FsId(index as u32));
+            }
+        }
+        None
+    }
+
     /// The mount point of a file system.
     pub fn mount(&self, id: FsId) -> Option<&Path>
         ensures { option_copied result ≡ option_map (λ m. m.path) (slice_get self.now id.0) }
