@@ -12,11 +12,11 @@ use Rattle.desk_exports.specs.declared.parts.LineParts.{LineParts}
 use Rattle.desk_exports.specs.declared.rules.Rule.{Rule}
 use Rattle.desk_exports.specs.declared.rules.Rule.TheVariants as rule
 
--- an entry beside its file system
+-- an entry beside its file system; a line without a fault has one, as DirectoryElsewhere holds where there is none
 abbrev pub placed : Option ℕ → Result Entry Rule → Result (Option (FsId × Entry)) Rule
+placed home (Err r) = Err r
 placed (Some home) (Ok entry) = Ok (Some (record { 0 = home }, entry))
 placed None (Ok entry) = Ok None
-placed home (Err r) = Err r
 
 -- what the parts of a line answer that is read for the file system of its first directory
 abbrev pub parts_answer : List Mount → ℕ → Result LineParts OpenQuote → Result (Option (FsId × Entry)) Rule

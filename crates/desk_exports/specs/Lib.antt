@@ -4,3 +4,4 @@ pub mod Rules
 pub mod Entries
 pub mod Lines
 pub mod Files
+pub mod Pushes

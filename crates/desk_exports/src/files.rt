@@ -1,11 +1,13 @@
 //! The lines of a text: their entries, or the first fault. (exports(5))
 
-ghost use Rattle.std.specs.Prelude.{◌≡◌, ◌≤◌, length};
+ghost use Rattle.std.specs.Prelude.{◌≡◌, ◌≤◌, Ok, length};
 ghost use Rattle.desk_text.specs.Reading.{Reads};
 ghost use Rattle.desk_exports.specs.Files as spec;
+ghost use Rattle.desk_exports.specs.Pushes.{Pushes};
 
 use crate::entry::Entry;
 use crate::lines::{home_of, read_line, read_parts};
+use crate::parts::LineParts;
 use crate::rules::Rule;
 use desk_tables::{FileSystems, FsId};
 use desk_text::{Line, ReadError, Sequence, logical_lines};
@@ -32,20 +34,35 @@ pub fn read_whole(
     let lines = logical_lines(alloc, text)?;
     let mut entries = Sequence::new(alloc);
     for line in &lines {
-        match read_logical(alloc, line, filesystems) {
-            Ok(Some(entry)) => entries.push(entry)?,
-            Ok(None) => {}
-            Err(error) => return Err(at_line(line.number(), error)),
-        }
+        push_line(alloc, line, filesystems, &mut entries)?;
     }
     Ok(entries)
 }
 
-fn at_line(line: u32, error: ReadError<Rule>) -> ReadError<LineFault> {
-    match error {
-        ReadError::Fault(rule) => ReadError::Fault(LineFault { line, rule }),
-        ReadError::Memory => ReadError::Memory,
+/// Adds the entry of a logical line, if it has one.
+fn push_line(
+    alloc: Global,
+    line: &Line,
+    filesystems: &FileSystems,
+    entries: &mut Sequence<(FsId, Entry)>,
+) -> Result<(), ReadError<LineFault>>
+    ensures { Pushes result entries.old entries.new line.now.number (spec.logical_answer filesystems.now line.now) }
+{
+    match read_logical(alloc, line, filesystems) {
+        Ok(Some(entry)) => {
+            entries.push(entry)?;
+            Ok(())
+        }
+        Ok(None) => Ok(()),
+        Err(ReadError::Memory) => Err(ReadError::Memory),
+        Err(ReadError::Fault(rule)) => Err(fault_at(line.number(), rule)),
     }
+}
+
+fn fault_at(line: u32, rule: Rule) -> ReadError<LineFault>
+    ensures { result ≡ ReadError.Fault (record { line = line; rule = rule }) }
+{
+    ReadError::Fault(LineFault { line, rule })
 }
 
 /// The entry of a logical line beside its file system, or the rule that is named.
@@ -56,12 +73,26 @@ fn read_logical(
 ) -> Result<Option<(FsId, Entry)>, ReadError<Rule>>
     ensures { Reads result (spec.logical_answer filesystems.now line.now) }
 {
-    let parts = match read_parts(alloc, line) {
-        Ok(parts) => parts,
-        Err(ReadError::Fault(_)) => return Err(ReadError::Fault(Rule::OpenQuote)),
-        Err(ReadError::Memory) => return Err(ReadError::Memory),
-    };
+    match read_parts(alloc, line) {
+        Ok(parts) => read_placed(alloc, filesystems, line.number(), parts),
+        Err(ReadError::Fault(_)) => Err(ReadError::Fault(Rule::OpenQuote)),
+        Err(ReadError::Memory) => Err(ReadError::Memory),
+    }
+}
+
+/// The entry of the line with this number beside the file system of its first directory.
+fn read_placed(
+    alloc: Global,
+    filesystems: &FileSystems,
+    number: u32,
+    parts: LineParts,
+) -> Result<Option<(FsId, Entry)>, ReadError<Rule>>
+    ensures { Reads result (spec.parts_answer filesystems.now number (Ok parts)) }
+{
     let home = home_of(filesystems, &parts);
-    let entry = read_line(alloc, filesystems, home, line.number(), parts)?;
-    Ok(home.map(|home| (home, entry)))
+    let entry = read_line(alloc, filesystems, home, number, parts)?;
+    match home {
+        Some(home) => Ok(Some((home, entry))),
+        None => Ok(None),
+    }
 }

@@ -76,6 +76,7 @@ fn make_entry(alloc: Global, number: u32, line: LineParts) -> Result<Entry, Allo
 }
 
 /// The directories that read.
+#[tactic(auto, using(crate::proofs::LineLemmas::paths_more))]
 fn paths_of(
     alloc: Global,
     directories: Sequence<Result<Path, PathFault>>,
