@@ -1,1 +1,2 @@
 pub mod MountLemmas
+pub mod TableLemmas
