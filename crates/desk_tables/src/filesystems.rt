@@ -1,6 +1,6 @@
 //! File systems by mount point.
 
-ghost use Rattle.std.specs.Prelude.{◌≡◌, [], IfOk, MatchOption, map, slice_get};
+ghost use Rattle.std.specs.Prelude.{◌≡◌, ◌≤◌, [], IfOk, IfSome, MatchOption, length, map, slice_get};
 ghost use Rattle.std.specs.Option.{option_copied, option_map};
 ghost use Rattle.desk_tables.specs.Mounts.{IsTableOf, TooMany, fs_of, unkept};
 
@@ -47,7 +47,8 @@ impl FileSystems {
         alloc: Global,
         mut mount_points: Vec<Path>,
     ) -> Result<Option<FileSystems>, AllocError>
-        ensures { IfOk result (λ answer. MatchOption answer (TooMany mount_points.items) (IsTableOf mount_points.items)) }
+        ensures table { IfOk result (λ answer. MatchOption answer (TooMany mount_points.items) (IsTableOf mount_points.items)) }
+        ensures few { IfOk result (λ answer. IfSome answer (λ table. length table ≤ 256)) }
     {
         mount_points.sort_unstable();
         mount_points.dedup();
