@@ -4,4 +4,5 @@ pub mod Rules
 pub mod Entries
 pub mod Lines
 pub mod Files
+pub mod Terms
 pub mod Pushes

@@ -6,6 +6,7 @@ pub mod files;
 pub mod lines;
 pub mod options;
 pub mod parts;
+pub mod prints;
 pub mod rules;
 pub mod words;
 
