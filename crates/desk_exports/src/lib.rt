@@ -2,5 +2,18 @@
 #![tactic(auto)]
 
 pub mod entry;
+pub mod files;
+pub mod lines;
+pub mod options;
+pub mod parts;
+pub mod prints;
+pub mod rules;
+pub mod words;
 
 pub use entry::{Clients, Entry, Flavour, Mapping, Terms};
+pub use files::{LineFault, read_whole};
+pub use lines::{home_of, read_line};
+pub use options::{Keyword, Setting};
+pub use parts::LineParts;
+pub use rules::{Rule, first_rule};
+pub use words::GrammarWord;

@@ -49,3 +49,35 @@ impl Cred {
         }
     }
 }
+
+/// The group numbers in decimal, with colons between them.
+impl fmt::Display for GroupIds {
+    ghost use Rattle.std.specs.Prelude.{Some};
+    ghost use Rattle.desk_tables.specs.Credentials.{gids_text};
+
+    ghost output = { λ g. Some (gids_text g) };
+
+    fn fmt<W: fmt::Write>(&self, f: &mut fmt::Formatter<W>) -> fmt::Result {
+        let Some((first, others)) = self.as_slice().split_first() else {
+            return Ok(());
+        };
+        write!(f, "{first}")?;
+        for gid in others {
+            write!(f, ":{gid}")?;
+        }
+        Ok(())
+    }
+}
+
+/// The number of the user, a colon, and the group numbers with colons between them, as `0:10`; `3:` where there are none.
+impl fmt::Display for Cred {
+    ghost use Rattle.std.specs.Prelude.{Some};
+    ghost use Rattle.desk_tables.specs.Credentials.{cred_text};
+
+    ghost output = { λ c. Some (cred_text c) };
+
+    fn fmt<W: fmt::Write>(&self, f: &mut fmt::Formatter<W>) -> fmt::Result {
+        let Cred { uid, gids } = self;
+        write!(f, "{uid}:{gids}")
+    }
+}

@@ -1,10 +1,15 @@
 //! File systems by mount point.
 
-ghost use Rattle.std.specs.Prelude.{◌≡◌, slice_get};
+ghost use Rattle.std.specs.Prelude.{◌≡◌, ◌≤◌, [], IfOk, IfSome, MatchOption, length, map, slice_get};
 ghost use Rattle.std.specs.Option.{option_copied, option_map};
+ghost use Rattle.desk_tables.specs.Mounts.{IsTableOf, TooMany, fs_of, unkept};
 
 use desk_text::{Path, Sequence, Text};
+use std::alloc::{AllocError, Global};
 use std::marker::Model;
+
+/// The most mount points that a table lists.
+const MOST_MOUNT_POINTS: usize = 256;
 
 /// The place of a mount point in byte order of the printed mount points, from 0.
 #[derive(Clone, Copy, Debug, PartialEq, Eq, PartialOrd, Ord)]
@@ -36,6 +41,38 @@ impl Model for FileSystems {
 }
 
 impl FileSystems {
+    /// The table of the mount points given, which nobody keeps. One that is given twice, in any spelling, counts once.
+    /// There is none of more than 256 different ones.
+    pub fn from_mounts(
+        alloc: Global,
+        mut mount_points: Vec<Path>,
+    ) -> Result<Option<FileSystems>, AllocError>
+        ensures table { IfOk result (λ answer. MatchOption answer (TooMany mount_points.items) (IsTableOf mount_points.items)) }
+        ensures few { IfOk result (λ answer. IfSome answer (λ table. length table ≤ 256)) }
+    {
+        mount_points.sort_unstable();
+        mount_points.dedup();
+        if mount_points.len() > MOST_MOUNT_POINTS {
+            return Ok(None);
+        }
+        let mounts = unkept_mounts(alloc, mount_points)?;
+        Ok(Some(FileSystems { mounts }))
+    }
+
+    /// The file system of a path: the longest mount point that the path is or lies below. In byte order a longer mount
+    /// point above the path stands later, so the last one is it.
+    pub fn of(&self, path: &Path) -> Option<FsId>
+        ensures { result ≡ option_map (λ i. record { 0 = i }) (fs_of self.now path.now) }
+    {
+        let mounts = self.mounts.as_slice();
+        for index in (0..mounts.len()).rev() {
+            if path.is_under(&mounts[index].path) {
+                return Some(FsId(index as u32));
+            }
+        }
+        None
+    }
+
     /// The mount point of a file system.
     pub fn mount(&self, id: FsId) -> Option<&Path>
         ensures { option_copied result ≡ option_map (λ m. m.path) (slice_get self.now id.0) }
@@ -45,4 +82,18 @@ impl FileSystems {
             .get(id.0 as usize)
             .map(|mount| &mount.path)
     }
+}
+
+/// The mount points, kept by nobody.
+fn unkept_mounts(alloc: Global, mount_points: Vec<Path>) -> Result<Sequence<Mount>, AllocError>
+    ensures { IfOk result (λ mounts. mounts ≡ map unkept mount_points.items) }
+{
+    let mut mounts = Sequence::new(alloc);
+    for path in mount_points {
+        mounts.push(Mount {
+            path,
+            custodians: Sequence::new(alloc),
+        })?;
+    }
+    Ok(mounts)
 }

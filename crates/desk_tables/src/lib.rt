@@ -3,6 +3,7 @@
 
 pub mod credentials;
 pub mod filesystems;
+pub mod laws;
 
 pub use credentials::{Cred, GroupIds};
 pub use filesystems::{FileSystems, FsId, Mount};

@@ -1,0 +1,38 @@
+-- Lemmas on the directories of a line and its file system.
+use Rattle.std.proofs.Common.{◌≡◌, ℕ, List, [], ◌∷◌, ◌++◌, Option, Some, None, Result, Ok, Err, refl, ap, ◌∙◌}
+use Rattle.std.specs.List.{filter_map}
+use Rattle.std.specs.Option.{option_map}
+use Rattle.std.proofs.lemmas.List.Elements.{filter_map-append}
+use Rattle.desk_text.specs.Reading.{Reads}
+use Rattle.desk_text.specs.declared.path.PathFault.{PathFault}
+use Rattle.desk_text.specs.declared.reading.ReadError.{ReadError}
+use Rattle.desk_text.specs.declared.reading.ReadError.TheVariants.{Fault, Memory}
+use Rattle.desk_tables.specs.declared.filesystems.FsId.{FsId}
+use Rattle.desk_exports.specs.Entries.{path_in}
+use Rattle.desk_exports.specs.Files.{placed}
+use Rattle.desk_exports.specs.declared.entry.Entry.{Entry}
+use Rattle.desk_exports.specs.declared.rules.Rule.{Rule}
+
+-- a path more
+pub paths_more : (ds : List (Result (List (List ℕ)) PathFault)) (d : Result (List (List ℕ)) PathFault) → filter_map path_in (ds ++ d ∷ []) ≡ filter_map path_in ds ++ filter_map path_in (d ∷ [])
+paths_more ds d = filter_map-append path_in ds (d ∷ [])
+
+abbrev pub number_of : Option FsId → Option ℕ
+number_of home = option_map (λ fs. fs.0) home
+
+-- the number of a file system and the file system are the same
+pub number_back : (o : Option ℕ) → number_of (option_map (λ i. record { 0 = i }) o) ≡ o
+number_back None = refl
+number_back (Some i) = refl
+
+-- a line's fault is that of the line beside its file system
+pub placed_fault : (e : ReadError Rule) (home : Option ℕ) (answer : Result Entry Rule) → Reads {X = Entry} (Err e) answer → Reads {X = Option (FsId × Entry)} (Err e) (placed home answer)
+placed_fault Memory home answer h = tt
+placed_fault (Fault r) home answer h = ap (placed home) h
+
+-- and so is its entry
+pub placed_at : (fs : FsId) (home : Option ℕ) (answer : Result Entry Rule) (entry : Entry) → home ≡ Some fs.0 → answer ≡ Ok entry → placed home answer ≡ Ok (Some (fs, entry))
+placed_at fs home answer entry e h = ap (λ o. placed o answer) e ∙ ap (placed (Some fs.0)) h
+
+pub placed_nowhere : (home : Option ℕ) (answer : Result Entry Rule) (entry : Entry) → home ≡ None → answer ≡ Ok entry → placed home answer ≡ Ok None
+placed_nowhere home answer entry e h = ap (λ o. placed o answer) e ∙ ap (placed None) h

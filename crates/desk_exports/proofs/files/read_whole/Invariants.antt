@@ -1,0 +1,10 @@
+use Rattle.std.proofs.Common.{◌≡◌, [], take}
+use Rattle.desk_exports.specs.Files as spec
+use Rattle.desk_exports.proofs.files.read_whole.Given as goal
+
+-- no line so far has a fault, and the entries are theirs
+abbrev pub invariant-loop-line : goal.invariant-loop-line
+invariant-loop-line l = record {
+  sound : spec.faults l.filesystems (take l.line-index l.line-items) ≡ [];
+  read : l.entries ≡ spec.entries l.filesystems (take l.line-index l.line-items);
+}

@@ -1,0 +1,4 @@
+pub mod Ascending
+pub mod Placing
+pub mod Scanning
+pub mod Naming

@@ -1,0 +1,33 @@
+-- What a policy has in force: the table of file systems, and the lines of each.
+use Rattle.std.specs.Prelude.{◌≡◌, ℕ, ◌==◌, List, [], ◌∷◌, length, map, filter, slice_index_or}
+use Rattle.std.specs.List.{range_with_len}
+use Rattle.desk_tables.specs.declared.filesystems.FsId.{FsId}
+use Rattle.desk_tables.specs.declared.filesystems.Mount.{Mount}
+use Rattle.desk_exports.specs.declared.entry.Entry.{Entry}
+use Rattle.desk_policy.specs.declared.rows.Row.{Row}
+use Rattle.desk_policy.specs.Names.{addresses_of_names, names_of}
+
+-- a line in force: its entry, and the addresses for which its written names stand
+abbrev pub row_of : Entry → Row
+row_of entry = record { entry = entry; addrs = addresses_of_names (names_of entry.clients) }
+
+-- the table of file systems, and the lines of each file system
+pub record Content : Type 0 where
+  pub table : List Mount
+  pub rows : List (List Row)
+
+-- lines for each file system
+abbrev pub HasRowsOfEach : Content → Type 0
+HasRowsOfEach content = length content.rows ≡ length content.table
+
+-- the lines of a file system, none where there is no such file system
+abbrev pub rows_of : Content → ℕ → List Row
+rows_of content fs = slice_index_or content.rows fs []
+
+-- the lines in force of the entries that are placed in this file system, in their order
+abbrev pub rows_placed : List (FsId × Entry) → ℕ → List Row
+rows_placed placed fs = map (λ pair. row_of pair.1) (filter (λ pair. pair.0.0 == fs) placed)
+
+-- each file system has the lines of the entries that are placed in it
+unfoldable pub content_of : List Mount → List (FsId × Entry) → Content
+content_of table placed = record { table = table; rows = map (rows_placed placed) (range_with_len 0 (length table)) }

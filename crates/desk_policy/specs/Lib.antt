@@ -1,0 +1,5 @@
+pub mod Names
+pub mod Content
+pub mod Selection
+pub mod Verdicts
+pub mod Scan

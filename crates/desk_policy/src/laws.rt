@@ -1,0 +1,8 @@
+//! What the definitions of this crate keep, each as a function that does nothing.
+
+ghost use Rattle.desk_policy.specs.Names.{OneListOfAddresses};
+
+/// Names have one ascending list of the addresses for which they stand, and a line in force has that one.
+pub fn one_list_of_addresses()
+    ensures { OneListOfAddresses }
+{}

@@ -1,0 +1,16 @@
+//! The policy of a site: the lines in force, which of them are selected for a client, and who may mount what.
+//! (exports(5))
+#![tactic(auto)]
+
+pub mod addresses;
+pub mod laws;
+pub mod policies;
+pub mod rows;
+mod selections;
+pub mod verdicts;
+
+pub use addresses::AddrList;
+pub use laws::one_list_of_addresses;
+pub use policies::Policy;
+pub use rows::Row;
+pub use verdicts::{Denial, Verdict, decide};

@@ -1,0 +1,79 @@
+//! A policy: the table of file systems, and the lines of each.
+
+ghost use Rattle.std.specs.Prelude.{◌≡◌, ◌≤◌, List, [], IfOk, length, replicate};
+ghost use Rattle.desk_policy.specs.Content.{content_of, rows_of};
+
+use crate::rows::Row;
+use desk_exports::Entry;
+use desk_tables::{FileSystems, FsId};
+use desk_text::Sequence;
+use std::alloc::{AllocError, Global};
+use std::marker::Model;
+
+/// The table of file systems, and the lines of each, in the order of their entries.
+#[derive(Debug, Drop)]
+pub struct Policy {
+    filesystems: FileSystems,
+    rows: Vec<Sequence<Row>>,
+}
+
+impl Model for Policy {
+    ghost use Rattle.desk_policy.specs.Content.{Content, HasRowsOfEach};
+
+    ghost Value = { Content };
+
+    ghost view = { λ p. record { table = p.filesystems; rows = p.rows.items } };
+
+    ghost invariant = { λ p. HasRowsOfEach (record { table = p.filesystems; rows = p.rows.items }) };
+}
+
+impl Policy {
+    /// The policy with these file systems and the lines of these entries, each in the file system that is given with
+    /// it. An entry of a file system that is not in the table is in none.
+    pub fn of_entries(
+        alloc: Global,
+        filesystems: FileSystems,
+        entries: Sequence<(FsId, Entry)>,
+    ) -> Result<Policy, AllocError>
+        ensures { IfOk result (λ policy. policy ≡ content_of filesystems entries) }
+    {
+        let mut rows = empty_lists(alloc, &filesystems)?;
+        for (fs, entry) in entries.into_vec() {
+            if let Some(list) = rows.get_mut(fs.0 as usize) {
+                list.push(Row::read(alloc, entry)?)?;
+            }
+        }
+        Ok(Policy { filesystems, rows })
+    }
+
+    /// The lines of a file system, none where there is no such file system.
+    pub fn rows(&self, fs: FsId) -> &[Row]
+        ensures { result.now ≡ rows_of self.now fs.0 }
+    {
+        match self.rows.get(fs.0 as usize) {
+            Some(list) => list.as_slice(),
+            None => &[],
+        }
+    }
+
+    /// The table of file systems.
+    pub fn filesystems(&self) -> &FileSystems
+        ensures { result.now ≡ self.now.table }
+    {
+        &self.filesystems
+    }
+}
+
+/// A list without lines for each file system.
+fn empty_lists(alloc: Global, filesystems: &FileSystems) -> Result<Vec<Sequence<Row>>, AllocError>
+    requires { length filesystems.now ≤ 256 }
+    ensures { IfOk result (λ lists. lists.items ≡ replicate (length filesystems.now) []) }
+{
+    let mut lists = Vec::new(alloc);
+    let mut count = 0;
+    while filesystems.mount(FsId(count)).is_some() {
+        lists.push(Sequence::new(alloc))?;
+        count += 1;
+    }
+    Ok(lists)
+}

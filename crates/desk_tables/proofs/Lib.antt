@@ -1,0 +1,3 @@
+pub mod MountLemmas
+pub mod TableLemmas
+pub mod OneTable
