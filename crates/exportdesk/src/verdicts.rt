@@ -1,0 +1,47 @@
+//! The verdict on one mount over an exports text, as it is printed.
+
+ghost use Rattle.std.specs.Prelude.{◌≡◌, ◌≤◌, IfOk, codes, length, nat_eq};
+ghost use Rattle.std.specs.List.{starts_with};
+ghost use Rattle.std.specs.String.{string_bytes};
+ghost use Rattle.desk_text.specs.Addr.{number_of};
+ghost use Rattle.desk_text.specs.Reading.{ReadsAs};
+ghost use Rattle.exportdesk.specs.Try.{fault_line, try_answer};
+
+use desk_exports::{LineFault, read_whole};
+use desk_policy::{Policy, decide, verdict_text};
+use desk_tables::FileSystems;
+use desk_text::{Addr, Path, ReadError};
+use std::alloc::{AllocError, Global};
+
+/// The verdict for a client's address and a directory, over a whole exports text with these file
+/// systems: one line, without its line end. Else the fault of the least faulty line.
+pub fn try_text(
+    alloc: Global,
+    text: &str,
+    filesystems: &FileSystems,
+    address: Addr,
+    path: &Path,
+) -> Result<String, ReadError<LineFault>>
+    requires { length text.now ≤ 4294967294 }
+    ensures { ReadsAs string_bytes result (try_answer filesystems.now text.now (number_of address) path.now) }
+{
+    let entries = read_whole(alloc, text, filesystems)?;
+    let policy = Policy::of_entries(alloc, filesystems.clone()?, entries)?;
+    let verdict = decide(&policy, address, path);
+    Ok(verdict_text(alloc, &policy, &verdict)?)
+}
+
+/// A fault as it is printed.
+pub fn fault_text(alloc: Global, fault: LineFault) -> Result<String, AllocError>
+    ensures { IfOk result (λ text. string_bytes text ≡ fault_line fault) }
+{
+    let LineFault { line, rule } = fault;
+    format!(in alloc; "fault line {line} rule {} {}", rule.number(), rule.name())
+}
+
+/// Whether a printed verdict grants the mount.
+pub fn is_granted(verdict: &str) -> bool
+    ensures { result ≡ starts_with nat_eq verdict.now (codes "granted ") }
+{
+    verdict.starts_with("granted ")
+}
