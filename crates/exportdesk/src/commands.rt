@@ -6,6 +6,7 @@ use crate::outcome::{Answer, Stop, refused};
 use crate::try_command;
 use clap::error::ErrorKind;
 use std::alloc::Global;
+use std::convert::AsStr;
 use std::io::BufRead;
 
 /// What the command of these words answers. Without words, the first line of the input gives them.

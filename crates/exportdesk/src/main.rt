@@ -13,6 +13,7 @@ mod verdicts;
 mod tests;
 
 use crate::outcome::{Stop, report};
+use std::convert::AsStr;
 use std::env;
 use std::io::{BufRead, Lock, Write};
 use std::process::ExitCode;
