@@ -1,3 +1,4 @@
+pub mod GidLemmas
 pub mod MountLemmas
 pub mod TableLemmas
 pub mod OneTable
