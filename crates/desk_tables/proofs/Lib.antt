@@ -1,3 +1,4 @@
+mod CredRows
 pub mod GidLemmas
 pub mod MountLemmas
 pub mod TableLemmas
