@@ -17,3 +17,6 @@ pub use options::{Keyword, Setting};
 pub use parts::LineParts;
 pub use rules::{Rule, first_rule};
 pub use words::GrammarWord;
+
+#[cfg(test)]
+mod tests;
