@@ -16,3 +16,6 @@ pub use policies::Policy;
 pub use prints::verdict_text;
 pub use rows::Row;
 pub use verdicts::{Denial, Verdict, decide};
+
+#[cfg(test)]
+mod tests;

@@ -30,8 +30,8 @@ past f (x ∷ xs) i r e none =
       | inr le ↦ le
     ]
 
-one_more : (n : ℕ) (lists : List (List Row)) (rows : List Row) → lists ≡ replicate n [] → rows ≡ [] → lists ++ rows ∷ [] ≡ replicate (n + 1) []
-one_more n lists rows e f = ap (λ ls. ls ++ rows ∷ []) e ∙ ap (λ r. replicate n [] ++ r ∷ []) f ∙ replicate_more n []
+one_more : (n : ℕ) (lists more : List (List Row)) (rows : List Row) → more ≡ lists ++ rows ∷ [] → lists ≡ replicate n [] → rows ≡ [] → more ≡ replicate (n + 1) []
+one_more n lists more rows pushed e f = pushed ∙ ap (λ ls. ls ++ rows ∷ []) e ∙ ap (λ r. replicate n [] ++ r ∷ []) f ∙ replicate_more n []
 
 listed : (c : In_ok-push) → c.loop-alloc.count < length c.args.filesystems.now
 listed c = found_within (λ m. m.path) c.args.filesystems.now c.loop-alloc.count c.mount.result c.mount.ensures (sym c.is_some.ensures ∙ c.loop-alloc-test.true)
@@ -44,7 +44,7 @@ loop-alloc-smaller c = let h = listed c in omega arith
 
 pub loop-alloc-preserved : goal.loop-alloc-preserved
 loop-alloc-preserved c = let h = listed c in record {
-  so_far = c.in_ok-push.ensures.items ∙ one_more c.loop-alloc.count _ _ c.loop-alloc.invariant.so_far c.new.ensures;
+  so_far = one_more c.loop-alloc.count c.loop-alloc.lists.items c.push.new.self.items c.new.result c.in_ok-push.ensures.items c.loop-alloc.invariant.so_far c.new.ensures;
   within = omega arith;
 }
 
