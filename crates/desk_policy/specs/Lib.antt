@@ -3,3 +3,4 @@ pub mod Content
 pub mod Selection
 pub mod Verdicts
 pub mod Scan
+pub mod Prints

@@ -5,6 +5,7 @@
 pub mod addresses;
 pub mod laws;
 pub mod policies;
+pub mod prints;
 pub mod rows;
 mod selections;
 pub mod verdicts;
@@ -12,5 +13,9 @@ pub mod verdicts;
 pub use addresses::AddrList;
 pub use laws::one_list_of_addresses;
 pub use policies::Policy;
+pub use prints::verdict_text;
 pub use rows::Row;
 pub use verdicts::{Denial, Verdict, decide};
+
+#[cfg(test)]
+mod tests;

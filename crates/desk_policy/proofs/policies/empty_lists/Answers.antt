@@ -4,6 +4,7 @@ use Rattle.std.specs.Option.{option_copied, option_map}
 use Rattle.std.proofs.lemmas.Bool.{cases_lt, true≢false}
 use Rattle.std.proofs.lemmas.List.{replicate_more}
 use Rattle.std.proofs.lemmas.Option.{slice_get_within, slice_get-get_or}
+use Rattle.desk_policy.specs.declared.rows.Row.{Row}
 use Rattle.desk_policy.proofs.policies.empty_lists.Goals as goal
 use Rattle.desk_policy.proofs.policies.empty_lists.Goals.{In_ok-push}
 
@@ -29,6 +30,9 @@ past f (x ∷ xs) i r e none =
       | inr le ↦ le
     ]
 
+one_more : (n : ℕ) (lists more : List (List Row)) (rows : List Row) → more ≡ lists ++ rows ∷ [] → lists ≡ replicate n [] → rows ≡ [] → more ≡ replicate (n + 1) []
+one_more n lists more rows pushed e f = pushed ∙ ap (λ ls. ls ++ rows ∷ []) e ∙ ap (λ r. replicate n [] ++ r ∷ []) f ∙ replicate_more n []
+
 listed : (c : In_ok-push) → c.loop-alloc.count < length c.args.filesystems.now
 listed c = found_within (λ m. m.path) c.args.filesystems.now c.loop-alloc.count c.mount.result c.mount.ensures (sym c.is_some.ensures ∙ c.loop-alloc-test.true)
 
@@ -40,7 +44,7 @@ loop-alloc-smaller c = let h = listed c in omega arith
 
 pub loop-alloc-preserved : goal.loop-alloc-preserved
 loop-alloc-preserved c = let h = listed c in record {
-  so_far = c.in_ok-push.ensures.items ∙ ap (λ lists. lists ++ c.new.result ∷ []) c.loop-alloc.invariant.so_far ∙ ap (λ rows. replicate c.loop-alloc.count [] ++ rows ∷ []) c.new.ensures ∙ replicate_more c.loop-alloc.count [];
+  so_far = one_more c.loop-alloc.count c.loop-alloc.lists.items c.push.new.self.items c.new.result c.in_ok-push.ensures.items c.loop-alloc.invariant.so_far c.new.ensures;
   within = omega arith;
 }
 
