@@ -1,7 +1,7 @@
 //! The words of a line, as its grammar sees them.
 
 ghost use Rattle.std.specs.Prelude.{◌≡◌, ◌==◌, IfOk, map, slice_index};
-ghost use Rattle.desk_text.specs.Parts.{word_of};
+ghost use Rattle.desk_text.specs.Shown.{word_of};
 ghost use Rattle.desk_exports.specs.Words.{grammar_word};
 
 use desk_text::{Text, Word, unquote};

@@ -15,24 +15,44 @@ pub fn answer<S: AsStr, I: BufRead>(
     words: &[S],
     input: &mut I,
 ) -> Result<Answer, Stop> {
-    let alloc = rt.alloc();
-    let mut line = Vec::new(alloc);
-    line.push("exportdesk")?;
     if words.is_empty() {
-        let (first, used) = first_line(alloc, input)?;
-        for word in first.split([' ', '\t']) {
-            if !word.is_empty() {
-                line.push(word)?;
-            }
-        }
-        let left = LONGEST_FILE.saturating_sub(used);
-        return by_line(rt, line.as_slice(), StandardInput { reader: input, left });
+        return by_first_line(rt, input);
     }
+    let mut line = Vec::new(rt.alloc());
+    line.push("exportdesk")?;
     for word in words {
         line.push(word.as_str())?;
     }
     let left = LONGEST_FILE;
-    by_line(rt, line.as_slice(), StandardInput { reader: input, left })
+    by_line(
+        rt,
+        line.as_slice(),
+        StandardInput {
+            reader: input,
+            left,
+        },
+    )
+}
+
+/// What the command on the first line of the input answers. Its words stand between blanks.
+fn by_first_line<I: BufRead>(rt: &HostRuntime, input: &mut I) -> Result<Answer, Stop> {
+    let (first, used) = first_line(rt.alloc(), input)?;
+    let mut line = Vec::new(rt.alloc());
+    line.push("exportdesk")?;
+    for word in first.split([' ', '\t']) {
+        if !word.is_empty() {
+            line.push(word)?;
+        }
+    }
+    let left = LONGEST_FILE.saturating_sub(used);
+    by_line(
+        rt,
+        line.as_slice(),
+        StandardInput {
+            reader: input,
+            left,
+        },
+    )
 }
 
 /// What the command on a line answers, the first word of which is the program's name.

@@ -14,6 +14,7 @@ pub const LONGEST_FILE: usize = 16_777_216;
 const LONGEST_LINE: usize = 65_536;
 
 /// Standard input, and how many more bytes of it the program reads.
+#[derive(Drop)]
 pub struct StandardInput<'a, I> {
     pub reader: &'a mut I,
     pub left: usize,
@@ -64,15 +65,21 @@ pub fn read_file<I: BufRead>(
 }
 
 /// The text that a reader gives, of at most so many bytes.
-fn read_text<R: Read>(alloc: Global, what: &str, most: usize, reader: R) -> Result<String, Stop>
+fn read_text<R: Read + Drop>(
+    alloc: Global,
+    what: &str,
+    most: usize,
+    reader: R,
+) -> Result<String, Stop>
     ensures { IfOk result (λ text. string_len text ≤ 16777216) }
 {
+    let most = most.min(LONGEST_FILE);
     let mut bytes = Vec::new(alloc);
     let mut reader = reader.take(most as u64 + 1);
     if let Err(error) = reader.read_to_end(&mut bytes) {
         return Err(unread(alloc, what, &error));
     }
-    if bytes.len() > most || bytes.len() > LONGEST_FILE {
+    if bytes.len() > most {
         return Err(refused(alloc, what, "it is over 16777216 bytes"));
     }
     match String::from_utf8(bytes) {

@@ -6,18 +6,16 @@ mod command_line;
 mod commands;
 mod input;
 mod outcome;
-mod try_command;
-mod verdicts;
-
 #[cfg(test)]
 mod tests;
+mod try_command;
+mod verdicts;
 
 use crate::outcome::{Stop, report};
 use std::convert::AsStr;
 use std::env;
 use std::io::{BufRead, Lock, Write};
 use std::process::ExitCode;
-
 pub use verdicts::try_text;
 
 fn main(rt: HostRuntime) -> ExitCode {

@@ -1,6 +1,7 @@
 //! The verdict on one mount over an exports text, as it is printed.
 
-ghost use Rattle.std.specs.Prelude.{◌≡◌, ◌≤◌, IfOk, codes, length, nat_eq};
+ghost use Rattle.std.specs.Prelude.{◌≡◌, ◌≤◌, ◌∷◌, ◌++◌, IfOk, codes, length, nat_eq};
+ghost use Rattle.std.specs.Fmt.{decimal};
 ghost use Rattle.std.specs.List.{starts_with};
 ghost use Rattle.std.specs.String.{string_bytes};
 ghost use Rattle.desk_text.specs.Addr.{number_of};
@@ -31,12 +32,23 @@ pub fn try_text(
     Ok(verdict_text(alloc, &policy, &verdict)?)
 }
 
-/// A fault as it is printed.
+/// A fault as it is printed, without a line end.
 pub fn fault_text(alloc: Global, fault: LineFault) -> Result<String, AllocError>
     ensures { IfOk result (λ text. string_bytes text ≡ fault_line fault) }
 {
-    let LineFault { line, rule } = fault;
-    format!(in alloc; "fault line {line} rule {} {}", rule.number(), rule.name())
+    numbered_fault_text(alloc, fault.line, fault.rule.number(), fault.rule.name())
+}
+
+fn numbered_fault_text(
+    alloc: Global,
+    line: u32,
+    number: u32,
+    name: &str,
+) -> Result<String, AllocError>
+    ensures { IfOk result (λ text. string_bytes text
+        ≡ codes "fault line " ++ decimal line ++ codes " rule " ++ decimal number ++ 32 ∷ name.now) }
+{
+    format!(in alloc; "fault line {line} rule {number} {name}")
 }
 
 /// Whether a printed verdict grants the mount.
