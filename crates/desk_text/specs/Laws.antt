@@ -1,9 +1,9 @@
 -- Laws of paths, logical lines and words: what their definitions come to.
 use Rattle.std.specs.Prelude.{◌≡◌, ℕ, ◌+◌, ◌<◌, ◌≤◌, Bool, true, false, List, [], ◌∷◌, ◌++◌, length, take, drop, map, Ok}
-use Rattle.std.specs.List.{AllByRecursion, AllPairs, flat_map}
+use Rattle.std.specs.List.{AllByRecursion, flat_map}
 use Rattle.std.specs.Str.Lines.{lines}
 use Rattle.desk_text.specs.Path.{path_text, read_path}
-use Rattle.desk_text.specs.Lines.{PhysicalLine, LogicalLine, physical_lines, logical_lines}
+use Rattle.desk_text.specs.Lines.{AreNumberedUp, PhysicalLine, LogicalLine, physical_lines, logical_lines}
 use Rattle.desk_text.specs.Words.{Atom, RawWord, atoms, atom_text, is_separator, line_words, raw_word, words_at}
 
 -- The physical lines are the lines of the text as std has them, with their places.
@@ -12,7 +12,7 @@ PhysicalLinesAreLines = (text : List ℕ) → map (λ part. part.whole) (physica
 
 -- The logical lines ascend by their numbers.
 abbrev pub LinesAscend : Type 0
-LinesAscend = (text : List ℕ) → AllPairs (λ line later. line.number < later.number) (logical_lines text)
+LinesAscend = (text : List ℕ) → AreNumberedUp (logical_lines text)
 
 -- a part of a text: its place, and its bytes
 pub record Slice : Type 0 where
