@@ -1,3 +1,5 @@
+mod CredRows
+pub mod GidLemmas
 pub mod MountLemmas
 pub mod TableLemmas
 pub mod OneTable

@@ -1,6 +1,6 @@
 -- Of two mount points above one path, the later in the table is the longer; so the last one above it is its file system.
 use Rattle.std.proofs.Common.{ℕ, ◌≡◌, ◌<◌, ◌≤◌, Bool, true, false, not, ◌&&◌, ◌||◌, List, [], ◌∷◌, ◌++◌, Some, None, cond, length, get_or, position, refl, ap, sym, ◌∙◌, arith, inl, inr, suc, nat_cmp, nat_le}
-use Rattle.std.specs.Prelude.{nat_lt}
+use Rattle.std.specs.Prelude.{All, MatchOption, Option, nat_lt}
 use Rattle.std.specs.List.{list_all, position_or_len}
 use Rattle.std.specs.Ordering.{is_lt, ordering_then}
 use Rattle.std.specs.Cmp.Lexicographic.{slice_cmp}
@@ -14,6 +14,7 @@ use Rattle.std.proofs.lemmas.List.Sums.{position_or_len_is}
 use Rattle.std.proofs.lemmas.Slice.Eq.{bytes_eq-Decides}
 use Rattle.desk_text.specs.Path.{is_under, path_text}
 use Rattle.desk_tables.specs.declared.filesystems.Mount.{Mount}
+use Rattle.desk_tables.specs.Scan.{IsLastAbove}
 use Rattle.desk_tables.specs.Mounts.{is_before, AreAscending, is_file_system, fs_of}
 
 -- each component behind a slash
@@ -145,12 +146,17 @@ module _ (table : List Mount) (p : List (List ℕ)) (d : Mount) (up : AreAscendi
       ]
 
   -- the last listed mount point above a path is its file system
-  pub fs_of-last : (i : ℕ) → i < length table → is_under p (get_or table i d).path ≡ true → ((k : ℕ) → i < k → k < length table → is_under p (get_or table k d).path ≡ false) → fs_of table p ≡ Some i
+  fs_of-last : (i : ℕ) → i < length table → is_under p (get_or table i d).path ≡ true → ((k : ℕ) → i < k → k < length table → is_under p (get_or table k d).path ≡ false) → fs_of table p ≡ Some i
   fs_of-last i below here after =
       let stands : list_all (no_longer p (get_or table i d)) table ≡ true = all_at (no_longer p (get_or table i d)) table d (λ k l. each_passes i k below here after l) in
       position_at (is_file_system table p) table i d below (λ k less. before_fails i k below here less)
       (ap (λ b. b && list_all (no_longer p (get_or table i d)) table) here ∙ stands)
 
   -- a path that no listed mount point is above has none
-  pub fs_of-none : ((k : ℕ) → k < length table → is_under p (get_or table k d).path ≡ false) → fs_of table p ≡ None
+  fs_of-none : ((k : ℕ) → k < length table → is_under p (get_or table k d).path ≡ false) → fs_of table p ≡ None
   fs_of-none none = position_none (is_file_system table p) table d (λ k l. ap (λ b. b && list_all (no_longer p (get_or table k d)) table) (none k l))
+
+  -- what the scan for the last mount point finds
+  pub fs_of-found : (found : Option ℕ) → MatchOption found (All (λ mount. is_under p mount.path ≡ false) table) (IsLastAbove table p) → found ≡ fs_of table p
+  fs_of-found None h = sym (fs_of-none (λ k l. h k d l))
+  fs_of-found (Some i) h = sym (fs_of-last i h.inside (h.above d) (λ k less l. h.last k d less l))

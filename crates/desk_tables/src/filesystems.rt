@@ -1,8 +1,10 @@
-//! File systems by mount point.
+//! File systems by mount point. (exports(5), mount(8))
 
-ghost use Rattle.std.specs.Prelude.{◌≡◌, ◌≤◌, [], IfOk, IfSome, MatchOption, length, map, slice_get};
+ghost use Rattle.std.specs.Prelude.{◌≡◌, ◌≤◌, All, IfOk, IfSome, MatchOption, false, length, map, slice_get};
 ghost use Rattle.std.specs.Option.{option_copied, option_map};
+ghost use Rattle.desk_text.specs.Path.{is_under};
 ghost use Rattle.desk_tables.specs.Mounts.{IsTableOf, TooMany, fs_of, unkept};
+ghost use Rattle.desk_tables.specs.Scan.{IsLastAbove};
 
 use desk_text::{Path, Sequence, Text};
 use std::alloc::{AllocError, Global};
@@ -42,16 +44,15 @@ impl Model for FileSystems {
 
 impl FileSystems {
     /// The table of the mount points given, which nobody keeps. One that is given twice, in any spelling, counts once.
-    /// There is none of more than 256 different ones.
+    /// There is no table of more than 256 different ones. An error says that memory ran out.
     pub fn from_mounts(
         alloc: Global,
-        mut mount_points: Vec<Path>,
+        mount_points: Vec<Path>,
     ) -> Result<Option<FileSystems>, AllocError>
         ensures table { IfOk result (λ answer. MatchOption answer (TooMany mount_points.items) (IsTableOf mount_points.items)) }
         ensures few { IfOk result (λ answer. IfSome answer (λ table. length table ≤ 256)) }
     {
-        mount_points.sort_unstable();
-        mount_points.dedup();
+        let mount_points = sorted_once(mount_points);
         if mount_points.len() > MOST_MOUNT_POINTS {
             return Ok(None);
         }
@@ -64,16 +65,10 @@ impl FileSystems {
     pub fn of(&self, path: &Path) -> Option<FsId>
         ensures { result ≡ option_map (λ i. record { 0 = i }) (fs_of self.now path.now) }
     {
-        let mounts = self.mounts.as_slice();
-        for index in (0..mounts.len()).rev() {
-            if path.is_under(&mounts[index].path) {
-                return Some(FsId(index as u32));
-            }
-        }
-        None
+        last_above(self.mounts.as_slice(), path).map(|index| FsId(index as u32))
     }
 
-    /// The mount point of a file system.
+    /// The mount point of a file system; none where the table has no such place.
     pub fn mount(&self, id: FsId) -> Option<&Path>
         ensures { option_copied result ≡ option_map (λ m. m.path) (slice_get self.now id.0) }
     {
@@ -82,6 +77,27 @@ impl FileSystems {
             .get(id.0 as usize)
             .map(|mount| &mount.path)
     }
+}
+
+/// The place of the last mount point that the path is under.
+fn last_above(mounts: &[Mount], path: &Path) -> Option<usize>
+    ensures { MatchOption result (All (λ mount. is_under path.now mount.path ≡ false) mounts.now) (IsLastAbove mounts.now path.now) }
+{
+    for index in (0..mounts.len()).rev() {
+        if path.is_under(&mounts[index].path) {
+            return Some(index);
+        }
+    }
+    None
+}
+
+/// The mount points in byte order, each once.
+fn sorted_once(mut mount_points: Vec<Path>) -> Vec<Path>
+    ensures { IsTableOf mount_points.items (map unkept result.items) }
+{
+    mount_points.sort_unstable();
+    mount_points.dedup();
+    mount_points
 }
 
 /// The mount points, kept by nobody.

@@ -7,3 +7,6 @@ pub mod laws;
 
 pub use credentials::{Cred, GroupIds};
 pub use filesystems::{FileSystems, FsId, Mount};
+
+#[cfg(test)]
+mod tests;

@@ -1,7 +1,7 @@
 use Rattle.std.proofs.Common.{◌≡◌, ℕ, ◌<◌, ◌≤◌, false, length, get_or}
 use Rattle.desk_text.specs.Path.{is_under}
 use Rattle.desk_tables.specs.declared.filesystems.Mount.{Mount}
-use Rattle.desk_tables.proofs.filesystems.FileSystems.of.Given as goal
+use Rattle.desk_tables.proofs.filesystems.last_above.Given as goal
 
 -- no mount point from here on is above the path
 abbrev pub invariant-loop-index : goal.invariant-loop-index
