@@ -46,7 +46,8 @@ fn push_line(
     filesystems: &FileSystems,
     entries: &mut Sequence<(FsId, Entry)>,
 ) -> Result<(), ReadError<LineFault>>
-    ensures { Pushes result entries.old entries.new line.now.number (spec.logical_answer filesystems.now line.now) }
+    ensures { Pushes result entries.old entries.new line.now.number
+        (spec.logical_answer filesystems.now line.now) }
 {
     match read_logical(alloc, line, filesystems) {
         Ok(Some(entry)) => {

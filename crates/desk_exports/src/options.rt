@@ -82,7 +82,8 @@ impl Setting {
 
 fn parts_at_equals(piece: &str) -> (&str, Option<&str>)
     ensures name { result.0.now ≡ before_first (λ b. b == 61) piece.now }
-    ensures value { option_copied result.1 ≡ (if has_equals piece.now then Some (after_first (λ b. b == 61) piece.now) else None) }
+    ensures value { option_copied result.1
+        ≡ (if has_equals piece.now then Some (after_first (λ b. b == 61) piece.now) else None) }
 {
     match piece.split_once('=') {
         Some((name, value)) => (name, Some(value)),

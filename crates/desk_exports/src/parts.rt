@@ -121,7 +121,8 @@ fn push_pieces(
     settings: &mut Sequence<Setting>,
     pieces: &[&str],
 ) -> Result<(), AllocError>
-    ensures { OnOk result (settings.new ≡ settings.old ++ map spec.setting (map (λ piece. piece.now) pieces.now)) }
+    ensures { OnOk result
+        (settings.new ≡ settings.old ++ map spec.setting (map (λ piece. piece.now) pieces.now)) }
 {
     for piece in pieces {
         settings.push(Setting::read(alloc, piece)?)?;

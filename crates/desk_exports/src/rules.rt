@@ -144,7 +144,8 @@ fn has_elsewhere(
     home: Option<FsId>,
     directories: &[Result<Path, PathFault>],
 ) -> bool
-    ensures { result ≡ list_any (spec.is_elsewhere filesystems.now (option_map (λ fs. fs.0) home)) directories.now }
+    ensures { result
+        ≡ list_any (spec.is_elsewhere filesystems.now (option_map (λ fs. fs.0) home)) directories.now }
 {
     directories
         .iter()
@@ -175,7 +176,8 @@ fn has_other_directory(
     home: Option<FsId>,
     directories: &[Result<Path, PathFault>],
 ) -> bool
-    ensures { result ≡ list_any (spec.is_not_root (spec.mount_point filesystems.now (option_map (λ fs. fs.0) home))) directories.now }
+    ensures { let mount = spec.mount_point filesystems.now (option_map (λ fs. fs.0) home) in
+        result ≡ list_any (spec.is_not_root mount) directories.now }
 {
     let mount = mount_point(filesystems, home);
     directories

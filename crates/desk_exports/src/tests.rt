@@ -201,6 +201,27 @@ fn first_of_several_rules(rt: HostRuntime) -> Result<(), Fail> {
     Ok(())
 }
 
+/// A line for the host whose name is this many letters.
+fn line_for(alloc: Global, letters: u32) -> Result<String, Fail> {
+    let mut line = String::from_str(alloc, "/a ")?;
+    for _ in 0..letters {
+        line.push('n')?;
+    }
+    Ok(line)
+}
+
+#[test]
+fn names_of_up_to_255_bytes(rt: HostRuntime) -> Result<(), Fail> {
+    let most = line_for(rt.alloc(), 255)?;
+    assert!(rt; answer(rt.alloc(), &["/a"], most.as_str())?.is_ok());
+    let more = line_for(rt.alloc(), 256)?;
+    assert_eq!(rt;
+        fault(rt.alloc(), &["/a"], more.as_str())?.as_str(),
+        "line 1 rule 9 BadAddress"
+    );
+    Ok(())
+}
+
 #[test]
 fn least_faulty_line(rt: HostRuntime) -> Result<(), Fail> {
     let rows = [

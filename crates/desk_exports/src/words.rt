@@ -7,7 +7,7 @@ ghost use Rattle.desk_exports.specs.Words.{grammar_word};
 use desk_text::{Text, Word, unquote};
 use std::alloc::{AllocError, Global};
 
-/// A word: whether its first raw character is `-`, whether it is `#`, and what the word stands for
+/// A word: whether its first raw character is `-`, whether that is `#`, and what the word stands for
 /// without its quotes and escapes.
 #[derive(Clone, Debug, Drop)]
 pub struct GrammarWord {
