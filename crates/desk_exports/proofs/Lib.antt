@@ -1,3 +1,5 @@
 pub mod FileLemmas
 pub mod LineLemmas
+pub mod SoundLines
+pub mod SoundTexts
 pub mod TextLemmas

@@ -4,5 +4,6 @@ pub mod Rules
 pub mod Entries
 pub mod Lines
 pub mod Files
+pub mod Laws
 pub mod Terms
 pub mod Pushes

@@ -1,5 +1,5 @@
 -- The words of a line by what they are: directories, options, names. (exports(5))
-use Rattle.std.specs.Prelude.{ℕ, Bool, ◌==◌, ◌++◌, List, [], ◌∷◌, Option, Some, None, map, take, drop, slice_index, if◌then◌else◌}
+use Rattle.std.specs.Prelude.{ℕ, Bool, ◌==◌, ◌++◌, List, [], ◌∷◌, Some, None, map, take, drop, slice_index, if◌then◌else◌}
 use Rattle.std.specs.List.{slice_split, list_any, before_first, after_first, prefix_len}
 use Rattle.desk_text.specs.Path.{is_absolute, read_path}
 use Rattle.desk_text.specs.Words.{RawWord, word_value}

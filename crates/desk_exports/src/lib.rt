@@ -3,6 +3,7 @@
 
 pub mod entry;
 pub mod files;
+pub mod laws;
 pub mod lines;
 pub mod options;
 pub mod parts;
