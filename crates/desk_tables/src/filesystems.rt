@@ -1,4 +1,4 @@
-//! File systems by mount point.
+//! File systems by mount point. (exports(5), mount(8))
 
 ghost use Rattle.std.specs.Prelude.{◌≡◌, ◌≤◌, All, IfOk, IfSome, MatchOption, false, length, map, slice_get};
 ghost use Rattle.std.specs.Option.{option_copied, option_map};
@@ -44,7 +44,7 @@ impl Model for FileSystems {
 
 impl FileSystems {
     /// The table of the mount points given, which nobody keeps. One that is given twice, in any spelling, counts once.
-    /// There is none of more than 256 different ones.
+    /// There is no table of more than 256 different ones. An error says that memory ran out.
     pub fn from_mounts(
         alloc: Global,
         mount_points: Vec<Path>,
@@ -68,7 +68,7 @@ impl FileSystems {
         last_above(self.mounts.as_slice(), path).map(|index| FsId(index as u32))
     }
 
-    /// The mount point of a file system.
+    /// The mount point of a file system; none where the table has no such place.
     pub fn mount(&self, id: FsId) -> Option<&Path>
         ensures { option_copied result ≡ option_map (λ m. m.path) (slice_get self.now id.0) }
     {
