@@ -1,3 +1,4 @@
+mod WorkedRows
 pub mod Ascending
 pub mod Placing
 pub mod Scanning

@@ -1,6 +1,6 @@
 -- Which line a verdict names.
-use Rattle.std.proofs.Common.{◌≡◌, ◌&&◌, ◌||◌, Bool, true, false, cond, List, [], ◌∷◌, Option, Some, None, Result, Ok, Err, sym, ◌∙◌, ap, refl, ℕ}
-use Rattle.std.specs.Prelude.{find, filter}
+use Rattle.std.proofs.Common.{◌≡◌, ◌&&◌, ◌||◌, Bool, true, cond, List, [], ◌∷◌, Option, Some, None, Result, Ok, Err, sym, ◌∙◌, ap, refl, ℕ}
+use Rattle.std.specs.Prelude.{find}
 use Rattle.desk_tables.specs.declared.filesystems.FsId.{FsId}
 use Rattle.desk_policy.specs.declared.rows.Row.{Row}
 use Rattle.desk_policy.specs.declared.verdicts.Denial.{Denial}

@@ -1,5 +1,5 @@
 -- What a policy has in force: the table of file systems, and the lines of each.
-use Rattle.std.specs.Prelude.{◌≡◌, ℕ, ◌==◌, List, [], ◌∷◌, length, map, filter, slice_index_or}
+use Rattle.std.specs.Prelude.{◌≡◌, ℕ, ◌==◌, List, [], nat_lt, length, map, filter, slice_index_or, if◌then◌else◌}
 use Rattle.std.specs.List.{range_with_len}
 use Rattle.desk_tables.specs.declared.filesystems.FsId.{FsId}
 use Rattle.desk_tables.specs.declared.filesystems.Mount.{Mount}
@@ -31,3 +31,7 @@ rows_placed placed fs = map (λ pair. row_of pair.1) (filter (λ pair. pair.0.0 
 -- each file system has the lines of the entries that are placed in it
 unfoldable pub content_of : List Mount → List (FsId × Entry) → Content
 content_of table placed = record { table = table; rows = map (rows_placed placed) (range_with_len 0 (length table)) }
+
+-- the lines in force of a file system of the table are those placed in it, and there are none beyond the table
+abbrev pub EachHasItsLines : Type 0
+EachHasItsLines = (table : List Mount) (placed : List (FsId × Entry)) (fs : ℕ) → rows_of (content_of table placed) fs ≡ (if nat_lt fs (length table) then rows_placed placed fs else [])

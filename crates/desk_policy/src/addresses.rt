@@ -41,7 +41,7 @@ impl AddrList {
 
     /// No addresses.
     pub fn empty(alloc: Global) -> AddrList
-        ensures { result ≡ addresses_of_names [] }
+        ensures { result ≡ [] }
     {
         AddrList {
             items: Vec::new(alloc),

@@ -11,7 +11,7 @@ mod selections;
 pub mod verdicts;
 
 pub use addresses::AddrList;
-pub use laws::one_list_of_addresses;
+pub use laws::{each_has_its_lines, one_list_of_addresses};
 pub use policies::Policy;
 pub use prints::verdict_text;
 pub use rows::Row;

@@ -1,7 +1,8 @@
 //! A policy: the table of file systems, and the lines of each.
 
-ghost use Rattle.std.specs.Prelude.{◌≡◌, ◌≤◌, List, [], IfOk, length, replicate};
+ghost use Rattle.std.specs.Prelude.{◌≡◌, ◌≤◌, List, [], IfOk, OnOk, length, replicate};
 ghost use Rattle.desk_policy.specs.Content.{content_of, rows_of};
+ghost use Rattle.desk_policy.specs.Adding.{with_row};
 
 use crate::rows::Row;
 use desk_exports::Entry;
@@ -39,9 +40,8 @@ impl Policy {
     {
         let mut rows = empty_lists(alloc, &filesystems)?;
         for (fs, entry) in entries.into_vec() {
-            if let Some(list) = rows.get_mut(fs.0 as usize) {
-                list.push(Row::read(alloc, entry)?)?;
-            }
+            let row = Row::read(alloc, entry)?;
+            add_row(&mut rows, fs, row)?;
         }
         Ok(Policy { filesystems, rows })
     }
@@ -62,6 +62,16 @@ impl Policy {
     {
         &self.filesystems
     }
+}
+
+/// Adds a line to the list of its file system, if there is one.
+fn add_row(lists: &mut Vec<Sequence<Row>>, fs: FsId, row: Row) -> Result<(), AllocError>
+    ensures { OnOk result (lists.new.items ≡ with_row lists.old.items fs.0 row) }
+{
+    if let Some(list) = lists.get_mut(fs.0 as usize) {
+        list.push(row)?;
+    }
+    Ok(())
 }
 
 /// A list without lines for each file system.

@@ -169,6 +169,7 @@ fn lines_of_each_file_system(rt: HostRuntime) -> Result<(), Fail> {
         assert_eq!(rt; policy.rows(FsId(fs)).len(), count, "of {fs}");
     }
     let usr = policy.rows(FsId(2));
+    assert_eq!(rt; usr.len(), 2);
     assert_eq!(rt; usr[0].entry.line, 1);
     assert_eq!(rt; usr[1].entry.line, 3);
     assert_eq!(rt;

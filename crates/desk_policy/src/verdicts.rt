@@ -36,7 +36,8 @@ pub enum Verdict<'a> {
     Denied(Denial),
 }
 
-/// Whether a client may mount a path under the policy, by which line, and on what terms. The lines are scanned twice.
+/// Whether a client may mount a path under the policy, by which line, and on what terms. The lines of the path's file
+/// system are scanned, once for the greatest weight, and again for the line to name.
 pub fn decide<'a>(policy: &'a Policy, address: Addr, path: &Path) -> Verdict<'a>
     ensures { shown result ≡ verdict_of policy.now (number_of address) path.now }
 {
