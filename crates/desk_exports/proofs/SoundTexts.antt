@@ -10,7 +10,7 @@ use Rattle.desk_tables.specs.declared.filesystems.Mount.{Mount}
 use Rattle.desk_exports.specs.Entries.{entry_of}
 use Rattle.desk_exports.specs.Files.{entries, entry_in, fault_in, faults, lines_answer, logical_answer, parts_answer, placed, unless_fault}
 use Rattle.desk_exports.specs.Laws.{EachLineHasAnEntry, IsInFileSystem, IsLeastFault, IsSound, LeastFaultIsNamed}
-use Rattle.desk_exports.specs.Lines.{home_of, line_parts, unless_rule}
+use Rattle.desk_exports.specs.Lines.{fs_of_line, line_parts, unless_rule}
 use Rattle.desk_exports.specs.Rules.{first_rule}
 use Rattle.desk_exports.specs.declared.entry.Entry.{Entry}
 use Rattle.desk_exports.specs.declared.files.LineFault.{LineFault}
@@ -26,26 +26,26 @@ record HasEntry (table : List Mount) (number : ℕ) (answer : Result (Option (Fs
   lies : IsInFileSystem table entry
 
 module _ (table : List Mount) (number : ℕ) where
-  at_home : (line : LineParts) (home : Option ℕ) → IsSound table home line.directories (entry_of number line).dirs → HasEntry table number (placed home (Ok (entry_of number line)))
+  at_home : (line : LineParts) (own_fs : Option ℕ) → IsSound table own_fs line.directories (entry_of number line).dirs → HasEntry table number (placed own_fs (Ok (entry_of number line)))
   at_home line None sound = absurd (let e : None ≡ Some sound.fs = sound.read_for in cc)
-  at_home line (Some home) sound =
-      let same : home ≡ sound.fs = (let e : Some home ≡ Some sound.fs = sound.read_for in cc) in
+  at_home line (Some own_fs) sound =
+      let same : own_fs ≡ sound.fs = (let e : Some own_fs ≡ Some sound.fs = sound.read_for in cc) in
       record {
-        entry = (record { 0 = home }, entry_of number line);
+        entry = (record { 0 = own_fs }, entry_of number line);
         is = refl;
         line = refl;
         lies = record { some = sound.some; within = subst (λ fs. (k : ℕ) (d : List (List ℕ)) → k < length (entry_of number line).dirs → fs_of table (slice_index_or (entry_of number line).dirs k d) ≡ Some fs) (sym same) sound.within };
       }
 
-  of_rule : (line : LineParts) (rule : Option Rule) → first_rule table (home_of table line) line ≡ rule
-      → fault_in number (placed (home_of table line) (unless_rule rule (entry_of number line))) ≡ None
-      → HasEntry table number (placed (home_of table line) (unless_rule rule (entry_of number line)))
+  of_rule : (line : LineParts) (rule : Option Rule) → first_rule table (fs_of_line table line) line ≡ rule
+      → fault_in number (placed (fs_of_line table line) (unless_rule rule (entry_of number line))) ≡ None
+      → HasEntry table number (placed (fs_of_line table line) (unless_rule rule (entry_of number line)))
   of_rule line (Some rule) e f = absurd (cc)
-  of_rule line None e f = at_home line (home_of table line) (lines_are_sound table (home_of table line) number line e)
+  of_rule line None e f = at_home line (fs_of_line table line) (lines_are_sound table (fs_of_line table line) number line e)
 
   of_parts : (parts : Result LineParts OpenQuote) → fault_in number (parts_answer table number parts) ≡ None → HasEntry table number (parts_answer table number parts)
   of_parts (Err quote) f = absurd (cc)
-  of_parts (Ok line) f = of_rule line (first_rule table (home_of table line) line) refl f
+  of_parts (Ok line) f = of_rule line (first_rule table (fs_of_line table line) line) refl f
 
 module _ (table : List Mount) where
   -- the fault of a line that has one comes first

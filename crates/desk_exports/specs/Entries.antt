@@ -3,7 +3,7 @@ use Rattle.std.specs.Prelude.{ℕ, List, [], ◌∷◌, Option, Some, None, Resu
 use Rattle.std.specs.List.{filter_map}
 use Rattle.desk_text.specs.declared.path.PathFault.{PathFault}
 use Rattle.desk_tables.specs.declared.credentials.Cred.{Cred}
-use Rattle.desk_exports.specs.Options.{has}
+use Rattle.desk_exports.specs.Options.{has_option}
 use Rattle.desk_exports.specs.declared.options.Keyword.TheVariants as keyword
 use Rattle.desk_exports.specs.declared.options.Setting.{Setting}
 use Rattle.desk_exports.specs.declared.parts.LineParts.{LineParts}
@@ -20,7 +20,7 @@ nobody = record { uid = 65534; gids = 65533 ∷ [] }
 
 -- the terms that the options say
 abbrev pub terms_of : List Setting → Terms
-terms_of settings = record { ro = has keyword.ReadOnly settings; flavours = Sys ∷ []; map = Root nobody }
+terms_of settings = record { ro = has_option keyword.ReadOnly settings; flavours = Sys ∷ []; map = Root nobody }
 
 -- the names, or, where none is written, everybody
 abbrev pub clients_of : List (List ℕ) → Clients
@@ -37,7 +37,7 @@ abbrev pub entry_of : ℕ → LineParts → Entry
 entry_of number line = record {
   line = number;
   dirs = filter_map path_in line.directories;
-  alldirs = has keyword.AllDirs line.settings;
+  alldirs = has_option keyword.AllDirs line.settings;
   terms = terms_of line.settings;
   clients = clients_of line.names;
 }

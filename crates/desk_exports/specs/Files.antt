@@ -1,26 +1,27 @@
 -- What the lines of a text answer: their entries, or the first fault. (exports(5))
-use Rattle.std.specs.Prelude.{ℕ, List, [], ◌∷◌, Option, Some, None, Result, Ok, Err}
-use Rattle.std.specs.List.{filter_map}
+use Rattle.std.specs.Prelude.{ℕ, ◌<◌, List, [], ◌∷◌, Option, Some, None, Result, Ok, Err}
+use Rattle.std.specs.List.{AllPairs, filter_map}
 use Rattle.desk_text.specs.Lines.{LogicalLine, logical_lines}
 use Rattle.desk_text.specs.declared.quoting.OpenQuote.{OpenQuote}
 use Rattle.desk_tables.specs.declared.filesystems.FsId.{FsId}
 use Rattle.desk_tables.specs.declared.filesystems.Mount.{Mount}
-use Rattle.desk_exports.specs.Lines.{home_of, line_answer, line_parts}
+use Rattle.desk_exports.specs.Lines.{fs_of_line, line_answer, line_parts}
 use Rattle.desk_exports.specs.declared.entry.Entry.{Entry}
 use Rattle.desk_exports.specs.declared.files.LineFault.{LineFault}
 use Rattle.desk_exports.specs.declared.parts.LineParts.{LineParts}
 use Rattle.desk_exports.specs.declared.rules.Rule.{Rule}
 use Rattle.desk_exports.specs.declared.rules.Rule.TheVariants as rule
 
--- an entry beside its file system; a line without a fault has one, as DirectoryElsewhere holds where there is none
+-- an entry beside its file system; a line without a fault has one: where there is none, NotAbsolute, BadPath or
+-- DirectoryElsewhere holds
 abbrev pub placed : Option ℕ → Result Entry Rule → Result (Option (FsId × Entry)) Rule
-placed home (Err r) = Err r
-placed (Some home) (Ok entry) = Ok (Some (record { 0 = home }, entry))
+placed own_fs (Err r) = Err r
+placed (Some own_fs) (Ok entry) = Ok (Some (record { 0 = own_fs }, entry))
 placed None (Ok entry) = Ok None
 
 -- what the parts of a line answer that is read for the file system of its first directory
 abbrev pub parts_answer : List Mount → ℕ → Result LineParts OpenQuote → Result (Option (FsId × Entry)) Rule
-parts_answer table number (Ok line) = placed (home_of table line) (line_answer table (home_of table line) number line)
+parts_answer table number (Ok line) = placed (fs_of_line table line) (line_answer table (fs_of_line table line) number line)
 parts_answer table number (Err quote) = Err rule.OpenQuote
 
 -- what a logical line answers
@@ -53,6 +54,10 @@ unless_fault (fault ∷ more) found = Err fault
 -- what lines answer
 abbrev pub lines_answer : List Mount → List LogicalLine → Result (List (FsId × Entry)) LineFault
 lines_answer table lines = unless_fault (faults table lines) (entries table lines)
+
+-- entries in the order of their lines, each line once
+abbrev pub EntriesAscend : List (FsId × Entry) → Type 0
+EntriesAscend found = AllPairs (λ placed later. placed.1.line < later.1.line) found
 
 -- what a whole text answers
 abbrev pub whole_answer : List Mount → List ℕ → Result (List (FsId × Entry)) LineFault

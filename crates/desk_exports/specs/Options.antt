@@ -7,25 +7,26 @@ use Rattle.desk_exports.specs.declared.options.Keyword.TheVariants.{ReadOnly, Al
 use Rattle.desk_exports.specs.declared.options.Setting.{Setting}
 
 -- a name is one of these
-abbrev pub is_one_of : List (List ℕ) → List ℕ → Bool
-is_one_of names name = list_any (bytes_eq name) names
+abbrev pub is_name_among : List (List ℕ) → List ℕ → Bool
+is_name_among names name = list_any (bytes_eq name) names
 
--- what the name of an option stands for
+-- What the name of an option stands for. The options that take a value (maproot, r, mapall, sec, network, mask) are not
+-- built yet, and are Unknown.
 abbrev pub keyword_of : List ℕ → Keyword
 keyword_of name =
-    if is_one_of (codes "ro" ∷ codes "o" ∷ []) name then ReadOnly
+    if is_name_among (codes "ro" ∷ codes "o" ∷ []) name then ReadOnly
     else if bytes_eq name (codes "alldirs") then AllDirs
     else if bytes_eq name (codes "quiet") then Quiet
-    else if is_one_of (codes "public" ∷ codes "webnfs" ∷ codes "index" ∷ codes "tls" ∷ codes "tlscert" ∷ codes "tlscertuser" ∷ []) name then LeftOut
+    else if is_name_among (codes "public" ∷ codes "webnfs" ∷ codes "index" ∷ codes "tls" ∷ codes "tlscert" ∷ codes "tlscertuser" ∷ []) name then LeftOut
     else Unknown
 
--- an option that has no value
-abbrev pub is_flag : Keyword → Bool
-is_flag ReadOnly = true
-is_flag AllDirs = true
-is_flag Quiet = true
-is_flag LeftOut = false
-is_flag Unknown = false
+-- a built option that takes no value
+abbrev pub takes_no_value : Keyword → Bool
+takes_no_value ReadOnly = true
+takes_no_value AllDirs = true
+takes_no_value Quiet = true
+takes_no_value LeftOut = false
+takes_no_value Unknown = false
 
 -- the place of a keyword, by which two are compared
 abbrev pub place : Keyword → ℕ
@@ -38,6 +39,6 @@ place Unknown = 4
 abbrev pub same_keyword : Keyword → Keyword → Bool
 same_keyword a b = place a == place b
 
--- an option is set
-abbrev pub has : Keyword → List Setting → Bool
-has keyword settings = list_any (λ s. same_keyword s.keyword keyword) settings
+-- an option with this keyword stands in the line, with or without `=`
+abbrev pub has_option : Keyword → List Setting → Bool
+has_option keyword settings = list_any (λ s. same_keyword s.keyword keyword) settings

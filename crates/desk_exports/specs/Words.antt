@@ -17,8 +17,8 @@ abbrev pub directories : List GrammarWord → List GrammarWord
 directories ws = take (prefix_len (λ w. is_absolute w.value) ws) ws
 
 -- the words after the directories
-abbrev pub others : List GrammarWord → List GrammarWord
-others ws = drop (prefix_len (λ w. is_absolute w.value) ws) ws
+abbrev pub after_directories : List GrammarWord → List GrammarWord
+after_directories ws = drop (prefix_len (λ w. is_absolute w.value) ws) ws
 
 -- a text behind the dash that it begins with
 abbrev pub after_dash : List ℕ → List ℕ
@@ -28,11 +28,11 @@ after_dash text = if slice_index text 0 == 45 then drop 1 text else text
 abbrev pub pieces : GrammarWord → List (List ℕ)
 pieces w = slice_split (λ b. b == 44) (after_dash w.value)
 
--- a piece is a name, or a name, `=` and a value
+-- the piece has an `=`
 abbrev pub has_equals : List ℕ → Bool
 has_equals piece = list_any (λ b. b == 61) piece
 
--- the option of a piece
+-- the option of a piece: what stands before the first `=` is its name, and what stands behind it its value
 abbrev pub setting : List ℕ → Setting
 setting piece = record {
   keyword = keyword_of (before_first (λ b. b == 61) piece);
@@ -48,7 +48,7 @@ abbrev pub settings : List GrammarWord → List Setting
 settings [] = []
 settings (w ∷ ws) = settings_at w ++ settings ws
 
--- the names are the words that are not dashed
+-- the names are the words that are not dashed (no option takes a value yet)
 abbrev pub names : List GrammarWord → List (List ℕ)
 names [] = []
 names (w ∷ ws) = (if w.dashed then [] else w.value ∷ []) ++ names ws
@@ -59,6 +59,6 @@ abbrev pub line_of : List GrammarWord → LineParts
 line_of ws = record {
   stray = list_any (λ w. w.hash) (drop 1 ws);
   directories = map (λ w. read_path w.value) (directories ws);
-  settings = settings (others ws);
-  names = names (others ws);
+  settings = settings (after_directories ws);
+  names = names (after_directories ws);
 }

@@ -1,12 +1,12 @@
 //! The lines of a text: their entries, or the first fault. (exports(5))
 
-ghost use Rattle.std.specs.Prelude.{◌≡◌, ◌≤◌, Ok, length};
+ghost use Rattle.std.specs.Prelude.{◌≡◌, ◌≤◌, IfOk, Ok, length};
 ghost use Rattle.desk_text.specs.Reading.{Reads};
 ghost use Rattle.desk_exports.specs.Files as spec;
 ghost use Rattle.desk_exports.specs.Pushes.{Pushes};
 
 use crate::entry::Entry;
-use crate::lines::{home_of, read_line, read_parts};
+use crate::lines::{fs_of_line, read_line, read_parts};
 use crate::parts::LineParts;
 use crate::rules::Rule;
 use desk_tables::{FileSystems, FsId};
@@ -29,7 +29,8 @@ pub fn read_whole(
     filesystems: &FileSystems,
 ) -> Result<Sequence<(FsId, Entry)>, ReadError<LineFault>>
     requires { length text.now ≤ 4294967294 }
-    ensures { Reads result (spec.whole_answer filesystems.now text.now) }
+    ensures read { Reads result (spec.whole_answer filesystems.now text.now) }
+    ensures ascending { IfOk result spec.EntriesAscend }
 {
     let lines = logical_lines(alloc, text)?;
     let mut entries = Sequence::new(alloc);
@@ -90,10 +91,10 @@ fn read_placed(
 ) -> Result<Option<(FsId, Entry)>, ReadError<Rule>>
     ensures { Reads result (spec.parts_answer filesystems.now number (Ok parts)) }
 {
-    let home = home_of(filesystems, &parts);
-    let entry = read_line(alloc, filesystems, home, number, parts)?;
-    match home {
-        Some(home) => Ok(Some((home, entry))),
+    let own_fs = fs_of_line(filesystems, &parts);
+    let entry = read_line(alloc, filesystems, own_fs, number, parts)?;
+    match own_fs {
+        Some(own_fs) => Ok(Some((own_fs, entry))),
         None => Ok(None),
     }
 }

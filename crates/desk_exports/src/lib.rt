@@ -13,7 +13,7 @@ pub mod words;
 
 pub use entry::{Clients, Entry, Flavour, Mapping, Terms};
 pub use files::{LineFault, read_whole};
-pub use lines::{home_of, read_line};
+pub use lines::{fs_of_line, read_line};
 pub use options::{Keyword, Setting};
 pub use parts::LineParts;
 pub use rules::{Rule, first_rule};

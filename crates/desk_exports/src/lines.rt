@@ -5,10 +5,10 @@ ghost use Rattle.std.specs.List.{filter_map};
 ghost use Rattle.std.specs.Option.{option_map};
 ghost use Rattle.desk_text.specs.Reading.{Reads};
 ghost use Rattle.desk_exports.specs.Entries as spec;
-ghost use Rattle.desk_exports.specs.Lines.{home_of, line_answer, line_parts};
+ghost use Rattle.desk_exports.specs.Lines.{fs_of_line, line_answer, line_parts};
 
 use crate::entry::{Clients, Entry, Flavour, Mapping, Terms};
-use crate::options::{Keyword, Setting, has};
+use crate::options::{Keyword, Setting, has_option};
 use crate::parts::LineParts;
 use crate::rules::{Rule, first_rule};
 use crate::words::grammar_words;
@@ -27,8 +27,8 @@ pub fn read_parts(alloc: Global, line: &Line) -> Result<LineParts, ReadError<Ope
 }
 
 /// The file system of the first directory of a line.
-pub fn home_of(filesystems: &FileSystems, line: &LineParts) -> Option<FsId>
-    ensures { result ≡ option_map (λ i. record { 0 = i }) (home_of filesystems.now line.now) }
+pub fn fs_of_line(filesystems: &FileSystems, line: &LineParts) -> Option<FsId>
+    ensures { result ≡ option_map (λ i. record { 0 = i }) (fs_of_line filesystems.now line.now) }
 {
     match line.directories.as_slice().first() {
         Some(Ok(path)) => filesystems.of(path),
@@ -40,13 +40,13 @@ pub fn home_of(filesystems: &FileSystems, line: &LineParts) -> Option<FsId>
 pub fn read_line(
     alloc: Global,
     filesystems: &FileSystems,
-    home: Option<FsId>,
+    own_fs: Option<FsId>,
     number: u32,
     line: LineParts,
 ) -> Result<Entry, ReadError<Rule>>
-    ensures { Reads result (line_answer filesystems.now (option_map (λ fs. fs.0) home) number line) }
+    ensures { Reads result (line_answer filesystems.now (option_map (λ fs. fs.0) own_fs) number line) }
 {
-    if let Some(rule) = first_rule(filesystems, home, &line) {
+    if let Some(rule) = first_rule(filesystems, own_fs, &line) {
         return Err(ReadError::Fault(rule));
     }
     let entry = make_entry(alloc, number, line)?;
@@ -63,7 +63,7 @@ fn make_entry(alloc: Global, number: u32, line: LineParts) -> Result<Entry, Allo
         settings,
         names,
     } = line;
-    let alldirs = has(settings.as_slice(), Keyword::AllDirs);
+    let alldirs = has_option(settings.as_slice(), Keyword::AllDirs);
     let terms = terms(alloc, settings.as_slice())?;
     let dirs = paths_of(alloc, directories)?;
     Ok(Entry {
@@ -110,7 +110,7 @@ fn terms(alloc: Global, settings: &[Setting]) -> Result<Terms, AllocError>
     let mut flavours = Sequence::new(alloc);
     flavours.push(Flavour::Sys)?;
     Ok(Terms {
-        ro: has(settings, Keyword::ReadOnly),
+        ro: has_option(settings, Keyword::ReadOnly),
         flavours,
         map: Mapping::Root(Cred::with_group(65534, 65533)),
     })

@@ -46,8 +46,8 @@ impl Keyword {
     }
 
     /// Whether the option has no value.
-    pub fn is_flag(self) -> bool
-        ensures { result ≡ options.is_flag self }
+    pub fn takes_no_value(self) -> bool
+        ensures { result ≡ options.takes_no_value self }
     {
         match self {
             Keyword::ReadOnly | Keyword::AllDirs | Keyword::Quiet => true,
@@ -92,8 +92,8 @@ fn parts_at_equals(piece: &str) -> (&str, Option<&str>)
 }
 
 /// Whether an option is set.
-pub fn has(settings: &[Setting], keyword: Keyword) -> bool
-    ensures { result ≡ options.has keyword settings.now }
+pub fn has_option(settings: &[Setting], keyword: Keyword) -> bool
+    ensures { result ≡ options.has_option keyword settings.now }
 {
     settings.iter().any(|setting| setting.keyword.is(keyword))
 }

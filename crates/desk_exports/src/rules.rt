@@ -7,7 +7,7 @@ ghost use Rattle.desk_text.specs.Addr.{is_address};
 ghost use Rattle.desk_text.specs.Path.{is_absolute};
 ghost use Rattle.desk_exports.specs.Rules as spec;
 
-use crate::options::{Keyword, Setting, has};
+use crate::options::{Keyword, Setting, has_option};
 use crate::parts::{LineParts, is_absolute};
 use desk_tables::{FileSystems, FsId};
 use desk_text::{Addr, Path, PathFault, Text, is_dotted};
@@ -95,18 +95,18 @@ impl Rule {
 }
 
 /// The rule that is named of a line, if one holds, where the line is read for this file system.
-pub fn first_rule(filesystems: &FileSystems, home: Option<FsId>, line: &LineParts) -> Option<Rule>
-    ensures { result ≡ spec.first_rule filesystems.now (option_map (λ fs. fs.0) home) line.now }
+pub fn first_rule(filesystems: &FileSystems, own_fs: Option<FsId>, line: &LineParts) -> Option<Rule>
+    ensures { result ≡ spec.first_rule filesystems.now (option_map (λ fs. fs.0) own_fs) line.now }
 {
     RULES
         .iter()
         .copied()
-        .find(|rule| breaks(filesystems, home, line, *rule))
+        .find(|rule| rule_holds(filesystems, own_fs, line, *rule))
 }
 
 /// Whether a rule holds of a line.
-fn breaks(filesystems: &FileSystems, home: Option<FsId>, line: &LineParts, rule: Rule) -> bool
-    ensures { result ≡ spec.breaks filesystems.now (option_map (λ fs. fs.0) home) line.now rule }
+fn rule_holds(filesystems: &FileSystems, own_fs: Option<FsId>, line: &LineParts, rule: Rule) -> bool
+    ensures { result ≡ spec.rule_holds filesystems.now (option_map (λ fs. fs.0) own_fs) line.now rule }
 {
     let directories = line.directories.as_slice();
     let settings = line.settings.as_slice();
@@ -117,13 +117,13 @@ fn breaks(filesystems: &FileSystems, home: Option<FsId>, line: &LineParts, rule:
         Rule::NotAbsolute => directories.is_empty(),
         Rule::DirectoryLate => has_late_directory(names),
         Rule::BadPath => has_bad_path(directories),
-        Rule::DirectoryElsewhere => has_elsewhere(filesystems, home, directories),
+        Rule::DirectoryElsewhere => has_elsewhere(filesystems, own_fs, directories),
         Rule::UnknownOption => has_unknown(settings),
-        Rule::OptionLeftOut => has(settings, Keyword::LeftOut),
+        Rule::OptionLeftOut => has_option(settings, Keyword::LeftOut),
         Rule::BadAddress => has_bad_name(names),
-        Rule::AlldirsMany => has(settings, Keyword::AllDirs) && directories.len() > 1,
-        Rule::AlldirsNotRoot => has(settings, Keyword::AllDirs)
-            && has_other_directory(filesystems, home, directories),
+        Rule::AlldirsMany => has_option(settings, Keyword::AllDirs) && directories.len() > 1,
+        Rule::AlldirsNotRoot => has_option(settings, Keyword::AllDirs)
+            && has_other_directory(filesystems, own_fs, directories),
     }
 }
 
@@ -141,55 +141,55 @@ fn has_bad_path(directories: &[Result<Path, PathFault>]) -> bool
 
 fn has_elsewhere(
     filesystems: &FileSystems,
-    home: Option<FsId>,
+    own_fs: Option<FsId>,
     directories: &[Result<Path, PathFault>],
 ) -> bool
     ensures { result
-        ≡ list_any (spec.is_elsewhere filesystems.now (option_map (λ fs. fs.0) home)) directories.now }
+        ≡ list_any (spec.is_elsewhere filesystems.now (option_map (λ fs. fs.0) own_fs)) directories.now }
 {
     directories
         .iter()
-        .any(|directory| is_elsewhere(filesystems, home, directory))
+        .any(|directory| is_elsewhere(filesystems, own_fs, directory))
 }
 
 fn is_elsewhere(
     filesystems: &FileSystems,
-    home: Option<FsId>,
+    own_fs: Option<FsId>,
     directory: &Result<Path, PathFault>,
 ) -> bool
-    ensures { result ≡ spec.is_elsewhere filesystems.now (option_map (λ fs. fs.0) home) directory.now }
+    ensures { result ≡ spec.is_elsewhere filesystems.now (option_map (λ fs. fs.0) own_fs) directory.now }
 {
     let Ok(path) = directory else {
         return false;
     };
-    let Some(home) = home else {
+    let Some(own_fs) = own_fs else {
         return true;
     };
     match filesystems.of(path) {
-        Some(id) => id.0 != home.0,
+        Some(id) => id.0 != own_fs.0,
         None => true,
     }
 }
 
 fn has_other_directory(
     filesystems: &FileSystems,
-    home: Option<FsId>,
+    own_fs: Option<FsId>,
     directories: &[Result<Path, PathFault>],
 ) -> bool
-    ensures { let mount = spec.mount_point filesystems.now (option_map (λ fs. fs.0) home) in
+    ensures { let mount = spec.mount_point filesystems.now (option_map (λ fs. fs.0) own_fs) in
         result ≡ list_any (spec.is_not_root mount) directories.now }
 {
-    let mount = mount_point(filesystems, home);
+    let mount = mount_point(filesystems, own_fs);
     directories
         .iter()
         .any(|directory| is_not_root(mount, directory))
 }
 
-fn mount_point(filesystems: &FileSystems, home: Option<FsId>) -> Option<&Path>
-    ensures { option_copied result ≡ spec.mount_point filesystems.now (option_map (λ fs. fs.0) home) }
+fn mount_point(filesystems: &FileSystems, own_fs: Option<FsId>) -> Option<&Path>
+    ensures { option_copied result ≡ spec.mount_point filesystems.now (option_map (λ fs. fs.0) own_fs) }
 {
-    match home {
-        Some(home) => filesystems.mount(home),
+    match own_fs {
+        Some(own_fs) => filesystems.mount(own_fs),
         None => None,
     }
 }
@@ -213,7 +213,8 @@ fn has_unknown(settings: &[Setting]) -> bool
 fn is_unknown(setting: &Setting) -> bool
     ensures { result ≡ spec.is_unknown setting.now }
 {
-    setting.keyword.is(Keyword::Unknown) || (setting.keyword.is_flag() && setting.value.is_some())
+    setting.keyword.is(Keyword::Unknown)
+        || (setting.keyword.takes_no_value() && setting.value.is_some())
 }
 
 fn has_bad_name(names: &[Text]) -> bool

@@ -1,7 +1,7 @@
 //! A text that contracts see as its bytes.
 #![tactic(auto)]
 
-ghost use Rattle.std.specs.Prelude.{◌≡◌, ◌==◌, ◌<◌, ℕ, List, IfOk, map};
+ghost use Rattle.std.specs.Prelude.{◌≡◌, ◌==◌, ◌<◌, ℕ, List, IfOk, map, string_bytes};
 ghost use Rattle.std.specs.List.{slice_split};
 
 use std::alloc::{AllocError, Global};
@@ -28,6 +28,13 @@ impl Text {
     {
         let inner = String::from_str(alloc, text)?;
         Ok(Text { inner })
+    }
+
+    /// A text that takes the string over.
+    pub fn from_string(inner: String) -> Text
+        ensures { result ≡ string_bytes inner }
+    {
+        Text { inner }
     }
 
     /// The text.

@@ -1,17 +1,20 @@
-use Rattle.std.proofs.Common.{◌≡◌, ◌++◌, ◌∙◌, ap, sym, subst, take, List, [], Err}
+use Rattle.std.proofs.Common.{◌≡◌, ◌++◌, ◌∙◌, ap, sym, subst, take, List, [], Ok, Err}
 use Rattle.std.specs.List.{cons_option}
+use Rattle.std.proofs.lemmas.List.{take_all}
 use Rattle.std.proofs.lemmas.Result.{err_from_is_err_and}
-use Rattle.desk_text.specs.Lines.{LogicalLine, logical_lines}
+use Rattle.desk_text.specs.Lines.{AreNumberedUp, LogicalLine, logical_lines}
 use Rattle.desk_text.specs.Reading.{Reads}
-use Rattle.desk_exports.specs.Files.{entry_in, faults, lines_answer, logical_answer}
+use Rattle.desk_exports.specs.Files.{entries, entry_in, faults, lines_answer, logical_answer, unless_fault, whole_answer}
+use Rattle.desk_exports.proofs.AscendingEntries.{entries_ascend}
+use Rattle.desk_exports.proofs.SoundTexts.{each_line_has_an_entry}
 use Rattle.desk_exports.proofs.FileLemmas.{entries_more, exit, faults_more}
 use Rattle.desk_exports.proofs.files.read_whole.Goals as goal
 
-pub returns-in_err-push_line : goal.returns-in_err-push_line
-returns-in_err-push_line c =
+pub returns-in_err-push_line-clause-read : goal.returns-in_err-push_line-clause-read
+returns-in_err-push_line-clause-read c =
     let table = c.args.filesystems.now in
     let ls = c.deref-line-items.result.now in
-    let text : ls ≡ logical_lines c.args.text.now = c.deref-line-items.ensures.value ∙ c.in_ok-lines.ensures in
+    let text : ls ≡ logical_lines c.args.text.now = c.deref-line-items.ensures.value ∙ c.in_ok-lines.ensures.lines in
     let p = err_from_is_err_and c.from_residual-in_err-push_line.result c.from_residual-in_err-push_line.ensures.1 in
     let P : List LogicalLine → Type 0 = λ lines. Reads (Err c.in_err-push_line.field-0.0) (lines_answer table lines) in
     rw (p.1, p.2) (subst P text (exit table ls c.loop-line.line-index c.in_err-push_line.field-0.0 c.line-item.result c.loop-line.entries c.push_line.new.entries
@@ -29,3 +32,15 @@ loop-line-preserved c =
           ∙ ap (λ es. es ++ cons_option (entry_in (logical_answer table c.line-item.result)) []) c.loop-line.invariant.read
           ∙ sym (entries_more table ls c.loop-line.line-index c.line-item.result c.loop-line-test.true c.line-item.is);
     }
+
+pub returns-clause-ascending : goal.returns-clause-ascending
+returns-clause-ascending c =
+    let table = c.args.filesystems.now in
+    let ls = c.deref-line-items.result.now in
+    let text : ls ≡ logical_lines c.args.text.now = c.deref-line-items.ensures.value ∙ c.in_ok-lines.ensures.lines in
+    let all : take c.loop-line.line-index ls ≡ logical_lines c.args.text.now = take_all c.loop-line.line-index ls c.loop-line-test.false ∙ text in
+    let sound : faults table (logical_lines c.args.text.now) ≡ [] = ap (faults table) (sym all) ∙ c.loop-line.invariant.sound in
+    let read : entries table (logical_lines c.args.text.now) ≡ c.loop-line.entries = ap (entries table) (sym all) ∙ sym c.loop-line.invariant.read in
+    let answer : whole_answer table c.args.text.now ≡ Ok c.loop-line.entries = ap (λ fs. unless_fault fs (entries table (logical_lines c.args.text.now))) sound ∙ ap Ok read in
+    entries_ascend c.loop-line.entries (logical_lines c.args.text.now) (each_line_has_an_entry table c.args.text.now c.loop-line.entries answer).0
+    (subst AreNumberedUp (sym c.deref-line-items.ensures.value ∙ text) c.in_ok-lines.ensures.ascending)
