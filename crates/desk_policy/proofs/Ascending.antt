@@ -15,8 +15,10 @@ use Rattle.std.proofs.lemmas.List.Folds.{list_any-append, list_any_at, list_any_
 use Rattle.std.proofs.lemmas.Cmp.{nat_cmp_total}
 use Rattle.std.specs.Cmp.{nat_cmp_is}
 use Rattle.std.specs.declared.cmp.Ordering.TheVariants.{Less, Equal, Greater}
-use Rattle.desk_text.specs.Addr.{read_addr}
+use Rattle.desk_text.specs.declared.address.Addr.{Addr}
+use Rattle.desk_text.specs.Addr.{number_of, read_addr}
 use Rattle.desk_text.specs.declared.address.AddrFault.{AddrFault}
+use Rattle.desk_policy.specs.Steps.{IsSortedOnce}
 use Rattle.desk_policy.specs.Names.{stands_for, is_read_as, number_read, put_in_place, ascending, addresses_of_names, AreAddressesOf}
 
 -- each of these is above the number
@@ -273,3 +275,7 @@ module _ {X : Type 0} (number : X → ℕ) where
       sym (any_mapped n (x ∷ xs) ∙ list_any_at (λ y. eqb (number y) n) (x ∷ xs) i x range (eq-eqb _ n (equal_numbers _ n (found x))))
   search_finds xs n (Err i) h range found =
       sym (lacks xs n i (found (searchable_from_sorted nat_cmp_total number xs n (sorted_from xs h))))
+
+-- addresses that are sorted, each once, are in ascending order
+pub sorted_once : (xs ys zs : List Addr) → IsPermutation xs ys → IsSorted (by_number number_of) ys → IsFiltered (DiffersFromLast (same number_of)) [] ys zs → IsSortedOnce (map number_of xs) (map number_of zs)
+sorted_once xs ys zs moved sorted kept = record { ascend = once_ascends number_of ys zs sorted kept; same = once_is number_of xs ys zs moved sorted kept }

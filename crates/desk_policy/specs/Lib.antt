@@ -4,4 +4,4 @@ pub mod Selection
 pub mod Verdicts
 pub mod Scan
 pub mod Prints
-pub mod Adding
+pub mod Steps

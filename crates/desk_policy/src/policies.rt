@@ -2,7 +2,7 @@
 
 ghost use Rattle.std.specs.Prelude.{◌≡◌, ◌≤◌, List, [], IfOk, OnOk, length, replicate};
 ghost use Rattle.desk_policy.specs.Content.{content_of, rows_of};
-ghost use Rattle.desk_policy.specs.Adding.{with_row};
+ghost use Rattle.desk_policy.specs.Steps.{with_row};
 
 use crate::rows::Row;
 use desk_exports::Entry;

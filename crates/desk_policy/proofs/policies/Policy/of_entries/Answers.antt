@@ -7,7 +7,7 @@ use Rattle.desk_tables.specs.declared.filesystems.FsId.{FsId}
 use Rattle.desk_exports.specs.declared.entry.Entry.{Entry}
 use Rattle.desk_policy.specs.declared.rows.Row.{Row}
 use Rattle.desk_policy.specs.Content.{Content, content_of, row_of, rows_placed}
-use Rattle.desk_policy.specs.Adding.{with_row}
+use Rattle.desk_policy.specs.Steps.{with_row}
 use Rattle.desk_policy.proofs.Placing.{none_placed, placed_beyond, placed_within}
 use Rattle.desk_policy.proofs.policies.Policy.of_entries.Goals as goal
 use Rattle.desk_policy.proofs.policies.Policy.of_entries.Goals.{After-drop-fs-iterator-2}

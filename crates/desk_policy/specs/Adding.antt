@@ -1,7 +1,0 @@
--- What the private contract that adds a line cites.
-use Rattle.std.specs.Prelude.{ℕ, nat_lt, List, [], ◌∷◌, ◌++◌, length, slice_index_or, slice_set, if◌then◌else◌}
-use Rattle.desk_policy.specs.declared.rows.Row.{Row}
-
--- the lists, of which the one of this file system, if there is one, has one more line
-abbrev pub with_row : List (List Row) → ℕ → Row → List (List Row)
-with_row lists fs row = if nat_lt fs (length lists) then slice_set lists fs (slice_index_or lists fs [] ++ row ∷ []) else lists
