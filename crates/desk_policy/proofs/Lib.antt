@@ -3,3 +3,4 @@ pub mod Ascending
 pub mod Placing
 pub mod Scanning
 pub mod Naming
+pub mod LeastLines

@@ -1,6 +1,6 @@
 -- What a policy has in force: the table of file systems, and the lines of each.
-use Rattle.std.specs.Prelude.{◌≡◌, ℕ, ◌==◌, List, [], nat_lt, length, map, filter, slice_index_or, if◌then◌else◌}
-use Rattle.std.specs.List.{range_with_len}
+use Rattle.std.specs.Prelude.{◌≡◌, ℕ, ◌<◌, ◌==◌, List, [], nat_lt, length, map, filter, slice_index_or, if◌then◌else◌}
+use Rattle.std.specs.List.{All, AllPairs, range_with_len}
 use Rattle.desk_tables.specs.declared.filesystems.FsId.{FsId}
 use Rattle.desk_tables.specs.declared.filesystems.Mount.{Mount}
 use Rattle.desk_exports.specs.declared.entry.Entry.{Entry}
@@ -16,9 +16,14 @@ pub record Content : Type 0 where
   pub table : List Mount
   pub rows : List (List Row)
 
--- lines for each file system
-abbrev pub HasRowsOfEach : Content → Type 0
-HasRowsOfEach content = length content.rows ≡ length content.table
+-- lines in the order of their numbers, each number once
+abbrev pub AreAscending : List Row → Type 0
+AreAscending rows = AllPairs (λ row later. row.entry.line < later.entry.line) rows
+
+-- lines for each file system, in order
+pub record IsContent (content : Content) : Type 0 where
+  pub each : length content.rows ≡ length content.table
+  pub ascending : All AreAscending content.rows
 
 -- the lines of a file system, none where there is no such file system
 abbrev pub rows_of : Content → ℕ → List Row

@@ -1,11 +1,11 @@
 -- Who may mount what. (this project's own, over exports(5))
-use Rattle.std.specs.Prelude.{ℕ, ◌==◌, ◌||◌, ◌&&◌, Bool, false, List, [], ◌∷◌, Option, Some, None, Result, Ok, Err, find}
-use Rattle.std.specs.List.{list_any}
+use Rattle.std.specs.Prelude.{◌≡◌, ℕ, ◌≤◌, ◌==◌, ◌||◌, ◌&&◌, Bool, true, false, List, [], ◌∷◌, Option, Some, None, Result, Ok, Err, find}
+use Rattle.std.specs.List.{AllByRecursion, list_any}
 use Rattle.desk_text.specs.Path.{same_path}
 use Rattle.desk_tables.specs.Mounts.{fs_of}
 use Rattle.desk_tables.specs.declared.filesystems.FsId.{FsId}
 use Rattle.desk_exports.specs.declared.entry.Terms.{Terms}
-use Rattle.desk_policy.specs.Content.{Content, rows_of}
+use Rattle.desk_policy.specs.Content.{AreAscending, Content, rows_of}
 use Rattle.desk_policy.specs.Selection.{selected}
 use Rattle.desk_policy.specs.declared.rows.Row.{Row}
 use Rattle.desk_policy.specs.declared.verdicts.Denial.{Denial}
@@ -33,7 +33,7 @@ is_one_of path dirs = list_any (λ dir. same_path dir path) dirs
 abbrev pub lists : Content → ℕ → List (List ℕ) → Row → Bool
 lists content fs path row = is_one_of path row.entry.dirs || (row.entry.alldirs && is_in (fs_of content.table path) fs)
 
--- the least selected line that lists the path grants it; where none does, the first selected line is named
+-- the line that was found grants; where none was, the first selected line is named
 abbrev pub granted_by : FsId → Row → Option Row → Result Grant Denial
 granted_by fs first None = Err (NotListed fs first.entry.line)
 granted_by fs first (Some row) = Ok (record { fs = fs; line = row.entry.line; terms = row.entry.terms })
@@ -51,6 +51,25 @@ verdict_in content address path (Some fs) = verdict_among (record { 0 = fs }) (l
 -- the verdict for an address and a path
 unfoldable pub verdict_of : Content → ℕ → List (List ℕ) → Result Grant Denial
 verdict_of content address path = verdict_in content address path (fs_of content.table path)
+
+-- a line with this number passes, and none that passes has a smaller number
+pub record IsLeastLine (passes : Row → Bool) (rows : List Row) (line : ℕ) : Type 0 where
+  pub found : list_any (λ row. passes row && row.entry.line == line) rows ≡ true
+  pub least : AllByRecursion (λ row. passes row ≡ true → line ≤ row.entry.line) rows
+
+-- the verdict names the least selected line that lists the path; where none does, the least selected line; and where
+-- nothing is selected, none
+abbrev pub NamesLeastLine : (Row → Bool) → List Row → Result Grant Denial → Type 0
+NamesLeastLine listing chosen (Ok grant) = IsLeastLine listing chosen grant.line
+NamesLeastLine listing chosen (Err NoFileSystem) = ⊥
+NamesLeastLine listing chosen (Err (NoLine fs)) = chosen ≡ []
+NamesLeastLine listing chosen (Err (NotListed fs line)) = (list_any listing chosen ≡ false) × IsLeastLine (λ row. true) chosen line
+
+-- Of lines in the order of their numbers the least is named.
+abbrev pub LeastLinesAreNamed : Type 0
+LeastLinesAreNamed =
+    (fs : FsId) (listing : Row → Bool) (rows : List Row) (address : ℕ) → AreAscending rows
+    → NamesLeastLine listing (selected rows address) (verdict_among fs listing (selected rows address))
 
 -- a verdict by value
 abbrev pub shown : Verdict → Result Grant Denial

@@ -1,6 +1,7 @@
 //! A policy: the table of file systems, and the lines of each.
 
 ghost use Rattle.std.specs.Prelude.{◌≡◌, ◌≤◌, List, [], IfOk, OnOk, length, replicate};
+ghost use Rattle.desk_exports.specs.Files.{EntriesAscend};
 ghost use Rattle.desk_policy.specs.Content.{content_of, rows_of};
 ghost use Rattle.desk_policy.specs.Steps.{with_row};
 
@@ -19,23 +20,24 @@ pub struct Policy {
 }
 
 impl Model for Policy {
-    ghost use Rattle.desk_policy.specs.Content.{Content, HasRowsOfEach};
+    ghost use Rattle.desk_policy.specs.Content.{Content, IsContent};
 
     ghost Value = { Content };
 
     ghost view = { λ p. record { table = p.filesystems; rows = p.rows.items } };
 
-    ghost invariant = { λ p. HasRowsOfEach (record { table = p.filesystems; rows = p.rows.items }) };
+    ghost invariant = { λ p. IsContent (record { table = p.filesystems; rows = p.rows.items }) };
 }
 
 impl Policy {
     /// The policy with these file systems and the lines of these entries, each in the file system that is given with
-    /// it. An entry of a file system that is not in the table is in none.
+    /// it. The entries come in the order of their lines. An entry of a file system that is not in the table is in none.
     pub fn of_entries(
         alloc: Global,
         filesystems: FileSystems,
         entries: Sequence<(FsId, Entry)>,
     ) -> Result<Policy, AllocError>
+        requires { EntriesAscend entries }
         ensures { IfOk result (λ policy. policy ≡ content_of filesystems entries) }
     {
         let mut rows = empty_lists(alloc, &filesystems)?;
