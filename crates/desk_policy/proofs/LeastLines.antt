@@ -39,21 +39,21 @@ least_found passes [] row up e = absurd (cc)
 least_found passes (first ∷ rows) row up e =
     by_case passes first rows row (passes first) refl up (λ later. least_found passes rows row (behind first rows up) later) e
   where
-  by_case : (passes : Row → Bool) (first : Row) (rows : List Row) (row : Row) (b : Bool) → passes first ≡ b → AreAscending (first ∷ rows)
-      → (find passes rows ≡ Some row → IsLeastLine passes rows row.entry.line) → cond b (Some first) (find passes rows) ≡ Some row → IsLeastLine passes (first ∷ rows) row.entry.line
-  by_case passes first rows row true h up later e =
-      let same : first ≡ row = cc in
-      rw (← same) (first_passes passes first rows up h)
-  by_case passes first rows row false h up later e = later_passes passes first rows row.entry.line h (later e)
+    by_case : (passes : Row → Bool) (first : Row) (rows : List Row) (row : Row) (b : Bool) → passes first ≡ b → AreAscending (first ∷ rows)
+        → (find passes rows ≡ Some row → IsLeastLine passes rows row.entry.line) → cond b (Some first) (find passes rows) ≡ Some row → IsLeastLine passes (first ∷ rows) row.entry.line
+    by_case passes first rows row true h up later e =
+        let same : first ≡ row = cc in
+        rw (← same) (first_passes passes first rows up h)
+    by_case passes first rows row false h up later e = later_passes passes first rows row.entry.line h (later e)
 
 none_listed : (passes : Row → Bool) (rows : List Row) → find passes rows ≡ None → list_any passes rows ≡ false
 none_listed passes [] e = refl
 none_listed passes (row ∷ rows) e = by_case passes row rows (passes row) refl (none_listed passes rows) e
   where
-  by_case : (passes : Row → Bool) (row : Row) (rows : List Row) (b : Bool) → passes row ≡ b → (find passes rows ≡ None → list_any passes rows ≡ false)
-      → cond b (Some row) (find passes rows) ≡ None → (passes row || list_any passes rows) ≡ false
-  by_case passes row rows true h later e = absurd (cc)
-  by_case passes row rows false h later e = ap (λ b. b || list_any passes rows) h ∙ later e
+    by_case : (passes : Row → Bool) (row : Row) (rows : List Row) (b : Bool) → passes row ≡ b → (find passes rows ≡ None → list_any passes rows ≡ false)
+        → cond b (Some row) (find passes rows) ≡ None → (passes row || list_any passes rows) ≡ false
+    by_case passes row rows true h later e = absurd (cc)
+    by_case passes row rows false h later e = ap (λ b. b || list_any passes rows) h ∙ later e
 
 by_found : (fs : FsId) (listing : Row → Bool) (first : Row) (others : List Row) (found : Option Row) → find listing (first ∷ others) ≡ found → AreAscending (first ∷ others)
     → NamesLeastLine listing (first ∷ others) (granted_by fs first found)

@@ -4,3 +4,4 @@ pub mod Placing
 pub mod Scanning
 pub mod Naming
 pub mod LeastLines
+pub mod AscendingRows

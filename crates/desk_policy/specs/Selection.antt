@@ -5,10 +5,14 @@ use Rattle.desk_exports.specs.declared.entry.Clients.{Clients}
 use Rattle.desk_exports.specs.declared.entry.Clients.TheVariants.{Hosts, World}
 use Rattle.desk_policy.specs.declared.rows.Row.{Row}
 
--- The weight with which a line for these clients matches an address: 34 where one of its names stands for the address,
+-- the weight of a line that names the client
+abbrev pub name_weight : ℕ
+name_weight = 34
+
+-- The weight with which a line for these clients matches an address: that of a name where one of its names stands for the address,
 -- 0 where it is for everybody.
 abbrev pub weight_by : Clients → List ℕ → ℕ → Option ℕ
-weight_by (Hosts names) addresses address = if list_any (λ other. other == address) addresses then Some 34 else None
+weight_by (Hosts names) addresses address = if list_any (λ other. other == address) addresses then Some name_weight else None
 weight_by World addresses address = Some 0
 
 -- the weight with which a line matches an address, and None where it does not match
@@ -20,7 +24,7 @@ abbrev pub is_at_most : Option ℕ → ℕ → Bool
 is_at_most None weight = true
 is_at_most (Some other) weight = nat_le other weight
 
--- a match than which no line matches with a greater weight
+-- a match, and no line matches with a greater weight
 abbrev pub is_greatest : List Row → ℕ → Option ℕ → Bool
 is_greatest rows address None = false
 is_greatest rows address (Some weight) = list_all (λ other. is_at_most (weight_of other address) weight) rows

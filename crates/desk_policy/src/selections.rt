@@ -4,12 +4,15 @@ ghost use Rattle.std.specs.Prelude.{◌≡◌, ◌&&◌, find};
 ghost use Rattle.std.specs.Option.{option_copied};
 ghost use Rattle.desk_text.specs.Addr.{number_of};
 ghost use Rattle.desk_policy.specs.Selection.{weight_of};
-ghost use Rattle.desk_policy.specs.Verdicts.{is_one_of};
+ghost use Rattle.desk_policy.specs.Verdicts.{is_directory_among};
 ghost use Rattle.desk_policy.specs.Scan.{has_weight, greater, lists_here, IsGreatest};
 
 use crate::rows::Row;
 use desk_exports::Clients;
 use desk_text::{Addr, Path};
+
+/// The weight of a line that names the client.
+const NAME_WEIGHT: u8 = 34;
 
 /// The weight with which a line matches an address, if it does.
 pub fn weight_of(row: &Row, address: Addr) -> Option<u8>
@@ -18,7 +21,7 @@ pub fn weight_of(row: &Row, address: Addr) -> Option<u8>
     match &row.entry.clients {
         Clients::Hosts(_) => {
             if row.addrs.has(address) {
-                Some(34)
+                Some(NAME_WEIGHT)
             } else {
                 None
             }
@@ -77,11 +80,11 @@ pub fn first_listing<'a>(rows: &'a [Row], address: Addr, weight: u8, path: &Path
 fn lists_here(row: &Row, path: &Path) -> bool
     ensures { result ≡ lists_here path.now row.now }
 {
-    is_one_of(path, row.entry.dirs.as_slice()) || row.entry.alldirs
+    is_directory_among(path, row.entry.dirs.as_slice()) || row.entry.alldirs
 }
 
-fn is_one_of(path: &Path, dirs: &[Path]) -> bool
-    ensures { result ≡ is_one_of path.now dirs.now }
+fn is_directory_among(path: &Path, dirs: &[Path]) -> bool
+    ensures { result ≡ is_directory_among path.now dirs.now }
 {
     dirs.iter().any(|dir| dir == path)
 }

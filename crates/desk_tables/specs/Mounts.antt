@@ -18,7 +18,7 @@ mount_points table = map (λ mount. mount.path) table
 abbrev pub AreAscending : List Mount → Type 0
 AreAscending table = AllPairs (λ mount later. is_before mount.path later.path ≡ true) table
 
--- The table of the mount points given: each given one is listed, in one spelling or another; only given ones are; each
+-- The table of the mount points given: each given one is listed, compared as printed; only given ones are; each
 -- stands before the later ones; and nobody keeps any.
 pub record IsTableOf (given : List (List (List ℕ))) (table : List Mount) : Type 0 where
   pub listed : All (λ path. list_any (same_path path) (mount_points table) ≡ true) given

@@ -6,7 +6,7 @@ use arrayvec::ArrayVec;
 use std::fmt;
 use std::marker::Model;
 
-/// Up to sixteen group numbers, in the order written.
+/// Up to sixteen group numbers, in their order.
 #[derive(Clone, Debug, Drop)]
 pub struct GroupIds {
     items: ArrayVec<u32, 16>,

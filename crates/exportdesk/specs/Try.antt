@@ -12,12 +12,12 @@ use Rattle.desk_policy.specs.Prints.{verdict_line}
 use Rattle.desk_policy.specs.Verdicts.{verdict_of}
 
 -- the printed verdict of a policy for an address and a path
-abbrev pub verdict_text : Content → ℕ → List (List ℕ) → List ℕ
-verdict_text content address path = verdict_line content (verdict_of content address path)
+abbrev pub printed_verdict : Content → ℕ → List (List ℕ) → List ℕ
+printed_verdict content address path = verdict_line content (verdict_of content address path)
 
 -- the printed verdict over the entries of a text, or its fault
 abbrev pub verdict_over : List Mount → ℕ → List (List ℕ) → Result (List (FsId × Entry)) LineFault → Result (List ℕ) LineFault
-verdict_over table address path (Ok placed) = Ok (verdict_text (content_of table placed) address path)
+verdict_over table address path (Ok placed) = Ok (printed_verdict (content_of table placed) address path)
 verdict_over table address path (Err fault) = Err fault
 
 -- the printed verdict for an address and a path over an exports text, with these file systems; or the text's first fault

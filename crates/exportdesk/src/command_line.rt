@@ -21,6 +21,9 @@ fn try_command<'a>(alloc: Global) -> Result<Command<'a>, AllocError> {
     let mounts = word(alloc, "MOUNT", "The mount points of the file systems").num_args(1..);
     Command::new(alloc, "try")
         .about("Prints the verdict on one mount, by one exports text")
+        .after_help(
+            "Status: 0 granted, 1 denied, 2 bad words or file, 3 faulty text, 4 no memory or no print.",
+        )
         .arg(word(alloc, "FILE", "The exports text; - is standard input"))?
         .arg(word(alloc, "HOST", "The IPv4 address of the client"))?
         .arg(word(alloc, "DIR", "The directory that it asks for"))?

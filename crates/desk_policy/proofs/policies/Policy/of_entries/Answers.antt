@@ -1,12 +1,13 @@
-use Rattle.std.proofs.Common.{◌≡◌, ◌<◌, ◌++◌, inl, inr, ℕ, ltb, List, [], ◌∷◌, length, get_or, set, map, sym, ◌∙◌, ap, zero-add, arith}
-use Rattle.std.specs.List.{range_with_len}
+use Rattle.std.proofs.Common.{◌≡◌, ◌<◌, ◌++◌, inl, inr, ℕ, ltb, List, [], ◌∷◌, length, get_or, set, map, sym, subst, ◌∙◌, ap, zero-add, arith}
+use Rattle.std.specs.List.{All, range_with_len}
 use Rattle.std.proofs.lemmas.Bool.{cases_lt, cond-true, cond-false, lt-ltb, le-ltb}
 use Rattle.std.proofs.lemmas.List.{append_assoc, append-nil, nil_from_length}
 use Rattle.std.proofs.lemmas.List.FromFn.{length-map-range_with_len}
 use Rattle.desk_tables.specs.declared.filesystems.FsId.{FsId}
 use Rattle.desk_exports.specs.declared.entry.Entry.{Entry}
 use Rattle.desk_policy.specs.declared.rows.Row.{Row}
-use Rattle.desk_policy.specs.Content.{Content, content_of, row_of, rows_placed}
+use Rattle.desk_policy.specs.Content.{AreAscending, Content, content_of, row_of, rows_placed}
+use Rattle.desk_policy.proofs.AscendingRows.{each_ascends}
 use Rattle.desk_policy.specs.Steps.{with_row}
 use Rattle.desk_policy.proofs.Placing.{none_placed, placed_beyond, placed_within}
 use Rattle.desk_policy.proofs.policies.Policy.of_entries.Goals as goal
@@ -55,7 +56,10 @@ all_lists c =
     c.loop-fs.invariant.lists ∙ ap (λ (entries : List (FsId × Entry)). map (rows_placed entries) (range_with_len 0 (length c.args.filesystems))) done
 
 pub invariant_of-result : goal.invariant_of-result
-invariant_of-result c = lists-length c.loop-fs.rows.items c.loop-fs.yielded (length c.args.filesystems) c.loop-fs.invariant.lists
+invariant_of-result c = record {
+  each = lists-length c.loop-fs.rows.items c.loop-fs.yielded (length c.args.filesystems) c.loop-fs.invariant.lists;
+  ascending = subst (λ lists. All AreAscending lists) (sym (all_lists c)) (each_ascends c.args.entries (range_with_len 0 (length c.args.filesystems)) c.requires);
+}
 
 pub returns : goal.returns
 unfolding content_of
