@@ -1,6 +1,5 @@
 -- The entries of a text ascend by their lines.
 use Rattle.std.proofs.Common.{◌≡◌, ◌<◌, ℕ, List, [], length, map, get_or, sym, ap, ◌∙◌, arith}
-use Rattle.std.specs.List.{AllPairs}
 use Rattle.std.proofs.lemmas.List.{get_or-map, length-map}
 use Rattle.desk_text.specs.Lines.{AreNumberedUp, LogicalLine}
 use Rattle.desk_tables.specs.declared.filesystems.FsId.{FsId}

@@ -1,7 +1,6 @@
 -- The order of the rules forgets none.
-use Rattle.std.proofs.Common.{◌≡◌, ℕ, Bool, true, false, cond, List, [], ◌∷◌, Option, None, Some, find, refl, ap, ◌∙◌}
+use Rattle.std.proofs.Common.{◌≡◌, Bool, false, cond, List, [], ◌∷◌, None, Some, find, refl, ap, ◌∙◌}
 use Rattle.std.specs.List.{AllByRecursion}
-use Rattle.desk_tables.specs.declared.filesystems.Mount.{Mount}
 use Rattle.desk_exports.specs.Laws.{NamedWhereSomeHolds}
 use Rattle.desk_exports.specs.Rules.{rule_holds, rules_in_order}
 use Rattle.desk_exports.proofs.SoundLines.{none_passes}

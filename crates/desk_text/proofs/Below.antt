@@ -1,9 +1,8 @@
 -- A path is under another where its printed form goes on behind the other's.
-use Rattle.std.proofs.Common.{◌≡◌, ◌≢◌, ◌⊎◌, inl, inr, ℕ, ◌<◌, Bool, true, false, not, ◌&&◌, eqb, eq-eqb, List, [], ◌∷◌, ◌++◌, length, drop, refl, sym, ap, ◌∙◌, arith}
+use Rattle.std.proofs.Common.{◌≡◌, ◌≢◌, ◌⊎◌, inl, inr, ℕ, Bool, true, false, ◌&&◌, eqb, eq-eqb, List, [], ◌∷◌, ◌++◌, refl, sym, ap, ◌∙◌}
 use Rattle.std.specs.List.{flat_map, AllByRecursion}
 use Rattle.std.specs.Str.{bytes_eq}
 use Rattle.std.proofs.lemmas.Bool.{cases_Bool, eqb-true, eqb-false, ne_eqb, true≢false}
-use Rattle.std.proofs.lemmas.List.{append-nil}
 use Rattle.desk_text.specs.Path.{components, path_text, is_under}
 use Rattle.desk_text.specs.Scan.{ends_component, goes_below}
 use Rattle.desk_text.proofs.Slashes.{IsComponent, NoSlash, are_components, slashes}

@@ -1,15 +1,14 @@
 -- Laws of physical and logical lines.
-use Rattle.std.proofs.Common.{◌≡◌, ◌⊎◌, inl, inr, cond, min, ℕ, suc, ◌+◌, ◌-◌, ◌<◌, ◌≤◌, Bool, true, false, not, eqb, List, [], ◌∷◌, ◌++◌, length, take, drop, map, filter, get_or, refl, sym, ap, subst, ◌∙◌, append_assoc, length-append, arith}
+use Rattle.std.proofs.Common.{◌≡◌, inl, inr, cond, min, ℕ, suc, ◌+◌, ◌-◌, ◌<◌, ◌≤◌, Bool, true, false, not, eqb, List, [], ◌∷◌, ◌++◌, length, take, drop, map, get_or, refl, sym, ap, subst, ◌∙◌, append_assoc, length-append, arith}
 use Rattle.std.specs.List.{AllByRecursion, AllPairs, All, flat_map, slice_split, join_with_byte, onto_first}
 use Rattle.std.specs.Str.Lines.{lines_of_parts, strip_carriage_return}
 use Rattle.std.proofs.lemmas.Bool.{cond_both, cases_lt}
 use Rattle.std.proofs.lemmas.List.{append-nil, take-take, take_all, take-append-le, length-take, length-take-le}
 use Rattle.std.proofs.Math.Seq.{drop-append_seam, take-length}
-use Rattle.std.proofs.lemmas.List.Concat.{flat_map-append}
 use Rattle.std.proofs.lemmas.List.Elements.{All-cons}
 use Rattle.std.proofs.lemmas.List.Kept.{AllPairs-cons, AllPairs-filter}
 use Rattle.std.proofs.lemmas.List.Splits.{join_with_byte-slice_split}
-use Rattle.desk_text.specs.Lines.{PhysicalLine, physical_line, physical_lines_from, physical_lines, LogicalLine, is_continued, trimmed, without_continuation, groups, numbered, kept, is_skipped, logical_lines}
+use Rattle.desk_text.specs.Lines.{PhysicalLine, physical_line, physical_lines_from, physical_lines, LogicalLine, is_continued, trimmed, groups, numbered, kept, is_skipped, logical_lines}
 use Rattle.desk_text.specs.Laws.{Slice, AreSlices, whole_slice, text_slice, parts_of, PhysicalLinesAreLines, LinesAscend, PartsAreSlices}
 use Rattle.desk_text.proofs.OneGrouping.{all_lines}
 

@@ -1,5 +1,5 @@
 -- Paths that are printed alike.
-use Rattle.std.proofs.Common.{◌≡◌, ℕ, Bool, true, false, not, cond, eqb, List, [], ◌∷◌, length, Result, Ok, Err, refl, sym, ap, ◌∙◌}
+use Rattle.std.proofs.Common.{◌≡◌, ℕ, Bool, true, false, not, cond, eqb, List, length, Result, Ok, Err, refl, sym, ap, ◌∙◌}
 use Rattle.std.specs.List.{list_any, slice_split}
 use Rattle.std.specs.Prelude.{nat_lt}
 use Rattle.desk_text.specs.declared.path.PathFault.{PathFault}

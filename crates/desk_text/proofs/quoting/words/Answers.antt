@@ -1,6 +1,5 @@
-use Rattle.std.proofs.Common.{◌≡◌, not, ap, ◌∙◌, true, false, refl, subst, sym, IsTrue, rules}
+use Rattle.std.proofs.Common.{not, ap, ◌∙◌, subst, sym, IsTrue, rules}
 use Rattle.std.proofs.lemmas.Bool.{cond-true}
-use Rattle.desk_text.specs.Words.{has_open_quote}
 use Rattle.desk_text.proofs.Placed.{fits-at}
 use Rattle.desk_text.proofs.WordList.{words_more, closed_more, open_part}
 use Rattle.desk_text.proofs.quoting.words.Goals as goal
