@@ -16,3 +16,4 @@ pub mod AtomLaws
 pub mod LineLaws
 pub mod WordLaws
 pub mod PathLaws
+pub mod OneReading

@@ -1,10 +1,10 @@
 -- Laws of paths, logical lines and words: what their definitions come to.
-use Rattle.std.specs.Prelude.{◌≡◌, ℕ, ◌+◌, ◌<◌, ◌≤◌, Bool, true, false, List, [], ◌∷◌, ◌++◌, length, take, drop, map, Ok}
+use Rattle.std.specs.Prelude.{◌≡◌, ◌↔◌, ℕ, ◌+◌, ◌<◌, ◌≤◌, ◌==◌, Bool, true, false, List, [], ◌∷◌, ◌++◌, length, take, drop, map, Ok}
 use Rattle.std.specs.List.{AllByRecursion, flat_map}
 use Rattle.std.specs.Str.Lines.{lines}
 use Rattle.desk_text.specs.Path.{path_text, read_path}
 use Rattle.desk_text.specs.Lines.{AreNumberedUp, PhysicalLine, LogicalLine, physical_lines, logical_lines}
-use Rattle.desk_text.specs.Words.{Atom, RawWord, atoms, atom_text, is_separator, line_words, raw_word, words_at}
+use Rattle.desk_text.specs.Words.{Character, Bare, Escaped, Lone, Atom, Single, Quoted, Unclosed, RawWord, atoms, atom_text, is_quote, is_separator, line_words, raw_word, words_at}
 
 -- The physical lines are the lines of the text as std has them, with their places.
 abbrev pub PhysicalLinesAreLines : Type 0
@@ -50,6 +50,28 @@ WordsAreSlices = (text : List ℕ) → AreSlices text 0 (length text) (map raw_s
 -- The atoms of a text write it back.
 abbrev pub AtomsWriteText : Type 0
 AtomsWriteText = (text : List ℕ) → flat_map atom_text (atoms text) ≡ text
+
+-- The characters of a quoted run, of which none is a bare quote of its kind. A bare character is no backslash, and a
+-- backslash with nothing after it stands only at the end of a run that does not close.
+abbrev pub AreInner : ℕ → Bool → List Character → Type 0
+AreInner q closes [] = Unit {0}
+AreInner q closes (Bare c ∷ inner) = ((c == q) ≡ false) × ((c == 92) ≡ false) × AreInner q closes inner
+AreInner q closes (Escaped c ∷ inner) = AreInner q closes inner
+AreInner q closes (Lone ∷ inner) = (closes ≡ false) × (inner ≡ [])
+
+-- Atoms as they may be written: a bare character is no backslash and no quote, a run begins with a quote, and a backslash
+-- with nothing after it, or a quote with no end, stands only last.
+abbrev pub AreAtoms : List Atom → Type 0
+AreAtoms [] = Unit {0}
+AreAtoms (Single (Bare c) ∷ more) = ((c == 92) ≡ false) × (is_quote c ≡ false) × AreAtoms more
+AreAtoms (Single (Escaped c) ∷ more) = AreAtoms more
+AreAtoms (Single Lone ∷ more) = more ≡ []
+AreAtoms (Quoted q inner ∷ more) = (is_quote q ≡ true) × AreInner q true inner × AreAtoms more
+AreAtoms (Unclosed q inner ∷ more) = (is_quote q ≡ true) × AreInner q false inner × (more ≡ [])
+
+-- A text is written by one list of such atoms, and these are its atoms.
+abbrev pub OneReading : Type 0
+OneReading = (text : List ℕ) (read : List Atom) → (AreAtoms read × (flat_map atom_text read ≡ text)) ↔ (read ≡ atoms text)
 
 -- blanks, and a run of atoms without a blank behind them
 pub record Run : Type 0 where

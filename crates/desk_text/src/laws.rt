@@ -1,7 +1,7 @@
 //! Laws of paths, logical lines and words. Each is proved as the contract of a function that does
 //! nothing: the definitions walk over a text, and these say what they come to.
 
-ghost use Rattle.desk_text.specs.Laws.{AtomsWriteText, LinesAscend, PartsAreSlices, PhysicalLinesAreLines, PrintedPathsDiffer, WordsAreMaximalRuns, WordsAreSlices};
+ghost use Rattle.desk_text.specs.Laws.{AtomsWriteText, LinesAscend, OneReading, PartsAreSlices, PhysicalLinesAreLines, PrintedPathsDiffer, WordsAreMaximalRuns, WordsAreSlices};
 ghost use Rattle.desk_text.specs.Lines.{OneGrouping};
 
 /// The physical lines of a text fall into groups in one way.
@@ -32,6 +32,11 @@ pub fn words_are_slices()
 /// The atoms of a text write it back.
 pub fn atoms_write_text()
     ensures { AtomsWriteText }
+{}
+
+/// A text is written by one list of atoms.
+pub fn one_reading()
+    ensures { OneReading }
 {}
 
 /// The words of a text are its maximal runs of atoms without a blank.
