@@ -2,10 +2,12 @@
 #![tactic(auto)]
 
 pub mod credentials;
+pub mod faults;
 pub mod filesystems;
 pub mod laws;
 
 pub use credentials::{Cred, GroupIds};
+pub use faults::{TableFault, TableRule};
 pub use filesystems::{FileSystems, FsId, Mount};
 
 #[cfg(test)]
