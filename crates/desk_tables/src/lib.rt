@@ -4,11 +4,16 @@
 pub mod credentials;
 pub mod faults;
 pub mod filesystems;
+pub mod hosts;
 pub mod laws;
+pub mod networks;
+mod words;
 
 pub use credentials::{Cred, GroupIds};
 pub use faults::{TableFault, TableRule};
 pub use filesystems::{FileSystems, FsId, Mount};
+pub use hosts::HostRow;
+pub use networks::NetworkName;
 
 #[cfg(test)]
 mod tests;
