@@ -4,3 +4,4 @@ pub mod MountLemmas
 pub mod TableLemmas
 pub mod OneTable
 pub mod WordLemmas
+pub mod RowLemmas

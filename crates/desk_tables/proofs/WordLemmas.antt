@@ -1,6 +1,6 @@
 -- Words between blanks are those between spaces and then between tabs.
-use Rattle.std.proofs.Common.{◌≡◌, ◌==◌, ◌||◌, ◌++◌, ℕ, Bool, true, false, not, List, [], ◌∷◌, filter, length, take, get_or, map, ap, sym, ◌∙◌, refl, ◌<◌, ◌+◌, suc, inl, inr, append_assoc, arith}
-use Rattle.std.specs.List.{cons_option, flat_map, onto_first, slice_split}
+use Rattle.std.proofs.Common.{◌≡◌, ◌==◌, ◌||◌, ◌++◌, ℕ, Bool, Bor, true, false, not, List, [], ◌∷◌, filter, length, take, get_or, map, ap, sym, ◌∙◌, refl, ◌<◌, ◌+◌, suc, inl, inr, append_assoc, arith}
+use Rattle.std.specs.List.{flat_map, list_any, onto_first, slice_split}
 use Rattle.std.proofs.lemmas.Bool.{cases_Bool, cond-true, cond-false}
 use Rattle.std.proofs.lemmas.Grind.{flat_map-append}
 use Rattle.std.proofs.lemmas.List.{append-nil, take_more}
@@ -100,3 +100,8 @@ module _ (parts : List (List ℕ)) (k : ℕ) (part : List ℕ) (turn : (k < leng
       ap (filter is_word) taken ∙ filter-append is_word (take k parts) (part ∷ [])
       ∙ ap (λ ws. filter is_word (take k parts) ++ ws) (cond-false (is_word part) (part ∷ []) [] fails)
       ∙ append-nil (filter is_word (take k parts))
+
+-- a test of the texts behind references
+pub any_now : (p : List ℕ → Bool) (xs : List (Bor (List ℕ))) → list_any (λ x. p x.now) xs ≡ list_any p (map (λ x. x.now) xs)
+any_now p [] = refl
+any_now p (x ∷ xs) = ap (λ b. p x.now || b) (any_now p xs)

@@ -22,6 +22,10 @@ words_before_comment line = words_of (before_first (λ b. b == 35) line)
 abbrev pub is_long_name : List ℕ → Bool
 is_long_name name = nat_lt 255 (length name)
 
+-- a line with its number, and what its words answer
+abbrev pub answered_line : {Row : Type 0} → (List (List ℕ) → Result (Option Row) TableRule) → ℕ → List ℕ → Answered Row
+answered_line answer number line = record { number = number; answer = answer (words_before_comment line) }
+
 -- each line of a text with its number, from 1, and what its words answer
 abbrev pub answered_lines : {Row : Type 0} → (List (List ℕ) → Result (Option Row) TableRule) → List ℕ → List (Answered Row)
-answered_lines answer text = map (λ line. record { number = line.0; answer = answer (words_before_comment line.1) }) (enumerate_from 1 (lines text))
+answered_lines answer text = map (λ line. answered_line answer line.0 line.1) (enumerate_from 1 (lines text))

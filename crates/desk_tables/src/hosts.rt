@@ -1,10 +1,120 @@
 //! The hosts file. (hosts(5))
 
-use desk_text::{Addr, Sequence, Text};
+ghost use Rattle.std.specs.Prelude.{◌≡◌, ◌≤◌, ◌∷◌, length, map};
+ghost use Rattle.desk_text.specs.Reading.{Reads};
+ghost use Rattle.desk_tables.specs.Hosts.{host_answer, is_ipv6, read_hosts};
+ghost use Rattle.desk_tables.specs.PlainLines.{answered_line, words_before_comment};
+ghost use Rattle.desk_tables.specs.RowPushes.{PushesRow};
+
+use crate::faults::{TableFault, TableRule};
+use crate::words::{has_long_name, push_copies, words_before_comment};
+use desk_text::{Addr, ReadError, Sequence, Text};
+use std::alloc::Global;
+use std::marker::Model;
 
 /// A row of the hosts file: an address, and the name of the host with its aliases.
 #[derive(Clone, Debug, Drop)]
 pub struct HostRow {
     pub addr: Addr,
     pub names: Sequence<Text>,
+}
+
+/// The rows of a hosts file, in the order of its lines.
+#[derive(Clone, Debug, Drop)]
+pub struct Hosts {
+    rows: Vec<HostRow>,
+}
+
+impl Model for Hosts {
+    ghost use Rattle.std.specs.Prelude.{List};
+    ghost use Rattle.desk_tables.specs.declared.hosts.HostRow.{HostRow};
+
+    ghost Value = { List HostRow };
+
+    ghost view = { λ hosts. hosts.rows.items };
+}
+
+impl Hosts {
+    /// Reads a hosts file: on each line an address, a name and its aliases, between blanks. `#` begins
+    /// a comment. A line without a word before its comment, and one whose address has a `:`, is
+    /// skipped. The faults of a line are Fields (no name), Number (the address does not read) and
+    /// Name (a name is over 255 bytes). (hosts(5))
+    pub fn read(alloc: Global, text: &str) -> Result<Hosts, ReadError<TableFault>>
+        requires { length text.now ≤ 4294967294 }
+        ensures { Reads result (read_hosts text.now) }
+    {
+        let mut rows = Vec::new(alloc);
+        let mut number = 0;
+        for line in text.lines() {
+            number += 1;
+            push_row(alloc, number, line, &mut rows)?;
+        }
+        Ok(Hosts { rows })
+    }
+}
+
+/// Adds the row of the line with this number, if it has one.
+fn push_row(
+    alloc: Global,
+    number: u32,
+    line: &str,
+    rows: &mut Vec<HostRow>,
+) -> Result<(), ReadError<TableFault>>
+    ensures { PushesRow result rows.old.items rows.new.items (answered_line host_answer number line.now) }
+{
+    match read_line(alloc, line) {
+        Ok(Some(row)) => {
+            rows.push(row)?;
+            Ok(())
+        }
+        Ok(None) => Ok(()),
+        Err(ReadError::Memory) => Err(ReadError::Memory),
+        Err(ReadError::Fault(rule)) => Err(ReadError::Fault(TableFault { line: number, rule })),
+    }
+}
+
+/// The row of a line, or the rule that is named.
+fn read_line(alloc: Global, line: &str) -> Result<Option<HostRow>, ReadError<TableRule>>
+    ensures { Reads result (host_answer (words_before_comment line.now)) }
+{
+    let words = words_before_comment(alloc, line)?;
+    match words.as_slice().split_first() {
+        Some((address, names)) => read_row(alloc, address, names),
+        None => Ok(None),
+    }
+}
+
+/// The row with this address and these names, or the rule that is named.
+fn read_row(
+    alloc: Global,
+    address: &str,
+    names: &[&str],
+) -> Result<Option<HostRow>, ReadError<TableRule>>
+    ensures { Reads result (host_answer (address.now ∷ map (λ x. x.now) names.now)) }
+{
+    if is_ipv6(address) {
+        return Ok(None);
+    }
+    if names.is_empty() {
+        return Err(ReadError::Fault(TableRule::Fields));
+    }
+    let Ok(addr) = Addr::read(address) else {
+        return Err(ReadError::Fault(TableRule::Number));
+    };
+    if has_long_name(names) {
+        return Err(ReadError::Fault(TableRule::Name));
+    }
+    let mut copies = Sequence::new(alloc);
+    push_copies(alloc, &mut copies, names)?;
+    Ok(Some(HostRow {
+        addr,
+        names: copies,
+    }))
+}
+
+/// Whether an address is one of IPv6.
+fn is_ipv6(address: &str) -> bool
+    ensures { result ≡ is_ipv6 address.now }
+{
+    address.as_bytes().contains(&b':')
 }

@@ -12,8 +12,8 @@ mod words;
 pub use credentials::{Cred, GroupIds};
 pub use faults::{TableFault, TableRule};
 pub use filesystems::{FileSystems, FsId, Mount};
-pub use hosts::HostRow;
-pub use networks::NetworkName;
+pub use hosts::{HostRow, Hosts};
+pub use networks::{NetworkName, Networks};
 
 #[cfg(test)]
 mod tests;

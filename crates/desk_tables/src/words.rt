@@ -1,9 +1,10 @@
 //! The words of a line of the hosts and networks files. (hosts(5), networks(5))
 
 ghost use Rattle.std.specs.Prelude.{◌≡◌, ◌==◌, ◌++◌, IfOk, OnOk, map};
-ghost use Rattle.std.specs.List.{before_first};
-ghost use Rattle.desk_tables.specs.PlainLines.{words_before_comment, words_between_tabs, words_of};
+ghost use Rattle.std.specs.List.{before_first, list_any};
+ghost use Rattle.desk_tables.specs.PlainLines.{is_long_name, words_before_comment, words_between_tabs, words_of};
 
+use desk_text::{Sequence, Text};
 use std::alloc::{AllocError, Global};
 
 /// The words of a line up to its comment.
@@ -43,6 +44,39 @@ fn push_words<'a>(words: &mut Vec<&'a str>, run: &'a str) -> Result<(), AllocErr
         if !word.is_empty() {
             words.push(word)?;
         }
+    }
+    Ok(())
+}
+
+/// Whether a name is over 255 bytes.
+pub fn has_long_name(names: &[&str]) -> bool
+    ensures { result ≡ list_any is_long_name (map (λ x. x.now) names.now) }
+{
+    any_is_long(names)
+}
+
+fn any_is_long(names: &[&str]) -> bool
+    ensures { result ≡ list_any (λ name. is_long_name name.now) names.now }
+{
+    names.iter().any(|name| is_long_name(name))
+}
+
+fn is_long_name(name: &str) -> bool
+    ensures { result ≡ is_long_name name.now }
+{
+    name.len() > 255
+}
+
+/// Adds a copy of each name.
+pub fn push_copies(
+    alloc: Global,
+    copies: &mut Sequence<Text>,
+    names: &[&str],
+) -> Result<(), AllocError>
+    ensures { OnOk result (copies.new ≡ copies.old ++ map (λ x. x.now) names.now) }
+{
+    for name in names {
+        copies.push(Text::copy(alloc, name)?)?;
     }
     Ok(())
 }
