@@ -5,3 +5,5 @@ pub mod TableLemmas
 pub mod OneTable
 pub mod WordLemmas
 pub mod RowLemmas
+pub mod AscendingLemmas
+pub mod HostLawLemmas

@@ -1,6 +1,7 @@
 -- The hosts file: an address, the name of the host, and its aliases. (hosts(5); the rules and their order are this project's own)
-use Rattle.std.specs.Prelude.{ℕ, ◌==◌, Bool, false, List, [], ◌∷◌, Option, None, Result, Ok, find, filter, is_err, length, map, if◌then◌else◌}
+use Rattle.std.specs.Prelude.{◌≡◌, ◌↔◌, ◌&&◌, ℕ, ◌==◌, Bool, false, List, [], ◌∷◌, Option, None, Result, Ok, find, filter, is_err, length, map, if◌then◌else◌}
 use Rattle.std.specs.List.{list_any}
+use Rattle.std.specs.List.Sorted.{IsStrictlyIncreasing}
 use Rattle.std.specs.Result.{result_unwrap_or}
 use Rattle.std.specs.Str.{str_eq_ignore_ascii_case}
 use Rattle.desk_text.specs.Addr.{number_of, read_addr}
@@ -50,3 +51,12 @@ is_host name row = list_any (str_eq_ignore_ascii_case name) row.names
 -- the addresses of all rows that have the name, in ascending order, each once
 abbrev pub addresses_of_host : List HostRow → List ℕ → List ℕ
 addresses_of_host rows name = ascending (map (λ row. number_of row.addr) (filter (is_host name) rows))
+
+-- these addresses ascend, each once, and an address is among them exactly where some row with the name has it
+pub record AreAddressesOf (rows : List HostRow) (name : List ℕ) (addresses : List ℕ) : Type 0 where
+  pub ascend : IsStrictlyIncreasing addresses
+  pub each : (address : ℕ) → list_any (λ other. other == address) addresses ≡ list_any (λ row. is_host name row && (number_of row.addr == address)) rows
+
+-- a name has one list of such addresses, and it is this one
+abbrev pub OneListOfAddresses : Type 0
+OneListOfAddresses = (rows : List HostRow) (name addresses : List ℕ) → AreAddressesOf rows name addresses ↔ (addresses ≡ addresses_of_host rows name)

@@ -1,15 +1,17 @@
 //! The hosts file. (hosts(5))
 
-ghost use Rattle.std.specs.Prelude.{◌≡◌, ◌≤◌, ◌∷◌, length, map};
+ghost use Rattle.std.specs.Prelude.{◌≡◌, ◌≤◌, ◌∷◌, IfOk, filter, length, map};
+ghost use Rattle.std.specs.Str.{str_eq_ignore_ascii_case};
+ghost use Rattle.desk_text.specs.Addr.{number_of};
 ghost use Rattle.desk_text.specs.Reading.{Reads};
-ghost use Rattle.desk_tables.specs.Hosts.{host_answer, is_ipv6, read_hosts};
+ghost use Rattle.desk_tables.specs.Hosts.{addresses_of_host, host_answer, is_host, is_ipv6, read_hosts};
 ghost use Rattle.desk_tables.specs.PlainLines.{answered_line, words_before_comment};
 ghost use Rattle.desk_tables.specs.RowPushes.{PushesRow};
 
 use crate::faults::{TableFault, TableRule};
 use crate::words::{has_long_name, push_copies, words_before_comment};
 use desk_text::{Addr, ReadError, Sequence, Text};
-use std::alloc::Global;
+use std::alloc::{AllocError, Global};
 use std::marker::Model;
 
 /// A row of the hosts file: an address, and the name of the host with its aliases.
@@ -51,6 +53,47 @@ impl Hosts {
         }
         Ok(Hosts { rows })
     }
+
+    /// The addresses of all rows that have the name, as their name or as an alias, without ASCII case:
+    /// ascending, each once. (hosts(5))
+    pub fn addresses(&self, alloc: Global, name: &str) -> Result<Vec<Addr>, AllocError>
+        ensures { IfOk result (λ v. map number_of v.items ≡ addresses_of_host self.now name.now) }
+    {
+        let mut addresses = written_addresses(alloc, self.rows.as_slice(), name)?;
+        addresses.sort_unstable();
+        addresses.dedup();
+        Ok(addresses)
+    }
+}
+
+/// The addresses of the rows that have the name, in the order of the rows.
+fn written_addresses(
+    alloc: Global,
+    rows: &[HostRow],
+    name: &str,
+) -> Result<Vec<Addr>, AllocError>
+    ensures { IfOk result (λ v. v.items ≡ map (λ row. row.addr) (filter (is_host name.now) rows.now)) }
+{
+    rows.iter()
+        .filter(|row| is_host(row, name))
+        .map(|row| row.addr)
+        .collect(alloc)
+}
+
+/// Whether the row has the name, as its name or as an alias.
+fn is_host(row: &HostRow, name: &str) -> bool
+    ensures { result ≡ is_host name.now row.now }
+{
+    row.names
+        .as_slice()
+        .iter()
+        .any(|other| is_same_host_name(name, other.as_str()))
+}
+
+fn is_same_host_name(name: &str, other: &str) -> bool
+    ensures { result ≡ str_eq_ignore_ascii_case name.now other.now }
+{
+    name.eq_ignore_ascii_case(other)
 }
 
 /// Adds the row of the line with this number, if it has one.

@@ -4,6 +4,7 @@
 pub mod credentials;
 pub mod faults;
 pub mod filesystems;
+pub mod host_laws;
 pub mod hosts;
 pub mod laws;
 pub mod networks;

@@ -2,7 +2,7 @@
 
 ghost use Rattle.std.specs.Prelude.{◌≡◌, ◌≤◌, ◌∷◌, length, map};
 ghost use Rattle.desk_text.specs.Reading.{Reads};
-ghost use Rattle.desk_tables.specs.Networks.{network_answer, read_networks};
+ghost use Rattle.desk_tables.specs.Networks.{is_network, network_answer, network_number, read_networks};
 ghost use Rattle.desk_tables.specs.PlainLines.{answered_line, words_before_comment};
 ghost use Rattle.desk_tables.specs.RowPushes.{PushesRow};
 
@@ -51,6 +51,26 @@ impl Networks {
         }
         Ok(Networks { rows })
     }
+
+    /// The number of the first row that has the name, as its name or as an alias. (networks(5))
+    pub fn find(&self, name: &str) -> Option<Addr>
+        ensures { result ≡ network_number self.now name.now }
+    {
+        self.rows
+            .iter()
+            .find(|row| is_network(row, name))
+            .map(|row| row.number)
+    }
+}
+
+/// Whether the row has the name, as its name or as an alias.
+fn is_network(row: &NetworkName, name: &str) -> bool
+    ensures { result ≡ is_network name.now row.now }
+{
+    row.names
+        .as_slice()
+        .iter()
+        .any(|other| name == other.as_str())
 }
 
 /// Adds the row of the line with this number, if it has one.
