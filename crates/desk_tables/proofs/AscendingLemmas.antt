@@ -1,7 +1,7 @@
 -- Numbers in ascending order, each once.
-use Rattle.std.proofs.Common.{zero, suc, ◌≡◌, ◌≢◌, ℕ, ◌+◌, ◌<◌, ◌≤◌, ◌||◌, Bool, true, false, cond, eqb, ltb, List, [], ◌∷◌, ◌++◌, length, get_or, map, sym, ◌∙◌, ap, subst, refl, inl, inr, ◌⊎◌, arith, rules}
+use Rattle.std.proofs.Common.{zero, suc, ◌≡◌, ◌≢◌, ℕ, ◌+◌, ◌<◌, ◌≤◌, ◌||◌, Bool, true, false, eqb, ltb, List, [], ◌∷◌, length, get_or, map, sym, ◌∙◌, ap, subst, refl, inl, inr, arith}
 use Rattle.std.specs.Prelude.{Result, Ok, Err, is_ok, ◌==◌}
-use Rattle.std.specs.List.{list_any, flat_map, dedup, dedup_from, AllWithin}
+use Rattle.std.specs.List.{list_any, dedup, dedup_from, AllWithin}
 use Rattle.std.specs.List.Sorted.{IsStrictlyIncreasing, IsSorted, IsPermutation, IsBinarySearchResult, IsSearchInRange}
 use Rattle.std.specs.List.Retain.{IsFiltered, DiffersFromLast}
 use Rattle.std.specs.Ordering.{nat_cmp, is_lt}
@@ -10,13 +10,11 @@ use Rattle.std.proofs.lemmas.List.{get_or-map, length-map}
 use Rattle.std.proofs.lemmas.List.Filters.{dedup_is}
 use Rattle.std.proofs.lemmas.List.Sorted.{IsPermutation-map, list_any-IsPermutation, searchable_from_sorted}
 use Rattle.std.proofs.lemmas.Map.Keys.{IsStrictlyIncreasing-dedup}
-use Rattle.std.proofs.lemmas.Bool.{cases_Bool, cases_eq, cases_lt, cases_order, cond-true, cond-false, lt-ltb, le-ltb, eq-eqb, ne_eqb, eqb-true, or_left, or_right, true≢false}
-use Rattle.std.proofs.lemmas.List.Folds.{list_any-append, list_any_at, list_any_none}
+use Rattle.std.proofs.lemmas.Bool.{cases_Bool, cases_eq, cases_lt, cases_order, cond-true, cond-false, lt-ltb, le-ltb, eq-eqb, ne_eqb, or_left, true≢false}
+use Rattle.std.proofs.lemmas.List.Folds.{list_any_at, list_any_none}
 use Rattle.std.proofs.lemmas.Cmp.{nat_cmp_total}
 use Rattle.std.specs.Cmp.{nat_cmp_is}
 use Rattle.std.specs.declared.cmp.Ordering.TheVariants.{Less, Equal, Greater}
-use Rattle.desk_text.specs.Addr.{number_of, read_addr}
-use Rattle.desk_text.specs.declared.address.AddrFault.{AddrFault}
 use Rattle.desk_tables.specs.Ascending.{put_in_place, ascending}
 
 -- each of these is above the number

@@ -1,5 +1,5 @@
 -- Lemmas on the lines of a table.
-use Rattle.std.proofs.Common.{◌≡◌, ◌<◌, ◌+◌, ℕ, List, [], ◌∷◌, ◌++◌, Option, None, Some, Result, Ok, Err, suc, take, drop, get_or, length, ap, subst, sym, ◌∙◌, arith}
+use Rattle.std.proofs.Common.{◌≡◌, ◌<◌, ◌+◌, ℕ, List, [], ◌∷◌, ◌++◌, Option, Some, Result, Ok, Err, suc, take, drop, get_or, length, ap, subst, sym, ◌∙◌, arith}
 use Rattle.std.proofs.Math.Seq.{drop-cons}
 use Rattle.std.proofs.lemmas.List.{get_or-map, length-map, take_more, take-append-drop}
 use Rattle.std.proofs.lemmas.List.Elements.{filter_map-append}
@@ -23,12 +23,13 @@ module _ {Row : Type 0} (answer : List (List ℕ) → Result (Option Row) TableR
       let numbered = enumerate_from 1 (lines text) in
       let one : ℕ × List ℕ → Answered Row = λ l. answered_line answer l.0 l.1 in
       let within : k < length numbered = subst (λ n. k < n) (sym (length-enumerate_from 1 (lines text))) turn.0 in
-      let next : 1 + k ≡ number + 1 = omega arith in
-      (subst (λ n. k < n) (sym (length-map numbered one)) within,
-      sym (get_or-map one numbered k (number + 1, line) (answered_line answer (number + 1) line) within
-          ∙ ap one (get_or-enumerate_from 1 (lines text) k (number + 1, line) turn.0)
-          ∙ ap (λ n. answered_line answer n (get_or (lines text) k line)) next
-          ∙ ap (answered_line answer (number + 1)) (sym turn.1)))
+      let next : 1 + k ≡ number + 1 = omega arith in (
+        subst (λ n. k < n) (sym (length-map numbered one)) within,
+        sym (get_or-map one numbered k (number + 1, line) (answered_line answer (number + 1) line) within
+            ∙ ap one (get_or-enumerate_from 1 (lines text) k (number + 1, line) turn.0)
+            ∙ ap (λ n. answered_line answer n (get_or (lines text) k line)) next
+            ∙ ap (answered_line answer (number + 1)) (sym turn.1)),
+      )
 
   pub all_lines : length (answered_lines answer text) ≡ length (lines text)
   all_lines =

@@ -1,11 +1,10 @@
 -- Words between blanks are those between spaces and then between tabs.
-use Rattle.std.proofs.Common.{◌≡◌, ◌==◌, ◌||◌, ◌++◌, ℕ, Bool, Bor, true, false, not, List, [], ◌∷◌, filter, length, take, get_or, map, ap, sym, ◌∙◌, refl, ◌<◌, ◌+◌, suc, inl, inr, append_assoc, arith}
+use Rattle.std.proofs.Common.{◌≡◌, ◌==◌, ◌||◌, ◌++◌, ℕ, Bool, Bor, true, false, not, List, [], ◌∷◌, filter, length, take, get_or, map, ap, sym, ◌∙◌, refl, ◌<◌, ◌+◌, inl, inr, arith}
 use Rattle.std.specs.List.{flat_map, list_any, onto_first, slice_split}
 use Rattle.std.proofs.lemmas.Bool.{cases_Bool, cond-true, cond-false}
 use Rattle.std.proofs.lemmas.Grind.{flat_map-append}
 use Rattle.std.proofs.lemmas.List.{append-nil, take_more}
 use Rattle.std.proofs.lemmas.List.Elements.{filter-append}
-use Rattle.desk_text.specs.Lines.{is_blank}
 use Rattle.desk_tables.specs.PlainLines.{words_between_tabs, words_of}
 
 module _ (p q : ℕ → Bool) where

@@ -1,5 +1,5 @@
 -- What the private contract of a step from line to line cites.
-use Rattle.std.specs.Prelude.{◌≡◌, ◌++◌, List, [], Option, Some, None, Result, Ok, Err}
+use Rattle.std.specs.Prelude.{◌≡◌, ◌++◌, List, [], Some, None, Result, Ok, Err}
 use Rattle.std.specs.List.{cons_option}
 use Rattle.desk_text.specs.declared.reading.ReadError.{ReadError}
 use Rattle.desk_text.specs.declared.reading.ReadError.TheVariants.{Fault, Memory}

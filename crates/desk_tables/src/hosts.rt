@@ -67,11 +67,7 @@ impl Hosts {
 }
 
 /// The addresses of the rows that have the name, in the order of the rows.
-fn written_addresses(
-    alloc: Global,
-    rows: &[HostRow],
-    name: &str,
-) -> Result<Vec<Addr>, AllocError>
+fn written_addresses(alloc: Global, rows: &[HostRow], name: &str) -> Result<Vec<Addr>, AllocError>
     ensures { IfOk result (λ v. v.items ≡ map (λ row. row.addr) (filter (is_host name.now) rows.now)) }
 {
     rows.iter()
@@ -161,3 +157,6 @@ fn is_ipv6(address: &str) -> bool
 {
     address.as_bytes().contains(&b':')
 }
+
+#[cfg(test)]
+mod tests;

@@ -126,3 +126,6 @@ fn read_row(
     push_copies(alloc, &mut names, aliases)?;
     Ok(Some(NetworkName { number, names }))
 }
+
+#[cfg(test)]
+mod tests;

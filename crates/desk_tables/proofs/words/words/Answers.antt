@@ -1,4 +1,4 @@
-use Rattle.std.proofs.Common.{◌≡◌, ◌==◌, ◌++◌, ◌∷◌, [], ◌<◌, List, ℕ, length, get_or, map, take, take_all, ap, sym, ◌∙◌, lit<, arith}
+use Rattle.std.proofs.Common.{◌≡◌, ◌==◌, ◌++◌, ◌<◌, length, get_or, take_all, ap, sym, ◌∙◌, lit<, arith}
 use Rattle.std.proofs.lemmas.Iterator.Splits.{YieldsList-from_str_split}
 use Rattle.std.proofs.lemmas.Iterator.Consumers.{YieldsList-turn, YieldsList-end}
 use Rattle.std.proofs.lemmas.List.{length_push}
@@ -16,9 +16,9 @@ loop-run-preserved c =
     let turn : (length c.loop-run.yielded < length parts) × (c.in-Some.run'.now ≡ get_or parts (length c.loop-run.yielded) c.in-Some.run'.now) =
     YieldsList-turn (YieldsList-from_str_split {s = c.into_iter-run-iterator.result} 32 c.args.text.now (lit< tt) (ap split_text same ∙ made.text) (ap split_has_more same ∙ made.has_more) (ap split_pattern same ∙ made.pattern)) c.loop-run.yielded _ c.loop-run.yielded_by _ _ c.in-Some.run' c.in-Some.is c.next.ensures.steps in
     rw length_push
-        (c.in_ok-push_words.ensures
-        ∙ ap (λ ws. ws ++ words_between_tabs c.in-Some.run'.now) c.loop-run.invariant
-        ∙ sym (runs_more parts (length c.loop-run.yielded) c.in-Some.run'.now turn))
+    (c.in_ok-push_words.ensures
+    ∙ ap (λ ws. ws ++ words_between_tabs c.in-Some.run'.now) c.loop-run.invariant
+    ∙ sym (runs_more parts (length c.loop-run.yielded) c.in-Some.run'.now turn))
 
 pub returns : goal.returns
 returns c =

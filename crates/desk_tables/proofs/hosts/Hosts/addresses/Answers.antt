@@ -1,4 +1,4 @@
-use Rattle.std.proofs.Common.{◌≡◌, ◌∙◌, ap, map, filter, List, ℕ}
+use Rattle.std.proofs.Common.{◌∙◌, ap, map, filter, List}
 use Rattle.std.proofs.lemmas.Simd.{map-map}
 use Rattle.desk_text.specs.Addr.{number_of}
 use Rattle.desk_text.specs.declared.address.Addr.{Addr}
