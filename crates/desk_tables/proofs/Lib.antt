@@ -7,3 +7,4 @@ pub mod WordLemmas
 pub mod RowLemmas
 pub mod AscendingLemmas
 pub mod HostLawLemmas
+pub mod NetworkLemmas

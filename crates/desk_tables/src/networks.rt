@@ -1,15 +1,17 @@
 //! The networks file. (networks(5))
 
-ghost use Rattle.std.specs.Prelude.{◌≡◌, ◌≤◌, ◌∷◌, length, map};
+ghost use Rattle.std.specs.Prelude.{◌≡◌, ◌≤◌, ◌∷◌, IfOk, OnOk, length, map};
 ghost use Rattle.desk_text.specs.Reading.{Reads};
-ghost use Rattle.desk_tables.specs.Networks.{is_network, network_answer, network_number, read_networks};
+ghost use Rattle.desk_tables.specs.Networks.{network_answer, network_number, read_networks};
+ghost use Rattle.desk_tables.specs.NetworkIndex.{AddsName, AddsNames, IsIndexOf};
 ghost use Rattle.desk_tables.specs.PlainLines.{answered_line, words_before_comment};
 ghost use Rattle.desk_tables.specs.RowPushes.{PushesRow};
 
 use crate::faults::{TableFault, TableRule};
 use crate::words::{has_long_name, push_copies, words_before_comment};
 use desk_text::{Addr, ReadError, Sequence, Text};
-use std::alloc::Global;
+use std::alloc::{AllocError, Global};
+use std::collections::BTreeMap;
 use std::marker::Model;
 
 /// A row of the networks file: the number of a network, and its name with its aliases.
@@ -19,19 +21,23 @@ pub struct NetworkName {
     pub names: Sequence<Text>,
 }
 
-/// The rows of a networks file, in the order of its lines.
-#[derive(Clone, Debug, Drop)]
+/// The rows of a networks file, in the order of its lines, with the number of each name.
+#[derive(Debug, Drop)]
 pub struct Networks {
     rows: Vec<NetworkName>,
+    numbers: BTreeMap<String, Addr>,
 }
 
 impl Model for Networks {
     ghost use Rattle.std.specs.Prelude.{List};
+    ghost use Rattle.desk_tables.specs.NetworkIndex.{IsIndexOf};
     ghost use Rattle.desk_tables.specs.declared.networks.NetworkName.{NetworkName};
 
     ghost Value = { List NetworkName };
 
     ghost view = { λ networks. networks.rows.items };
+
+    ghost invariant = { λ networks. IsIndexOf networks.rows.items networks.numbers };
 }
 
 impl Networks {
@@ -49,28 +55,61 @@ impl Networks {
             number += 1;
             push_row(alloc, number, line, &mut rows)?;
         }
-        Ok(Networks { rows })
+        let numbers = numbers_by_name(alloc, rows.as_slice())?;
+        Ok(Networks { rows, numbers })
     }
 
     /// The number of the first row that has the name, as its name or as an alias. (networks(5))
     pub fn find(&self, name: &str) -> Option<Addr>
         ensures { result ≡ network_number self.now name.now }
     {
-        self.rows
-            .iter()
-            .find(|row| is_network(row, name))
-            .map(|row| row.number)
+        self.numbers.get(name).copied()
     }
 }
 
-/// Whether the row has the name, as its name or as an alias.
-fn is_network(row: &NetworkName, name: &str) -> bool
-    ensures { result ≡ is_network name.now row.now }
+/// The number of the first row of each name.
+fn numbers_by_name(
+    alloc: Global,
+    rows: &[NetworkName],
+) -> Result<BTreeMap<String, Addr>, AllocError>
+    ensures { IfOk result (λ index. IsIndexOf rows.now index) }
 {
-    row.names
-        .as_slice()
-        .iter()
-        .any(|other| name == other.as_str())
+    let mut index = BTreeMap::new(alloc);
+    for row in rows {
+        add_names(alloc, &mut index, row.names.as_slice(), row.number)?;
+    }
+    Ok(index)
+}
+
+/// Adds the number under each name that has none yet.
+fn add_names(
+    alloc: Global,
+    index: &mut BTreeMap<String, Addr>,
+    names: &[Text],
+    number: Addr,
+) -> Result<(), AllocError>
+    ensures { OnOk result (AddsNames index.old index.new names.now number) }
+{
+    for name in names {
+        add_name(alloc, index, name.as_str(), number)?;
+    }
+    Ok(())
+}
+
+/// Adds the number under the name, if it has none yet.
+fn add_name(
+    alloc: Global,
+    index: &mut BTreeMap<String, Addr>,
+    name: &str,
+    number: Addr,
+) -> Result<(), AllocError>
+    ensures { OnOk result (AddsName index.old index.new name.now number) }
+{
+    if !index.contains_key(name) {
+        let key = String::from_str(alloc, name)?;
+        index.insert(key, number)?;
+    }
+    Ok(())
 }
 
 /// Adds the row of the line with this number, if it has one.
