@@ -12,7 +12,7 @@ abbrev written : List HostRow → List ℕ → List ℕ
 written rows name = map (λ row. number_of row.addr) (filter (is_host name) rows)
 
 -- an address is written exactly where some row with the name has it
-written_has : (a : ℕ) (rows : List HostRow) (name : List ℕ) → has a (written rows name) ≡ list_any (λ row. is_host name row && (number_of row.addr == a)) rows
+pub written_has : (a : ℕ) (rows : List HostRow) (name : List ℕ) → has a (written rows name) ≡ list_any (λ row. is_host name row && (number_of row.addr == a)) rows
 written_has a [] name = refl
 written_has a (row ∷ rows) name =
     elim (cases_Bool (is_host name row)) [

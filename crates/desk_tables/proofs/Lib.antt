@@ -8,3 +8,4 @@ pub mod RowLemmas
 pub mod AscendingLemmas
 pub mod HostLawLemmas
 pub mod NetworkLemmas
+pub mod HostLemmas

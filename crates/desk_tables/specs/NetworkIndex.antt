@@ -1,5 +1,5 @@
 -- What the private contracts of the index of networks cite.
-use Rattle.std.specs.Prelude.{◌≡◌, List, ℕ, Option, Some, None, String, if◌then◌else◌}
+use Rattle.std.specs.Prelude.{◌≡◌, List, ℕ, Some, None, String, if◌then◌else◌}
 use Rattle.std.specs.BTreeMap.{BTreeMap, get_by_text}
 use Rattle.std.specs.List.{list_any}
 use Rattle.std.specs.Option.{option_or}

@@ -1,10 +1,11 @@
 //! The hosts file. (hosts(5))
 
-ghost use Rattle.std.specs.Prelude.{◌≡◌, ◌≤◌, ◌∷◌, IfOk, filter, length, map};
-ghost use Rattle.std.specs.Str.{str_eq_ignore_ascii_case};
+ghost use Rattle.std.specs.Prelude.{◌≡◌, ◌≤◌, ◌∷◌, IfOk, OnOk, length, map};
+ghost use Rattle.std.specs.Str.{str_to_ascii_lowercase};
 ghost use Rattle.desk_text.specs.Addr.{number_of};
 ghost use Rattle.desk_text.specs.Reading.{Reads};
-ghost use Rattle.desk_tables.specs.Hosts.{addresses_of_host, host_answer, is_host, is_ipv6, read_hosts};
+ghost use Rattle.desk_tables.specs.Hosts.{addresses_of_host, host_answer, is_ipv6, read_hosts};
+ghost use Rattle.desk_tables.specs.HostIndex.{AddsHost, AddsHosts, IsHostIndexOf, listed};
 ghost use Rattle.desk_tables.specs.PlainLines.{answered_line, words_before_comment};
 ghost use Rattle.desk_tables.specs.RowPushes.{PushesRow};
 
@@ -12,6 +13,7 @@ use crate::faults::{TableFault, TableRule};
 use crate::words::{has_long_name, push_copies, words_before_comment};
 use desk_text::{Addr, ReadError, Sequence, Text};
 use std::alloc::{AllocError, Global};
+use std::collections::BTreeMap;
 use std::marker::Model;
 
 /// A row of the hosts file: an address, and the name of the host with its aliases.
@@ -21,19 +23,24 @@ pub struct HostRow {
     pub names: Sequence<Text>,
 }
 
-/// The rows of a hosts file, in the order of its lines.
-#[derive(Clone, Debug, Drop)]
+/// The rows of a hosts file, in the order of its lines, with the addresses of each name in small
+/// letters.
+#[derive(Debug, Drop)]
 pub struct Hosts {
     rows: Vec<HostRow>,
+    index: BTreeMap<String, Vec<Addr>>,
 }
 
 impl Model for Hosts {
     ghost use Rattle.std.specs.Prelude.{List};
+    ghost use Rattle.desk_tables.specs.HostIndex.{IsHostIndexOf};
     ghost use Rattle.desk_tables.specs.declared.hosts.HostRow.{HostRow};
 
     ghost Value = { List HostRow };
 
     ghost view = { λ hosts. hosts.rows.items };
+
+    ghost invariant = { λ hosts. IsHostIndexOf hosts.rows.items hosts.index };
 }
 
 impl Hosts {
@@ -51,7 +58,8 @@ impl Hosts {
             number += 1;
             push_row(alloc, number, line, &mut rows)?;
         }
-        Ok(Hosts { rows })
+        let index = addresses_by_name(alloc, rows.as_slice())?;
+        Ok(Hosts { rows, index })
     }
 
     /// The addresses of all rows that have the name, as their name or as an alias, without ASCII case:
@@ -59,37 +67,69 @@ impl Hosts {
     pub fn addresses(&self, alloc: Global, name: &str) -> Result<Vec<Addr>, AllocError>
         ensures { IfOk result (λ v. map number_of v.items ≡ addresses_of_host self.now name.now) }
     {
-        let mut addresses = written_addresses(alloc, self.rows.as_slice(), name)?;
+        let mut addresses = listed_addresses(alloc, &self.index, name)?;
         addresses.sort_unstable();
         addresses.dedup();
         Ok(addresses)
     }
 }
 
-/// The addresses of the rows that have the name, in the order of the rows.
-fn written_addresses(alloc: Global, rows: &[HostRow], name: &str) -> Result<Vec<Addr>, AllocError>
-    ensures { IfOk result (λ v. v.items ≡ map (λ row. row.addr) (filter (is_host name.now) rows.now)) }
+/// The addresses that are listed under the name.
+fn listed_addresses(
+    alloc: Global,
+    index: &BTreeMap<String, Vec<Addr>>,
+    name: &str,
+) -> Result<Vec<Addr>, AllocError>
+    ensures { IfOk result (λ v. v.items ≡ listed index.now (str_to_ascii_lowercase name.now)) }
 {
-    rows.iter()
-        .filter(|row| is_host(row, name))
-        .map(|row| row.addr)
-        .collect(alloc)
+    let key = name.to_ascii_lowercase(alloc)?;
+    match index.get(key.as_str()) {
+        Some(addresses) => Vec::from_slice(alloc, addresses.as_slice()),
+        None => Ok(Vec::new(alloc)),
+    }
 }
 
-/// Whether the row has the name, as its name or as an alias.
-fn is_host(row: &HostRow, name: &str) -> bool
-    ensures { result ≡ is_host name.now row.now }
+/// The addresses of the rows, under each of their names.
+fn addresses_by_name(
+    alloc: Global,
+    rows: &[HostRow],
+) -> Result<BTreeMap<String, Vec<Addr>>, AllocError>
+    ensures { IfOk result (λ index. IsHostIndexOf rows.now index) }
 {
-    row.names
-        .as_slice()
-        .iter()
-        .any(|other| is_same_host_name(name, other.as_str()))
+    let mut index = BTreeMap::new(alloc);
+    for row in rows {
+        add_hosts(alloc, &mut index, row.names.as_slice(), row.addr)?;
+    }
+    Ok(index)
 }
 
-fn is_same_host_name(name: &str, other: &str) -> bool
-    ensures { result ≡ str_eq_ignore_ascii_case name.now other.now }
+/// Adds the address under each of the names.
+fn add_hosts(
+    alloc: Global,
+    index: &mut BTreeMap<String, Vec<Addr>>,
+    names: &[Text],
+    address: Addr,
+) -> Result<(), AllocError>
+    ensures { OnOk result (AddsHosts index.old index.new names.now address) }
 {
-    name.eq_ignore_ascii_case(other)
+    for name in names {
+        add_host(alloc, index, name.as_str(), address)?;
+    }
+    Ok(())
+}
+
+/// Adds the address under the name in small letters.
+fn add_host(
+    alloc: Global,
+    index: &mut BTreeMap<String, Vec<Addr>>,
+    name: &str,
+    address: Addr,
+) -> Result<(), AllocError>
+    ensures { OnOk result (AddsHost index.old index.new name.now address) }
+{
+    let key = name.to_ascii_lowercase(alloc)?;
+    index.entry(key)?.or_default().push(address)?;
+    Ok(())
 }
 
 /// Adds the row of the line with this number, if it has one.

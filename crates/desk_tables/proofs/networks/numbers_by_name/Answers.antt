@@ -1,10 +1,10 @@
-use Rattle.std.proofs.Common.{◌≡◌, ◌+◌, ◌∙◌, List, ℕ, Option, Some, None, ap, take}
+use Rattle.std.proofs.Common.{◌∙◌, List, ℕ, Option, Some, None, ap, take}
 use Rattle.std.specs.Prelude.{if◌then◌else◌}
 use Rattle.std.specs.List.{list_any}
 use Rattle.std.specs.Option.{option_or}
 use Rattle.std.specs.Str.{bytes_eq}
 use Rattle.desk_text.specs.declared.address.Addr.{Addr}
-use Rattle.desk_tables.specs.Networks.{is_network, network_number}
+use Rattle.desk_tables.specs.Networks.{network_number}
 use Rattle.desk_tables.proofs.NetworkLemmas.{rows_more}
 use Rattle.desk_tables.proofs.networks.numbers_by_name.Goals as goal
 
