@@ -3,3 +3,9 @@ pub mod GidLemmas
 pub mod MountLemmas
 pub mod TableLemmas
 pub mod OneTable
+pub mod WordLemmas
+pub mod RowLemmas
+pub mod AscendingLemmas
+pub mod HostLawLemmas
+pub mod NetworkLemmas
+pub mod HostLemmas

@@ -2,11 +2,19 @@
 #![tactic(auto)]
 
 pub mod credentials;
+pub mod faults;
 pub mod filesystems;
+pub mod host_laws;
+pub mod hosts;
 pub mod laws;
+pub mod networks;
+mod words;
 
 pub use credentials::{Cred, GroupIds};
+pub use faults::{TableFault, TableRule};
 pub use filesystems::{FileSystems, FsId, Mount};
+pub use hosts::{HostRow, Hosts};
+pub use networks::{NetworkName, Networks};
 
 #[cfg(test)]
 mod tests;
