@@ -4,7 +4,7 @@ pub mod MountLemmas
 pub mod TableLemmas
 pub mod OneTable
 pub mod WordLemmas
-pub mod RowLemmas
+pub mod PlainLineLemmas
 pub mod AscendingLemmas
 pub mod HostLawLemmas
 pub mod NetworkLemmas

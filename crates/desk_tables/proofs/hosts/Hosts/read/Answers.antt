@@ -10,7 +10,7 @@ use Rattle.desk_tables.specs.Hosts.{host_answer}
 use Rattle.desk_tables.specs.PlainLines.{answered_lines}
 use Rattle.desk_tables.specs.Tables.{Answered, fault_of, row_in}
 use Rattle.desk_tables.specs.declared.hosts.HostRow.{HostRow}
-use Rattle.desk_tables.proofs.RowLemmas.{all_lines, all_read, exit, line_is, read_more, sound_more}
+use Rattle.desk_tables.proofs.PlainLineLemmas.{all_lines, all_read, exit, line_is, read_more, sound_more}
 use Rattle.desk_tables.proofs.hosts.Hosts.read.Goals as goal
 
 pub loop-line-preserved : goal.loop-line-preserved
