@@ -3,3 +3,5 @@ pub mod GidLemmas
 pub mod MountLemmas
 pub mod TableLemmas
 pub mod OneTable
+pub mod FieldLemmas
+pub mod RowLemmas

@@ -1,5 +1,5 @@
 -- How a table is read: line by line, up to the first fault. (this project's own)
-use Rattle.std.specs.Prelude.{ℕ, List, [], ◌∷◌, ◌++◌, Option, Some, None, Result, Ok, Err, codes, find}
+use Rattle.std.specs.Prelude.{ℕ, List, [], ◌∷◌, Option, Some, None, Result, Ok, Err, codes}
 use Rattle.std.specs.List.{filter_map}
 use Rattle.desk_tables.specs.declared.faults.TableFault.{TableFault}
 use Rattle.desk_tables.specs.declared.faults.TableRule.{TableRule}
@@ -36,9 +36,9 @@ pub record Answered (Row : Type 0) : Type 0 where
 abbrev pub fault_of : {Row : Type 0} → Answered Row → Option TableFault
 fault_of line = fault_in line.number line.answer
   where
-  fault_in : {Row : Type 0} → ℕ → Result (Option Row) TableRule → Option TableFault
-  fault_in number (Ok row) = None
-  fault_in number (Err rule) = Some (record { line = number; rule = rule })
+    fault_in : {Row : Type 0} → ℕ → Result (Option Row) TableRule → Option TableFault
+    fault_in number (Ok row) = None
+    fault_in number (Err rule) = Some (record { line = number; rule = rule })
 
 -- the row of a line, if it has one
 abbrev pub row_in : {Row : Type 0} → Result (Option Row) TableRule → Option Row

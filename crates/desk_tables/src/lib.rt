@@ -3,12 +3,15 @@
 
 pub mod credentials;
 pub mod faults;
+mod fields;
 pub mod filesystems;
 pub mod laws;
+pub mod users;
 
 pub use credentials::{Cred, GroupIds};
 pub use faults::{TableFault, TableRule};
 pub use filesystems::{FileSystems, FsId, Mount};
+pub use users::{User, Users};
 
 #[cfg(test)]
 mod tests;
