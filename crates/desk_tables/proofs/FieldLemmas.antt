@@ -1,6 +1,8 @@
 -- Lemmas on fields, and on numbers in them.
-use Rattle.std.proofs.Common.{◌≡◌, ◌<◌, ◌^◌, ℕ, Bool, true, false, not, ◌&&◌, List, [], Option, Some, None, Result, Ok, Err, length, ap, sym, ◌∙◌, arith, rules, inl, inr, Bor}
+use Rattle.std.proofs.Common.{◌+◌, ◌∷◌, ◌++◌, cond, filter, take, get_or, ◌≡◌, ◌<◌, ◌^◌, ℕ, Bool, true, false, not, ◌&&◌, List, [], Option, Some, None, Result, Ok, Err, length, ap, sym, ◌∙◌, arith, rules, inl, inr, Bor}
 use Rattle.std.proofs.lemmas.Bool.{cases_lt}
+use Rattle.std.proofs.lemmas.List.{append-nil, take_more}
+use Rattle.std.proofs.lemmas.List.Elements.{filter-append}
 use Rattle.std.proofs.lemmas.Option.{unwrap_or-slice_get}
 use Rattle.std.specs.Option.{option_map}
 use Rattle.std.specs.Prelude.{nat_lt, slice_get, slice_index_or, unwrap_or, if◌then◌else◌}
@@ -41,3 +43,14 @@ number_parsed {E = E} bs (Err e) parses digits plain =
     let some : 0 < length bs = grind (arith, nat_tests) in
     let read = parse_digits own {E = E} 32 bs (Err e) parses all in
     if_small bs false digits plain (elim (cases_lt (digits_value 10 bs) (2 ^ 32)) [ inl less ↦ absurd (read (some, less)) | inr more ↦ grind (arith, nat_tests) ])
+
+-- one more part, where it is kept and where it is dropped
+module _ (p : List ℕ → Bool) (xs : List (List ℕ)) (i : ℕ) (x : List ℕ) (below : i < length xs) (is : x ≡ get_or xs i x) where
+  kept_more : filter p (take (i + 1) xs) ≡ filter p (take i xs) ++ cond (p x) (x ∷ []) []
+  kept_more = ap (filter p) (take_more xs i x below ∙ ap (λ y. take i xs ++ y ∷ []) (sym is)) ∙ filter-append p (take i xs) (x ∷ [])
+
+  pub kept : p x ≡ true → filter p (take i xs) ++ x ∷ [] ≡ filter p (take (i + 1) xs)
+  kept passes = ap (λ b. filter p (take i xs) ++ cond b (x ∷ []) []) (sym passes) ∙ sym kept_more
+
+  pub dropped : p x ≡ false → filter p (take i xs) ≡ filter p (take (i + 1) xs)
+  dropped fails = sym (append-nil (filter p (take i xs))) ∙ ap (λ b. filter p (take i xs) ++ cond b (x ∷ []) []) (sym fails) ∙ sym kept_more

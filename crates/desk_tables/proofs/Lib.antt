@@ -1,5 +1,6 @@
 mod CredRows
 pub mod GidLemmas
+pub mod GidsOnce
 pub mod MountLemmas
 pub mod TableLemmas
 pub mod OneTable

@@ -5,12 +5,14 @@ pub mod credentials;
 pub mod faults;
 mod fields;
 pub mod filesystems;
+pub mod groups;
 pub mod laws;
 pub mod users;
 
 pub use credentials::{Cred, GroupIds};
 pub use faults::{TableFault, TableRule};
 pub use filesystems::{FileSystems, FsId, Mount};
+pub use groups::{Group, Groups};
 pub use users::{User, Users};
 
 #[cfg(test)]
