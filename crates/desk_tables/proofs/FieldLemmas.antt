@@ -2,11 +2,11 @@
 use Rattle.std.proofs.Common.{◌+◌, ◌∷◌, ◌++◌, cond, filter, take, get_or, ◌≡◌, ◌<◌, ◌^◌, ℕ, Bool, true, false, not, ◌&&◌, List, [], Option, Some, None, Result, Ok, Err, length, ap, sym, ◌∙◌, arith, rules, inl, inr, Bor}
 use Rattle.std.proofs.lemmas.Bool.{cases_lt}
 use Rattle.std.proofs.lemmas.List.{append-nil, take_more}
-use Rattle.std.proofs.lemmas.List.Elements.{filter-append}
+use Rattle.std.proofs.lemmas.List.Elements.{filter-append, filter_map-append}
 use Rattle.std.proofs.lemmas.Option.{unwrap_or-slice_get}
 use Rattle.std.specs.Option.{option_map}
 use Rattle.std.specs.Prelude.{nat_lt, slice_get, slice_index_or, unwrap_or, if◌then◌else◌}
-use Rattle.std.specs.List.{list_all}
+use Rattle.std.specs.List.{cons_option, filter_map, list_all}
 use Rattle.std.specs.Result.{result_ok}
 use Rattle.std.specs.Char.{is_ascii_digit}
 use Rattle.std.specs.Str.Parse.{ParsesUnsigned, digits_value}
@@ -54,3 +54,14 @@ module _ (p : List ℕ → Bool) (xs : List (List ℕ)) (i : ℕ) (x : List ℕ)
 
   pub dropped : p x ≡ false → filter p (take i xs) ≡ filter p (take (i + 1) xs)
   dropped fails = sym (append-nil (filter p (take i xs))) ∙ ap (λ b. filter p (take i xs) ++ cond b (x ∷ []) []) (sym fails) ∙ sym kept_more
+
+-- one more part, where it gives a number and where it gives none
+module _ (f : List ℕ → Option ℕ) (xs : List (List ℕ)) (i : ℕ) (x : List ℕ) (below : i < length xs) (is : x ≡ get_or xs i x) where
+  given_more : filter_map f (take (i + 1) xs) ≡ filter_map f (take i xs) ++ cons_option (f x) []
+  given_more = ap (filter_map f) (take_more xs i x below ∙ ap (λ y. take i xs ++ y ∷ []) (sym is)) ∙ filter_map-append f (take i xs) (x ∷ [])
+
+  pub given : (n : ℕ) → f x ≡ Some n → filter_map f (take i xs) ++ n ∷ [] ≡ filter_map f (take (i + 1) xs)
+  given n some = ap (λ o. filter_map f (take i xs) ++ cons_option o []) (sym some) ∙ sym given_more
+
+  pub absent : f x ≡ None → filter_map f (take i xs) ≡ filter_map f (take (i + 1) xs)
+  absent none = sym (append-nil (filter_map f (take i xs))) ∙ ap (λ o. filter_map f (take i xs) ++ cons_option o []) (sym none) ∙ sym given_more

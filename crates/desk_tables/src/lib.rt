@@ -2,6 +2,7 @@
 #![tactic(auto)]
 
 pub mod credentials;
+pub mod elements;
 pub mod faults;
 mod fields;
 pub mod filesystems;
@@ -10,6 +11,7 @@ pub mod laws;
 pub mod users;
 
 pub use credentials::{Cred, GroupIds};
+pub use elements::{CredFault, credential};
 pub use faults::{TableFault, TableRule};
 pub use filesystems::{FileSystems, FsId, Mount};
 pub use groups::{Group, Groups};
