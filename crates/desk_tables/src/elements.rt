@@ -229,3 +229,6 @@ fn gids_in(groups: &Groups, others: &str) -> GroupIds
     }
     gids
 }
+
+#[cfg(test)]
+mod tests;
