@@ -114,7 +114,9 @@ fn sixteen_gids(rt: HostRuntime) -> Result<(), Fail> {
         let members = if gid < 16 { "ann,bob" } else { "bob" };
         text.push_str(format!(in rt.alloc(); "g::{gid}:{members}\n")?.as_str())?;
     }
-    let groups = Groups::read(rt.alloc(), text.as_str())?;
+    let text = text.as_str();
+    assert!(rt; text.len() <= 1000);
+    let groups = Groups::read(rt.alloc(), text)?;
     let ann = shown(rt.alloc(), &users, &groups, "ann")?;
     assert_eq!(rt; ann.as_str(), "5:0:1:2:3:4:5:6:7:8:9:10:11:12:13:14:15");
     let bob = shown(rt.alloc(), &users, &groups, "bob")?;
