@@ -1,5 +1,6 @@
 mod CredRows
 pub mod GidLemmas
+pub mod GidsOnce
 pub mod MountLemmas
 pub mod TableLemmas
 pub mod OneTable
@@ -9,3 +10,6 @@ pub mod AscendingLemmas
 pub mod HostLawLemmas
 pub mod NetworkLemmas
 pub mod HostLemmas
+pub mod ElementLemmas
+pub mod FieldLemmas
+pub mod RowLemmas
