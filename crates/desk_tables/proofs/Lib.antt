@@ -3,3 +3,4 @@ pub mod GidLemmas
 pub mod MountLemmas
 pub mod TableLemmas
 pub mod OneTable
+pub mod CustodianLemmas

@@ -2,11 +2,14 @@
 #![tactic(auto)]
 
 pub mod credentials;
+pub mod custodians;
 pub mod faults;
 pub mod filesystems;
 pub mod laws;
+mod word_lines;
 
 pub use credentials::{Cred, GroupIds};
+pub use custodians::{Custodian, Custodians};
 pub use faults::{TableFault, TableRule};
 pub use filesystems::{FileSystems, FsId, Mount};
 

@@ -1,0 +1,106 @@
+//! Custodians, and the digests of their keys. (this project's own)
+
+ghost use Rattle.std.specs.Prelude.{◌≡◌, ◌≤◌, ◌==◌, Some, length, map};
+ghost use Rattle.std.specs.List.{list_all, list_any};
+ghost use Rattle.std.specs.Option.{option_copied};
+ghost use Rattle.std.specs.Str.{bytes_eq};
+ghost use Rattle.desk_text.specs.Reading.{Reads, ReadsAs};
+ghost use Rattle.desk_tables.specs.Custodians as spec;
+
+use crate::faults::TableRule;
+use desk_text::{ReadError, Sequence, Text};
+use hex::FromHex;
+use std::alloc::Global;
+use std::marker::Model;
+
+/// The most bytes that a custodian's name may have.
+const LONGEST_NAME: usize = 32;
+
+/// A custodian: a name, and the SHA-256 digest of a key.
+#[derive(Clone, Debug, Drop)]
+pub struct Custodian {
+    pub name: Text,
+    pub digest: [u8; 32],
+}
+
+/// The custodians of a site, in the order of their lines. `site` is among them.
+#[derive(Clone, Debug, Drop)]
+pub struct Custodians {
+    rows: Sequence<Custodian>,
+}
+
+impl Model for Custodians {
+    ghost use Rattle.std.specs.Prelude.{List};
+    ghost use Rattle.desk_tables.specs.declared.custodians.Custodian.{Custodian};
+
+    ghost Value = { List Custodian };
+
+    ghost view = { λ c. c.rows };
+}
+
+impl Custodians {
+    /// The digest of the key of the custodian of this name; none where no custodian has it.
+    pub fn digest_of(&self, name: &str) -> Option<&[u8; 32]>
+        ensures { option_copied result ≡ spec.digest_of self.now name.now }
+    {
+        self.rows
+            .as_slice()
+            .iter()
+            .find(|row| row.name.as_str() == name)
+            .map(|row| &row.digest)
+    }
+}
+
+/// The custodian that words name, or the rule that is named, where these custodians are listed before.
+fn read_words(
+    alloc: Global,
+    words: &[Text],
+    before: &[Custodian],
+) -> Result<Custodian, ReadError<TableRule>>
+    ensures { ReadsAs (λ row. Some row) result (spec.values_answer (map (λ row. row.name) before.now) (Ok words.now)) }
+{
+    let [name, digest] = words else {
+        return Err(ReadError::Fault(TableRule::Fields));
+    };
+    if !is_name(name.as_str()) {
+        return Err(ReadError::Fault(TableRule::Name));
+    }
+    if is_listed(before, name.as_str()) {
+        return Err(ReadError::Fault(TableRule::Duplicate));
+    }
+    let Ok(digest) = <[u8; 32] as FromHex>::from_hex(digest.as_str()) else {
+        return Err(ReadError::Fault(TableRule::Digest));
+    };
+    let name = Text::copy(alloc, name.as_str())?;
+    Ok(Custodian { name, digest })
+}
+
+/// Whether a text is a custodian's name.
+fn is_name(text: &str) -> bool
+    ensures { result ≡ spec.is_custodian_name text.now }
+{
+    let bytes = text.as_bytes();
+    1 <= bytes.len() && bytes.len() <= LONGEST_NAME && only_name_bytes(bytes)
+}
+
+fn only_name_bytes(bytes: &[u8]) -> bool
+    ensures { result ≡ list_all spec.is_name_byte bytes.now }
+{
+    bytes.iter().all(|byte| is_name_byte(*byte))
+}
+
+fn is_name_byte(byte: u8) -> bool
+    ensures { result ≡ spec.is_name_byte byte }
+{
+    (b'a' <= byte && byte <= b'z')
+        || (b'0' <= byte && byte <= b'9')
+        || byte == b'-'
+        || byte == b'_'
+}
+
+/// Whether a custodian of this name is listed.
+fn is_listed(rows: &[Custodian], name: &str) -> bool
+    ensures { result ≡ list_any (λ row. bytes_eq name.now row.name) rows.now }
+{
+    rows.iter().any(|row| name == row.name.as_str())
+}
