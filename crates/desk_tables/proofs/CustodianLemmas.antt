@@ -1,11 +1,17 @@
 -- What a line of custodians answers, by the tests of its rules.
-use Rattle.std.proofs.Common.{◌≡◌, ℕ, ◌==◌, Bool, true, false, not, ◌||◌, List, [], ◌∷◌, Some, None, Result, Ok, Err, Option, cond, get_or, length, map, refl, ap, ◌∙◌, arith}
-use Rattle.std.specs.List.{list_any}
+use Rattle.std.proofs.Common.{◌≡◌, ℕ, ◌==◌, Bool, true, false, not, ◌||◌, List, [], ◌∷◌, Some, None, Result, Ok, Err, Option, ◌<◌, ◌+◌, ◌++◌, cond, find, get_or, length, map, take, refl, ap, sym, ◌∙◌, arith}
+use Rattle.std.specs.List.{cons_option, filter_map, list_any}
+use Rattle.std.proofs.lemmas.List.{take_more}
+use Rattle.std.proofs.lemmas.List.Elements.{filter_map-append}
 use Rattle.std.specs.Result.{is_err}
 use Rattle.std.specs.Str.{bytes_eq}
 use Rattle.hex.specs.Hex.{decode_sized}
+use Rattle.desk_text.specs.Lines.{LogicalLine}
+use Rattle.desk_text.specs.declared.quoting.OpenQuote.{OpenQuote}
+use Rattle.desk_tables.proofs.WordTables.{unless_ok}
 use Rattle.desk_tables.specs.Tables.{unless_rule}
-use Rattle.desk_tables.specs.Custodians.{custodian_of, digest_word, is_custodian_name, name_word, values_answer}
+use Rattle.desk_tables.specs.WordLines.{line_values}
+use Rattle.desk_tables.specs.Custodians.{breaks, custodian_of, digest_word, is_custodian_name, name_in, name_word, names_on, rules, values_answer}
 use Rattle.desk_tables.specs.declared.custodians.Custodian.{Custodian}
 use Rattle.desk_tables.specs.declared.faults.TableRule.{TableRule}
 use Rattle.desk_tables.specs.declared.faults.TableRule.TheVariants as rule
@@ -51,3 +57,23 @@ pub second_word : (words : List (List ℕ)) (x : List ℕ) → length words ≡ 
 second_word [] x two h = absurd (omega arith)
 second_word (word ∷ []) x two h = absurd (omega arith)
 second_word (word ∷ next ∷ words) x two h = h
+
+-- a row's name is the name that its line lists
+named_on : (before : List (List ℕ)) (words : Result (List (List ℕ)) OpenQuote) (row : Custodian) → values_answer before words ≡ Ok (Some row) → name_in words ≡ Some row.name
+named_on before (Ok words) row h = ap (λ (k : Custodian). Some k.name) (unless_ok (find (breaks before words) rules) (custodian_of words) row h)
+named_on before (Err quote) row h = absurd (cc)
+
+names-append : (rows : List Custodian) (row : Custodian) → names (rows ++ row ∷ []) ≡ names rows ++ row.name ∷ []
+names-append [] row = refl
+names-append (other ∷ rows) row = ap (λ ns. other.name ∷ ns) (names-append rows row)
+
+-- the names of one row more are those of one line more
+pub next_names : (ls : List LogicalLine) (i : ℕ) (x : LogicalLine) (before : List (List ℕ)) (rows : List Custodian) (row : Custodian) → i < length ls → x ≡ get_or ls i x → values_answer before (line_values x) ≡ Ok (Some row) → names rows ≡ names_on (take i ls)
+    → names (rows ++ row ∷ []) ≡ names_on (take (i + 1) ls)
+next_names ls i x before rows row below is good same =
+    names-append rows row
+    ∙ ap (λ ns. ns ++ row.name ∷ []) same
+    ∙ ap (λ o. names_on (take i ls) ++ cons_option o []) (sym (named_on before (line_values x) row good))
+    ∙ ap (λ (l : LogicalLine). names_on (take i ls) ++ cons_option (name_in (line_values l)) []) is
+    ∙ sym (filter_map-append (λ l. name_in (line_values l)) (take i ls) (get_or ls i x ∷ []))
+    ∙ ap names_on (sym (take_more ls i x below))

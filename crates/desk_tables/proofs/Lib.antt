@@ -4,3 +4,4 @@ pub mod MountLemmas
 pub mod TableLemmas
 pub mod OneTable
 pub mod CustodianLemmas
+pub mod WordTables

@@ -84,9 +84,9 @@ digest_of table name = option_map (λ custodian. custodian.digest) (custodian_na
 abbrev pub with_site : List Custodian → Result (List Custodian) TableFault
 with_site table = unless_missing (custodian_named table (codes "site"))
   where
-  unless_missing : Option Custodian → Result (List Custodian) TableFault
-  unless_missing (Some site) = Ok table
-  unless_missing None = Err (record { line = 0; rule = rule.Custodian })
+    unless_missing : Option Custodian → Result (List Custodian) TableFault
+    unless_missing (Some site) = Ok table
+    unless_missing None = Err (record { line = 0; rule = rule.Custodian })
 
 -- where the lines have no fault, `site` has to be among the custodians
 abbrev pub checked : Result (List Custodian) TableFault → Result (List Custodian) TableFault

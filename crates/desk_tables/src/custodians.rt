@@ -5,10 +5,13 @@ ghost use Rattle.std.specs.List.{list_all, list_any};
 ghost use Rattle.std.specs.Option.{option_copied};
 ghost use Rattle.std.specs.Str.{bytes_eq};
 ghost use Rattle.desk_text.specs.Reading.{Reads, ReadsAs};
+ghost use Rattle.desk_text.specs.Lines.{logical_lines};
 ghost use Rattle.desk_tables.specs.Custodians as spec;
+ghost use Rattle.desk_tables.specs.WordLines.{line_values, lines_table};
 
-use crate::faults::TableRule;
-use desk_text::{ReadError, Sequence, Text};
+use crate::faults::{TableFault, TableRule};
+use crate::word_lines::{at_line, line_values};
+use desk_text::{Line, ReadError, Sequence, Text, logical_lines};
 use hex::FromHex;
 use std::alloc::Global;
 use std::marker::Model;
@@ -39,6 +42,23 @@ impl Model for Custodians {
 }
 
 impl Custodians {
+    /// The custodians that a text lists, one a line: a name of 1 to 32 of `a` to `z`, `0` to `9`, `-` and `_`, and 64
+    /// hexadecimal digits of either case. A text that does not list `site` has a fault of line 0.
+    pub fn read(alloc: Global, text: &str) -> Result<Custodians, ReadError<TableFault>>
+        requires { length text.now ≤ 4294967294 }
+        ensures { Reads result (spec.read_custodians text.now) }
+    {
+        let rows = read_rows(alloc, text)?;
+        let table = Custodians { rows };
+        if table.digest_of("site").is_none() {
+            return Err(ReadError::Fault(TableFault {
+                line: 0,
+                rule: TableRule::Custodian,
+            }));
+        }
+        Ok(table)
+    }
+
     /// The digest of the key of the custodian of this name; none where no custodian has it.
     pub fn digest_of(&self, name: &str) -> Option<&[u8; 32]>
         ensures { option_copied result ≡ spec.digest_of self.now name.now }
@@ -48,6 +68,35 @@ impl Custodians {
             .iter()
             .find(|row| row.name.as_str() == name)
             .map(|row| &row.digest)
+    }
+}
+
+/// The custodian of each line, in order, or the first fault.
+fn read_rows(alloc: Global, text: &str) -> Result<Sequence<Custodian>, ReadError<TableFault>>
+    requires { length text.now ≤ 4294967294 }
+    ensures { Reads result (lines_table spec.line_answer (logical_lines text.now)) }
+{
+    let lines = logical_lines(alloc, text)?;
+    let mut rows = Sequence::new(alloc);
+    for line in &lines {
+        let row = at_line(line.number(), read_line(alloc, line, rows.as_slice()))?;
+        rows.push(row)?;
+    }
+    Ok(rows)
+}
+
+/// The custodian of a line, or the rule that is named, where these custodians are listed before.
+fn read_line(
+    alloc: Global,
+    line: &Line,
+    before: &[Custodian],
+) -> Result<Custodian, ReadError<TableRule>>
+    ensures { ReadsAs (λ row. Some row) result (spec.values_answer (map (λ row. row.name) before.now) (line_values line.now)) }
+{
+    match line_values(alloc, line) {
+        Ok(words) => read_words(alloc, words.as_slice(), before),
+        Err(ReadError::Fault(_)) => Err(ReadError::Fault(TableRule::Fields)),
+        Err(ReadError::Memory) => Err(ReadError::Memory),
     }
 }
 
@@ -92,10 +141,7 @@ fn only_name_bytes(bytes: &[u8]) -> bool
 fn is_name_byte(byte: u8) -> bool
     ensures { result ≡ spec.is_name_byte byte }
 {
-    (b'a' <= byte && byte <= b'z')
-        || (b'0' <= byte && byte <= b'9')
-        || byte == b'-'
-        || byte == b'_'
+    (b'a' <= byte && byte <= b'z') || (b'0' <= byte && byte <= b'9') || byte == b'-' || byte == b'_'
 }
 
 /// Whether a custodian of this name is listed.

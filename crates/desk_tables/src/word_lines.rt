@@ -1,11 +1,13 @@
 //! Lines of words, as the tables of file systems and custodians have them.
 
-ghost use Rattle.std.specs.Prelude.{◌≡◌, IfOk, map};
+ghost use Rattle.std.specs.Prelude.{◌≡◌, IfOk, Option, Result, Some, map};
 ghost use Rattle.desk_text.specs.Reading.{ReadsAs};
 ghost use Rattle.desk_text.specs.Shown.{word_of};
 ghost use Rattle.desk_text.specs.Words.{word_value};
-ghost use Rattle.desk_tables.specs.WordLines.{line_values};
+ghost use Rattle.desk_tables.specs.WordLines.{at_line, line_values};
+ghost use Rattle.desk_tables.specs.declared.faults.TableRule.{TableRule};
 
+use crate::faults::{TableFault, TableRule};
 use desk_text::{Line, OpenQuote, ReadError, Text, Word, unquote, words};
 use std::alloc::{AllocError, Global};
 
@@ -28,4 +30,18 @@ fn values_of(alloc: Global, words: &[Word]) -> Result<Vec<Text>, AllocError>
         values.push(Text::copy(alloc, value.as_str())?)?;
     }
     Ok(values)
+}
+
+/// What the line with this number answers: its row, or the rule that is named there.
+pub fn at_line<Row>(
+    number: u32,
+    answer: Result<Row, ReadError<TableRule>>,
+) -> Result<Row, ReadError<TableFault>>
+    ensures { (spelled : Result (Option Row) TableRule) → ReadsAs (λ row. Some row) answer spelled → ReadsAs (λ row. Some row) result (at_line number spelled) }
+{
+    match answer {
+        Ok(row) => Ok(row),
+        Err(ReadError::Memory) => Err(ReadError::Memory),
+        Err(ReadError::Fault(rule)) => Err(ReadError::Fault(TableFault { line: number, rule })),
+    }
 }
