@@ -1,6 +1,6 @@
 -- What a line of custodians answers, by the tests of its rules.
 use Rattle.std.proofs.Common.{◌≡◌, ℕ, ◌==◌, Bool, true, false, not, ◌||◌, List, [], ◌∷◌, Some, None, Result, Ok, Err, Option, ◌<◌, ◌+◌, ◌++◌, cond, find, get_or, length, map, take, refl, ap, sym, ◌∙◌, arith}
-use Rattle.std.specs.List.{cons_option, filter_map, list_any}
+use Rattle.std.specs.List.{cons_option, list_any}
 use Rattle.std.proofs.lemmas.List.{take_more}
 use Rattle.std.proofs.lemmas.List.Elements.{filter_map-append}
 use Rattle.std.specs.Result.{is_err}

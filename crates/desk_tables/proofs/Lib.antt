@@ -5,3 +5,4 @@ pub mod TableLemmas
 pub mod OneTable
 pub mod CustodianLemmas
 pub mod WordTables
+pub mod MountLineLemmas

@@ -1,5 +1,5 @@
 -- A table that is read line by line: its rows so far, and its first fault.
-use Rattle.std.proofs.Common.{◌≡◌, ◌<◌, ◌+◌, ℕ, List, [], ◌∷◌, ◌++◌, Option, Some, None, Result, Ok, Err, suc, take, drop, get_or, length, refl, ap, subst, sym, ◌∙◌, append_assoc}
+use Rattle.std.proofs.Common.{◌≡◌, ◌<◌, ◌+◌, ℕ, List, [], ◌∷◌, ◌++◌, Option, Some, None, Result, Ok, Err, suc, take, drop, get_or, length, ap, sym, ◌∙◌, append_assoc}
 use Rattle.std.proofs.Math.Seq.{drop-cons}
 use Rattle.std.proofs.lemmas.List.{append-nil, take_more, take-append-drop}
 use Rattle.std.proofs.lemmas.List.Elements.{filter_map-append}
@@ -8,7 +8,7 @@ use Rattle.desk_text.specs.Lines.{LogicalLine}
 use Rattle.desk_text.specs.Reading.{Reads, ReadsAs}
 use Rattle.desk_text.specs.declared.reading.ReadError.{ReadError}
 use Rattle.desk_text.specs.declared.reading.ReadError.TheVariants.{Fault, Memory}
-use Rattle.desk_tables.specs.Tables.{Answered, fault_of, row_in, table_of, unless_fault, unless_rule}
+use Rattle.desk_tables.specs.Tables.{Answered, fault_of, row_in, unless_fault, unless_rule}
 use Rattle.desk_tables.specs.WordLines.{answers, at_line, lines_table}
 use Rattle.desk_tables.specs.declared.faults.TableFault.{TableFault}
 use Rattle.desk_tables.specs.declared.faults.TableRule.{TableRule}

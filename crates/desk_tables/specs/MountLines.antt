@@ -1,5 +1,5 @@
 -- The text of the file systems: mount points, each with the custodians who keep its exports file. (this project's own)
-use Rattle.std.specs.Prelude.{ℕ, Bool, true, false, nat_le, nat_lt, List, [], ◌∷◌, ◌++◌, Option, Some, None, Result, Ok, Err, find, length, drop, is_err, slice_get, slice_index_or, if◌then◌else◌}
+use Rattle.std.specs.Prelude.{ℕ, Bool, false, nat_le, nat_lt, List, [], ◌∷◌, Option, None, Result, Ok, Err, find, length, drop, is_err, slice_get, slice_index_or, if◌then◌else◌}
 use Rattle.std.specs.List.{filter_map, list_any}
 use Rattle.std.specs.Option.{option_map_or}
 use Rattle.std.specs.Result.{result_ok, result_unwrap_or}
@@ -68,10 +68,10 @@ paths_on lines = filter_map (λ line. path_in (line_values line)) lines
 abbrev pub line_answer : List LogicalLine → LogicalLine → Result (Option Mount) TableRule
 line_answer before line = values_answer (length before) (paths_on before) (line_values line)
 
--- a mount point in its place: in front of the first one that it stands before
+-- a mount point in its place: behind those that stand before it
 abbrev pub put : Mount → List Mount → List Mount
 put mount [] = mount ∷ []
-put mount (next ∷ table) = if is_before mount.path next.path then mount ∷ next ∷ table else next ∷ put mount table
+put mount (next ∷ table) = if is_before next.path mount.path then next ∷ put mount table else mount ∷ next ∷ table
 
 -- further mount points in their places in a table
 abbrev pub put_all : List Mount → List Mount → List Mount

@@ -1,6 +1,6 @@
 -- How a table is read whose lines are lines of words: the file systems and the custodians. (this project's own)
 use Rattle.std.specs.Prelude.{ℕ, List, [], ◌∷◌, ◌++◌, Option, Result, Ok, Err, map}
-use Rattle.desk_text.specs.Lines.{LogicalLine, logical_lines}
+use Rattle.desk_text.specs.Lines.{LogicalLine}
 use Rattle.desk_text.specs.Words.{RawWord, read_words, word_value}
 use Rattle.desk_text.specs.declared.quoting.OpenQuote.{OpenQuote}
 use Rattle.desk_tables.specs.Tables.{Answered, table_of}

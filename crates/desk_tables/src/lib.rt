@@ -6,6 +6,7 @@ pub mod custodians;
 pub mod faults;
 pub mod filesystems;
 pub mod laws;
+mod mount_lines;
 mod word_lines;
 
 pub use credentials::{Cred, GroupIds};

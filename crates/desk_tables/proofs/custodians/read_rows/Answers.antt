@@ -8,7 +8,6 @@ use Rattle.desk_tables.specs.Custodians as spec
 use Rattle.desk_tables.specs.WordLines.{at_line, line_values, lines_table}
 use Rattle.desk_tables.specs.declared.custodians.Custodian.{Custodian}
 use Rattle.desk_tables.specs.declared.faults.TableFault.{TableFault}
-use Rattle.desk_tables.specs.declared.faults.TableRule.{TableRule}
 use Rattle.desk_tables.proofs.CustodianLemmas.{names, next_names}
 use Rattle.desk_tables.proofs.WordTables.{exit, faults_on, next_faults, next_rows, row_at, rows_on, whole}
 use Rattle.desk_tables.proofs.custodians.read_rows.Goals as goal

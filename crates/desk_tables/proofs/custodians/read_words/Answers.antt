@@ -1,4 +1,4 @@
-use Rattle.std.proofs.Common.{rules, ◌≡◌, ◌∙◌, ap, sym, subst, true, false, length, List, ℕ, arith, Err, Ok, Some, []}
+use Rattle.std.proofs.Common.{◌≡◌, ◌∙◌, ap, sym, true, false, length, List, ℕ, arith, Ok, Some, []}
 use Rattle.std.specs.List.{list_any}
 use Rattle.std.specs.Str.{bytes_eq}
 use Rattle.std.specs.Result.{is_err, result_unwrap_or}
