@@ -150,3 +150,6 @@ fn is_listed(rows: &[Custodian], name: &str) -> bool
 {
     rows.iter().any(|row| name == row.name.as_str())
 }
+
+#[cfg(test)]
+mod tests;

@@ -101,3 +101,6 @@ fn copies(alloc: Global, texts: &[Text]) -> Result<Sequence<Text>, AllocError>
     }
     Ok(copies)
 }
+
+#[cfg(test)]
+mod tests;
