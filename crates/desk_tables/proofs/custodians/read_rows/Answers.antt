@@ -18,7 +18,7 @@ returns-in_err-row c =
     let i : ℕ = c.loop-line.line-index in
     let x : LogicalLine = c.line-item.result in
     let text : ls ≡ logical_lines c.args.text.now = c.deref-line-items.ensures.value ∙ c.in_ok-lines.ensures.lines in
-    let listed : names c.as_slice.result.now ≡ spec.names_on (take i ls) = ap names c.as_slice.ensures ∙ c.loop-line.invariant.listed in
+    let listed : names c.loop-line.table ≡ spec.names_on (take i ls) = c.loop-line.invariant.listed in
     let N : List (List ℕ) → Type 0 = λ ns. ReadsAs {T = Custodian} (λ row. Some row) c.read_line.result (spec.values_answer ns (line_values x)) in
     let M : ℕ → Type 0 = λ n. ReadsAs {T = Custodian} (λ row. Some row) c.at_line.result (at_line n (spec.line_answer (take i ls) x)) in
     let R : Result Custodian (ReadError TableFault) → Type 0 = λ r. ReadsAs (λ row. Some row) r (at_line x.number (spec.line_answer (take i ls) x)) in
@@ -32,7 +32,7 @@ loop-line-preserved c =
     let ls : List LogicalLine = c.deref-line-items.result.now in
     let i : ℕ = c.loop-line.line-index in
     let x : LogicalLine = c.line-item.result in
-    let listed : names c.as_slice.result.now ≡ spec.names_on (take i ls) = ap names c.as_slice.ensures ∙ c.loop-line.invariant.listed in
+    let listed : names c.loop-line.table ≡ spec.names_on (take i ls) = c.loop-line.invariant.listed in
     let N : List (List ℕ) → Type 0 = λ ns. ReadsAs {T = Custodian} (λ row. Some row) c.read_line.result (spec.values_answer ns (line_values x)) in
     let M : ℕ → Type 0 = λ n. ReadsAs {T = Custodian} (λ row. Some row) c.at_line.result (at_line n (spec.line_answer (take i ls) x)) in
     let R : Result Custodian (ReadError TableFault) → Type 0 = λ r. ReadsAs (λ row. Some row) r (at_line x.number (spec.line_answer (take i ls) x)) in
@@ -40,9 +40,9 @@ loop-line-preserved c =
     let good : spec.line_answer (take i ls) x ≡ Ok (Some c.in_ok-row.row) = row_at x.number (spec.line_answer (take i ls) x) c.in_ok-row.row (subst R c.in_ok-row.was told) in
     record {
       sound = next_faults spec.line_answer ls i x c.in_ok-row.row c.loop-line-test.true c.line-item.is good c.loop-line.invariant.sound;
-      read = c.in_ok-push.ensures ∙ ap (λ rows. rows ++ c.in_ok-row.row ∷ []) c.loop-line.invariant.read ∙ sym (next_rows spec.line_answer ls i x c.in_ok-row.row c.loop-line-test.true c.line-item.is good);
-      listed = ap names c.in_ok-push.ensures
-          ∙ next_names ls i x (spec.names_on (take i ls)) c.loop-line.rows c.in_ok-row.row c.loop-line-test.true c.line-item.is good c.loop-line.invariant.listed;
+      read = c.in_ok-table.ensures ∙ ap (λ rows. rows ++ c.in_ok-row.row ∷ []) c.loop-line.invariant.read ∙ sym (next_rows spec.line_answer ls i x c.in_ok-row.row c.loop-line-test.true c.line-item.is good);
+      listed = ap names c.in_ok-table.ensures
+          ∙ next_names ls i x (spec.names_on (take i ls)) c.loop-line.table c.in_ok-row.row c.loop-line-test.true c.line-item.is good c.loop-line.invariant.listed;
     }
 
 pub returns : goal.returns

@@ -7,6 +7,6 @@ use Rattle.desk_tables.proofs.custodians.read_rows.Given as goal
 abbrev pub invariant-loop-line : goal.invariant-loop-line
 invariant-loop-line l = record {
   sound : faults_on spec.line_answer (take l.line-index l.line-items) ≡ [];
-  read : l.rows ≡ rows_on spec.line_answer (take l.line-index l.line-items);
-  listed : map (λ row. row.name) l.rows ≡ spec.names_on (take l.line-index l.line-items);
+  read : l.table ≡ rows_on spec.line_answer (take l.line-index l.line-items);
+  listed : map (λ row. row.name) l.table ≡ spec.names_on (take l.line-index l.line-items);
 }

@@ -5,17 +5,17 @@ use Rattle.std.specs.Result.{is_err, result_unwrap_or}
 use Rattle.hex.specs.Hex.{decode_sized}
 use Rattle.desk_tables.specs.Custodians as spec
 use Rattle.desk_tables.specs.declared.custodians.Custodian.{Custodian}
-use Rattle.desk_tables.proofs.CustodianLemmas.{names, listed_names, is_duplicate, is_bad_digest, is_custodian, first_word, second_word}
+use Rattle.desk_tables.proofs.CustodianLemmas.{names, is_duplicate, is_bad_digest, is_custodian, first_word, second_word}
 use Rattle.desk_tables.proofs.custodians.read_words.Goals as goal
 
-pub returns-then-is_listed : goal.returns-then-is_listed
-returns-then-is_listed c =
+pub returns-then-lists : goal.returns-then-lists
+returns-then-lists c =
     let words : List (List ℕ) = c.args.words.now in
     let two : length words ≡ 2 = omega arith in
     let name : c.name-item.result ≡ spec.name_word words = first_word words c.name-item.result two c.name-item.is in
     let good : spec.is_custodian_name (spec.name_word words) ≡ true = ap spec.is_custodian_name (sym name) ∙ ap spec.is_custodian_name (sym c.as_str.ensures) ∙ sym (c.if-not-is_name.ensures) in
     let listed : list_any (bytes_eq (spec.name_word words)) (names c.args.before.now) ≡ true =
-    sym (listed_names (spec.name_word words) c.args.before.now) ∙ ap (λ n. list_any (λ row. bytes_eq n row.name) c.args.before.now) (sym (c.as_str-2.ensures ∙ name)) ∙ sym c.if-is_listed.ensures in
+    ap (λ n. list_any (bytes_eq n) (names c.args.before.now)) (sym (c.as_str-2.ensures ∙ name)) ∙ sym c.if-lists.ensures in
     is_duplicate (names c.args.before.now) words two good listed
 
 pub returns-in_default-from_hex : goal.returns-in_default-from_hex
@@ -26,7 +26,7 @@ returns-in_default-from_hex c =
     let digits : c.digest-item.result ≡ spec.digest_word words = second_word words c.digest-item.result two c.digest-item.is in
     let good : spec.is_custodian_name (spec.name_word words) ≡ true = ap spec.is_custodian_name (sym name) ∙ ap spec.is_custodian_name (sym c.as_str.ensures) ∙ sym (c.if-not-is_name.ensures) in
     let listed : list_any (bytes_eq (spec.name_word words)) (names c.args.before.now) ≡ false =
-    sym (listed_names (spec.name_word words) c.args.before.now) ∙ ap (λ n. list_any (λ row. bytes_eq n row.name) c.args.before.now) (sym (c.as_str-2.ensures ∙ name)) ∙ sym c.if-is_listed.ensures in
+    ap (λ n. list_any (bytes_eq n) (names c.args.before.now)) (sym (c.as_str-2.ensures ∙ name)) ∙ sym c.if-lists.ensures in
     let decoded : c.from_hex.result ≡ decode_sized (spec.digest_word words) 32 = c.from_hex.ensures ∙ ap (λ t. decode_sized t 32) (c.as_str-3.ensures ∙ digits) in
     let wrong : is_err (decode_sized (spec.digest_word words) 32) ≡ true = ap is_err (sym decoded ∙ c.in_default-from_hex.is) in
     is_bad_digest (names c.args.before.now) words two good listed wrong
@@ -39,7 +39,7 @@ returns c =
     let digits : c.digest-item.result ≡ spec.digest_word words = second_word words c.digest-item.result two c.digest-item.is in
     let good : spec.is_custodian_name (spec.name_word words) ≡ true = ap spec.is_custodian_name (sym name) ∙ ap spec.is_custodian_name (sym c.as_str.ensures) ∙ sym (c.if-not-is_name.ensures) in
     let listed : list_any (bytes_eq (spec.name_word words)) (names c.args.before.now) ≡ false =
-    sym (listed_names (spec.name_word words) c.args.before.now) ∙ ap (λ n. list_any (λ row. bytes_eq n row.name) c.args.before.now) (sym (c.as_str-2.ensures ∙ name)) ∙ sym c.if-is_listed.ensures in
+    ap (λ n. list_any (bytes_eq n) (names c.args.before.now)) (sym (c.as_str-2.ensures ∙ name)) ∙ sym c.if-lists.ensures in
     let decoded : c.from_hex.result ≡ decode_sized (spec.digest_word words) 32 = c.from_hex.ensures ∙ ap (λ t. decode_sized t 32) (c.as_str-3.ensures ∙ digits) in
     let right : is_err (decode_sized (spec.digest_word words) 32) ≡ false = ap is_err (sym decoded ∙ c.in-Ok.is) in
     let bytes : result_unwrap_or (decode_sized (spec.digest_word words) 32) [] ≡ c.in-Ok.digest = ap (λ r. result_unwrap_or r []) (sym decoded ∙ c.in-Ok.is) in
