@@ -1,7 +1,7 @@
 -- Mount points in their places, and what a line of file systems answers, by the tests of its rules.
 use Rattle.std.proofs.Common.{◌≡◌, ◌<◌, ◌≤◌, ℕ, ◌+◌, Bool, true, false, ◌||◌, List, [], ◌∷◌, ◌++◌, Some, None, Result, Ok, Err, Option, cond, find, get_or, length, take, drop, zero, suc, refl, ap, sym, ◌∙◌, arith, nat_cmp, nat_le}
 use Rattle.std.specs.Prelude.{nat_lt}
-use Rattle.std.specs.List.{All, cons_option, insert, list_any, prefix_len}
+use Rattle.std.specs.List.{All, count_by, cons_option, insert, list_any, prefix_len}
 use Rattle.std.specs.Ordering.{is_eq, is_lt, ordering_reverse}
 use Rattle.std.specs.declared.cmp.Ordering.{Ordering}
 use Rattle.std.specs.declared.cmp.Ordering.TheVariants.{Less, Equal, Greater}
@@ -12,6 +12,7 @@ use Rattle.std.proofs.lemmas.Bool.Decides.{nat_tests}
 use Rattle.std.proofs.lemmas.List.{length-take-le, take_more}
 use Rattle.std.proofs.lemmas.List.Elements.{filter_map-append}
 use Rattle.std.proofs.lemmas.List.Kept.{AllPairs-cons}
+use Rattle.std.proofs.lemmas.List.Sums.{sum_by-cons}
 use Rattle.desk_text.specs.Lines.{LogicalLine}
 use Rattle.desk_text.specs.Path.{path_text, read_path, same_path}
 use Rattle.desk_text.specs.Reading.{Reads}
@@ -245,3 +246,22 @@ first_word (word ∷ words) x two h = h
 -- the path of a line's first word, as a path is read
 pub path_of_first : (words : List (List ℕ)) (x text : List ℕ) (path : List (List ℕ)) → 2 ≤ length words → x ≡ get_or words 0 x → text ≡ x → result_map_both (λ p. p) (λ fault. rule.BadPath) (read_path text) ≡ Ok path → path_word words ≡ Ok path
 path_of_first words x text path two is same h = ap read_path (sym (same ∙ first_word words x two is)) ∙ path_back (read_path text) path h
+
+-- how many mount points pass, with one more in front
+count_cons : (test : Mount → Bool) (m : Mount) (table : List Mount) → count_by test (m ∷ table) ≡ cond (test m) 1 0 + count_by test table
+count_cons test m table = sum_by-cons (λ x. cond (test x) 1 0) m table
+
+-- a mount point in its place counts as one in front
+count_put : (test : Mount → Bool) (m : Mount) (table : List Mount) → count_by test (put m table) ≡ cond (test m) 1 0 + count_by test table
+count_put test m [] = count_cons test m []
+count_put test m (next ∷ table) =
+    choose (λ t. count_by test t ≡ cond (test m) 1 0 + count_by test (next ∷ table)) (is_before next.path m.path) (next ∷ put m table) (m ∷ next ∷ table)
+    (λ e. omega (arith, count_cons test next (put m table), count_cons test next table, count_put test m table))
+    (λ e. count_cons test m (next ∷ table))
+
+count_put_all : (test : Mount → Bool) (table mounts : List Mount) → count_by test (put_all table mounts) ≡ count_by test table + count_by test mounts
+count_put_all test table [] = omega arith
+count_put_all test table (m ∷ more) = omega (arith, count_put test m table, count_put_all test (put m table) more, count_cons test m more)
+
+pub count_in_order : (test : Mount → Bool) (mounts : List Mount) → count_by test (put_all [] mounts) ≡ count_by test mounts
+count_in_order test mounts = omega (arith, count_put_all test [] mounts)

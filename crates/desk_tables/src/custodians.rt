@@ -49,8 +49,9 @@ impl Model for Custodians {
 }
 
 impl Custodians {
-    /// The custodians that a text lists, one a line: a name of 1 to 32 of `a` to `z`, `0` to `9`, `-` and `_`, and 64
-    /// hexadecimal digits of either case. A text that does not list `site` has a fault of line 0.
+    /// The custodians that a text lists, one a line: a name of 1 to 32 of `a` to `z`, `0` to `9`,
+    /// `-` and `_`, and 64 hexadecimal digits of either case. A text that does not list `site` has
+    /// a fault of line 0. The text has at most 4,294,967,294 bytes.
     pub fn read(alloc: Global, text: &str) -> Result<Custodians, ReadError<TableFault>>
         requires { length text.now ≤ 4294967294 }
         ensures { Reads result (spec.read_custodians text.now) }
@@ -72,7 +73,15 @@ impl Custodians {
         self.digests.get(name)
     }
 
+    /// The custodians, in the order of their lines.
+    pub fn as_slice(&self) -> &[Custodian]
+        ensures { result.now ≡ self.now }
+    {
+        self.rows.as_slice()
+    }
+
     /// Whether a custodian has this name.
+    #[tactic(auto, using(crate::proofs::CustodianLemmas::listed_names))]
     fn lists(&self, name: &str) -> bool
         ensures { result ≡ list_any (bytes_eq name.now) (map (λ row. row.name) self.now) }
     {
@@ -107,7 +116,8 @@ fn with_digest(
     name: &str,
     digest: [u8; 32],
 ) -> Result<BTreeMap<String, [u8; 32]>, AllocError>
-    ensures { IfOk result (λ more. (q : List ℕ) → get_by_text more q ≡ option_or (get_by_text digests q) (if bytes_eq name.now q then Some digest else None)) }
+    ensures { IfOk result (λ more. (q : List ℕ) → get_by_text more q
+        ≡ option_or (get_by_text digests q) (if bytes_eq name.now q then Some digest else None)) }
 {
     if digests.contains_key(name) {
         return Ok(digests);
@@ -137,7 +147,8 @@ fn read_line(
     line: &Line,
     before: &Custodians,
 ) -> Result<Custodian, ReadError<TableRule>>
-    ensures { ReadsAs (λ row. Some row) result (spec.values_answer (map (λ row. row.name) before.now) (line_values line.now)) }
+    ensures { ReadsAs (λ row. Some row) result
+        (spec.values_answer (map (λ row. row.name) before.now) (line_values line.now)) }
 {
     match line_values(alloc, line) {
         Ok(words) => read_words(alloc, words.as_slice(), before),
@@ -146,13 +157,15 @@ fn read_line(
     }
 }
 
-/// The custodian that words name, or the rule that is named, where these custodians are listed before.
+/// The custodian that words name, or the rule that is named, where these custodians are listed
+/// before.
 fn read_words(
     alloc: Global,
     words: &[Text],
     before: &Custodians,
 ) -> Result<Custodian, ReadError<TableRule>>
-    ensures { ReadsAs (λ row. Some row) result (spec.values_answer (map (λ row. row.name) before.now) (Ok words.now)) }
+    ensures { ReadsAs (λ row. Some row) result
+        (spec.values_answer (map (λ row. row.name) before.now) (Ok words.now)) }
 {
     let [name, digest] = words else {
         return Err(ReadError::Fault(TableRule::Fields));

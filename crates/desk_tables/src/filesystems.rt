@@ -66,7 +66,8 @@ impl FileSystems {
         Ok(Some(FileSystems { mounts }))
     }
 
-    /// The table of a text, one mount point a line, each behind it the one or more custodians who keep its exports file.
+    /// The table of a text: one mount point a line, and behind it the one or more custodians who
+    /// keep its exports file. The text has at most 4,294,967,294 bytes.
     pub fn read(alloc: Global, text: &str) -> Result<FileSystems, ReadError<TableFault>>
         requires { length text.now ≤ 4294967294 }
         ensures { Reads result (read_filesystems text.now) }
@@ -94,8 +95,8 @@ impl FileSystems {
             .map(|mount| &mount.path)
     }
 
-    /// Whether a custodian keeps a file system: it is one of those listed for its mount point. Nobody keeps a file system
-    /// that the table does not have.
+    /// Whether a custodian keeps the exports file of a file system: it is one of those listed for
+    /// its mount point. Nobody keeps one that the table does not have.
     pub fn keeps(&self, custodian: &str, id: FsId) -> bool
         ensures { result ≡ keeps self.now custodian.now id.0 }
     {

@@ -34,7 +34,8 @@ pub fn read_mounts(alloc: Global, text: &str) -> Result<Vec<Mount>, ReadError<Ta
 
 /// The mount point that a line lists, or the rule that is named, where these are listed before.
 fn read_line(alloc: Global, line: &Line, before: &[Mount]) -> Result<Mount, ReadError<TableRule>>
-    ensures { ReadsAs (λ row. Some row) result (spec.values_answer (length before.now) (mount_points before.now) (line_values line.now)) }
+    ensures { ReadsAs (λ row. Some row) result
+        (spec.values_answer (length before.now) (mount_points before.now) (line_values line.now)) }
 {
     match line_values(alloc, line) {
         Ok(words) => read_words(alloc, words.as_slice(), before),
@@ -49,7 +50,8 @@ fn read_words(
     words: &[Text],
     before: &[Mount],
 ) -> Result<Mount, ReadError<TableRule>>
-    ensures { ReadsAs (λ row. Some row) result (spec.values_answer (length before.now) (mount_points before.now) (Ok words.now)) }
+    ensures { ReadsAs (λ row. Some row) result
+        (spec.values_answer (length before.now) (mount_points before.now) (Ok words.now)) }
 {
     if words.len() < 2 {
         return Err(ReadError::Fault(TableRule::Fields));
@@ -67,7 +69,8 @@ fn read_words(
 
 /// The path that a text writes.
 fn read_mount_point(alloc: Global, text: &str) -> Result<Path, ReadError<TableRule>>
-    ensures { Reads result (result_map_both (λ path. path) (λ fault. TableRule.BadPath) (read_path text.now)) }
+    ensures { Reads result
+        (result_map_both (λ path. path) (λ fault. TableRule.BadPath) (read_path text.now)) }
 {
     match Path::read(alloc, text) {
         Ok(path) => Ok(path),

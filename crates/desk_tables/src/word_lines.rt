@@ -37,7 +37,8 @@ pub fn at_line<Row>(
     number: u32,
     answer: Result<Row, ReadError<TableRule>>,
 ) -> Result<Row, ReadError<TableFault>>
-    ensures { (spelled : Result (Option Row) TableRule) → ReadsAs (λ row. Some row) answer spelled → ReadsAs (λ row. Some row) result (at_line number spelled) }
+    ensures { (spelled : Result (Option Row) TableRule) → ReadsAs (λ row. Some row) answer spelled
+        → ReadsAs (λ row. Some row) result (at_line number spelled) }
 {
     match answer {
         Ok(row) => Ok(row),
