@@ -34,6 +34,11 @@ fn sample(rt: HostRuntime) -> Result<(), Fail> {
         ulf 2cf24dba5fb0a30e26e83b2ac5b9e29e1b161e5c1fa7425e73043362938b9824\n";
     let table = Custodians::read(rt.alloc(), text)?;
     assert_eq!(rt; table.digest_of("site"), Some(&ABC_BYTES));
+    let names: [&str; 2] = ["site", "ulf"];
+    assert_eq!(rt; table.as_slice().len(), 2);
+    for (row, name) in table.as_slice().iter().zip(names) {
+        assert_eq!(rt; row.name.as_str(), name);
+    }
     let ulf = table.digest_of("ulf").ok_or("not listed")?;
     assert_eq!(rt; (ulf[0], ulf[1], ulf[31]), (0x2c, 0xf2, 0x24));
     for name in ["", "eve", "Site", "sit", "sites"] {
