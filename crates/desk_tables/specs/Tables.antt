@@ -36,9 +36,9 @@ pub record Answered (Row : Type 0) : Type 0 where
 abbrev pub fault_of : {Row : Type 0} → Answered Row → Option TableFault
 fault_of line = fault_in line.number line.answer
   where
-  fault_in : {Row : Type 0} → ℕ → Result (Option Row) TableRule → Option TableFault
-  fault_in number (Ok row) = None
-  fault_in number (Err rule) = Some (record { line = number; rule = rule })
+    fault_in : {Row : Type 0} → ℕ → Result (Option Row) TableRule → Option TableFault
+    fault_in number (Ok row) = None
+    fault_in number (Err rule) = Some (record { line = number; rule = rule })
 
 -- the row of a line, if it has one
 abbrev pub row_in : {Row : Type 0} → Result (Option Row) TableRule → Option Row
