@@ -13,3 +13,6 @@ pub mod HostLemmas
 pub mod ElementLemmas
 pub mod FieldLemmas
 pub mod RowLemmas
+pub mod CustodianLemmas
+pub mod WordTables
+pub mod MountLineLemmas

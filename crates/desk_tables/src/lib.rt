@@ -3,6 +3,7 @@
 
 pub mod credentials;
 pub mod elements;
+pub mod custodians;
 pub mod faults;
 mod fields;
 pub mod filesystems;
@@ -16,6 +17,9 @@ pub mod users;
 
 pub use credentials::{Cred, GroupIds};
 pub use elements::{CredFault, credential};
+mod mount_lines;
+mod word_lines;
+pub use custodians::{Custodian, Custodians};
 pub use faults::{TableFault, TableRule};
 pub use filesystems::{FileSystems, FsId, Mount};
 pub use hosts::{HostRow, Hosts};
