@@ -1,8 +1,9 @@
 -- The addresses for which the written names of a line stand. No table of hosts or groups is listed here. (exports(5))
-use Rattle.std.specs.Prelude.{◌≡◌, ◌↔◌, ℕ, ◌==◌, nat_lt, Bool, false, Result, Ok, Err, List, [], ◌∷◌, if◌then◌else◌}
+use Rattle.std.specs.Prelude.{◌≡◌, ◌↔◌, ℕ, ◌==◌, Bool, false, Result, Ok, Err, List, [], ◌∷◌}
 use Rattle.std.specs.List.{list_any, flat_map}
 use Rattle.std.specs.List.Sorted.{IsStrictlyIncreasing}
 use Rattle.desk_text.specs.Addr.{read_addr}
+use Rattle.desk_tables.specs.Ascending.{ascending}
 use Rattle.desk_text.specs.declared.address.AddrFault.{AddrFault}
 use Rattle.desk_exports.specs.declared.entry.Clients.{Clients}
 use Rattle.desk_exports.specs.declared.entry.Clients.TheVariants.{Hosts, World}
@@ -20,19 +21,6 @@ stands_for name address = is_read_as (read_addr name) address
 abbrev pub number_read : Result ℕ AddrFault → List ℕ
 number_read (Ok number) = number ∷ []
 number_read (Err fault) = []
-
--- a number put into its place of an ascending list, where it is not there
-abbrev pub put_in_place : ℕ → List ℕ → List ℕ
-put_in_place number [] = number ∷ []
-put_in_place number (first ∷ others) =
-    if nat_lt number first then number ∷ first ∷ others
-    else (if number == first then first ∷ others
-    else first ∷ put_in_place number others)
-
--- numbers in ascending order, each once
-abbrev pub ascending : List ℕ → List ℕ
-ascending [] = []
-ascending (number ∷ numbers) = put_in_place number (ascending numbers)
 
 -- the addresses for which the names stand, in ascending order, each once
 abbrev pub addresses_of_names : List (List ℕ) → List ℕ

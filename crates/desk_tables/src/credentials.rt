@@ -1,6 +1,7 @@
 //! Credentials: as whom a client acts. (exports(5))
 
-ghost use Rattle.std.specs.Prelude.{◌≡◌, [], ◌∷◌};
+ghost use Rattle.std.specs.Prelude.{◌≡◌, ◌<◌, ◌≤◌, ◌++◌, [], ◌∷◌, length};
+ghost use Rattle.desk_tables.specs.Gids.{AddsOnce};
 
 use arrayvec::ArrayVec;
 use std::fmt;
@@ -27,6 +28,49 @@ impl GroupIds {
     {
         self.items.as_slice()
     }
+
+    /// One group number.
+    pub(crate) fn of(gid: u32) -> GroupIds
+        ensures { result ≡ gid ∷ [] }
+    {
+        let mut gids = GroupIds {
+            items: ArrayVec::new(),
+        };
+        gids.push(gid);
+        gids
+    }
+
+    /// No group numbers.
+    pub(crate) fn none() -> GroupIds
+        ensures { result ≡ [] }
+    {
+        GroupIds {
+            items: ArrayVec::new(),
+        }
+    }
+
+    /// Adds a group number, where there is room.
+    pub(crate) fn push(&mut self, gid: u32)
+        requires { length self.old < 16 }
+        ensures { self.new ≡ self.old ++ gid ∷ [] }
+    {
+        self.items.push(gid);
+    }
+
+    /// Adds a group number that is not among them yet, and tells whether there was room for it.
+    pub(crate) fn add_once(&mut self, gid: u32) -> bool
+        ensures adds { AddsOnce result self.old gid self.new }
+        ensures few { length self.old ≤ 16 → length self.new ≤ 16 }
+    {
+        if self.as_slice().contains(&gid) {
+            return true;
+        }
+        if self.items.is_full() {
+            return false;
+        }
+        self.push(gid);
+        true
+    }
 }
 
 /// A user's number and the numbers of its groups.
@@ -41,11 +85,9 @@ impl Cred {
     pub fn with_group(uid: u32, gid: u32) -> Cred
         ensures { result ≡ record { uid = uid; gids = gid ∷ [] } }
     {
-        let mut items = ArrayVec::new();
-        items.push(gid);
         Cred {
             uid,
-            gids: GroupIds { items },
+            gids: GroupIds::of(gid),
         }
     }
 }

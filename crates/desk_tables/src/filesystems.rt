@@ -3,15 +3,21 @@
 ghost use Rattle.std.specs.Prelude.{◌≡◌, ◌≤◌, All, IfOk, IfSome, MatchOption, false, length, map, slice_get};
 ghost use Rattle.std.specs.Option.{option_copied, option_map};
 ghost use Rattle.desk_text.specs.Path.{is_under};
+ghost use Rattle.std.specs.List.{list_any};
+ghost use Rattle.std.specs.Str.{bytes_eq};
+ghost use Rattle.desk_text.specs.Reading.{Reads};
+ghost use Rattle.desk_tables.specs.MountLines.{keeps, read_filesystems};
 ghost use Rattle.desk_tables.specs.Mounts.{IsTableOf, TooMany, fs_of, unkept};
 ghost use Rattle.desk_tables.specs.Scan.{IsLastAbove};
 
-use desk_text::{Path, Sequence, Text};
+use crate::faults::TableFault;
+use crate::mount_lines::read_mounts;
+use desk_text::{Path, ReadError, Sequence, Text};
 use std::alloc::{AllocError, Global};
 use std::marker::Model;
 
 /// The most mount points that a table lists.
-const MOST_MOUNT_POINTS: usize = 256;
+pub(crate) const MOST_MOUNT_POINTS: usize = 256;
 
 /// The place of a mount point in byte order of the printed mount points, from 0.
 #[derive(Clone, Copy, Debug, PartialEq, Eq, PartialOrd, Ord)]
@@ -60,6 +66,17 @@ impl FileSystems {
         Ok(Some(FileSystems { mounts }))
     }
 
+    /// The table of a text: one mount point a line, and behind it the one or more custodians who
+    /// keep its exports file. The text has at most 4,294,967,294 bytes.
+    pub fn read(alloc: Global, text: &str) -> Result<FileSystems, ReadError<TableFault>>
+        requires { length text.now ≤ 4294967294 }
+        ensures { Reads result (read_filesystems text.now) }
+    {
+        let table = read_mounts(alloc, text)?;
+        let mounts = sequence_of(alloc, table)?;
+        Ok(FileSystems { mounts })
+    }
+
     /// The file system of a path: the longest mount point that the path is or lies below. In byte order a longer mount
     /// point above the path stands later, so the last one is it.
     pub fn of(&self, path: &Path) -> Option<FsId>
@@ -77,6 +94,35 @@ impl FileSystems {
             .get(id.0 as usize)
             .map(|mount| &mount.path)
     }
+
+    /// Whether a custodian keeps the exports file of a file system: it is one of those listed for
+    /// its mount point. Nobody keeps one that the table does not have.
+    pub fn keeps(&self, custodian: &str, id: FsId) -> bool
+        ensures { result ≡ keeps self.now custodian.now id.0 }
+    {
+        match self.mounts.as_slice().get(id.0 as usize) {
+            Some(mount) => is_among(mount.custodians.as_slice(), custodian),
+            None => false,
+        }
+    }
+}
+
+/// Whether a name is among names.
+fn is_among(names: &[Text], name: &str) -> bool
+    ensures { result ≡ list_any (bytes_eq name.now) names.now }
+{
+    names.iter().any(|other| name == other.as_str())
+}
+
+/// The mount points in a row.
+fn sequence_of(alloc: Global, table: Vec<Mount>) -> Result<Sequence<Mount>, AllocError>
+    ensures { IfOk result (λ mounts. mounts ≡ table.items) }
+{
+    let mut mounts = Sequence::new(alloc);
+    for mount in table {
+        mounts.push(mount)?;
+    }
+    Ok(mounts)
 }
 
 /// The place of the last mount point that the path is under.

@@ -1,8 +1,19 @@
 //! What holds of the definitions.
 
 ghost use Rattle.desk_tables.specs.Mounts.{OneTable};
+ghost use Rattle.desk_tables.specs.TableLaws.{DigestsAreHexadecimal, OrderKeepsMounts};
 
 /// Mount points that are given have one table.
 pub fn one_table()
     ensures { OneTable }
+{}
+
+/// The table of a text of file systems has the mount points of its lines, each as often.
+pub fn order_keeps_mounts()
+    ensures { OrderKeepsMounts }
+{}
+
+/// A digest is written by 64 hexadecimal digits and by nothing else.
+pub fn digests_are_hexadecimal()
+    ensures { DigestsAreHexadecimal }
 {}

@@ -1,5 +1,5 @@
 -- Addresses as text: four decimal parts of 0 to 255 with dots between them. (inet(3), in this project's own strict form)
-use Rattle.std.specs.Prelude.{ℕ, ◌+◌, ◌*◌, ◌/◌, ◌%◌, ◌^◌, ◌==◌, nat_le, nat_lt, Bool, not, ◌&&◌, ◌||◌, Result, Ok, Err, is_ok, List, [], ◌∷◌, length, slice_index, map, fold, if◌then◌else◌}
+use Rattle.std.specs.Prelude.{ℕ, ◌+◌, ◌-◌, ◌*◌, ◌/◌, ◌%◌, ◌^◌, ◌==◌, nat_le, nat_lt, Bool, not, ◌&&◌, ◌||◌, Result, Ok, Err, is_ok, List, [], ◌∷◌, length, slice_index, map, fold, if◌then◌else◌}
 use Rattle.std.specs.List.{slice_split, list_any, list_all, join_with_byte}
 use Rattle.std.specs.Char.{is_ascii_digit}
 use Rattle.std.specs.Str.Parse.{digits_value}
@@ -47,6 +47,17 @@ read_addr text = if length (dotted_parts text) == 4 then read_parts (dotted_part
 -- a text that writes an address
 abbrev pub is_address : List ℕ → Bool
 is_address text = is_ok (read_addr text)
+
+-- a number whose last parts are left out: each of them is 0
+abbrev pub filled : ℕ → Result ℕ AddrFault → Result ℕ AddrFault
+filled missing (Ok number) = Ok (number * 256 ^ missing)
+filled missing (Err fault) = Err fault
+
+-- the number of a text of one to four parts, of which the last may be left out, or its first fault (networks(5))
+abbrev pub read_short : List ℕ → Result ℕ AddrFault
+read_short text =
+    if nat_lt 4 (length (dotted_parts text)) then Err Parts
+    else filled (4 - length (dotted_parts text)) (read_parts (dotted_parts text))
 
 -- a text of digits and dots alone, which is never taken for the name of a host or a group (the empty text is one, too)
 abbrev pub is_dotted : List ℕ → Bool

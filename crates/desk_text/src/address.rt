@@ -1,11 +1,11 @@
 //! IPv4 addresses.
 
-ghost use Rattle.std.specs.Prelude.{◌≡◌, ℕ, ◌<◌, ◌≤◌, ◌^◌, min, Some, IsTrue, length};
+ghost use Rattle.std.specs.Prelude.{◌≡◌, ℕ, ◌<◌, ◌≤◌, ◌^◌, ◌*◌, ◌-◌, min, Some, IsTrue, IfOk, length};
 ghost use Rattle.std.specs.Char.{digit_value};
 ghost use Rattle.std.specs.List.{list_all, list_any};
 ghost use Rattle.std.specs.Result.{result_map_both};
 ghost use Rattle.std.specs.Str.Parse.{digits_value};
-ghost use Rattle.desk_text.specs.Addr.{addr_text, dotted_parts, has_leading_zero, is_byte, is_digits, is_dotted, number_of, parts_value, read_addr, read_parts};
+ghost use Rattle.desk_text.specs.Addr.{addr_text, dotted_parts, has_leading_zero, is_byte, is_digits, is_dotted, number_of, parts_value, read_addr, read_parts, read_short};
 
 use std::fmt;
 use thiserror::Error;
@@ -56,6 +56,34 @@ impl Addr {
         let number = read_parts(text)?;
         Ok(Addr { number })
     }
+
+    /// Reads one to four decimal parts of 0 to 255 with dots between them; the parts left out at the
+    /// end are 0. Here `Parts` means more than four. (networks(5))
+    pub fn read_short(text: &str) -> Result<Addr, AddrFault>
+        ensures { result_map_both number_of (λ fault. fault) result ≡ read_short text.now }
+    {
+        let count = part_count(text);
+        if count > 4 {
+            return Err(AddrFault::Parts);
+        }
+        let number = filled(read_parts(text)?, count);
+        Ok(Addr { number })
+    }
+}
+
+/// The number of an address of which the first parts write a number and the others are 0.
+fn filled(number: u32, count: usize) -> u32
+    requires some { 0 < count }
+    requires few { count ≤ 4 }
+    requires small { number < 256 ^ count }
+    ensures { result ≡ number * 256 ^ (4 - count) }
+{
+    match count {
+        1 => number * 0x100_0000,
+        2 => number * 0x1_0000,
+        3 => number * 0x100,
+        _ => number,
+    }
 }
 
 fn part_count(text: &str) -> usize
@@ -67,7 +95,8 @@ fn part_count(text: &str) -> usize
 /// Reads the parts of an address, of which there are at most four.
 fn read_parts(text: &str) -> Result<u32, AddrFault>
     requires { length (dotted_parts text.now) ≤ 4 }
-    ensures { result ≡ read_parts (dotted_parts text.now) }
+    ensures value { result ≡ read_parts (dotted_parts text.now) }
+    ensures small { IfOk result (λ number. number < 256 ^ length (dotted_parts text.now)) }
 {
     if !all_digits(text) {
         return Err(AddrFault::Digits);
@@ -102,7 +131,8 @@ fn any_leading_zero(text: &str) -> bool
 fn parts_value(text: &str) -> u32
     requires few { length (dotted_parts text.now) ≤ 4 }
     requires bytes { IsTrue (list_all is_byte (dotted_parts text.now)) }
-    ensures { result ≡ parts_value (dotted_parts text.now) }
+    ensures value { result ≡ parts_value (dotted_parts text.now) }
+    ensures small { result < 256 ^ length (dotted_parts text.now) }
 {
     let mut number = 0;
     for part in text.split('.') {

@@ -32,6 +32,30 @@ fn addresses(rt: HostRuntime) -> Result<(), Fail> {
 }
 
 #[test]
+fn short_addresses(rt: HostRuntime) -> Result<(), Fail> {
+    for (text, number) in [
+        ("10", 167772160),
+        ("131.104", 2204631040),
+        ("131.104.48", 2204643328),
+        ("1.2.3.4", 16909060),
+        ("255.255.255.255", 4294967295),
+        ("0", 0),
+    ] {
+        assert_eq!(rt; Addr::read_short(text)?.number(), number, "{text}");
+    }
+    for (text, fault) in [
+        ("1.2.3.4.5", AddrFault::Parts),
+        ("", AddrFault::Digits),
+        ("10.", AddrFault::Digits),
+        ("256", AddrFault::Range),
+        ("10.01", AddrFault::LeadingZero),
+    ] {
+        assert_eq!(rt; Addr::read_short(text), Err(fault), "{text}");
+    }
+    Ok(())
+}
+
+#[test]
 fn dotted_texts(rt: HostRuntime) {
     assert!(rt; is_dotted("10.0.0.300"));
     assert!(rt; is_dotted(".."));

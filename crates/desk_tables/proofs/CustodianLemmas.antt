@@ -1,0 +1,137 @@
+-- What a line of custodians answers, by the tests of its rules.
+use Rattle.std.proofs.Common.{◌≡◌, ℕ, ◌==◌, Bool, true, false, not, ◌||◌, List, [], ◌∷◌, Some, None, Result, Ok, Err, Option, ◌<◌, ◌+◌, ◌++◌, cond, inl, inr, find, get_or, length, map, take, refl, ap, sym, ◌∙◌, arith}
+use Rattle.std.specs.List.{cons_option, list_any}
+use Rattle.std.proofs.lemmas.List.{take_more}
+use Rattle.std.proofs.lemmas.List.Elements.{filter_map-append}
+use Rattle.std.proofs.lemmas.Bool.{cases_Bool}
+use Rattle.std.proofs.lemmas.Slice.Eq.{bytes_eq-Decides}
+use Rattle.std.specs.Cmp.Lexicographic.{on_texts_equal}
+use Rattle.std.specs.Option.{is_some, option_map, option_or}
+use Rattle.std.specs.Result.{is_err}
+use Rattle.std.specs.Str.{bytes_eq}
+use Rattle.hex.specs.Hex.{decode_sized}
+use Rattle.desk_text.specs.Lines.{LogicalLine}
+use Rattle.desk_text.specs.declared.quoting.OpenQuote.{OpenQuote}
+use Rattle.desk_tables.proofs.WordTables.{unless_ok}
+use Rattle.desk_tables.specs.Tables.{unless_rule}
+use Rattle.desk_tables.specs.WordLines.{line_values}
+use Rattle.desk_tables.specs.Custodians.{breaks, custodian_of, digest_of, digest_word, is_custodian_name, name_in, name_word, names_on, rules, values_answer}
+use Rattle.desk_tables.specs.declared.custodians.Custodian.{Custodian}
+use Rattle.desk_tables.specs.declared.faults.TableRule.{TableRule}
+use Rattle.desk_tables.specs.declared.faults.TableRule.TheVariants as rule
+
+-- the names of custodians
+abbrev pub names : List Custodian → List (List ℕ)
+names rows = map (λ row. row.name) rows
+
+-- the digest of a custodian that may be
+abbrev digest_in : Option Custodian → Option (List ℕ)
+digest_in o = option_map (λ custodian. custodian.digest) o
+
+listed_or : (b x : Bool) (row : Custodian) (rest : Option Custodian) → x ≡ is_some (digest_in rest) → (b || x) ≡ is_some (digest_in (cond b (Some row) rest))
+listed_or true x row rest h = refl
+listed_or false x row rest h = h
+
+-- a name that is listed has a digest
+pub listed_names : (name : List ℕ) (rows : List Custodian) → list_any (bytes_eq name) (names rows) ≡ is_some (digest_of rows name)
+listed_names name [] = refl
+listed_names name (row ∷ rows) =
+    ap (λ b. b || list_any (bytes_eq name) (names rows)) ((on_texts_equal (λ t. t)).symm name row.name)
+    ∙ listed_or (bytes_eq row.name name) (list_any (bytes_eq name) (names rows)) row (find (λ custodian. bytes_eq custodian.name name) rows) (listed_names name rows)
+
+digest_first : (b : Bool) (first : Custodian) (rest more : Option Custodian) (o : Option (List ℕ)) → digest_in more ≡ option_or (digest_in rest) o → digest_in (cond b (Some first) more) ≡ option_or (digest_in (cond b (Some first) rest)) o
+digest_first true first rest more o h = refl
+digest_first false first rest more o h = h
+
+digest_alone : (b : Bool) (row : Custodian) → digest_in (cond b (Some row) None) ≡ cond b (Some row.digest) None
+digest_alone true row = refl
+digest_alone false row = refl
+
+-- the digests with one custodian more: the first of a name counts
+pub digest_push : (rows : List Custodian) (row : Custodian) (q : List ℕ) → digest_of (rows ++ row ∷ []) q ≡ option_or (digest_of rows q) (cond (bytes_eq row.name q) (Some row.digest) None)
+digest_push [] row q = digest_alone (bytes_eq row.name q) row
+digest_push (first ∷ rows) row q =
+    digest_first (bytes_eq first.name q) first (find (λ custodian. bytes_eq custodian.name q) rows) (find (λ custodian. bytes_eq custodian.name q) (rows ++ row ∷ []))
+    (cond (bytes_eq row.name q) (Some row.digest) None) (digest_push rows row q)
+
+or_none : (o : Option (List ℕ)) → o ≡ option_or o None
+or_none None = refl
+or_none (Some x) = refl
+
+or_some : (o : Option (List ℕ)) (d : List ℕ) → is_some o ≡ true → o ≡ option_or o (Some d)
+or_some None d h = absurd (cc)
+or_some (Some x) d h = refl
+
+or_new : (o : Option (List ℕ)) (d : List ℕ) → is_some o ≡ false → Some d ≡ option_or o (Some d)
+or_new None d h = refl
+or_new (Some x) d h = absurd (cc)
+
+module _ (f : List ℕ → Option (List ℕ)) (name : List ℕ) (d : List ℕ) where
+  -- a name that has a digest keeps it
+  pub keeps_digest : is_some (f name) ≡ true → (q : List ℕ) → f q ≡ option_or (f q) (cond (bytes_eq name q) (Some d) None)
+  keeps_digest has q =
+      elim (cases_Bool (bytes_eq name q)) [
+        | inl same ↦ or_some (f q) d (ap (λ t. is_some (f t)) (sym ((bytes_eq-Decides name q).0 same)) ∙ has) ∙ ap (λ b. option_or (f q) (cond b (Some d) None)) (sym same)
+        | inr apart ↦ or_none (f q) ∙ ap (λ b. option_or (f q) (cond b (Some d) None)) (sym apart)
+      ]
+
+  -- a name that has none gets one
+  pub adds_digest : is_some (f name) ≡ false → (q : List ℕ) → cond (bytes_eq name q) (Some d) (f q) ≡ option_or (f q) (cond (bytes_eq name q) (Some d) None)
+  adds_digest none q =
+      elim (cases_Bool (bytes_eq name q)) [
+        | inl same ↦ ap (λ b. cond b (Some d) (f q)) same ∙ or_new (f q) d (ap (λ t. is_some (f t)) (sym ((bytes_eq-Decides name q).0 same)) ∙ none) ∙ ap (λ b. option_or (f q) (cond b (Some d) None)) (sym same)
+        | inr apart ↦ ap (λ b. cond b (Some d) (f q)) apart ∙ or_none (f q) ∙ ap (λ b. option_or (f q) (cond b (Some d) None)) (sym apart)
+      ]
+
+-- the answer by the four tests
+abbrev by_tests : Bool → Bool → Bool → Bool → Custodian → Result (Option Custodian) TableRule
+by_tests fields name duplicate digest row =
+    unless_rule (cond fields (Some rule.Fields) (cond name (Some rule.Name) (cond duplicate (Some rule.Duplicate) (cond digest (Some rule.Digest) None)))) row
+
+module _ (before : List (List ℕ)) (words : List (List ℕ)) where
+  answer : (fields name duplicate digest : Bool) → not (length words == 2) ≡ fields → not (is_custodian_name (name_word words)) ≡ name → list_any (bytes_eq (name_word words)) before ≡ duplicate → is_err (decode_sized (digest_word words) 32) ≡ digest
+      → values_answer before (Ok words) ≡ by_tests fields name duplicate digest (custodian_of words)
+  answer fields name duplicate digest f n u d =
+      ap (λ b. by_tests b (not (is_custodian_name (name_word words))) (list_any (bytes_eq (name_word words)) before) (is_err (decode_sized (digest_word words) 32)) (custodian_of words)) f
+      ∙ ap (λ b. by_tests fields b (list_any (bytes_eq (name_word words)) before) (is_err (decode_sized (digest_word words) 32)) (custodian_of words)) n
+      ∙ ap (λ b. by_tests fields name b (is_err (decode_sized (digest_word words) 32)) (custodian_of words)) u
+      ∙ ap (λ b. by_tests fields name duplicate b (custodian_of words)) d
+
+  pub is_duplicate : length words ≡ 2 → is_custodian_name (name_word words) ≡ true → list_any (bytes_eq (name_word words)) before ≡ true → values_answer before (Ok words) ≡ Err rule.Duplicate
+  is_duplicate two n u = answer false false true (is_err (decode_sized (digest_word words) 32)) (ap (λ k. not (k == 2)) two) (ap not n) u refl
+
+  pub is_bad_digest : length words ≡ 2 → is_custodian_name (name_word words) ≡ true → list_any (bytes_eq (name_word words)) before ≡ false → is_err (decode_sized (digest_word words) 32) ≡ true → values_answer before (Ok words) ≡ Err rule.Digest
+  is_bad_digest two n u d = answer false false false true (ap (λ k. not (k == 2)) two) (ap not n) u d
+
+  pub is_custodian : length words ≡ 2 → is_custodian_name (name_word words) ≡ true → list_any (bytes_eq (name_word words)) before ≡ false → is_err (decode_sized (digest_word words) 32) ≡ false → values_answer before (Ok words) ≡ Ok (Some (custodian_of words))
+  is_custodian two n u d = answer false false false false (ap (λ k. not (k == 2)) two) (ap not n) u d
+
+-- the words of a line of two
+pub first_word : (words : List (List ℕ)) (x : List ℕ) → length words ≡ 2 → x ≡ get_or words 0 x → x ≡ name_word words
+first_word [] x two h = absurd (omega arith)
+first_word (word ∷ words) x two h = h
+
+pub second_word : (words : List (List ℕ)) (x : List ℕ) → length words ≡ 2 → x ≡ get_or words 1 x → x ≡ digest_word words
+second_word [] x two h = absurd (omega arith)
+second_word (word ∷ []) x two h = absurd (omega arith)
+second_word (word ∷ next ∷ words) x two h = h
+
+-- a row's name is the name that its line lists
+named_on : (before : List (List ℕ)) (words : Result (List (List ℕ)) OpenQuote) (row : Custodian) → values_answer before words ≡ Ok (Some row) → name_in words ≡ Some row.name
+named_on before (Ok words) row h = ap (λ (k : Custodian). Some k.name) (unless_ok (find (breaks before words) rules) (custodian_of words) row h)
+named_on before (Err quote) row h = absurd (cc)
+
+names-append : (rows : List Custodian) (row : Custodian) → names (rows ++ row ∷ []) ≡ names rows ++ row.name ∷ []
+names-append [] row = refl
+names-append (other ∷ rows) row = ap (λ ns. other.name ∷ ns) (names-append rows row)
+
+-- the names of one row more are those of one line more
+pub next_names : (ls : List LogicalLine) (i : ℕ) (x : LogicalLine) (before : List (List ℕ)) (rows : List Custodian) (row : Custodian) → i < length ls → x ≡ get_or ls i x → values_answer before (line_values x) ≡ Ok (Some row) → names rows ≡ names_on (take i ls)
+    → names (rows ++ row ∷ []) ≡ names_on (take (i + 1) ls)
+next_names ls i x before rows row below is good same =
+    names-append rows row
+    ∙ ap (λ ns. ns ++ row.name ∷ []) same
+    ∙ ap (λ o. names_on (take i ls) ++ cons_option o []) (sym (named_on before (line_values x) row good))
+    ∙ ap (λ (l : LogicalLine). names_on (take i ls) ++ cons_option (name_in (line_values l)) []) is
+    ∙ sym (filter_map-append (λ l. name_in (line_values l)) (take i ls) (get_or ls i x ∷ []))
+    ∙ ap names_on (sym (take_more ls i x below))

@@ -1,0 +1,12 @@
+use Rattle.std.proofs.Common.{◌≡◌, [], map, take}
+use Rattle.desk_tables.specs.Custodians as spec
+use Rattle.desk_tables.proofs.WordTables.{faults_on, rows_on}
+use Rattle.desk_tables.proofs.custodians.read_rows.Given as goal
+
+-- no line so far has a fault, and the custodians are theirs
+abbrev pub invariant-loop-line : goal.invariant-loop-line
+invariant-loop-line l = record {
+  sound : faults_on spec.line_answer (take l.line-index l.line-items) ≡ [];
+  read : l.table ≡ rows_on spec.line_answer (take l.line-index l.line-items);
+  listed : map (λ row. row.name) l.table ≡ spec.names_on (take l.line-index l.line-items);
+}

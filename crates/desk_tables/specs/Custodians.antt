@@ -1,0 +1,98 @@
+-- The custodians of a site, and the digests of their keys. (this project's own)
+use Rattle.std.specs.Prelude.{ℕ, Bool, false, not, ◌==◌, ◌&&◌, ◌||◌, nat_le, List, [], ◌∷◌, Option, Some, None, Result, Ok, Err, find, length, is_err, codes, slice_index_or}
+use Rattle.std.specs.List.{filter_map, list_all, list_any}
+use Rattle.std.specs.Option.{option_map}
+use Rattle.std.specs.Result.{result_unwrap_or}
+use Rattle.std.specs.Str.{bytes_eq}
+use Rattle.hex.specs.Hex.{decode_sized}
+use Rattle.desk_text.specs.Lines.{LogicalLine, logical_lines}
+use Rattle.desk_text.specs.declared.quoting.OpenQuote.{OpenQuote}
+use Rattle.desk_tables.specs.Tables.{unless_rule}
+use Rattle.desk_tables.specs.WordLines.{line_values, lines_table}
+use Rattle.desk_tables.specs.declared.custodians.Custodian.{Custodian}
+use Rattle.desk_tables.specs.declared.faults.TableFault.{TableFault}
+use Rattle.desk_tables.specs.declared.faults.TableRule.{TableRule}
+use Rattle.desk_tables.specs.declared.faults.TableRule.TheVariants as rule
+
+-- the most bytes that a custodian's name may have
+abbrev pub longest_name : ℕ
+longest_name = 32
+
+-- a byte that a custodian's name may have: `a` to `z`, `0` to `9`, `-` or `_`
+abbrev pub is_name_byte : ℕ → Bool
+is_name_byte b = (nat_le 97 b && nat_le b 122) || (nat_le 48 b && nat_le b 57) || (b == 45) || (b == 95)
+
+-- a custodian's name has 1 to 32 such bytes
+abbrev pub is_custodian_name : List ℕ → Bool
+is_custodian_name name = nat_le 1 (length name) && nat_le (length name) longest_name && list_all is_name_byte name
+
+-- the first word of a line
+abbrev pub name_word : List (List ℕ) → List ℕ
+name_word words = slice_index_or words 0 []
+
+-- the second word of a line
+abbrev pub digest_word : List (List ℕ) → List ℕ
+digest_word words = slice_index_or words 1 []
+
+-- Whether a rule holds of a line of these words, where these names are listed before: it has not two words; the first is
+-- no name; it is listed before; the second is not 64 hexadecimal digits.
+abbrev pub breaks : List (List ℕ) → List (List ℕ) → TableRule → Bool
+breaks before words rule.Fields = not (length words == 2)
+breaks before words rule.Number = false
+breaks before words rule.Name = not (is_custodian_name (name_word words))
+breaks before words rule.Duplicate = list_any (bytes_eq (name_word words)) before
+breaks before words rule.BadPath = false
+breaks before words rule.Custodian = false
+breaks before words rule.Digest = is_err (decode_sized (digest_word words) 32)
+breaks before words rule.TooMany = false
+
+-- the order in which a rule of a line is named
+abbrev pub rules : List TableRule
+rules = rule.Fields ∷ rule.Name ∷ rule.Duplicate ∷ rule.Digest ∷ []
+
+-- the custodian that words name, with the 32 bytes that the digits write
+abbrev pub custodian_of : List (List ℕ) → Custodian
+custodian_of words = record { name = name_word words; digest = result_unwrap_or (decode_sized (digest_word words) 32) [] }
+
+-- what a line of these words answers, where these names are listed before; one with an open quote has no fields
+abbrev pub values_answer : List (List ℕ) → Result (List (List ℕ)) OpenQuote → Result (Option Custodian) TableRule
+values_answer before (Ok words) = unless_rule (find (breaks before words) rules) (custodian_of words)
+values_answer before (Err quote) = Err rule.Fields
+
+-- the name that a line lists, where each quote closes
+abbrev pub name_in : Result (List (List ℕ)) OpenQuote → Option (List ℕ)
+name_in (Ok words) = Some (name_word words)
+name_in (Err quote) = None
+
+-- the names that lines list
+abbrev pub names_on : List LogicalLine → List (List ℕ)
+names_on lines = filter_map (λ line. name_in (line_values line)) lines
+
+-- what a line answers behind other lines
+abbrev pub line_answer : List LogicalLine → LogicalLine → Result (Option Custodian) TableRule
+line_answer before line = values_answer (names_on before) (line_values line)
+
+-- the custodian of this name
+abbrev pub custodian_named : List Custodian → List ℕ → Option Custodian
+custodian_named table name = find (λ custodian. bytes_eq custodian.name name) table
+
+-- the digest of the key of the custodian of this name
+abbrev pub digest_of : List Custodian → List ℕ → Option (List ℕ)
+digest_of table name = option_map (λ custodian. custodian.digest) (custodian_named table name)
+
+-- the custodians where `site` is among them, else a fault of the table as a whole
+abbrev pub with_site : List Custodian → Result (List Custodian) TableFault
+with_site table = unless_missing (custodian_named table (codes "site"))
+  where
+    unless_missing : Option Custodian → Result (List Custodian) TableFault
+    unless_missing (Some site) = Ok table
+    unless_missing None = Err (record { line = 0; rule = rule.Custodian })
+
+-- where the lines have no fault, `site` has to be among the custodians
+abbrev pub checked : Result (List Custodian) TableFault → Result (List Custodian) TableFault
+checked (Ok table) = with_site table
+checked (Err fault) = Err fault
+
+-- what a text of custodians answers: its custodians in order, or its fault
+abbrev pub read_custodians : List ℕ → Result (List Custodian) TableFault
+read_custodians text = checked (lines_table line_answer (logical_lines text))

@@ -1,0 +1,60 @@
+-- How a table is read: line by line, up to the first fault. (this project's own)
+use Rattle.std.specs.Prelude.{ℕ, List, [], ◌∷◌, ◌++◌, Option, Some, None, Result, Ok, Err, codes, find}
+use Rattle.std.specs.List.{filter_map}
+use Rattle.desk_tables.specs.declared.faults.TableFault.{TableFault}
+use Rattle.desk_tables.specs.declared.faults.TableRule.{TableRule}
+use Rattle.desk_tables.specs.declared.faults.TableRule.TheVariants.{Fields, Number, Name, Duplicate, BadPath, Custodian, Digest, TooMany}
+
+-- the number of a rule
+abbrev pub rule_number : TableRule → ℕ
+rule_number Fields = 1
+rule_number Number = 2
+rule_number Name = 3
+rule_number Duplicate = 4
+rule_number BadPath = 5
+rule_number Custodian = 6
+rule_number Digest = 7
+rule_number TooMany = 8
+
+-- the name of a rule
+abbrev pub rule_name : TableRule → List ℕ
+rule_name Fields = codes "Fields"
+rule_name Number = codes "Number"
+rule_name Name = codes "Name"
+rule_name Duplicate = codes "Duplicate"
+rule_name BadPath = codes "BadPath"
+rule_name Custodian = codes "Custodian"
+rule_name Digest = codes "Digest"
+rule_name TooMany = codes "TooMany"
+
+-- a line of a table with its number: what it answers is a row, nothing where it is skipped, or the rule that is named
+pub record Answered (Row : Type 0) : Type 0 where
+  pub number : ℕ
+  pub answer : Result (Option Row) TableRule
+
+-- the fault of a line, if it has one
+abbrev pub fault_of : {Row : Type 0} → Answered Row → Option TableFault
+fault_of line = fault_in line.number line.answer
+  where
+    fault_in : {Row : Type 0} → ℕ → Result (Option Row) TableRule → Option TableFault
+    fault_in number (Ok row) = None
+    fault_in number (Err rule) = Some (record { line = number; rule = rule })
+
+-- the row of a line, if it has one
+abbrev pub row_in : {Row : Type 0} → Result (Option Row) TableRule → Option Row
+row_in (Ok row) = row
+row_in (Err rule) = None
+
+-- the rows where no line has a fault, else the first fault
+abbrev pub unless_fault : {Row : Type 0} → List TableFault → List Row → Result (List Row) TableFault
+unless_fault [] rows = Ok rows
+unless_fault (fault ∷ more) rows = Err fault
+
+-- what a table of these lines answers: its rows in order, or its least faulty line with its first rule
+abbrev pub table_of : {Row : Type 0} → List (Answered Row) → Result (List Row) TableFault
+table_of lines = unless_fault (filter_map fault_of lines) (filter_map (λ line. row_in line.answer) lines)
+
+-- the row of a line, unless a rule is named of it
+abbrev pub unless_rule : {Row : Type 0} → Option TableRule → Row → Result (Option Row) TableRule
+unless_rule None row = Ok (Some row)
+unless_rule (Some rule) row = Err rule

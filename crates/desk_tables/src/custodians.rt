@@ -1,0 +1,207 @@
+//! Custodians, and the digests of their keys. (this project's own)
+
+ghost use Rattle.std.specs.BTreeMap.{get_by_text};
+ghost use Rattle.std.specs.Prelude.{◌≡◌, ℕ, List, [], ◌∷◌, ◌++◌, ◌≤◌, ◌==◌, IfOk, None, Some, length, map, if◌then◌else◌};
+ghost use Rattle.std.specs.List.{list_all, list_any};
+ghost use Rattle.std.specs.Option.{option_copied, option_or};
+ghost use Rattle.std.specs.Str.{bytes_eq};
+ghost use Rattle.desk_text.specs.Reading.{Reads, ReadsAs};
+ghost use Rattle.desk_text.specs.Lines.{logical_lines};
+ghost use Rattle.desk_tables.specs.Custodians as spec;
+ghost use Rattle.desk_tables.specs.WordLines.{line_values, lines_table};
+
+use crate::faults::{TableFault, TableRule};
+use crate::word_lines::{at_line, line_values};
+use desk_text::{Line, ReadError, Sequence, Text, logical_lines};
+use hex::FromHex;
+use std::alloc::{AllocError, Global};
+use std::collections::BTreeMap;
+use std::marker::Model;
+
+/// The most bytes that a custodian's name may have.
+const LONGEST_NAME: usize = 32;
+
+/// A custodian: a name, and the SHA-256 digest of a key.
+#[derive(Clone, Debug, Drop)]
+pub struct Custodian {
+    pub name: Text,
+    pub digest: [u8; 32],
+}
+
+/// The custodians of a site, in the order of their lines, and beside them the digest of each name.
+#[derive(Debug, Drop)]
+pub struct Custodians {
+    rows: Sequence<Custodian>,
+    digests: BTreeMap<String, [u8; 32]>,
+}
+
+impl Model for Custodians {
+    ghost use Rattle.std.specs.Prelude.{◌≡◌, ℕ, List};
+    ghost use Rattle.std.specs.BTreeMap.{get_by_text};
+    ghost use Rattle.desk_tables.specs.Custodians.{digest_of};
+    ghost use Rattle.desk_tables.specs.declared.custodians.Custodian.{Custodian};
+
+    ghost Value = { List Custodian };
+
+    ghost view = { λ c. c.rows };
+
+    ghost invariant = { λ c. (name : List ℕ) → get_by_text c.digests name ≡ digest_of c.rows name };
+}
+
+impl Custodians {
+    /// The custodians that a text lists, one a line: a name of 1 to 32 of `a` to `z`, `0` to `9`,
+    /// `-` and `_`, and 64 hexadecimal digits of either case. A text that does not list `site` has
+    /// a fault of line 0. The text has at most 4,294,967,294 bytes.
+    pub fn read(alloc: Global, text: &str) -> Result<Custodians, ReadError<TableFault>>
+        requires { length text.now ≤ 4294967294 }
+        ensures { Reads result (spec.read_custodians text.now) }
+    {
+        let table = read_rows(alloc, text)?;
+        if table.digest_of("site").is_none() {
+            return Err(ReadError::Fault(TableFault {
+                line: 0,
+                rule: TableRule::Custodian,
+            }));
+        }
+        Ok(table)
+    }
+
+    /// The digest of the key of the custodian of this name; none where no custodian has it.
+    pub fn digest_of(&self, name: &str) -> Option<&[u8; 32]>
+        ensures { option_copied result ≡ spec.digest_of self.now name.now }
+    {
+        self.digests.get(name)
+    }
+
+    /// The custodians, in the order of their lines.
+    pub fn as_slice(&self) -> &[Custodian]
+        ensures { result.now ≡ self.now }
+    {
+        self.rows.as_slice()
+    }
+
+    /// Whether a custodian has this name.
+    #[tactic(auto, using(crate::proofs::CustodianLemmas::listed_names))]
+    fn lists(&self, name: &str) -> bool
+        ensures { result ≡ list_any (bytes_eq name.now) (map (λ row. row.name) self.now) }
+    {
+        self.digests.contains_key(name)
+    }
+
+    /// No custodians.
+    fn new(alloc: Global) -> Custodians
+        ensures { result ≡ [] }
+    {
+        Custodians {
+            rows: Sequence::new(alloc),
+            digests: BTreeMap::new(alloc),
+        }
+    }
+
+    /// The custodians with one more at the end.
+    fn with_row(self, alloc: Global, row: Custodian) -> Result<Custodians, AllocError>
+        ensures { IfOk result (λ table. table ≡ self ++ row ∷ []) }
+    {
+        let Custodians { mut rows, digests } = self;
+        let digests = with_digest(alloc, digests, row.name.as_str(), row.digest)?;
+        rows.push(row)?;
+        Ok(Custodians { rows, digests })
+    }
+}
+
+/// Digests with that of one name more, unless the name has one.
+fn with_digest(
+    alloc: Global,
+    mut digests: BTreeMap<String, [u8; 32]>,
+    name: &str,
+    digest: [u8; 32],
+) -> Result<BTreeMap<String, [u8; 32]>, AllocError>
+    ensures { IfOk result (λ more. (q : List ℕ) → get_by_text more q
+        ≡ option_or (get_by_text digests q) (if bytes_eq name.now q then Some digest else None)) }
+{
+    if digests.contains_key(name) {
+        return Ok(digests);
+    }
+    let key = String::from_str(alloc, name)?;
+    digests.insert(key, digest)?;
+    Ok(digests)
+}
+
+/// The custodian of each line, in order, or the first fault.
+fn read_rows(alloc: Global, text: &str) -> Result<Custodians, ReadError<TableFault>>
+    requires { length text.now ≤ 4294967294 }
+    ensures { Reads result (lines_table spec.line_answer (logical_lines text.now)) }
+{
+    let lines = logical_lines(alloc, text)?;
+    let mut table = Custodians::new(alloc);
+    for line in &lines {
+        let row = at_line(line.number(), read_line(alloc, line, &table))?;
+        table = table.with_row(alloc, row)?;
+    }
+    Ok(table)
+}
+
+/// The custodian of a line, or the rule that is named, where these custodians are listed before.
+fn read_line(
+    alloc: Global,
+    line: &Line,
+    before: &Custodians,
+) -> Result<Custodian, ReadError<TableRule>>
+    ensures { ReadsAs (λ row. Some row) result
+        (spec.values_answer (map (λ row. row.name) before.now) (line_values line.now)) }
+{
+    match line_values(alloc, line) {
+        Ok(words) => read_words(alloc, words.as_slice(), before),
+        Err(ReadError::Fault(_)) => Err(ReadError::Fault(TableRule::Fields)),
+        Err(ReadError::Memory) => Err(ReadError::Memory),
+    }
+}
+
+/// The custodian that words name, or the rule that is named, where these custodians are listed
+/// before.
+fn read_words(
+    alloc: Global,
+    words: &[Text],
+    before: &Custodians,
+) -> Result<Custodian, ReadError<TableRule>>
+    ensures { ReadsAs (λ row. Some row) result
+        (spec.values_answer (map (λ row. row.name) before.now) (Ok words.now)) }
+{
+    let [name, digest] = words else {
+        return Err(ReadError::Fault(TableRule::Fields));
+    };
+    if !is_name(name.as_str()) {
+        return Err(ReadError::Fault(TableRule::Name));
+    }
+    if before.lists(name.as_str()) {
+        return Err(ReadError::Fault(TableRule::Duplicate));
+    }
+    let Ok(digest) = <[u8; 32] as FromHex>::from_hex(digest.as_str()) else {
+        return Err(ReadError::Fault(TableRule::Digest));
+    };
+    let name = Text::copy(alloc, name.as_str())?;
+    Ok(Custodian { name, digest })
+}
+
+/// Whether a text is a custodian's name.
+fn is_name(text: &str) -> bool
+    ensures { result ≡ spec.is_custodian_name text.now }
+{
+    let bytes = text.as_bytes();
+    1 <= bytes.len() && bytes.len() <= LONGEST_NAME && only_name_bytes(bytes)
+}
+
+fn only_name_bytes(bytes: &[u8]) -> bool
+    ensures { result ≡ list_all spec.is_name_byte bytes.now }
+{
+    bytes.iter().all(|byte| is_name_byte(*byte))
+}
+
+fn is_name_byte(byte: u8) -> bool
+    ensures { result ≡ spec.is_name_byte byte }
+{
+    (b'a' <= byte && byte <= b'z') || (b'0' <= byte && byte <= b'9') || byte == b'-' || byte == b'_'
+}
+
+#[cfg(test)]
+mod tests;

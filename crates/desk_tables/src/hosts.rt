@@ -1,0 +1,202 @@
+//! The hosts file. (hosts(5))
+
+ghost use Rattle.std.specs.Prelude.{◌≡◌, ◌≤◌, ◌∷◌, IfOk, OnOk, length, map};
+ghost use Rattle.std.specs.Str.{str_to_ascii_lowercase};
+ghost use Rattle.desk_text.specs.Addr.{number_of};
+ghost use Rattle.desk_text.specs.Reading.{Reads};
+ghost use Rattle.desk_tables.specs.Hosts.{addresses_of_host, host_answer, is_ipv6, read_hosts};
+ghost use Rattle.desk_tables.specs.HostIndex.{AddsHost, AddsHosts, IsHostIndexOf, listed};
+ghost use Rattle.desk_tables.specs.PlainLines.{answered_line, words_before_comment};
+ghost use Rattle.desk_tables.specs.RowPushes.{PushesRow};
+
+use crate::faults::{TableFault, TableRule};
+use crate::words::{has_long_name, push_copies, words_before_comment};
+use desk_text::{Addr, ReadError, Sequence, Text};
+use std::alloc::{AllocError, Global};
+use std::collections::BTreeMap;
+use std::marker::Model;
+
+/// A row of the hosts file: an address, and the name of the host with its aliases.
+#[derive(Clone, Debug, Drop)]
+pub struct HostRow {
+    pub addr: Addr,
+    pub names: Sequence<Text>,
+}
+
+/// The rows of a hosts file, in the order of its lines, with the addresses of each name in small
+/// letters.
+#[derive(Debug, Drop)]
+pub struct Hosts {
+    rows: Vec<HostRow>,
+    index: BTreeMap<String, Vec<Addr>>,
+}
+
+impl Model for Hosts {
+    ghost use Rattle.std.specs.Prelude.{List};
+    ghost use Rattle.desk_tables.specs.HostIndex.{IsHostIndexOf};
+    ghost use Rattle.desk_tables.specs.declared.hosts.HostRow.{HostRow};
+
+    ghost Value = { List HostRow };
+
+    ghost view = { λ hosts. hosts.rows.items };
+
+    ghost invariant = { λ hosts. IsHostIndexOf hosts.rows.items hosts.index };
+}
+
+impl Hosts {
+    /// Reads a hosts file: on each line an address, a name and its aliases, between blanks. `#` begins
+    /// a comment. A line without a word before its comment, and one whose address has a `:`, is
+    /// skipped. The faults of a line are Fields (no name), Number (the address does not read) and
+    /// Name (a name is over 255 bytes). (hosts(5))
+    pub fn read(alloc: Global, text: &str) -> Result<Hosts, ReadError<TableFault>>
+        requires { length text.now ≤ 4294967294 }
+        ensures { Reads result (read_hosts text.now) }
+    {
+        let mut rows = Vec::new(alloc);
+        let mut number = 0;
+        for line in text.lines() {
+            number += 1;
+            push_row(alloc, number, line, &mut rows)?;
+        }
+        let index = addresses_by_name(alloc, rows.as_slice())?;
+        Ok(Hosts { rows, index })
+    }
+
+    /// The addresses of all rows that have the name, as their name or as an alias, without ASCII case:
+    /// ascending, each once. (hosts(5))
+    pub fn addresses(&self, alloc: Global, name: &str) -> Result<Vec<Addr>, AllocError>
+        ensures { IfOk result (λ v. map number_of v.items ≡ addresses_of_host self.now name.now) }
+    {
+        let mut addresses = listed_addresses(alloc, &self.index, name)?;
+        addresses.sort_unstable();
+        addresses.dedup();
+        Ok(addresses)
+    }
+}
+
+/// The addresses that are listed under the name.
+fn listed_addresses(
+    alloc: Global,
+    index: &BTreeMap<String, Vec<Addr>>,
+    name: &str,
+) -> Result<Vec<Addr>, AllocError>
+    ensures { IfOk result (λ v. v.items ≡ listed index.now (str_to_ascii_lowercase name.now)) }
+{
+    let key = name.to_ascii_lowercase(alloc)?;
+    match index.get(key.as_str()) {
+        Some(addresses) => Vec::from_slice(alloc, addresses.as_slice()),
+        None => Ok(Vec::new(alloc)),
+    }
+}
+
+/// The addresses of the rows, under each of their names.
+fn addresses_by_name(
+    alloc: Global,
+    rows: &[HostRow],
+) -> Result<BTreeMap<String, Vec<Addr>>, AllocError>
+    ensures { IfOk result (λ index. IsHostIndexOf rows.now index) }
+{
+    let mut index = BTreeMap::new(alloc);
+    for row in rows {
+        add_hosts(alloc, &mut index, row.names.as_slice(), row.addr)?;
+    }
+    Ok(index)
+}
+
+/// Adds the address under each of the names.
+fn add_hosts(
+    alloc: Global,
+    index: &mut BTreeMap<String, Vec<Addr>>,
+    names: &[Text],
+    address: Addr,
+) -> Result<(), AllocError>
+    ensures { OnOk result (AddsHosts index.old index.new names.now address) }
+{
+    for name in names {
+        add_host(alloc, index, name.as_str(), address)?;
+    }
+    Ok(())
+}
+
+/// Adds the address under the name in small letters.
+fn add_host(
+    alloc: Global,
+    index: &mut BTreeMap<String, Vec<Addr>>,
+    name: &str,
+    address: Addr,
+) -> Result<(), AllocError>
+    ensures { OnOk result (AddsHost index.old index.new name.now address) }
+{
+    let key = name.to_ascii_lowercase(alloc)?;
+    index.entry(key)?.or_default().push(address)?;
+    Ok(())
+}
+
+/// Adds the row of the line with this number, if it has one.
+fn push_row(
+    alloc: Global,
+    number: u32,
+    line: &str,
+    rows: &mut Vec<HostRow>,
+) -> Result<(), ReadError<TableFault>>
+    ensures { PushesRow result rows.old.items rows.new.items (answered_line host_answer number line.now) }
+{
+    match read_line(alloc, line) {
+        Ok(Some(row)) => {
+            rows.push(row)?;
+            Ok(())
+        }
+        Ok(None) => Ok(()),
+        Err(ReadError::Memory) => Err(ReadError::Memory),
+        Err(ReadError::Fault(rule)) => Err(ReadError::Fault(TableFault { line: number, rule })),
+    }
+}
+
+/// The row of a line, or the rule that is named.
+fn read_line(alloc: Global, line: &str) -> Result<Option<HostRow>, ReadError<TableRule>>
+    ensures { Reads result (host_answer (words_before_comment line.now)) }
+{
+    let words = words_before_comment(alloc, line)?;
+    match words.as_slice().split_first() {
+        Some((address, names)) => read_row(alloc, address, names),
+        None => Ok(None),
+    }
+}
+
+/// The row with this address and these names, or the rule that is named.
+fn read_row(
+    alloc: Global,
+    address: &str,
+    names: &[&str],
+) -> Result<Option<HostRow>, ReadError<TableRule>>
+    ensures { Reads result (host_answer (address.now ∷ map (λ x. x.now) names.now)) }
+{
+    if is_ipv6(address) {
+        return Ok(None);
+    }
+    if names.is_empty() {
+        return Err(ReadError::Fault(TableRule::Fields));
+    }
+    let Ok(addr) = Addr::read(address) else {
+        return Err(ReadError::Fault(TableRule::Number));
+    };
+    if has_long_name(names) {
+        return Err(ReadError::Fault(TableRule::Name));
+    }
+    let mut copies = Sequence::new(alloc);
+    push_copies(alloc, &mut copies, names)?;
+    Ok(Some(HostRow {
+        addr,
+        names: copies,
+    }))
+}
+
+/// Whether an address is one of IPv6.
+fn is_ipv6(address: &str) -> bool
+    ensures { result ≡ is_ipv6 address.now }
+{
+    address.as_bytes().contains(&b':')
+}
+
+#[cfg(test)]
+mod tests;

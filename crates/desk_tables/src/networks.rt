@@ -1,0 +1,170 @@
+//! The networks file. (networks(5))
+
+ghost use Rattle.std.specs.Prelude.{◌≡◌, ◌≤◌, ◌∷◌, IfOk, OnOk, length, map};
+ghost use Rattle.desk_text.specs.Reading.{Reads};
+ghost use Rattle.desk_tables.specs.Networks.{network_answer, network_number, read_networks};
+ghost use Rattle.desk_tables.specs.NetworkIndex.{AddsName, AddsNames, IsIndexOf};
+ghost use Rattle.desk_tables.specs.PlainLines.{answered_line, words_before_comment};
+ghost use Rattle.desk_tables.specs.RowPushes.{PushesRow};
+
+use crate::faults::{TableFault, TableRule};
+use crate::words::{has_long_name, push_copies, words_before_comment};
+use desk_text::{Addr, ReadError, Sequence, Text};
+use std::alloc::{AllocError, Global};
+use std::collections::BTreeMap;
+use std::marker::Model;
+
+/// A row of the networks file: the number of a network, and its name with its aliases.
+#[derive(Clone, Debug, Drop)]
+pub struct NetworkName {
+    pub number: Addr,
+    pub names: Sequence<Text>,
+}
+
+/// The rows of a networks file, in the order of its lines, with the number of each name.
+#[derive(Debug, Drop)]
+pub struct Networks {
+    rows: Vec<NetworkName>,
+    numbers: BTreeMap<String, Addr>,
+}
+
+impl Model for Networks {
+    ghost use Rattle.std.specs.Prelude.{List};
+    ghost use Rattle.desk_tables.specs.NetworkIndex.{IsIndexOf};
+    ghost use Rattle.desk_tables.specs.declared.networks.NetworkName.{NetworkName};
+
+    ghost Value = { List NetworkName };
+
+    ghost view = { λ networks. networks.rows.items };
+
+    ghost invariant = { λ networks. IsIndexOf networks.rows.items networks.numbers };
+}
+
+impl Networks {
+    /// Reads a networks file: on each line a name, a number of one to four parts, and aliases, between
+    /// blanks. `#` begins a comment, and a line without a word before its comment is skipped. The
+    /// faults of a line are Fields (no number), Number (the number does not read) and Name (a name is
+    /// over 255 bytes). (networks(5))
+    pub fn read(alloc: Global, text: &str) -> Result<Networks, ReadError<TableFault>>
+        requires { length text.now ≤ 4294967294 }
+        ensures { Reads result (read_networks text.now) }
+    {
+        let mut rows = Vec::new(alloc);
+        let mut number = 0;
+        for line in text.lines() {
+            number += 1;
+            push_row(alloc, number, line, &mut rows)?;
+        }
+        let numbers = numbers_by_name(alloc, rows.as_slice())?;
+        Ok(Networks { rows, numbers })
+    }
+
+    /// The number of the first row that has the name, as its name or as an alias. (networks(5))
+    pub fn find(&self, name: &str) -> Option<Addr>
+        ensures { result ≡ network_number self.now name.now }
+    {
+        self.numbers.get(name).copied()
+    }
+}
+
+/// The number of the first row of each name.
+fn numbers_by_name(
+    alloc: Global,
+    rows: &[NetworkName],
+) -> Result<BTreeMap<String, Addr>, AllocError>
+    ensures { IfOk result (λ index. IsIndexOf rows.now index) }
+{
+    let mut index = BTreeMap::new(alloc);
+    for row in rows {
+        add_names(alloc, &mut index, row.names.as_slice(), row.number)?;
+    }
+    Ok(index)
+}
+
+/// Adds the number under each name that has none yet.
+fn add_names(
+    alloc: Global,
+    index: &mut BTreeMap<String, Addr>,
+    names: &[Text],
+    number: Addr,
+) -> Result<(), AllocError>
+    ensures { OnOk result (AddsNames index.old index.new names.now number) }
+{
+    for name in names {
+        add_name(alloc, index, name.as_str(), number)?;
+    }
+    Ok(())
+}
+
+/// Adds the number under the name, if it has none yet.
+fn add_name(
+    alloc: Global,
+    index: &mut BTreeMap<String, Addr>,
+    name: &str,
+    number: Addr,
+) -> Result<(), AllocError>
+    ensures { OnOk result (AddsName index.old index.new name.now number) }
+{
+    if !index.contains_key(name) {
+        let key = String::from_str(alloc, name)?;
+        index.insert(key, number)?;
+    }
+    Ok(())
+}
+
+/// Adds the row of the line with this number, if it has one.
+fn push_row(
+    alloc: Global,
+    number: u32,
+    line: &str,
+    rows: &mut Vec<NetworkName>,
+) -> Result<(), ReadError<TableFault>>
+    ensures { PushesRow result rows.old.items rows.new.items (answered_line network_answer number line.now) }
+{
+    match read_line(alloc, line) {
+        Ok(Some(row)) => {
+            rows.push(row)?;
+            Ok(())
+        }
+        Ok(None) => Ok(()),
+        Err(ReadError::Memory) => Err(ReadError::Memory),
+        Err(ReadError::Fault(rule)) => Err(ReadError::Fault(TableFault { line: number, rule })),
+    }
+}
+
+/// The row of a line, or the rule that is named.
+fn read_line(alloc: Global, line: &str) -> Result<Option<NetworkName>, ReadError<TableRule>>
+    ensures { Reads result (network_answer (words_before_comment line.now)) }
+{
+    let words = words_before_comment(alloc, line)?;
+    match words.as_slice().split_first() {
+        Some((name, fields)) => read_row(alloc, name, fields),
+        None => Ok(None),
+    }
+}
+
+/// The row with this name and these words behind it, or the rule that is named.
+fn read_row(
+    alloc: Global,
+    name: &str,
+    fields: &[&str],
+) -> Result<Option<NetworkName>, ReadError<TableRule>>
+    ensures { Reads result (network_answer (name.now ∷ map (λ x. x.now) fields.now)) }
+{
+    let Some((number, aliases)) = fields.split_first() else {
+        return Err(ReadError::Fault(TableRule::Fields));
+    };
+    let Ok(number) = Addr::read_short(number) else {
+        return Err(ReadError::Fault(TableRule::Number));
+    };
+    if name.len() > 255 || has_long_name(aliases) {
+        return Err(ReadError::Fault(TableRule::Name));
+    }
+    let mut names = Sequence::new(alloc);
+    names.push(Text::copy(alloc, name)?)?;
+    push_copies(alloc, &mut names, aliases)?;
+    Ok(Some(NetworkName { number, names }))
+}
+
+#[cfg(test)]
+mod tests;
