@@ -24,7 +24,7 @@ cred_fault_number Range = 5
 abbrev pub elements : List ℕ → List (List ℕ)
 elements text = slice_split (λ b. b == 58) text
 
--- an element of digits alone is a number or out of range, and never a name
+-- an element of digits alone that is no number: it is out of range, and never taken for a name
 abbrev pub is_out_of_range : List ℕ → Bool
 is_out_of_range element = is_digits element && is_none (number_in element)
 

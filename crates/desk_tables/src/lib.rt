@@ -1,4 +1,4 @@
-//! The tables that the lines of an exports file are read with: file systems and credentials. (exports(5))
+//! The tables of a site: hosts, networks, users, groups, file systems, custodians; and credential texts. (exports(5))
 #![tactic(auto)]
 
 pub mod credentials;
