@@ -21,6 +21,9 @@ fn text_of(alloc: Global, short: &str) -> Result<String, Fail> {
 /// What a text with the digest of `abc` for each `D` answers, its fault by line and rule.
 fn fault(alloc: Global, short: &str) -> Result<Option<(u32, TableRule)>, Fail> {
     let text = text_of(alloc, short)?;
+    if text.len() > 10000 {
+        return Err("too long")?;
+    }
     match Custodians::read(alloc, text.as_str()) {
         Ok(_) => Ok(None),
         Err(ReadError::Fault(fault)) => Ok(Some((fault.line, fault.rule))),

@@ -1,14 +1,22 @@
 //! Small texts of file systems, worked by hand.
 
-use crate::{FileSystems, FsId, TableRule};
+use crate::{FileSystems, FsId, TableFault, TableRule};
 use desk_text::{Path, ReadError};
 use std::alloc::Global;
 use std::string::String;
 use std::test::Fail;
 
-/// The fault of a text by line and rule.
+/// What a short text answers.
+fn answer(alloc: Global, text: &str) -> Result<Result<FileSystems, ReadError<TableFault>>, Fail> {
+    if text.len() > 10000 {
+        return Err("too long")?;
+    }
+    Ok(FileSystems::read(alloc, text))
+}
+
+/// The fault of a short text by line and rule.
 fn fault(alloc: Global, text: &str) -> Result<Option<(u32, TableRule)>, Fail> {
-    match FileSystems::read(alloc, text) {
+    match answer(alloc, text)? {
         Ok(_) => Ok(None),
         Err(ReadError::Fault(fault)) => Ok(Some((fault.line, fault.rule))),
         Err(ReadError::Memory) => Err(Fail::from("no memory")),
@@ -93,7 +101,7 @@ fn faults(rt: HostRuntime) -> Result<(), Fail> {
 #[test]
 fn at_most_256_lines(rt: HostRuntime) -> Result<(), Fail> {
     let most = numbered(rt.alloc(), 256)?;
-    let table = FileSystems::read(rt.alloc(), most.as_str())?;
+    let table = answer(rt.alloc(), most.as_str())??;
     assert_eq!(rt; printed(&table, 255), Some("/99"));
     let rows = [
         ("/256 ulf\n/257", TableRule::TooMany),
