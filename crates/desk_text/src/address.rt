@@ -142,14 +142,14 @@ fn parts_value(text: &str) -> u32
     number
 }
 
-fn is_digits(part: &str) -> bool
+pub(crate) fn is_digits(part: &str) -> bool
     ensures { result ≡ is_digits part.now }
 {
     !part.is_empty() && part.as_bytes().iter().all(|b| b.is_ascii_digit())
 }
 
 /// The number that the digits write, and 256 for each number above 255.
-fn capped_value(part: &str) -> u32
+pub(crate) fn capped_value(part: &str) -> u32
     ensures { result ≡ min 256 (digits_value 10 part.now) }
 {
     let bytes = part.as_bytes();
@@ -176,7 +176,7 @@ pub fn is_dotted(text: &str) -> bool
         .all(|b| b.is_ascii_digit() || *b == b'.')
 }
 
-fn has_leading_zero(part: &str) -> bool
+pub(crate) fn has_leading_zero(part: &str) -> bool
     ensures { result ≡ has_leading_zero part.now }
 {
     part.len() > 1 && part.as_bytes()[0] == b'0'

@@ -4,6 +4,7 @@
 pub mod address;
 pub mod laws;
 pub mod lines;
+pub mod network;
 pub mod path;
 pub mod quoting;
 pub mod reading;
@@ -12,6 +13,7 @@ pub mod text;
 
 pub use address::{Addr, AddrFault, is_dotted};
 pub use lines::{Line, Part, logical_lines};
+pub use network::{Net, NetText, Prefix};
 pub use path::{Path, PathFault};
 pub use quoting::{OpenQuote, Word, unquote, words};
 pub use reading::ReadError;

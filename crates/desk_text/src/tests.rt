@@ -56,6 +56,91 @@ fn short_addresses(rt: HostRuntime) -> Result<(), Fail> {
 }
 
 #[test]
+fn network_texts(rt: HostRuntime) -> Result<(), Fail> {
+    for (text, number, prefix) in [
+        ("10", 167772160, None),
+        ("131.104.48/24", 2204643328, Prefix::new(24)),
+        ("10.1.2.3/8", 167838211, Prefix::new(8)),
+        ("0/0", 0, Prefix::new(0)),
+        ("255.255.255.255/32", 4294967295, Prefix::new(32)),
+    ] {
+        let net = NetText::read(text)?;
+        assert_eq!(rt; net.addr.number(), number, "{text}");
+        assert_eq!(rt; net.prefix, prefix, "{text}");
+    }
+    for (text, fault) in [
+        ("1.2.3.4.5", AddrFault::Parts),
+        ("1.2.3.4.5/33", AddrFault::Parts),
+        ("/8", AddrFault::Digits),
+        ("256/8", AddrFault::Range),
+        ("10.01/08", AddrFault::LeadingZero),
+        ("10/33", AddrFault::Prefix),
+        ("10/", AddrFault::Prefix),
+        ("10/08", AddrFault::Prefix),
+        ("10/+8", AddrFault::Prefix),
+        ("10/8/8", AddrFault::Prefix),
+        ("10/4294967304", AddrFault::Prefix),
+    ] {
+        assert_eq!(rt; NetText::read(text), Err(fault), "{text}");
+    }
+    Ok(())
+}
+
+#[test]
+fn prefixes(rt: HostRuntime) -> Result<(), Fail> {
+    for (mask, prefix) in [
+        ("255.255.255.0", Prefix::new(24)),
+        ("0.0.0.0", Prefix::new(0)),
+        ("255.255.255.255", Prefix::new(32)),
+        ("255.0.255.0", None),
+        ("0.0.0.255", None),
+        ("128.0.0.0", Prefix::new(1)),
+        ("255.255.255.254", Prefix::new(31)),
+    ] {
+        assert_eq!(rt; Prefix::from_mask(Addr::read(mask)?), prefix, "{mask}");
+    }
+    assert!(rt; Prefix::new(33).is_none());
+    assert_eq!(rt; Prefix::new(32).map(Prefix::get), Some(32));
+    assert_eq!(rt; Prefix::read("24"), Prefix::new(24));
+    assert!(rt; Prefix::read("").is_none());
+    Ok(())
+}
+
+#[test]
+fn networks(rt: HostRuntime) -> Result<(), Fail> {
+    for (addr, length, first, last, beside) in [
+        ("10.1.2.3", 8, "10.0.0.0", "10.255.255.255", "11.0.0.0"),
+        (
+            "131.104.48.9",
+            20,
+            "131.104.48.0",
+            "131.104.63.255",
+            "131.104.64.0",
+        ),
+        ("10.0.0.5", 32, "10.0.0.5", "10.0.0.5", "10.0.0.4"),
+        (
+            "200.0.0.0",
+            1,
+            "128.0.0.0",
+            "255.255.255.255",
+            "127.255.255.255",
+        ),
+    ] {
+        let prefix = Prefix::new(length).unwrap_or(Prefix::from_mask(Addr::from_number(
+            0,
+        )).unwrap());
+        let addr = Addr::read(addr)?;
+        let net = Net::new(addr, prefix);
+        assert_eq!(rt; net.first(), Addr::read(first)?, "{first}");
+        assert_eq!(rt; net.last(), Addr::read(last)?, "{last}");
+        assert_eq!(rt; net.prefix(), prefix, "{first}");
+        assert!(rt; net.covers(addr), "{first}");
+        assert!(rt; !net.covers(Addr::read(beside)?), "{beside}");
+    }
+    Ok(())
+}
+
+#[test]
 fn dotted_texts(rt: HostRuntime) {
     assert!(rt; is_dotted("10.0.0.300"));
     assert!(rt; is_dotted(".."));
