@@ -1,8 +1,9 @@
 -- Masks and their prefixes.
 use Rattle.std.proofs.Common.{◌≡◌, ◌≢◌, inl, inr, ℕ, zero, suc, ◌+◌, ◌<◌, ◌≤◌, Bool, true, false, eqb, Option, Some, None, MatchOption, get_or, refl, sym, ap, subst, ◌∙◌, arith}
-use Rattle.std.specs.Int.{leading_ones, w32}
+use Rattle.std.specs.Int.{bit_not, leading_ones, w32}
 use Rattle.std.specs.List.{find, list_all, range_with_len}
 use Rattle.std.proofs.lemmas.Bool.{cases_Bool, cond-true, cond-false, eqb-true, eqb-false}
+use Rattle.std.proofs.lemmas.Nat.{leading_le}
 use Rattle.std.proofs.lemmas.List.FromFn.{get_or-range_with_len, length-range_with_len}
 use Rattle.std.proofs.lemmas.List.Recursion.{and_at}
 use Rattle.desk_text.specs.Laws.{MasksReadBack}
@@ -52,9 +53,13 @@ has_prefix mask prefix (Some p) few is h =
     let ones' = ones_of_mask prefix few in
     ap Some (sym ones ∙ ap (leading_ones w32) (same ∙ sym is) ∙ ones')
 
-pub prefix_is : (mask prefix : ℕ) → prefix ≤ 32 → mask_of prefix ≡ mask → prefix_of_mask mask ≡ Some prefix
+prefix_is : (mask prefix : ℕ) → prefix ≤ 32 → mask_of prefix ≡ mask → prefix_of_mask mask ≡ Some prefix
 unfolding prefix_of_mask
 prefix_is mask prefix few is = has_prefix mask prefix _ few is (is_found (λ p. eqb (mask_of p) mask) 0 33)
+
+-- the prefix of a mask that is that of its first bits counts them
+pub prefix_is_ones : (mask : ℕ) → mask_of (leading_ones w32 mask) ≡ mask → prefix_of_mask mask ≡ Some (leading_ones w32 mask)
+prefix_is_ones mask is = prefix_is mask (leading_ones w32 mask) (leading_le 32 (bit_not w32 mask)) is
 
 -- a mask that is not that of its first bits is of no prefix
 has_none : (mask : ℕ) (found : Option ℕ) → mask_of (leading_ones w32 mask) ≢ mask → IsFound (λ p. eqb (mask_of p) mask) 0 33 found → found ≡ None

@@ -54,6 +54,7 @@ impl Prefix {
     }
 
     /// The prefix of which this is the mask: its first bits are set, and the others are not.
+    #[tactic(auto, using(crate::proofs::Masks::prefix_is_ones, crate::proofs::Masks::prefix_is_none))]
     pub fn from_mask(mask: Addr) -> Option<Prefix>
         ensures { result ≡ prefix_of_mask (number_of mask) }
     {
