@@ -16,7 +16,7 @@ pub mod users;
 mod words;
 
 pub use credentials::{Cred, GroupIds};
-pub use elements::{CredFault, credential};
+pub use elements::{CredFault, credential, has_fault};
 
 mod mount_lines;
 mod word_lines;
