@@ -1,7 +1,4 @@
-pub mod FileLemmas
+pub mod FlavourLemmas
 pub mod LineLemmas
-pub mod SoundLines
-pub mod SoundTexts
 pub mod TextLemmas
-pub mod RuleOrder
-pub mod AscendingEntries
+pub mod WordLemmas

@@ -5,11 +5,15 @@ ghost use Rattle.std.specs.List.{list_any};
 ghost use Rattle.std.specs.Option.{option_copied, option_map};
 ghost use Rattle.desk_text.specs.Addr.{is_address};
 ghost use Rattle.desk_text.specs.Path.{is_absolute};
+ghost use Rattle.desk_exports.specs.Lent.{lent_rows};
 ghost use Rattle.desk_exports.specs.Rules as spec;
 
+use crate::network_rules::{has_bad_mask, has_bad_network, has_bad_prefix, has_ipv6_network, has_slashed_network, lacks_class};
 use crate::options::{Keyword, Setting, has_option};
 use crate::parts::{LineParts, is_absolute};
-use desk_tables::{FileSystems, FsId};
+use crate::tables::Tables;
+use crate::value_rules::{has_cred_fault, has_repeated, has_unknown_flavour, lacks_values};
+use desk_tables::{CredFault, FileSystems, FsId};
 use desk_text::{Addr, Path, PathFault, Text, is_dotted};
 
 /// What is wrong with a line.
@@ -31,8 +35,37 @@ pub enum Rule {
     UnknownOption,
     /// An option of the manual that this project leaves out.
     OptionLeftOut,
-    /// A name is empty, over 255 bytes, holds `,` or `=`, or is of digits and dots and no address.
+    /// An option that takes a value has none, or an empty one.
+    ValueMissing,
+    /// An option that takes a value stands twice.
+    RepeatedOption,
+    /// A name is empty, over 255 bytes, holds `,` or `=`, or is of digits and dots and no address; or
+    /// the network's first part is no address and no known network.
     BadAddress,
+    /// The prefix or the mask is unreadable, unknown or not contiguous.
+    BadMask,
+    /// `-mask` beside a `/` in the network.
+    MaskTwice,
+    /// `-mask` without `-network`.
+    MaskAlone,
+    /// Neither a prefix nor a mask, and a first part from 224 on.
+    NoClass,
+    /// Names and `-network`.
+    NetAndHost,
+    /// `-maproot` and `-mapall`.
+    RootAndAll,
+    /// A flavour is empty or unknown.
+    BadFlavour,
+    /// A credential's user is unknown.
+    UnknownUser,
+    /// A credential's group is unknown.
+    UnknownGroup,
+    /// A credential has more than sixteen groups.
+    TooManyGroups,
+    /// An element of a credential is empty.
+    EmptyElement,
+    /// An element of a credential is of digits and no number.
+    Range,
     /// `-alldirs` with more than one directory.
     AlldirsMany,
     /// `-alldirs` with a directory that is not the mount point.
@@ -40,7 +73,7 @@ pub enum Rule {
 }
 
 /// The order in which a rule is named.
-const RULES: [Rule; 11] = [
+const RULES: [Rule; 25] = [
     Rule::OpenQuote,
     Rule::StrayComment,
     Rule::NotAbsolute,
@@ -49,7 +82,21 @@ const RULES: [Rule; 11] = [
     Rule::DirectoryElsewhere,
     Rule::UnknownOption,
     Rule::OptionLeftOut,
+    Rule::ValueMissing,
+    Rule::RepeatedOption,
     Rule::BadAddress,
+    Rule::BadMask,
+    Rule::MaskTwice,
+    Rule::MaskAlone,
+    Rule::NoClass,
+    Rule::NetAndHost,
+    Rule::RootAndAll,
+    Rule::BadFlavour,
+    Rule::UnknownUser,
+    Rule::UnknownGroup,
+    Rule::TooManyGroups,
+    Rule::EmptyElement,
+    Rule::Range,
     Rule::AlldirsMany,
     Rule::AlldirsNotRoot,
 ];
@@ -68,7 +115,21 @@ impl Rule {
             Rule::DirectoryElsewhere => 4,
             Rule::UnknownOption => 5,
             Rule::OptionLeftOut => 6,
+            Rule::ValueMissing => 7,
+            Rule::RepeatedOption => 8,
             Rule::BadAddress => 9,
+            Rule::BadMask => 10,
+            Rule::MaskTwice => 11,
+            Rule::MaskAlone => 12,
+            Rule::NoClass => 13,
+            Rule::NetAndHost => 14,
+            Rule::RootAndAll => 15,
+            Rule::BadFlavour => 16,
+            Rule::UnknownUser => 17,
+            Rule::UnknownGroup => 18,
+            Rule::TooManyGroups => 19,
+            Rule::EmptyElement => 20,
+            Rule::Range => 21,
             Rule::AlldirsMany => 22,
             Rule::AlldirsNotRoot => 23,
         }
@@ -87,7 +148,21 @@ impl Rule {
             Rule::DirectoryElsewhere => "DirectoryElsewhere",
             Rule::UnknownOption => "UnknownOption",
             Rule::OptionLeftOut => "OptionLeftOut",
+            Rule::ValueMissing => "ValueMissing",
+            Rule::RepeatedOption => "RepeatedOption",
             Rule::BadAddress => "BadAddress",
+            Rule::BadMask => "BadMask",
+            Rule::MaskTwice => "MaskTwice",
+            Rule::MaskAlone => "MaskAlone",
+            Rule::NoClass => "NoClass",
+            Rule::NetAndHost => "NetAndHost",
+            Rule::RootAndAll => "RootAndAll",
+            Rule::BadFlavour => "BadFlavour",
+            Rule::UnknownUser => "UnknownUser",
+            Rule::UnknownGroup => "UnknownGroup",
+            Rule::TooManyGroups => "TooManyGroups",
+            Rule::EmptyElement => "EmptyElement",
+            Rule::Range => "Range",
             Rule::AlldirsMany => "AlldirsMany",
             Rule::AlldirsNotRoot => "AlldirsNotRoot",
         }
@@ -95,18 +170,18 @@ impl Rule {
 }
 
 /// The rule that is named of a line, if one holds, where the line is read for this file system.
-pub fn first_rule(filesystems: &FileSystems, own_fs: Option<FsId>, line: &LineParts) -> Option<Rule>
-    ensures { result ≡ spec.first_rule filesystems.now (option_map (λ fs. fs.0) own_fs) line.now }
+pub fn first_rule(tables: &Tables, own_fs: Option<FsId>, line: &LineParts) -> Option<Rule>
+    ensures { result ≡ spec.first_rule (lent_rows tables.now) (option_map (λ fs. fs.0) own_fs) line.now }
 {
     RULES
         .iter()
         .copied()
-        .find(|rule| rule_holds(filesystems, own_fs, line, *rule))
+        .find(|rule| rule_holds(tables, own_fs, line, *rule))
 }
 
 /// Whether a rule holds of a line.
-fn rule_holds(filesystems: &FileSystems, own_fs: Option<FsId>, line: &LineParts, rule: Rule) -> bool
-    ensures { result ≡ spec.rule_holds filesystems.now (option_map (λ fs. fs.0) own_fs) line.now rule }
+fn rule_holds(tables: &Tables, own_fs: Option<FsId>, line: &LineParts, rule: Rule) -> bool
+    ensures { result ≡ spec.rule_holds (lent_rows tables.now) (option_map (λ fs. fs.0) own_fs) line.now rule }
 {
     let directories = line.directories.as_slice();
     let settings = line.settings.as_slice();
@@ -117,13 +192,31 @@ fn rule_holds(filesystems: &FileSystems, own_fs: Option<FsId>, line: &LineParts,
         Rule::NotAbsolute => directories.is_empty(),
         Rule::DirectoryLate => has_late_directory(names),
         Rule::BadPath => has_bad_path(directories),
-        Rule::DirectoryElsewhere => has_elsewhere(filesystems, own_fs, directories),
+        Rule::DirectoryElsewhere => has_elsewhere(tables.filesystems, own_fs, directories),
         Rule::UnknownOption => has_unknown(settings),
         Rule::OptionLeftOut => has_option(settings, Keyword::LeftOut),
-        Rule::BadAddress => has_bad_name(names),
+        Rule::ValueMissing => lacks_values(settings),
+        Rule::RepeatedOption => has_repeated(settings),
+        Rule::BadAddress => has_bad_name(names) || has_bad_network(tables.networks, settings),
+        Rule::BadMask => has_bad_prefix(settings)
+            || (!has_ipv6_network(settings) && has_bad_mask(tables.networks, settings)),
+        Rule::MaskTwice => has_option(settings, Keyword::Mask) && has_slashed_network(settings),
+        Rule::MaskAlone => has_option(settings, Keyword::Mask)
+            && !has_option(settings, Keyword::Network),
+        Rule::NoClass => !has_option(settings, Keyword::Mask)
+            && lacks_class(tables.networks, settings),
+        Rule::NetAndHost => has_option(settings, Keyword::Network) && !names.is_empty(),
+        Rule::RootAndAll => has_option(settings, Keyword::MapRoot)
+            && has_option(settings, Keyword::MapAll),
+        Rule::BadFlavour => has_unknown_flavour(settings),
+        Rule::UnknownUser => has_cred_fault(tables, settings, CredFault::UnknownUser),
+        Rule::UnknownGroup => has_cred_fault(tables, settings, CredFault::UnknownGroup),
+        Rule::TooManyGroups => has_cred_fault(tables, settings, CredFault::TooManyGroups),
+        Rule::EmptyElement => has_cred_fault(tables, settings, CredFault::EmptyElement),
+        Rule::Range => has_cred_fault(tables, settings, CredFault::Range),
         Rule::AlldirsMany => has_option(settings, Keyword::AllDirs) && directories.len() > 1,
         Rule::AlldirsNotRoot => has_option(settings, Keyword::AllDirs)
-            && has_other_directory(filesystems, own_fs, directories),
+            && has_other_directory(tables.filesystems, own_fs, directories),
     }
 }
 
