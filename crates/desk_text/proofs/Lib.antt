@@ -1,4 +1,7 @@
 pub mod AddrParts
+pub mod Masks
+pub mod Blocks
+pub mod NetTexts
 pub mod Trim
 pub mod Skip
 pub mod PhysicalLines

@@ -1,7 +1,8 @@
--- Laws of paths, logical lines and words: what their definitions come to.
-use Rattle.std.specs.Prelude.{◌≡◌, ◌↔◌, ℕ, ◌+◌, ◌<◌, ◌≤◌, ◌==◌, Bool, true, false, List, [], ◌∷◌, ◌++◌, length, take, drop, map, Ok}
+-- Laws of networks, paths, logical lines and words: what their definitions come to.
+use Rattle.std.specs.Prelude.{◌≡◌, ◌↔◌, ℕ, ◌+◌, ◌<◌, ◌≤◌, ◌==◌, Bool, true, false, IsTrue, Some, List, [], ◌∷◌, ◌++◌, length, take, drop, map, Ok}
 use Rattle.std.specs.List.{AllByRecursion, flat_map}
 use Rattle.std.specs.Str.Lines.{lines}
+use Rattle.desk_text.specs.Networks.{Block, IsBlock, covers, last_of, mask_of, prefix_of_mask}
 use Rattle.desk_text.specs.Path.{path_text, read_path}
 use Rattle.desk_text.specs.Lines.{AreNumberedUp, PhysicalLine, LogicalLine, physical_lines, logical_lines}
 use Rattle.desk_text.specs.Words.{Character, Bare, Escaped, Lone, Atom, Single, Quoted, Unclosed, RawWord, atoms, atom_text, is_quote, is_separator, line_words, raw_word, words_at}
@@ -114,3 +115,12 @@ WordsAreMaximalRuns = (start : ℕ) (text : List ℕ) → (runs : List Run) × F
 abbrev pub PrintedPathsDiffer : Type 0
 PrintedPathsDiffer =
     (text other : List ℕ) (path path' : List (List ℕ)) → read_path text ≡ Ok path → read_path other ≡ Ok path' → path_text path ≡ path_text path' → path ≡ path'
+
+-- The mask of a prefix reads as that prefix.
+abbrev pub MasksReadBack : Type 0
+MasksReadBack = (prefix : ℕ) → prefix ≤ 32 → prefix_of_mask (mask_of prefix) ≡ Some prefix
+
+-- A network covers the addresses from its first to its last, and no other.
+abbrev pub CoversBetweenFirstAndLast : Type 0
+CoversBetweenFirstAndLast =
+    (block : Block) → IsBlock block → (address : ℕ) → IsTrue (covers block address) ↔ ((block.first ≤ address) × (address ≤ last_of block))

@@ -2,7 +2,7 @@
 use Rattle.std.specs.Prelude.{◌≡◌, ℕ, ◌+◌, ◌-◌, ◌*◌, ◌/◌, ◌^◌, ◌<◌, ◌≤◌, ◌==◌, nat_le, Bool, true, false, not, ◌&&◌, Option, Some, None, Result, Ok, Err, List, if◌then◌else◌}
 use Rattle.std.specs.List.{find, list_any, range_with_len, before_first, after_first}
 use Rattle.std.specs.Str.Parse.{digits_value}
-use Rattle.desk_text.specs.Addr.{has_leading_zero, is_digits, number_of, read_short}
+use Rattle.desk_text.specs.Addr.{has_leading_zero, is_digits, read_short}
 use Rattle.desk_text.specs.declared.address.AddrFault.{AddrFault}
 use Rattle.desk_text.specs.declared.address.AddrFault.TheVariants.{Prefix as BadPrefix}
 

@@ -1,7 +1,7 @@
-//! Laws of paths, logical lines and words. Each is proved as the contract of a function that does
+//! Laws of networks, paths, logical lines and words. Each is proved as the contract of a function that does
 //! nothing: the definitions walk over a text, and these say what they come to.
 
-ghost use Rattle.desk_text.specs.Laws.{AtomsWriteText, LinesAscend, OneReading, PartsAreSlices, PhysicalLinesAreLines, PrintedPathsDiffer, WordsAreMaximalRuns, WordsAreSlices};
+ghost use Rattle.desk_text.specs.Laws.{AtomsWriteText, CoversBetweenFirstAndLast, LinesAscend, MasksReadBack, OneReading, PartsAreSlices, PhysicalLinesAreLines, PrintedPathsDiffer, WordsAreMaximalRuns, WordsAreSlices};
 ghost use Rattle.desk_text.specs.Lines.{OneGrouping};
 
 /// The physical lines of a text fall into groups in one way.
@@ -47,4 +47,14 @@ pub fn words_are_maximal_runs()
 /// Paths that texts write and that are printed alike have the same components.
 pub fn printed_paths_differ()
     ensures { PrintedPathsDiffer }
+{}
+
+/// The mask of a prefix reads as that prefix.
+pub fn masks_read_back()
+    ensures { MasksReadBack }
+{}
+
+/// A network covers the addresses from its first to its last, and no other.
+pub fn covers_between_first_and_last()
+    ensures { CoversBetweenFirstAndLast }
 {}

@@ -3,13 +3,14 @@
 ghost use Rattle.std.specs.Prelude.{◌≡◌, ◌≤◌, true, nat_le, if◌then◌else◌};
 ghost use Rattle.std.specs.Result.{result_map_both};
 ghost use Rattle.desk_text.specs.Addr.{number_of, read_short};
-ghost use Rattle.desk_text.specs.Networks.{block_of, covers, last_of, mask_of, prefix_of_mask, read_net_text, read_prefix, with_prefix};
+ghost use Rattle.desk_text.specs.Networks.{IsBlock, block_of, covers, last_of, mask_of, prefix_of_mask, read_net_text, read_prefix, with_prefix};
 ghost use Rattle.desk_text.specs.Shown.{written_net};
 
 use crate::address::{Addr, AddrFault, capped_value, has_leading_zero, is_digits};
 use std::marker::Model;
 
-/// How many first bits the addresses of a network have in common: 0 to 32.
+/// How many first bits the addresses of a network have in common: 0 to 32. The bits behind them are
+/// the host bits.
 #[derive(Clone, Copy, Debug, PartialEq, Eq, PartialOrd, Ord, Hash)]
 pub struct Prefix {
     bits: u8,
@@ -28,14 +29,14 @@ impl Model for Prefix {
 }
 
 impl Prefix {
-    /// The prefix of this many bits, if an address has so many.
-    pub fn new(length: u8) -> Option<Prefix>
-        ensures { result ≡ (if nat_le length 32 then Some length else None) }
+    /// The prefix of this many bits; none, if an address has fewer.
+    pub fn new(bits: u8) -> Option<Prefix>
+        ensures { result ≡ (if nat_le bits 32 then Some bits else None) }
     {
-        if length > 32 {
+        if bits > 32 {
             return None;
         }
-        Some(Prefix { bits: length })
+        Some(Prefix { bits })
     }
 
     /// Reads a decimal of 0 to 32.
@@ -53,6 +54,7 @@ impl Prefix {
     }
 
     /// The prefix of which this is the mask: its first bits are set, and the others are not.
+    #[tactic(auto, using(crate::proofs::Masks::prefix_is_ones, crate::proofs::Masks::prefix_is_none))]
     pub fn from_mask(mask: Addr) -> Option<Prefix>
         ensures { result ≡ prefix_of_mask (number_of mask) }
     {
@@ -105,7 +107,7 @@ impl Net {
     pub fn new(addr: Addr, prefix: Prefix) -> Net
         ensures { result ≡ block_of (number_of addr) prefix }
     {
-        let host_bits = 32 - prefix.bits;
+        let host_bits = 32 - prefix.get();
         let start = ((u64::from(addr.number()) >> host_bits) << host_bits) as u32;
         Net {
             start: Addr::from_number(start),
@@ -117,13 +119,14 @@ impl Net {
     pub fn covers(self, addr: Addr) -> bool
         ensures { result ≡ covers self (number_of addr) }
     {
-        let host_bits = 32 - self.prefix.bits;
+        let host_bits = 32 - self.prefix.get();
         u64::from(addr.number()) >> host_bits == u64::from(self.start.number()) >> host_bits
     }
 
     /// The first address, which has no host bits.
     pub fn first(self) -> Addr
-        ensures { number_of result ≡ self.first }
+        ensures value { number_of result ≡ self.first }
+        ensures network { IsBlock self }
     {
         self.start
     }
@@ -132,7 +135,7 @@ impl Net {
     pub fn last(self) -> Addr
         ensures { number_of result ≡ last_of self }
     {
-        let host_bits = 32 - self.prefix.bits;
+        let host_bits = 32 - self.prefix.get();
         let last = u64::from(self.start.number()) + ((1u64 << host_bits) - 1);
         Addr::from_number(last as u32)
     }
@@ -168,7 +171,7 @@ impl NetText {
     }
 }
 
-/// Reads an address and a prefix, of which the text that has both says the address first.
+/// Reads an address, and the prefix behind it. The faults of the address come first.
 fn with_prefix(address: &str, prefix: &str) -> Result<NetText, AddrFault>
     ensures { result_map_both written_net (λ fault. fault) result ≡ with_prefix true prefix.now (read_short address.now) }
 {

@@ -106,37 +106,47 @@ fn prefixes(rt: HostRuntime) -> Result<(), Fail> {
     Ok(())
 }
 
+/// The network that a text with a prefix writes.
+fn net(text: &str) -> Result<Net, AddrFault> {
+    let written = NetText::read(text)?;
+    match written.prefix {
+        Some(prefix) => Ok(Net::new(written.addr, prefix)),
+        None => Err(AddrFault::Prefix),
+    }
+}
+
 #[test]
 fn networks(rt: HostRuntime) -> Result<(), Fail> {
-    for (addr, length, first, last, beside) in [
-        ("10.1.2.3", 8, "10.0.0.0", "10.255.255.255", "11.0.0.0"),
+    for (text, bits, first, last, beside) in [
+        ("10.1.2.3/8", 8, "10.0.0.0", "10.255.255.255", "11.0.0.0"),
         (
-            "131.104.48.9",
+            "131.104.48.9/20",
             20,
             "131.104.48.0",
             "131.104.63.255",
             "131.104.64.0",
         ),
-        ("10.0.0.5", 32, "10.0.0.5", "10.0.0.5", "10.0.0.4"),
+        ("10.0.0.5/32", 32, "10.0.0.5", "10.0.0.5", "10.0.0.4"),
         (
-            "200.0.0.0",
+            "200/1",
             1,
             "128.0.0.0",
             "255.255.255.255",
             "127.255.255.255",
         ),
     ] {
-        let prefix = Prefix::new(length).unwrap_or(Prefix::from_mask(Addr::from_number(
-            0,
-        )).unwrap());
-        let addr = Addr::read(addr)?;
-        let net = Net::new(addr, prefix);
-        assert_eq!(rt; net.first(), Addr::read(first)?, "{first}");
-        assert_eq!(rt; net.last(), Addr::read(last)?, "{last}");
-        assert_eq!(rt; net.prefix(), prefix, "{first}");
-        assert!(rt; net.covers(addr), "{first}");
-        assert!(rt; !net.covers(Addr::read(beside)?), "{beside}");
+        let net = net(text)?;
+        assert_eq!(rt; net.prefix().get(), bits, "{text}");
+        assert_eq!(rt; net.first(), Addr::read(first)?, "{text}");
+        assert_eq!(rt; net.last(), Addr::read(last)?, "{text}");
+        assert!(rt; net.covers(Addr::read(first)?), "{text}");
+        assert!(rt; net.covers(Addr::read(last)?), "{text}");
+        assert!(rt; !net.covers(Addr::read(beside)?), "{text}");
     }
+    let all = net("1.2.3.4/0")?;
+    assert_eq!(rt; all.first(), Addr::read("0.0.0.0")?);
+    assert_eq!(rt; all.last(), Addr::read("255.255.255.255")?);
+    assert!(rt; all.covers(Addr::read("10.0.0.5")?));
     Ok(())
 }
 
