@@ -49,7 +49,7 @@ module _ (lent : LentRows) (settings : List Setting) (lacks : list_any lacks_val
   mapping_there : ((fault : CredFault) → cred_has lent fault settings ≡ false) → There (mapping_said lent settings)
   mapping_there sound =
       let both : (fault : CredFault) → (of_value keyword.MapRoot (λ text. cred_breaks lent.users lent.groups (elements text) fault) settings ≡ false)
-          × (of_value keyword.MapAll (λ text. cred_breaks lent.users lent.groups (elements text) fault) settings ≡ false) =
+      × (of_value keyword.MapAll (λ text. cred_breaks lent.users lent.groups (elements text) fault) settings ≡ false) =
       λ fault. or_parts (of_value keyword.MapRoot (λ text. cred_breaks lent.users lent.groups (elements text) fault) settings)
       (of_value keyword.MapAll (λ text. cred_breaks lent.users lent.groups (elements text) fault) settings) (sound fault) in
       let cases : (has_option keyword.MapAll settings ≡ true) ⊎ (has_option keyword.MapAll settings ≡ false) = cases_Bool (has_option keyword.MapAll settings) in
@@ -112,7 +112,7 @@ each_fault lent own_fs line none cred.EmptyElement = none rule.EmptyElement
 each_fault lent own_fs line none cred.Range = none rule.Range
 
 pub entry_there : (lent : LentRows) (own_fs : Option ℕ) (number : ℕ) (line : LineParts) → ((r : Rule) → rule_holds lent own_fs line r ≡ false) → SpelledEntry lent number line
-entry_there lent own_fs number line none = 
+entry_there lent own_fs number line none =
     let settings : List Setting = line.settings in
     let faults : (fault : CredFault) → cred_has lent fault settings ≡ false = each_fault lent own_fs line none in
     let terms = terms_there lent settings (none rule.ValueMissing) faults (none rule.BadFlavour) in
