@@ -10,8 +10,10 @@ pub mod filesystems;
 pub mod groups;
 pub mod host_laws;
 pub mod hosts;
+mod index;
 pub mod laws;
 pub mod networks;
+mod rows;
 pub mod users;
 mod words;
 
