@@ -1,5 +1,5 @@
 -- Lemmas on the directories of a line and its file system.
-use Rattle.std.proofs.Common.{◌≡◌, ℕ, List, [], ◌∷◌, ◌++◌, Option, Some, None, Result, Ok, Err, refl, ap, ◌∙◌}
+use Rattle.std.proofs.Common.{◌≡◌, ℕ, List, [], ◌∷◌, ◌++◌, Option, Some, None, Result, Ok, Err, refl, sym, ap, ◌∙◌}
 use Rattle.std.specs.List.{filter_map}
 use Rattle.std.specs.Option.{option_map}
 use Rattle.std.proofs.lemmas.List.Elements.{filter_map-append}
@@ -26,13 +26,6 @@ number_back None = refl
 number_back (Some i) = refl
 
 -- a line's fault is that of the line beside its file system
-pub placed_fault : (e : ReadError Rule) (own_fs : Option ℕ) (answer : Result Entry Rule) → Reads {X = Entry} (Err e) answer → Reads {X = Option (FsId × Entry)} (Err e) (placed own_fs answer)
+pub placed_fault : (e : ReadError Rule) (own_fs : Option ℕ) (answer : Result (Option Entry) Rule) → Reads {X = Option Entry} (Err e) answer → Reads {X = Option (FsId × Entry)} (Err e) (placed own_fs answer)
 placed_fault Memory own_fs answer h = tt
 placed_fault (Fault r) own_fs answer h = ap (placed own_fs) h
-
--- and so is its entry
-pub placed_at : (fs : FsId) (own_fs : Option ℕ) (answer : Result Entry Rule) (entry : Entry) → own_fs ≡ Some fs.0 → answer ≡ Ok entry → placed own_fs answer ≡ Ok (Some (fs, entry))
-placed_at fs own_fs answer entry e h = ap (λ o. placed o answer) e ∙ ap (placed (Some fs.0)) h
-
-pub placed_nowhere : (own_fs : Option ℕ) (answer : Result Entry Rule) (entry : Entry) → own_fs ≡ None → answer ≡ Ok entry → placed own_fs answer ≡ Ok None
-placed_nowhere own_fs answer entry e h = ap (λ o. placed o answer) e ∙ ap (placed None) h

@@ -1,26 +1,21 @@
 -- Lemmas on lines without a fault.
-use Rattle.std.proofs.Common.{◌≡◌, ◌≢◌, ◌⊎◌, inl, inr, ℕ, ◌==◌, Bool, true, false, not, List, [], ◌∷◌, Option, Some, None, Result, Ok, Err, find, is_err, length, map, refl, sym, ap, ◌∙◌, arith}
+use Rattle.std.proofs.Common.{◌≡◌, ◌≢◌, ℕ, ◌==◌, Bool, false, not, List, [], ◌∷◌, Option, Some, None, Result, Ok, Err, is_err, length, map, refl, ap, ◌∙◌, arith}
 use Rattle.std.specs.List.{AllByRecursion, filter_map, list_any}
 use Rattle.std.specs.Option.{option_map_or}
-use Rattle.std.proofs.lemmas.Bool.{cases_Bool, cond-true, cond-false, eqb-true, eqb-false, not-false, or_parts}
+use Rattle.std.proofs.lemmas.Bool.{eqb-true, eqb-false, not-false, or_parts}
 use Rattle.std.proofs.lemmas.List.{length-map}
 use Rattle.std.proofs.lemmas.List.Elements.{All-from_recursion}
 use Rattle.desk_text.specs.declared.path.PathFault.{PathFault}
 use Rattle.desk_tables.specs.Mounts.{fs_of}
 use Rattle.desk_tables.specs.declared.filesystems.Mount.{Mount}
-use Rattle.desk_exports.specs.Entries.{path_in}
+use Rattle.desk_exports.specs.Entries.{entry_of, entry_with, path_in}
 use Rattle.desk_exports.specs.Laws.{IsSound, LinesAreSound}
-use Rattle.desk_exports.specs.Rules.{rule_holds, is_elsewhere, rules_in_order}
-
--- where none is found, none passes
-pub none_passes : {X : Type 0} (p : X → Bool) (xs : List X) → find p xs ≡ None → AllByRecursion (λ x. p x ≡ false) xs
-none_passes p [] e = tt
-none_passes p (x ∷ xs) e =
-    let cases : (p x ≡ true) ⊎ (p x ≡ false) = cases_Bool (p x) in
-    elim cases [
-      | inl passes ↦ absurd (let found : None ≡ Some x = sym e ∙ cond-true (p x) (Some x) (find p xs) passes in cc)
-      | inr fails ↦ (fails, none_passes p xs (sym (cond-false (p x) (Some x) (find p xs) fails) ∙ e))
-    ]
+use Rattle.desk_exports.specs.Lent.{LentRows}
+use Rattle.desk_exports.specs.Rules.{rule_holds, is_elsewhere}
+use Rattle.desk_exports.specs.declared.parts.LineParts.{LineParts}
+use Rattle.desk_exports.specs.declared.rules.Rule.TheVariants as rule
+use Rattle.desk_exports.proofs.RuleOrder.{no_rule}
+use Rattle.desk_exports.proofs.SoundEntries.{SpelledEntry, entry_there}
 
 -- a file system that is not another one
 at_home : (o : Option ℕ) (own_fs : ℕ) → not (option_map_or (λ fs. fs == own_fs) o false) ≡ false → o ≡ Some own_fs
@@ -47,20 +42,23 @@ module _ (table : List Mount) where
   none (Ok path ∷ ds) r e = absurd (cc)
   none (Err fault ∷ ds) r e = absurd (cc)
 
-  sound : (own_fs : Option ℕ) (ds : List (Result (List (List ℕ)) PathFault)) → (length ds == 0) ≡ false → list_any is_err ds ≡ false → list_any (is_elsewhere table own_fs) ds ≡ false
-      → IsSound table own_fs ds (filter_map path_in ds)
-  sound None ds some r e = absurd (eqb-false (length ds) 0 some (none ds r e))
-  sound (Some own_fs) ds some r e =
-      let are = reads own_fs ds r e in
-      record {
-        fs = own_fs;
-        read_for = refl;
-        some = (let n : length ds ≢ 0 = eqb-false (length ds) 0 some in omega (arith, n, as_long (filter_map path_in ds) ds are.0));
-        reads = are.0;
-        within = All-from_recursion _ _ are.1;
-      }
+sound : (lent : LentRows) (own_fs : Option ℕ) (number : ℕ) (line : LineParts) → SpelledEntry lent number line → (length line.directories == 0) ≡ false → list_any is_err line.directories ≡ false
+    → list_any (is_elsewhere lent.filesystems own_fs) line.directories ≡ false → IsSound lent.filesystems own_fs line.directories (entry_of lent number line)
+sound lent None number line spelled some r e = absurd (eqb-false (length line.directories) 0 some (none lent.filesystems line.directories r e))
+sound lent (Some own_fs) number line spelled some r e =
+    let ds : List (Result (List (List ℕ)) PathFault) = line.directories in
+    let are = reads lent.filesystems own_fs ds r e in
+    record {
+      fs = own_fs;
+      read_for = refl;
+      entry = entry_with number line spelled.terms spelled.clients;
+      spells = spelled.is;
+      some = (let n : length ds ≢ 0 = eqb-false (length ds) 0 some in omega (arith, n, as_long (filter_map path_in ds) ds are.0));
+      reads = are.0;
+      within = All-from_recursion _ _ are.1;
+    }
 
 pub lines_are_sound : LinesAreSound
-lines_are_sound table own_fs number line e =
-    let h = none_passes (rule_holds table own_fs line) rules_in_order e in
-    sound table own_fs line.directories h.1.1.0 h.1.1.1.1.0 h.1.1.1.1.1.0
+lines_are_sound lent own_fs number line e =
+    let none_holds = no_rule (rule_holds lent own_fs line) e in
+    sound lent own_fs number line (entry_there lent own_fs number line none_holds) (none_holds rule.NotAbsolute) (none_holds rule.BadPath) (none_holds rule.DirectoryElsewhere)

@@ -1,5 +1,8 @@
+pub mod Lent
 pub mod Words
 pub mod Options
+pub mod Flavours
+pub mod Networks
 pub mod Rules
 pub mod Entries
 pub mod Lines
@@ -7,3 +10,4 @@ pub mod Files
 pub mod Laws
 pub mod Terms
 pub mod Pushes
+pub mod Once

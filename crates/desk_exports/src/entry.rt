@@ -1,7 +1,7 @@
 //! What a line of an exports file says.
 
 use desk_tables::Cred;
-use desk_text::{Path, Sequence, Text};
+use desk_text::{Net, Path, Sequence, Text};
 
 /// A security flavour. (exports(5), `-sec`)
 #[derive(Clone, Copy, Debug, PartialEq, Eq)]
@@ -35,6 +35,10 @@ pub struct Terms {
 pub enum Clients {
     /// The written names, in their order.
     Hosts(Sequence<Text>),
+    /// The written network, and its value where the prefix is that of its class.
+    Net(Net, Option<Text>),
+    /// The value of a network of IPv6, which matches nobody.
+    Net6(Text),
     /// Everybody: neither names nor a network are written.
     World,
 }

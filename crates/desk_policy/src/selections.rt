@@ -26,6 +26,14 @@ pub fn weight_of(row: &Row, address: Addr) -> Option<u8>
                 None
             }
         }
+        Clients::Net(net, _) => {
+            if net.covers(address) {
+                Some(net.prefix().get() + 1)
+            } else {
+                None
+            }
+        }
+        Clients::Net6(_) => None,
         Clients::World => Some(0),
     }
 }

@@ -3,9 +3,13 @@ use Rattle.std.proofs.Common.{◌≡◌, ◌<◌, ◌≤◌, ◌+◌, ◌==◌, 
 use Rattle.std.specs.Prelude.{nat_lt, if◌then◌else◌}
 use Rattle.std.proofs.lemmas.Bool.{cases_Bool}
 use Rattle.std.proofs.lemmas.Bool.Decides.{nat_tests}
-use Rattle.std.proofs.lemmas.List.{append-nil, map-append, take_more, take-append-drop}
+use Rattle.std.proofs.lemmas.List.{append-nil, take_more, take-append-drop}
 use Rattle.std.proofs.lemmas.List.Elements.{filter-append}
-use Rattle.desk_tables.specs.Gids.{AddsGid, is_among}
+use Rattle.std.specs.List.{flat_map, list_any}
+use Rattle.std.specs.Str.{bytes_eq}
+use Rattle.std.proofs.lemmas.List.Folds.{list_any-append}
+use Rattle.desk_tables.specs.Gids.{AddsOnce, is_among}
+use Rattle.desk_tables.specs.Index.{gids_under, under}
 use Rattle.desk_tables.specs.Groups.{at_most_16, each_once, gids_of, has_member}
 use Rattle.desk_tables.specs.declared.groups.Group.{Group}
 use Rattle.desk_tables.specs.declared.users.User.{User}
@@ -60,47 +64,85 @@ once_longer ns (n ∷ more) =
     let all : length (each_once (ns ++ n ∷ [])) ≤ length (each_once ((ns ++ n ∷ []) ++ more)) = once_longer (ns ++ n ∷ []) more in
     omega (arith, ap (λ t. length (each_once t)) (append_assoc ns (n ∷ []) more))
 
-module _ (user : User) where
-  given-append : (gs hs : List Group) → map (λ g. g.gid) (filter (has_member user.name) (gs ++ hs)) ≡ map (λ g. g.gid) (filter (has_member user.name) gs) ++ map (λ g. g.gid) (filter (has_member user.name) hs)
-  given-append gs hs = ap (map (λ (g : Group). g.gid)) (filter-append (has_member user.name) gs hs) ∙ map-append (λ (g : Group). g.gid) (filter (has_member user.name) gs) (filter (has_member user.name) hs)
+-- what stands behind numbers counts by those of them that are there
+same_front : (xs ys more : List ℕ) → each_once xs ≡ each_once ys → each_once (xs ++ more) ≡ each_once (ys ++ more)
+same_front xs ys [] same = ap each_once (append-nil xs) ∙ same ∙ sym (ap each_once (append-nil ys))
+same_front xs ys (n ∷ more) same =
+    ap each_once (sym (append_assoc xs (n ∷ []) more))
+    ∙ same_front (xs ++ n ∷ []) (ys ++ n ∷ []) more (once_more xs n ∙ ap (λ ms. with_one (is_among n ms) ms n) same ∙ sym (once_more ys n))
+    ∙ ap each_once (append_assoc ys (n ∷ []) more)
 
-  one_more : (gs : List Group) (g : Group) (member : Bool) → has_member user.name g ≡ member → gids_of (gs ++ g ∷ []) user ≡ (if member then with_one (is_among g.gid (gids_of gs user)) (gids_of gs user) g.gid else gids_of gs user)
-  one_more gs g true is =
-      ap (λ gids. each_once (user.gid ∷ gids)) (given-append gs (g ∷ []))
-      ∙ ap (λ b. each_once (user.gid ∷ (map (λ (g : Group). g.gid) (filter (has_member user.name) gs) ++ map (λ (g : Group). g.gid) (cond b (g ∷ []) [])))) is
-      ∙ once_more (user.gid ∷ map (λ (g : Group). g.gid) (filter (has_member user.name) gs)) g.gid
-  one_more gs g false is =
-      ap (λ gids. each_once (user.gid ∷ gids)) (given-append gs (g ∷ []))
-      ∙ ap (λ b. each_once (user.gid ∷ (map (λ (g : Group). g.gid) (filter (has_member user.name) gs) ++ map (λ (g : Group). g.gid) (cond b (g ∷ []) [])))) is
-      ∙ ap (λ gids. each_once (user.gid ∷ gids)) (append-nil (map (λ (g : Group). g.gid) (filter (has_member user.name) gs)))
+here_now : (here : Bool) (ms : List ℕ) (n : ℕ) → is_among n ms ≡ here → is_among n (with_one here ms n) ≡ true
+here_now true ms n is = is
+here_now false ms n is = list_any-append (λ g. g == n) ms (n ∷ []) ∙ ap (λ b. b || ((n == n) || false)) is ∙ grind (arith, nat_tests)
 
-  no_fewer : (gs hs : List Group) → length (gids_of gs user) ≤ length (gids_of (gs ++ hs) user)
-  no_fewer gs hs =
-      subst (λ gids. length (gids_of gs user) ≤ length (each_once (user.gid ∷ gids))) (sym (given-append gs hs))
-      (once_longer (user.gid ∷ map (λ (g : Group). g.gid) (filter (has_member user.name) gs)) (map (λ (g : Group). g.gid) (filter (has_member user.name) hs)))
+-- a number that stands twice counts once
+twice : (xs : List ℕ) (n : ℕ) → each_once ((xs ++ n ∷ []) ++ n ∷ []) ≡ each_once (xs ++ n ∷ [])
+twice xs n =
+    let there : is_among n (each_once (xs ++ n ∷ [])) ≡ true = ap (is_among n) (once_more xs n) ∙ here_now (is_among n (each_once xs)) (each_once xs) n refl in
+    once_more (xs ++ n ∷ []) n ∙ ap (λ b. with_one b (each_once (xs ++ n ∷ [])) n) there
 
-  added_at : (gs : List Group) (g : Group) (member : Bool) (old new : List ℕ) → has_member user.name g ≡ member → old ≡ gids_of gs user → AddsGid true member old g.gid new → new ≡ gids_of (gs ++ g ∷ []) user
-  added_at gs g true old new is so_far adds = adds ∙ ap (λ gids. with_one (is_among g.gid gids) gids g.gid) so_far ∙ sym (one_more gs g true is)
-  added_at gs g false old new is so_far adds = adds.1 ∙ so_far ∙ sym (one_more gs g false is)
+abbrev given : Bool → ℕ → List ℕ
+given b n = if b then n ∷ [] else []
 
-  refused_at : (gs : List Group) (g : Group) (member : Bool) (old new : List ℕ) → has_member user.name g ≡ member → old ≡ gids_of gs user → AddsGid false member old g.gid new → 16 < length (gids_of (gs ++ g ∷ []) user)
-  refused_at gs g true old new is so_far adds =
-      let more : gids_of (gs ++ g ∷ []) user ≡ old ++ g.gid ∷ [] = one_more gs g true is ∙ ap (λ gids. with_one (is_among g.gid gids) gids g.gid) (sym so_far) ∙ ap (λ b. with_one b old g.gid) adds.0 in
-      omega (arith, ap length more, length-append old (g.gid ∷ []), adds.1)
-  refused_at gs g false old new is so_far adds = let no : false ≡ true = adds.0 in absurd (cc)
+one_or_more : (any : Bool) (xs : List ℕ) (n : ℕ) → each_once ((xs ++ n ∷ []) ++ given any n) ≡ each_once (xs ++ n ∷ [])
+one_or_more true xs n = twice xs n
+one_or_more false xs n = ap each_once (append-nil (xs ++ n ∷ []))
 
-  module _ (groups : List Group) (i : ℕ) (g : Group) (below : i < length groups) (is : g ≡ get_or groups i g) (old new : List ℕ) (so_far : old ≡ gids_of (take i groups) user) where
-    up : take (i + 1) groups ≡ take i groups ++ g ∷ []
-    up = take_more groups i g below ∙ ap (λ (x : Group). take i groups ++ x ∷ []) (sym is)
+module _ (name : List ℕ) where
+  -- a group counts once, however often it lists the member
+  members_once : (xs : List ℕ) (gid : ℕ) (members : List (List ℕ)) → each_once (xs ++ flat_map (under name gid) members) ≡ each_once (xs ++ given (list_any (bytes_eq name) members) gid)
+  members_once xs gid [] = refl
+  members_once xs gid (m ∷ members) =
+      let rest : List ℕ = flat_map (under name gid) members in
+      elim (cases_Bool (bytes_eq name m)) [
+        | inl same ↦
+            ap (λ b. each_once (xs ++ (given b gid ++ rest))) same
+            ∙ ap each_once (sym (append_assoc xs (gid ∷ []) rest))
+            ∙ members_once (xs ++ gid ∷ []) gid members
+            ∙ one_or_more (list_any (bytes_eq name) members) xs gid
+            ∙ ap (λ b. each_once (xs ++ given (b || list_any (bytes_eq name) members) gid)) (sym same)
+        | inr other ↦
+            ap (λ b. each_once (xs ++ (given b gid ++ rest))) other
+            ∙ members_once xs gid members
+            ∙ ap (λ b. each_once (xs ++ given (b || list_any (bytes_eq name) members) gid)) (sym other)
+      ]
 
-    pub gid_added : AddsGid true (has_member user.name g) old g.gid new → new ≡ gids_of (take (i + 1) groups) user
-    gid_added adds = added_at (take i groups) g (has_member user.name g) old new refl so_far adds ∙ ap (λ gs. gids_of gs user) (sym up)
+  abbrev of_groups : List Group → List ℕ
+  of_groups groups = map (λ g. g.gid) (filter (has_member name) groups)
 
-    pub gid_refused : AddsGid false (has_member user.name g) old g.gid new → None ≡ at_most_16 (gids_of groups user)
-    gid_refused adds =
-        let here : 16 < length (gids_of (take i groups ++ g ∷ []) user) = refused_at (take i groups) g (has_member user.name g) old new refl so_far adds in
-        let all : length (gids_of (take i groups ++ g ∷ []) user) ≤ length (gids_of ((take i groups ++ g ∷ []) ++ drop (i + 1) groups) user) = no_fewer (take i groups ++ g ∷ []) (drop (i + 1) groups) in
-        let whole : (take i groups ++ g ∷ []) ++ drop (i + 1) groups ≡ groups = ap (λ gs. gs ++ drop (i + 1) groups) (sym up) ∙ take-append-drop (i + 1) groups in
-        let many : 16 < length (gids_of groups user) = omega (arith, ap (λ gs. length (gids_of gs user)) whole) in
-        let test : nat_lt 16 (length (gids_of groups user)) ≡ true = grind (arith, nat_tests) in
-        ap (λ b. if b then None else Some (gids_of groups user)) (sym test)
+  one_group : (lists : Bool) (g : Group) (groups : List Group) → given lists g.gid ++ of_groups groups ≡ map (λ g. g.gid) (cond lists (g ∷ filter (has_member name) groups) (filter (has_member name) groups))
+  one_group true g groups = refl
+  one_group false g groups = refl
+
+  groups_once : (xs : List ℕ) (groups : List Group) → each_once (xs ++ gids_under name groups) ≡ each_once (xs ++ of_groups groups)
+  groups_once xs [] = refl
+  groups_once xs (g ∷ groups) =
+      let here : List ℕ = flat_map (under name g.gid) g.members in
+      let one : List ℕ = given (has_member name g) g.gid in
+      ap each_once (sym (append_assoc xs here (gids_under name groups)))
+      ∙ groups_once (xs ++ here) groups
+      ∙ same_front (xs ++ here) (xs ++ one) (of_groups groups) (members_once xs g.gid g.members)
+      ∙ ap each_once (append_assoc xs one (of_groups groups))
+      ∙ ap (λ gids. each_once (xs ++ gids)) (one_group (has_member name g) g groups)
+
+-- the gids under a user's name, behind its own, are those of the user
+pub gids_listed : (groups : List Group) (user : User) → each_once (user.gid ∷ gids_under user.name groups) ≡ gids_of groups user
+gids_listed groups user = groups_once user.name (user.gid ∷ []) groups
+
+module _ (own : ℕ) (ns : List ℕ) (i : ℕ) (below : i < length ns) (old new : List ℕ) (so_far : old ≡ each_once (own ∷ take i ns)) where
+  up : take (i + 1) ns ≡ take i ns ++ get_or ns i 0 ∷ []
+  up = take_more ns i 0 below
+
+  -- one more number is added, or there is no room for all
+  pub gid_added : AddsOnce true old (get_or ns i 0) new → new ≡ each_once (own ∷ take (i + 1) ns)
+  gid_added adds = adds ∙ ap (λ gids. with_one (is_among (get_or ns i 0) gids) gids (get_or ns i 0)) so_far ∙ sym (once_more (own ∷ take i ns) (get_or ns i 0)) ∙ ap (λ ms. each_once (own ∷ ms)) (sym up)
+
+  pub gid_refused : AddsOnce false old (get_or ns i 0) new → None ≡ at_most_16 (each_once (own ∷ ns))
+  gid_refused adds =
+      let here : each_once ((own ∷ take i ns) ++ (get_or ns i 0) ∷ []) ≡ old ++ (get_or ns i 0) ∷ [] = once_more (own ∷ take i ns) (get_or ns i 0) ∙ ap (λ gids. with_one (is_among (get_or ns i 0) gids) gids (get_or ns i 0)) (sym so_far) ∙ ap (λ b. with_one b old (get_or ns i 0)) adds.0 in
+      let longer : length (each_once ((own ∷ take i ns) ++ (get_or ns i 0) ∷ [])) ≤ length (each_once (((own ∷ take i ns) ++ (get_or ns i 0) ∷ []) ++ drop (i + 1) ns)) = once_longer ((own ∷ take i ns) ++ (get_or ns i 0) ∷ []) (drop (i + 1) ns) in
+      let whole : ((own ∷ take i ns) ++ (get_or ns i 0) ∷ []) ++ drop (i + 1) ns ≡ own ∷ ns = ap (λ ms. own ∷ (ms ++ drop (i + 1) ns)) (sym up) ∙ ap (λ ms. own ∷ ms) (take-append-drop (i + 1) ns) in
+      let many : 16 < length (each_once (own ∷ ns)) = omega (arith, ap length here, length-append old ((get_or ns i 0) ∷ []), adds.1, ap (λ ms. length (each_once ms)) whole) in
+      let test : nat_lt 16 (length (each_once (own ∷ ns))) ≡ true = grind (arith, nat_tests) in
+      ap (λ b. if b then None else Some (each_once (own ∷ ns))) (sym test)

@@ -5,7 +5,6 @@ pub mod MountLemmas
 pub mod TableLemmas
 pub mod OneTable
 pub mod WordLemmas
-pub mod PlainLineLemmas
 pub mod AscendingLemmas
 pub mod HostLawLemmas
 pub mod NetworkLemmas
@@ -13,6 +12,7 @@ pub mod HostLemmas
 pub mod ElementLemmas
 pub mod FieldLemmas
 pub mod RowLemmas
+pub mod IndexLemmas
 pub mod CustodianLemmas
 pub mod WordTables
 pub mod MountLineLemmas

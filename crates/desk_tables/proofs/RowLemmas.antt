@@ -1,74 +1,72 @@
 -- Lemmas on a table that is read line by line.
-use Rattle.std.proofs.Common.{◌≡◌, ◌<◌, ◌≤◌, ◌+◌, ℕ, List, [], ◌∷◌, ◌++◌, Option, Some, None, Result, Ok, Err, suc, drop, get_or, length, ap, subst, sym, refl, ◌∙◌, append_assoc, arith}
-use Rattle.std.proofs.lemmas.List.{append-nil, drop_all}
+use Rattle.std.proofs.Common.{◌≡◌, ◌<◌, ◌+◌, ℕ, List, [], ◌∷◌, ◌++◌, Option, Some, Result, Ok, Err, suc, take, drop, get_or, length, ap, subst, sym, ◌∙◌, arith}
 use Rattle.std.proofs.Math.Seq.{drop-cons}
-use Rattle.std.specs.List.{cons_option, filter_map}
+use Rattle.std.proofs.lemmas.List.{get_or-map, length-map, take_more, take-append-drop}
+use Rattle.std.proofs.lemmas.List.Elements.{filter_map-append}
+use Rattle.std.proofs.lemmas.List.FromFn.{get_or-enumerate_from, length-enumerate_from}
+use Rattle.std.specs.List.{cons_option, enumerate_from, filter_map}
+use Rattle.std.specs.Str.Lines.{lines}
 use Rattle.desk_text.specs.Reading.{Reads}
 use Rattle.desk_text.specs.declared.reading.ReadError.{ReadError}
 use Rattle.desk_text.specs.declared.reading.ReadError.TheVariants.{Fault, Memory}
-use Rattle.desk_tables.specs.Fields.{answered}
-use Rattle.desk_tables.specs.Pushes.{Pushes}
-use Rattle.desk_tables.specs.Tables.{Answered, fault_of, row_in, table_of, unless_fault}
+use Rattle.desk_tables.specs.Rows.{PushesRow}
+use Rattle.desk_tables.specs.Tables.{Answered, answered_line, answered_lines, fault_of, row_in, table_of, unless_fault}
 use Rattle.desk_tables.specs.declared.faults.TableFault.{TableFault}
 use Rattle.desk_tables.specs.declared.faults.TableRule.{TableRule}
 
--- rows that stand before those of a table
-abbrev pub after : {Row : Type 0} → List Row → Result (List Row) TableFault → Result (List Row) TableFault
-after rows (Ok more) = Ok (rows ++ more)
-after rows (Err fault) = Err fault
+module _ {Row : Type 0} (answer : List ℕ → Result (Option Row) TableRule) (text : List ℕ) where
+  -- the line with its number is the one at its place
+  pub line_is : (k number : ℕ) (line : List ℕ) → number ≡ k → (k < length (lines text)) × (line ≡ get_or (lines text) k line)
+      → (k < length (answered_lines answer text)) × (answered_line answer (number + 1, line) ≡ get_or (answered_lines answer text) k (answered_line answer (number + 1, line)))
+  line_is k number line counted turn =
+      let numbered = enumerate_from 1 (lines text) in
+      let within : k < length numbered = subst (λ n. k < n) (sym (length-enumerate_from 1 (lines text))) turn.0 in
+      let next : 1 + k ≡ number + 1 = omega arith in (
+        subst (λ n. k < n) (sym (length-map numbered (answered_line answer))) within,
+        sym (get_or-map (answered_line answer) numbered k (number + 1, line) (answered_line answer (number + 1, line)) within
+            ∙ ap (answered_line answer) (get_or-enumerate_from 1 (lines text) k (number + 1, line) turn.0)
+            ∙ ap (λ n. answered_line answer (n, get_or (lines text) k line)) next
+            ∙ ap (λ l. answered_line answer (number + 1, l)) (sym turn.1)),
+      )
 
-module _ {Row : Type 0} where
-  one_row : (row : Option Row) (faults : List TableFault) (rows : List Row) → unless_fault faults (cons_option row rows) ≡ after (cons_option row []) (unless_fault faults rows)
-  one_row None [] rows = refl
-  one_row (Some row) [] rows = refl
-  one_row None (fault ∷ faults) rows = refl
-  one_row (Some row) (fault ∷ faults) rows = refl
+  pub all_lines : length (answered_lines answer text) ≡ length (lines text)
+  all_lines = length-map (enumerate_from 1 (lines text)) (answered_line answer) ∙ length-enumerate_from 1 (lines text)
 
-  after-after : (xs ys : List Row) (r : Result (List Row) TableFault) → after xs (after ys r) ≡ after (xs ++ ys) r
-  after-after xs ys (Ok more) = ap Ok (sym (append_assoc xs ys more))
-  after-after xs ys (Err fault) = refl
+module _ {Row : Type 0} (ls : List (Answered Row)) (i : ℕ) (x : Answered Row) (at : (i < length ls) × (x ≡ get_or ls i x)) where
+  taken : take (i + 1) ls ≡ take i ls ++ x ∷ []
+  taken = take_more ls i x at.0 ∙ ap (λ l. take i ls ++ l ∷ []) (sym at.1)
 
-  after-none : (r : Result (List Row) TableFault) → after [] r ≡ r
-  after-none (Ok more) = refl
-  after-none (Err fault) = refl
+  -- one more line
+  pub faults_more : filter_map fault_of (take (i + 1) ls) ≡ filter_map fault_of (take i ls) ++ cons_option (fault_of x) []
+  faults_more = ap (filter_map fault_of) taken ∙ filter_map-append fault_of (take i ls) (x ∷ [])
 
-  -- one more line that has a row or is skipped
-  good_line : (number : ℕ) (row : Option Row) (more : List (Answered Row)) → table_of (record { number = number; answer = Ok row } ∷ more) ≡ after (cons_option row []) (table_of more)
-  good_line number row more = one_row row (filter_map fault_of more) (filter_map (λ line. row_in line.answer) more)
+  pub rows_more : filter_map (λ line. row_in line.answer) (take (i + 1) ls) ≡ filter_map (λ line. row_in line.answer) (take i ls) ++ cons_option (row_in x.answer) []
+  rows_more = ap (filter_map (λ line. row_in line.answer)) taken ∙ filter_map-append (λ line. row_in line.answer) (take i ls) (x ∷ [])
 
-module _ {Row : Type 0} (answer : List ℕ → Result (Option Row) TableRule) (ls : List (List ℕ)) where
-  -- the lines so far have these rows, and the answer rests with the others
-  abbrev pub IsReadUpTo : ℕ → List Row → Type 0
-  IsReadUpTo i rows = table_of (answered answer 1 ls) ≡ after rows (table_of (answered answer (i + 1) (drop i ls)))
+  -- the first line with a fault is the answer
+  first_fault : (f : TableFault) → filter_map fault_of (take i ls) ≡ [] → fault_of x ≡ Some f → table_of ls ≡ Err f
+  first_fault f none found =
+      let here : List TableFault = filter_map fault_of (drop (suc i) ls) in
+      let all : filter_map fault_of ls ≡ filter_map fault_of (take i ls) ++ filter_map fault_of (drop i ls) =
+      ap (filter_map fault_of) (sym (take-append-drop i ls)) ∙ filter_map-append fault_of (take i ls) (drop i ls) in
+      let rest : filter_map fault_of (drop i ls) ≡ f ∷ here =
+      ap (filter_map fault_of) (drop-cons ls i x at.0) ∙ ap (λ (l : Answered Row). cons_option (fault_of l) here) (sym at.1) ∙ ap (λ o. cons_option o here) found in
+      ap (λ fs. unless_fault fs (filter_map (λ line. row_in line.answer) ls)) (all ∙ ap (λ fs. fs ++ filter_map fault_of (drop i ls)) none ∙ rest)
 
-  pub read_none : IsReadUpTo 0 []
-  read_none = sym (after-none (table_of (answered answer 1 ls)))
+  -- what the exit at a line returns
+  pub exit : (e : ReadError TableFault) (old new : List Row) → filter_map fault_of (take i ls) ≡ [] → PushesRow (Err e) old new x → Reads (Err e) (table_of ls)
+  exit Memory old new none pushed = tt
+  exit (Fault f) old new none pushed = first_fault f none pushed
 
-  split : (i : ℕ) (x : List ℕ) → i < length ls → x ≡ get_or ls i x → table_of (answered answer (i + 1) (drop i ls)) ≡ table_of (record { number = i + 1; answer = answer x } ∷ answered answer (i + 1 + 1) (drop (i + 1) ls))
-  split i x below is =
-      let up : suc i ≡ i + 1 = omega arith in
-      let next : drop i ls ≡ x ∷ drop (i + 1) ls = drop-cons ls i x below ∙ ap (λ line. line ∷ drop (suc i) ls) (sym is) ∙ ap (λ n. x ∷ drop n ls) up in
-      ap (λ lines. table_of (answered answer (i + 1) lines)) next
+  -- what a line without a fault adds
+  pub sound_more : (done : Unit {0}) (old new : List Row) → filter_map fault_of (take i ls) ≡ [] → PushesRow (Ok done) old new x → filter_map fault_of (take (i + 1) ls) ≡ []
+  sound_more done old new none pushed =
+      faults_more ∙ ap (λ o. filter_map fault_of (take i ls) ++ cons_option o []) pushed.0 ∙ ap (λ fs. fs ++ []) none
 
-  more_at : (i : ℕ) (old new : List Row) (given : Result (Option Row) TableRule) (others : List (Answered Row)) → Pushes (Ok tt) old new (i + 1) given
-      → after old (table_of (record { number = i + 1; answer = given } ∷ others)) ≡ after new (table_of others)
-  more_at i old new (Ok row) others pushed =
-      ap (after old) (good_line (i + 1) row others) ∙ after-after old (cons_option row []) (table_of others) ∙ ap (λ rows. after rows (table_of others)) (sym pushed)
-  more_at i old new (Err rule) others pushed = absurd pushed
+  pub read_more : (done : Unit {0}) (old new : List Row) → old ≡ filter_map (λ line. row_in line.answer) (take i ls) → PushesRow (Ok done) old new x → new ≡ filter_map (λ line. row_in line.answer) (take (i + 1) ls)
+  read_more done old new read pushed =
+      pushed.1 ∙ ap (λ rows. rows ++ cons_option (row_in x.answer) []) read ∙ sym rows_more
 
-  pub read_more : (i : ℕ) (old new : List Row) (x : List ℕ) → i < length ls → x ≡ get_or ls i x → IsReadUpTo i old → Pushes (Ok tt) old new (i + 1) (answer x) → IsReadUpTo (i + 1) new
-  read_more i old new x below is so_far pushed =
-      so_far ∙ ap (after old) (split i x below is) ∙ more_at i old new (answer x) (answered answer (i + 1 + 1) (drop (i + 1) ls)) pushed
-
-  pub read_all : (i : ℕ) (rows : List Row) → length ls ≤ i → IsReadUpTo i rows → table_of (answered answer 1 ls) ≡ Ok rows
-  read_all i rows end so_far = so_far ∙ ap (λ more. after rows (table_of (answered answer (i + 1) more))) (drop_all i ls end) ∙ ap Ok (append-nil rows)
-
-  fault_in : (i : ℕ) (e : ReadError TableFault) (old new : List Row) (given : Result (Option Row) TableRule) (others : List (Answered Row)) → Pushes (Err e) old new (i + 1) given
-      → Reads (Err e) (after old (table_of (record { number = i + 1; answer = given } ∷ others)))
-  fault_in i Memory old new given others pushed = tt
-  fault_in i (Fault fault) old new (Ok row) others pushed = absurd pushed
-  fault_in i (Fault fault) old new (Err rule) others pushed = ap Err (sym pushed)
-
-  pub read_fault : (i : ℕ) (e : ReadError TableFault) (old new : List Row) (x : List ℕ) → i < length ls → x ≡ get_or ls i x → IsReadUpTo i old → Pushes (Err e) old new (i + 1) (answer x) → Reads (Err e) (table_of (answered answer 1 ls))
-  read_fault i e old new x below is so_far pushed =
-      subst (Reads (Err e)) (sym (so_far ∙ ap (after old) (split i x below is))) (fault_in i e old new (answer x) (answered answer (i + 1 + 1) (drop (i + 1) ls)) pushed)
+-- a table without a fault is its rows
+pub all_read : {Row : Type 0} (ls : List (Answered Row)) (rows : List Row) → filter_map fault_of ls ≡ [] → rows ≡ filter_map (λ line. row_in line.answer) ls → table_of ls ≡ Ok rows
+all_read ls rows sound read = ap (λ fs. unless_fault fs (filter_map (λ line. row_in line.answer) ls)) sound ∙ ap Ok (sym read)

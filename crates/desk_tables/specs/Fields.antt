@@ -1,13 +1,9 @@
 -- Lines of fields with colons between them. (passwd(5), group(5))
-use Rattle.std.specs.Prelude.{ℕ, ◌+◌, ◌^◌, ◌==◌, nat_lt, Bool, not, ◌&&◌, Option, Some, None, Result, List, [], ◌∷◌, find, slice_index_or, if◌then◌else◌}
+use Rattle.std.specs.Prelude.{ℕ, ◌^◌, ◌==◌, nat_lt, Bool, not, ◌&&◌, Option, Some, None, List, [], find, slice_index_or, if◌then◌else◌}
 use Rattle.std.specs.List.{slice_split}
-use Rattle.std.specs.Str.Lines.{lines}
 use Rattle.std.specs.Str.Parse.{digits_value}
 use Rattle.desk_text.specs.Addr.{has_leading_zero, is_digits}
 use Rattle.desk_text.specs.Lines.{is_blank, skips}
-use Rattle.desk_tables.specs.Tables.{Answered, table_of}
-use Rattle.desk_tables.specs.declared.faults.TableFault.{TableFault}
-use Rattle.desk_tables.specs.declared.faults.TableRule.{TableRule}
 
 -- the fields of a line, between its colons
 abbrev pub fields : List ℕ → List (List ℕ)
@@ -28,12 +24,3 @@ number_in text = if is_decimal text && nat_lt (digits_value 10 text) (2 ^ 32) th
 -- a line is skipped where its first character that is no blank is `#`, or where it has none
 abbrev pub skips_line : List ℕ → Bool
 skips_line line = skips (find (λ b. not (is_blank b)) line)
-
--- what each line answers, where the first has this number
-abbrev pub answered : {Row : Type 0} → (List ℕ → Result (Option Row) TableRule) → ℕ → List (List ℕ) → List (Answered Row)
-answered answer number [] = []
-answered answer number (line ∷ more) = record { number = number; answer = answer line } ∷ answered answer (number + 1) more
-
--- what a text answers whose lines answer this
-abbrev pub table_text : {Row : Type 0} → (List ℕ → Result (Option Row) TableRule) → List ℕ → Result (List Row) TableFault
-table_text answer text = table_of (answered answer 1 (lines text))

@@ -10,8 +10,3 @@ is_among gid gids = list_any (λ g. g == gid) gids
 abbrev pub AddsOnce : Bool → List ℕ → ℕ → List ℕ → Type 0
 AddsOnce true old gid new = new ≡ (if is_among gid old then old else old ++ gid ∷ [])
 AddsOnce false old gid new = (is_among gid old ≡ false) × (length old ≡ 16)
-
--- The same of the number of a group, which is added only where the group lists the user.
-abbrev pub AddsGid : Bool → Bool → List ℕ → ℕ → List ℕ → Type 0
-AddsGid added false old gid new = (added ≡ true) × (new ≡ old)
-AddsGid added true old gid new = AddsOnce added old gid new

@@ -2,8 +2,8 @@
 use Rattle.std.specs.Prelude.{ℕ, ◌==◌, Bool, false, not, nat_lt, Option, Some, None, Result, Ok, is_none, unwrap_or, List, [], ◌∷◌, find, filter, map, length, if◌then◌else◌}
 use Rattle.std.specs.List.{list_any, slice_split}
 use Rattle.std.specs.Str.{bytes_eq}
-use Rattle.desk_tables.specs.Fields.{field, fields, number_in, skips_line, table_text}
-use Rattle.desk_tables.specs.Tables.{unless_rule}
+use Rattle.desk_tables.specs.Fields.{field, fields, number_in, skips_line}
+use Rattle.desk_tables.specs.Tables.{text_table, unless_rule}
 use Rattle.desk_tables.specs.declared.faults.TableFault.{TableFault}
 use Rattle.desk_tables.specs.declared.faults.TableRule.{TableRule}
 use Rattle.desk_tables.specs.declared.faults.TableRule.TheVariants.{Fields, Number, Name}
@@ -36,11 +36,11 @@ group_answer line = if skips_line line then Ok None else unless_rule (find (grou
 
 -- what a text of groups answers
 abbrev pub read_groups : List ℕ → Result (List Group) TableFault
-read_groups text = table_text group_answer text
+read_groups text = text_table group_answer text
 
 -- the group of a name, of which the first row counts
 abbrev pub group_of_name : List Group → List ℕ → Option Group
-group_of_name groups name = find (λ g. bytes_eq g.name name) groups
+group_of_name groups name = find (λ g. bytes_eq name g.name) groups
 
 -- a group that lists a member
 abbrev pub has_member : List ℕ → Group → Bool

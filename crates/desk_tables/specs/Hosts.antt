@@ -6,8 +6,8 @@ use Rattle.std.specs.Result.{result_unwrap_or}
 use Rattle.std.specs.Str.{str_eq_ignore_ascii_case}
 use Rattle.desk_text.specs.Addr.{number_of, read_addr}
 use Rattle.desk_tables.specs.Ascending.{ascending}
-use Rattle.desk_tables.specs.PlainLines.{answered_lines, is_long_name}
-use Rattle.desk_tables.specs.Tables.{table_of, unless_rule}
+use Rattle.desk_tables.specs.PlainLines.{is_long_name, words_before_comment}
+use Rattle.desk_tables.specs.Tables.{text_table, unless_rule}
 use Rattle.desk_tables.specs.declared.faults.TableFault.{TableFault}
 use Rattle.desk_tables.specs.declared.faults.TableRule.{TableRule}
 use Rattle.desk_tables.specs.declared.faults.TableRule.TheVariants.{Fields, Number, Name}
@@ -40,9 +40,13 @@ host_answer (address ∷ names) =
     if is_ipv6 address then Ok None
     else unless_rule (find (breaks address names) rules) (row_with address names)
 
+-- what a line answers
+abbrev pub host_line_answer : List ℕ → Result (Option HostRow) TableRule
+host_line_answer line = host_answer (words_before_comment line)
+
 -- the rows of a hosts file, or its least faulty line with its first rule
 abbrev pub read_hosts : List ℕ → Result (List HostRow) TableFault
-read_hosts text = table_of (answered_lines host_answer text)
+read_hosts text = text_table host_line_answer text
 
 -- the row has the name, or has it as an alias, without ASCII case
 abbrev pub is_host : List ℕ → HostRow → Bool

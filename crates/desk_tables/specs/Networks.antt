@@ -7,8 +7,8 @@ use Rattle.std.specs.Result.{result_unwrap_or}
 use Rattle.std.specs.Str.{bytes_eq}
 use Rattle.desk_text.specs.Addr.{read_short}
 use Rattle.desk_text.specs.declared.address.Addr.{Addr}
-use Rattle.desk_tables.specs.PlainLines.{answered_lines, is_long_name}
-use Rattle.desk_tables.specs.Tables.{table_of, unless_rule}
+use Rattle.desk_tables.specs.PlainLines.{is_long_name, words_before_comment}
+use Rattle.desk_tables.specs.Tables.{text_table, unless_rule}
 use Rattle.desk_tables.specs.declared.faults.TableFault.{TableFault}
 use Rattle.desk_tables.specs.declared.faults.TableRule.{TableRule}
 use Rattle.desk_tables.specs.declared.faults.TableRule.TheVariants.{Fields, Number, Name}
@@ -42,9 +42,13 @@ abbrev pub network_answer : List (List ℕ) → Result (Option NetworkName) Tabl
 network_answer [] = Ok None
 network_answer (name ∷ fields) = unless_rule (find (breaks name fields) rules) (row_with name fields)
 
+-- what a line answers
+abbrev pub network_line_answer : List ℕ → Result (Option NetworkName) TableRule
+network_line_answer line = network_answer (words_before_comment line)
+
 -- the rows of a networks file, or its least faulty line with its first rule
 abbrev pub read_networks : List ℕ → Result (List NetworkName) TableFault
-read_networks text = table_of (answered_lines network_answer text)
+read_networks text = text_table network_line_answer text
 
 -- the row has the name, or has it as an alias, byte by byte
 abbrev pub is_network : List ℕ → NetworkName → Bool

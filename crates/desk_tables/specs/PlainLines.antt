@@ -1,10 +1,7 @@
 -- The lines of hosts(5) and networks(5): words between blanks, up to a comment.
-use Rattle.std.specs.Prelude.{ℕ, ◌==◌, Bool, not, List, length, map, filter, nat_lt, Option, Result}
-use Rattle.std.specs.List.{before_first, enumerate_from, slice_split}
-use Rattle.std.specs.Str.Lines.{lines}
+use Rattle.std.specs.Prelude.{ℕ, ◌==◌, Bool, not, List, length, filter, nat_lt}
+use Rattle.std.specs.List.{before_first, slice_split}
 use Rattle.desk_text.specs.Lines.{is_blank}
-use Rattle.desk_tables.specs.Tables.{Answered}
-use Rattle.desk_tables.specs.declared.faults.TableRule.{TableRule}
 
 -- the words of a text: what stands between its blanks
 abbrev pub words_of : List ℕ → List (List ℕ)
@@ -21,11 +18,3 @@ words_before_comment line = words_of (before_first (λ b. b == 35) line)
 -- a name of a host or a network is over 255 bytes
 abbrev pub is_long_name : List ℕ → Bool
 is_long_name name = nat_lt 255 (length name)
-
--- a line with its number, and what its words answer
-abbrev pub answered_line : {Row : Type 0} → (List (List ℕ) → Result (Option Row) TableRule) → ℕ → List ℕ → Answered Row
-answered_line answer number line = record { number = number; answer = answer (words_before_comment line) }
-
--- each line of a text with its number, from 1, and what its words answer
-abbrev pub answered_lines : {Row : Type 0} → (List (List ℕ) → Result (Option Row) TableRule) → List ℕ → List (Answered Row)
-answered_lines answer text = map (λ line. answered_line answer line.0 line.1) (enumerate_from 1 (lines text))

@@ -1,6 +1,7 @@
 -- How a table is read: line by line, up to the first fault. (this project's own)
-use Rattle.std.specs.Prelude.{ℕ, List, [], ◌∷◌, ◌++◌, Option, Some, None, Result, Ok, Err, codes, find}
-use Rattle.std.specs.List.{filter_map}
+use Rattle.std.specs.Prelude.{ℕ, List, [], ◌∷◌, Option, Some, None, Result, Ok, Err, codes, map}
+use Rattle.std.specs.List.{enumerate_from, filter_map}
+use Rattle.std.specs.Str.Lines.{lines}
 use Rattle.desk_tables.specs.declared.faults.TableFault.{TableFault}
 use Rattle.desk_tables.specs.declared.faults.TableRule.{TableRule}
 use Rattle.desk_tables.specs.declared.faults.TableRule.TheVariants.{Fields, Number, Name, Duplicate, BadPath, Custodian, Digest, TooMany}
@@ -58,3 +59,15 @@ table_of lines = unless_fault (filter_map fault_of lines) (filter_map (λ line. 
 abbrev pub unless_rule : {Row : Type 0} → Option TableRule → Row → Result (Option Row) TableRule
 unless_rule None row = Ok (Some row)
 unless_rule (Some rule) row = Err rule
+
+-- a line with its number, and what it answers
+abbrev pub answered_line : {Row : Type 0} → (List ℕ → Result (Option Row) TableRule) → ℕ × List ℕ → Answered Row
+answered_line answer line = record { number = line.0; answer = answer line.1 }
+
+-- each line of a text with its number, from 1, and what it answers
+abbrev pub answered_lines : {Row : Type 0} → (List ℕ → Result (Option Row) TableRule) → List ℕ → List (Answered Row)
+answered_lines answer text = map (answered_line answer) (enumerate_from 1 (lines text))
+
+-- what a table answers of which each line is read by itself
+abbrev pub text_table : {Row : Type 0} → (List ℕ → Result (Option Row) TableRule) → List ℕ → Result (List Row) TableFault
+text_table answer text = table_of (answered_lines answer text)

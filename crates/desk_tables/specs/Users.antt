@@ -1,8 +1,8 @@
 -- The users of a site. (passwd(5))
 use Rattle.std.specs.Prelude.{ℕ, ◌==◌, Bool, false, not, ◌||◌, Option, None, Result, Ok, is_none, unwrap_or, List, [], ◌∷◌, find, length, if◌then◌else◌}
 use Rattle.std.specs.Str.{bytes_eq}
-use Rattle.desk_tables.specs.Fields.{field, fields, number_in, skips_line, table_text}
-use Rattle.desk_tables.specs.Tables.{unless_rule}
+use Rattle.desk_tables.specs.Fields.{field, fields, number_in, skips_line}
+use Rattle.desk_tables.specs.Tables.{text_table, unless_rule}
 use Rattle.desk_tables.specs.declared.faults.TableFault.{TableFault}
 use Rattle.desk_tables.specs.declared.faults.TableRule.{TableRule}
 use Rattle.desk_tables.specs.declared.faults.TableRule.TheVariants.{Fields, Number, Name}
@@ -30,11 +30,11 @@ user_answer line = if skips_line line then Ok None else unless_rule (find (user_
 
 -- what a text of users answers
 abbrev pub read_users : List ℕ → Result (List User) TableFault
-read_users text = table_text user_answer text
+read_users text = text_table user_answer text
 
 -- the user of a name, of which the first row counts
 abbrev pub user_of_name : List User → List ℕ → Option User
-user_of_name users name = find (λ u. bytes_eq u.name name) users
+user_of_name users name = find (λ u. bytes_eq name u.name) users
 
 -- the user of a number: the first row that has it, whatever its name
 abbrev pub user_of_uid : List User → ℕ → Option User

@@ -1,10 +1,13 @@
 //! What a credential text stands for. (exports(5))
 
-ghost use Rattle.std.specs.Prelude.{◌≡◌, ◌==◌, ◌≤◌, ◌&&◌, Some, [], find, is_none, length};
+ghost use Rattle.std.specs.Prelude.{◌≡◌, ◌==◌, ◌≤◌, ◌&&◌, List, Some, [], find, is_none, length};
 ghost use Rattle.std.specs.List.{filter_map, list_any};
 ghost use Rattle.std.specs.Option.{option_copied};
-ghost use Rattle.desk_tables.specs.Elements.{alone_answer, cred_fault_number, cred_faults, elements, gid_of, is_name, is_out_of_range, read_credential, uid_of, user_named, written_answer, written_breaks};
+ghost use Rattle.desk_tables.specs.Elements.{alone_answer, alone_breaks, cred_breaks, cred_fault_number, cred_faults, elements, gid_of, is_name, is_out_of_range, read_credential, uid_of, user_named, written_answer, written_breaks};
 ghost use Rattle.desk_tables.specs.Groups.{group_of_name};
+ghost use Rattle.desk_tables.specs.Users.{user_of_name};
+ghost use Rattle.desk_tables.specs.declared.elements.CredFault.TheVariants.{TooManyGroups};
+ghost use Rattle.desk_tables.specs.declared.groups.Group.{Group};
 
 use crate::credentials::{Cred, GroupIds};
 use crate::fields::{is_digits, read_number};
@@ -38,6 +41,15 @@ impl CredFault {
 
 /// The most groups that a credential has.
 const MOST_GROUPS: usize = 16;
+
+/// The order in which a fault is named.
+const CRED_FAULTS: [CredFault; 5] = [
+    CredFault::UnknownUser,
+    CredFault::UnknownGroup,
+    CredFault::TooManyGroups,
+    CredFault::EmptyElement,
+    CredFault::Range,
+];
 
 /// The credential that a text stands for: a user alone, with its own gid and those of the groups that list it; or a user
 /// and groups with colons between them, as they are written. Users and groups are names or numbers; `user:` has no
@@ -132,22 +144,85 @@ fn with_groups(users: &Users, groups: &Groups, user: &str, others: &str) -> Resu
 fn written_fault(users: &Users, groups: &Groups, user: &str, others: &str) -> Option<CredFault>
     ensures { result ≡ find (written_breaks users.now groups.now user.now (elements others.now)) cred_faults }
 {
-    if is_name(user) && users.by_name(user).is_none() {
-        return Some(CredFault::UnknownUser);
+    CRED_FAULTS.iter().copied().find(|fault| written_breaks(users, groups, user, others, *fault))
+}
+
+/// Whether a fault holds of a text, whatever other faults do.
+pub fn has_fault(users: &Users, groups: &Groups, text: &str, fault: CredFault) -> bool
+    ensures { result ≡ cred_breaks users.now groups.now (elements text.now) fault }
+{
+    match text.split_once(':') {
+        None => alone_breaks(users, groups, text, fault),
+        Some((user, others)) => {
+            if others.is_empty() {
+                without_groups_breaks(users, user, fault)
+            } else {
+                written_breaks(users, groups, user, others, fault)
+            }
+        }
     }
-    if any_unknown_group(groups, others) {
-        return Some(CredFault::UnknownGroup);
+}
+
+/// Whether a fault holds of a user alone.
+fn alone_breaks(users: &Users, groups: &Groups, user: &str, fault: CredFault) -> bool
+    ensures { result ≡ alone_breaks users.now groups.now user.now fault }
+{
+    match fault {
+        CredFault::UnknownUser => {
+            !user.is_empty() && !is_out_of_range(user) && user_named(users, user).is_none()
+        }
+        CredFault::UnknownGroup => false,
+        CredFault::TooManyGroups => has_many_groups(users, groups, user),
+        CredFault::EmptyElement => user.is_empty(),
+        CredFault::Range => is_out_of_range(user),
     }
-    if element_count(others) > MOST_GROUPS {
-        return Some(CredFault::TooManyGroups);
+}
+
+/// Whether a user alone has more than sixteen groups.
+fn has_many_groups(users: &Users, groups: &Groups, user: &str) -> bool
+    ensures { result ≡ alone_breaks users.now groups.now user.now TooManyGroups }
+{
+    match user_named(users, user) {
+        Some(user) => groups.gids_of(user).is_none(),
+        None => false,
     }
-    if user.is_empty() || any_empty(others) {
-        return Some(CredFault::EmptyElement);
+}
+
+/// Whether a fault holds of a user with no groups.
+fn without_groups_breaks(users: &Users, user: &str, fault: CredFault) -> bool
+    ensures { (groups : List Group) → result ≡ written_breaks users.now groups user.now [] fault }
+{
+    match fault {
+        CredFault::UnknownUser => is_unknown_user(users, user),
+        CredFault::UnknownGroup | CredFault::TooManyGroups => false,
+        CredFault::EmptyElement => user.is_empty(),
+        CredFault::Range => is_out_of_range(user),
     }
-    if is_out_of_range(user) || any_out_of_range(others) {
-        return Some(CredFault::Range);
+}
+
+/// Whether a fault holds of a user and the groups that others names.
+fn written_breaks(
+    users: &Users,
+    groups: &Groups,
+    user: &str,
+    others: &str,
+    fault: CredFault,
+) -> bool
+    ensures { result ≡ written_breaks users.now groups.now user.now (elements others.now) fault }
+{
+    match fault {
+        CredFault::UnknownUser => is_unknown_user(users, user),
+        CredFault::UnknownGroup => any_unknown_group(groups, others),
+        CredFault::TooManyGroups => element_count(others) > MOST_GROUPS,
+        CredFault::EmptyElement => user.is_empty() || any_empty(others),
+        CredFault::Range => is_out_of_range(user) || any_out_of_range(others),
     }
-    None
+}
+
+fn is_unknown_user(users: &Users, user: &str) -> bool
+    ensures { result ≡ (is_name user.now && is_none (user_of_name users.now user.now)) }
+{
+    is_name(user) && users.by_name(user).is_none()
 }
 
 fn element_count(text: &str) -> usize

@@ -5,9 +5,6 @@ ghost use Rattle.desk_text.specs.Addr.{has_leading_zero, is_digits};
 ghost use Rattle.desk_text.specs.Lines.{is_blank};
 ghost use Rattle.desk_tables.specs.Fields.{field, fields, number_in, skips_line};
 
-use crate::faults::{TableFault, TableRule};
-use desk_text::ReadError;
-
 /// How many fields a line has.
 pub(crate) fn field_count(line: &str) -> usize
     ensures { result ≡ length (fields line.now) }
@@ -64,11 +61,4 @@ fn has_leading_zero(text: &str) -> bool
     ensures { result ≡ has_leading_zero text.now }
 {
     text.len() > 1 && text.as_bytes()[0] == b'0'
-}
-
-/// The fault of the line with this number.
-pub(crate) fn fault_at(line: u32, rule: TableRule) -> ReadError<TableFault>
-    ensures { result ≡ ReadError.Fault (record { line = line; rule = rule }) }
-{
-    ReadError::Fault(TableFault { line, rule })
 }

@@ -1,18 +1,20 @@
 //! The groups of a site. (group(5))
 
-ghost use Rattle.std.specs.Prelude.{◌≡◌, ◌≤◌, IfOk, length};
+ghost use Rattle.std.specs.Prelude.{◌≡◌, ◌≤◌, IfOk, OnOk, length};
 ghost use Rattle.std.specs.Option.{option_copied};
 ghost use Rattle.desk_text.specs.Reading.{Reads};
-ghost use Rattle.desk_tables.specs.Gids.{AddsGid};
 ghost use Rattle.desk_tables.specs.Groups.{at_most_16, gids_of, group_answer, group_of_name, has_member, members_in, read_groups};
-ghost use Rattle.desk_tables.specs.Pushes.{Pushes};
+ghost use Rattle.desk_tables.specs.Index.{AddsUnderEach, HasGroupNames, HasMembers, listed};
 
 use crate::credentials::GroupIds;
 use crate::faults::{TableFault, TableRule};
-use crate::fields::{fault_at, field, field_count, is_skipped, read_number};
+use crate::fields::{field, field_count, is_skipped, read_number};
+use crate::index::{add_first, add_under, row_at};
+use crate::rows::read_rows;
 use crate::users::User;
 use desk_text::{ReadError, Sequence, Text};
 use std::alloc::{AllocError, Global};
+use std::collections::BTreeMap;
 use std::marker::Model;
 
 /// A row of the groups: a name, its number, and the names of its members in the order written.
@@ -23,19 +25,25 @@ pub struct Group {
     pub members: Sequence<Text>,
 }
 
-/// The groups of a text, in its order.
-#[derive(Clone, Debug, Drop)]
+/// The groups of a text, in its order, with the place of the first group of each name, and the gids of the groups that
+/// list each member.
+#[derive(Debug, Drop)]
 pub struct Groups {
     rows: Sequence<Group>,
+    by_name: BTreeMap<String, usize>,
+    by_member: BTreeMap<String, Vec<u32>>,
 }
 
 impl Model for Groups {
     ghost use Rattle.std.specs.Prelude.{List};
+    ghost use Rattle.desk_tables.specs.Index.{HasGroupNames, HasMembers};
     ghost use Rattle.desk_tables.specs.declared.groups.Group.{Group};
 
     ghost Value = { List Group };
 
-    ghost view = { λ g. g.rows };
+    ghost view = { λ groups. groups.rows };
+
+    ghost invariant = { λ groups. HasGroupNames groups.rows groups.by_name × HasMembers groups.rows groups.by_member };
 }
 
 impl Groups {
@@ -46,23 +54,21 @@ impl Groups {
         requires { length text.now ≤ 4294967294 }
         ensures { Reads result (read_groups text.now) }
     {
-        let mut rows = Sequence::new(alloc);
-        let mut number = 0;
-        for line in text.lines() {
-            number += 1;
-            push_group(alloc, &mut rows, number, line)?;
-        }
-        Ok(Groups { rows })
+        let rows = read_rows(alloc, text, read_group)?;
+        let by_name = places_by_name(alloc, rows.as_slice())?;
+        let by_member = gids_by_member(alloc, rows.as_slice())?;
+        Ok(Groups {
+            rows,
+            by_name,
+            by_member,
+        })
     }
 
     /// The group of a name, byte for byte: the first row that has it.
     pub fn by_name(&self, name: &str) -> Option<&Group>
         ensures { option_copied result ≡ group_of_name self.now name.now }
     {
-        self.rows
-            .as_slice()
-            .iter()
-            .find(|group| group.name.as_str() == name)
+        row_at(self.rows.as_slice(), self.by_name.get(name))
     }
 
     /// The gids of a user: its own, then those of the groups that list its name, in the order of the table, each once.
@@ -71,8 +77,8 @@ impl Groups {
         ensures { result ≡ at_most_16 (gids_of self.now user.now) }
     {
         let mut gids = GroupIds::of(user.gid);
-        for group in self.rows.as_slice() {
-            if !add_gid(&mut gids, group, user) {
+        for gid in listed_gids(&self.by_member, user.name.as_str()) {
+            if !gids.add_once(*gid) {
                 return None;
             }
         }
@@ -92,32 +98,51 @@ impl Group {
     }
 }
 
-/// Adds the gid of a group that lists the user, and tells whether there was room for it.
-fn add_gid(gids: &mut GroupIds, group: &Group, user: &User) -> bool
-    ensures adds { AddsGid result (has_member user.now.name group.now) gids.old group.now.gid gids.new }
-    ensures few { length gids.old ≤ 16 → length gids.new ≤ 16 }
+/// The gids that are listed under the name.
+fn listed_gids<'a>(index: &'a BTreeMap<String, Vec<u32>>, name: &str) -> &'a [u32]
+    ensures { result.now ≡ listed index.now name.now }
 {
-    !group.has_member(user.name.as_str()) || gids.add_once(group.gid)
+    match index.get(name) {
+        Some(gids) => gids.as_slice(),
+        None => &[],
+    }
 }
 
-/// Adds the group of the line with this number, if it has one.
-fn push_group(
-    alloc: Global,
-    rows: &mut Sequence<Group>,
-    number: u32,
-    line: &str,
-) -> Result<(), ReadError<TableFault>>
-    ensures { Pushes result rows.old rows.new number (group_answer line.now) }
+/// The place of the first group of each name.
+fn places_by_name(alloc: Global, rows: &[Group]) -> Result<BTreeMap<String, usize>, AllocError>
+    ensures { IfOk result (λ index. HasGroupNames rows.now index) }
 {
-    match read_group(alloc, line) {
-        Ok(Some(group)) => {
-            rows.push(group)?;
-            Ok(())
-        }
-        Ok(None) => Ok(()),
-        Err(ReadError::Memory) => Err(ReadError::Memory),
-        Err(ReadError::Fault(rule)) => Err(fault_at(number, rule)),
+    let mut index = BTreeMap::new(alloc);
+    for (place, group) in rows.iter().enumerate() {
+        add_first(alloc, &mut index, group.name.as_str(), place)?;
     }
+    Ok(index)
+}
+
+/// The gids of the groups that list each member, in the order of the groups.
+fn gids_by_member(alloc: Global, rows: &[Group]) -> Result<BTreeMap<String, Vec<u32>>, AllocError>
+    ensures { IfOk result (λ index. HasMembers rows.now index) }
+{
+    let mut index = BTreeMap::new(alloc);
+    for group in rows {
+        add_members(alloc, &mut index, group.members.as_slice(), group.gid)?;
+    }
+    Ok(index)
+}
+
+/// Adds the gid under each of the members.
+fn add_members(
+    alloc: Global,
+    index: &mut BTreeMap<String, Vec<u32>>,
+    members: &[Text],
+    gid: u32,
+) -> Result<(), AllocError>
+    ensures { OnOk result (AddsUnderEach (λ name. name) index.old index.new members.now gid) }
+{
+    for member in members {
+        add_under(index, String::from_str(alloc, member.as_str())?, gid)?;
+    }
+    Ok(())
 }
 
 /// The group of a line, or the rule that is named.

@@ -4,12 +4,12 @@ ghost use Rattle.std.specs.Prelude.{◌≡◌, ◌≤◌, ◌∷◌, IfOk, OnOk,
 ghost use Rattle.std.specs.Str.{str_to_ascii_lowercase};
 ghost use Rattle.desk_text.specs.Addr.{number_of};
 ghost use Rattle.desk_text.specs.Reading.{Reads};
-ghost use Rattle.desk_tables.specs.Hosts.{addresses_of_host, host_answer, is_ipv6, read_hosts};
-ghost use Rattle.desk_tables.specs.HostIndex.{AddsHost, AddsHosts, IsHostIndexOf, listed};
-ghost use Rattle.desk_tables.specs.PlainLines.{answered_line, words_before_comment};
-ghost use Rattle.desk_tables.specs.RowPushes.{PushesRow};
+ghost use Rattle.desk_tables.specs.Hosts.{addresses_of_host, host_answer, host_line_answer, is_ipv6, read_hosts};
+ghost use Rattle.desk_tables.specs.Index.{AddsUnderEach, HasAddresses, listed};
 
 use crate::faults::{TableFault, TableRule};
+use crate::index::add_under;
+use crate::rows::read_rows;
 use crate::words::{has_long_name, push_copies, words_before_comment};
 use desk_text::{Addr, ReadError, Sequence, Text};
 use std::alloc::{AllocError, Global};
@@ -27,20 +27,20 @@ pub struct HostRow {
 /// letters.
 #[derive(Debug, Drop)]
 pub struct Hosts {
-    rows: Vec<HostRow>,
+    rows: Sequence<HostRow>,
     index: BTreeMap<String, Vec<Addr>>,
 }
 
 impl Model for Hosts {
     ghost use Rattle.std.specs.Prelude.{List};
-    ghost use Rattle.desk_tables.specs.HostIndex.{IsHostIndexOf};
+    ghost use Rattle.desk_tables.specs.Index.{HasAddresses};
     ghost use Rattle.desk_tables.specs.declared.hosts.HostRow.{HostRow};
 
     ghost Value = { List HostRow };
 
-    ghost view = { λ hosts. hosts.rows.items };
+    ghost view = { λ hosts. hosts.rows };
 
-    ghost invariant = { λ hosts. IsHostIndexOf hosts.rows.items hosts.index };
+    ghost invariant = { λ hosts. HasAddresses hosts.rows hosts.index };
 }
 
 impl Hosts {
@@ -52,12 +52,7 @@ impl Hosts {
         requires { length text.now ≤ 4294967294 }
         ensures { Reads result (read_hosts text.now) }
     {
-        let mut rows = Vec::new(alloc);
-        let mut number = 0;
-        for line in text.lines() {
-            number += 1;
-            push_row(alloc, number, line, &mut rows)?;
-        }
+        let rows = read_rows(alloc, text, read_line)?;
         let index = addresses_by_name(alloc, rows.as_slice())?;
         Ok(Hosts { rows, index })
     }
@@ -94,7 +89,7 @@ fn addresses_by_name(
     alloc: Global,
     rows: &[HostRow],
 ) -> Result<BTreeMap<String, Vec<Addr>>, AllocError>
-    ensures { IfOk result (λ index. IsHostIndexOf rows.now index) }
+    ensures { IfOk result (λ index. HasAddresses rows.now index) }
 {
     let mut index = BTreeMap::new(alloc);
     for row in rows {
@@ -103,58 +98,24 @@ fn addresses_by_name(
     Ok(index)
 }
 
-/// Adds the address under each of the names.
+/// Adds the address under each of the names in small letters.
 fn add_hosts(
     alloc: Global,
     index: &mut BTreeMap<String, Vec<Addr>>,
     names: &[Text],
     address: Addr,
 ) -> Result<(), AllocError>
-    ensures { OnOk result (AddsHosts index.old index.new names.now address) }
+    ensures { OnOk result (AddsUnderEach str_to_ascii_lowercase index.old index.new names.now address) }
 {
     for name in names {
-        add_host(alloc, index, name.as_str(), address)?;
+        add_under(index, name.as_str().to_ascii_lowercase(alloc)?, address)?;
     }
     Ok(())
-}
-
-/// Adds the address under the name in small letters.
-fn add_host(
-    alloc: Global,
-    index: &mut BTreeMap<String, Vec<Addr>>,
-    name: &str,
-    address: Addr,
-) -> Result<(), AllocError>
-    ensures { OnOk result (AddsHost index.old index.new name.now address) }
-{
-    let key = name.to_ascii_lowercase(alloc)?;
-    index.entry(key)?.or_default().push(address)?;
-    Ok(())
-}
-
-/// Adds the row of the line with this number, if it has one.
-fn push_row(
-    alloc: Global,
-    number: u32,
-    line: &str,
-    rows: &mut Vec<HostRow>,
-) -> Result<(), ReadError<TableFault>>
-    ensures { PushesRow result rows.old.items rows.new.items (answered_line host_answer number line.now) }
-{
-    match read_line(alloc, line) {
-        Ok(Some(row)) => {
-            rows.push(row)?;
-            Ok(())
-        }
-        Ok(None) => Ok(()),
-        Err(ReadError::Memory) => Err(ReadError::Memory),
-        Err(ReadError::Fault(rule)) => Err(ReadError::Fault(TableFault { line: number, rule })),
-    }
 }
 
 /// The row of a line, or the rule that is named.
 fn read_line(alloc: Global, line: &str) -> Result<Option<HostRow>, ReadError<TableRule>>
-    ensures { Reads result (host_answer (words_before_comment line.now)) }
+    ensures { Reads result (host_line_answer line.now) }
 {
     let words = words_before_comment(alloc, line)?;
     match words.as_slice().split_first() {

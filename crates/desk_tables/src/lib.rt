@@ -10,13 +10,15 @@ pub mod filesystems;
 pub mod groups;
 pub mod host_laws;
 pub mod hosts;
+mod index;
 pub mod laws;
 pub mod networks;
+mod rows;
 pub mod users;
 mod words;
 
 pub use credentials::{Cred, GroupIds};
-pub use elements::{CredFault, credential};
+pub use elements::{CredFault, credential, has_fault};
 
 mod mount_lines;
 mod word_lines;

@@ -2,12 +2,12 @@
 
 ghost use Rattle.std.specs.Prelude.{◌≡◌, ◌≤◌, ◌∷◌, IfOk, OnOk, length, map};
 ghost use Rattle.desk_text.specs.Reading.{Reads};
-ghost use Rattle.desk_tables.specs.Networks.{network_answer, network_number, read_networks};
-ghost use Rattle.desk_tables.specs.NetworkIndex.{AddsName, AddsNames, IsIndexOf};
-ghost use Rattle.desk_tables.specs.PlainLines.{answered_line, words_before_comment};
-ghost use Rattle.desk_tables.specs.RowPushes.{PushesRow};
+ghost use Rattle.desk_tables.specs.Networks.{network_answer, network_line_answer, network_number, read_networks};
+ghost use Rattle.desk_tables.specs.Index.{AddsFirsts, HasNumbers};
 
 use crate::faults::{TableFault, TableRule};
+use crate::index::add_first;
+use crate::rows::read_rows;
 use crate::words::{has_long_name, push_copies, words_before_comment};
 use desk_text::{Addr, ReadError, Sequence, Text};
 use std::alloc::{AllocError, Global};
@@ -24,20 +24,20 @@ pub struct NetworkName {
 /// The rows of a networks file, in the order of its lines, with the number of each name.
 #[derive(Debug, Drop)]
 pub struct Networks {
-    rows: Vec<NetworkName>,
+    rows: Sequence<NetworkName>,
     numbers: BTreeMap<String, Addr>,
 }
 
 impl Model for Networks {
     ghost use Rattle.std.specs.Prelude.{List};
-    ghost use Rattle.desk_tables.specs.NetworkIndex.{IsIndexOf};
+    ghost use Rattle.desk_tables.specs.Index.{HasNumbers};
     ghost use Rattle.desk_tables.specs.declared.networks.NetworkName.{NetworkName};
 
     ghost Value = { List NetworkName };
 
-    ghost view = { λ networks. networks.rows.items };
+    ghost view = { λ networks. networks.rows };
 
-    ghost invariant = { λ networks. IsIndexOf networks.rows.items networks.numbers };
+    ghost invariant = { λ networks. HasNumbers networks.rows networks.numbers };
 }
 
 impl Networks {
@@ -49,12 +49,7 @@ impl Networks {
         requires { length text.now ≤ 4294967294 }
         ensures { Reads result (read_networks text.now) }
     {
-        let mut rows = Vec::new(alloc);
-        let mut number = 0;
-        for line in text.lines() {
-            number += 1;
-            push_row(alloc, number, line, &mut rows)?;
-        }
+        let rows = read_rows(alloc, text, read_line)?;
         let numbers = numbers_by_name(alloc, rows.as_slice())?;
         Ok(Networks { rows, numbers })
     }
@@ -72,7 +67,7 @@ fn numbers_by_name(
     alloc: Global,
     rows: &[NetworkName],
 ) -> Result<BTreeMap<String, Addr>, AllocError>
-    ensures { IfOk result (λ index. IsIndexOf rows.now index) }
+    ensures { IfOk result (λ index. HasNumbers rows.now index) }
 {
     let mut index = BTreeMap::new(alloc);
     for row in rows {
@@ -88,53 +83,17 @@ fn add_names(
     names: &[Text],
     number: Addr,
 ) -> Result<(), AllocError>
-    ensures { OnOk result (AddsNames index.old index.new names.now number) }
+    ensures { OnOk result (AddsFirsts index.old index.new names.now number) }
 {
     for name in names {
-        add_name(alloc, index, name.as_str(), number)?;
+        add_first(alloc, index, name.as_str(), number)?;
     }
     Ok(())
-}
-
-/// Adds the number under the name, if it has none yet.
-fn add_name(
-    alloc: Global,
-    index: &mut BTreeMap<String, Addr>,
-    name: &str,
-    number: Addr,
-) -> Result<(), AllocError>
-    ensures { OnOk result (AddsName index.old index.new name.now number) }
-{
-    if !index.contains_key(name) {
-        let key = String::from_str(alloc, name)?;
-        index.insert(key, number)?;
-    }
-    Ok(())
-}
-
-/// Adds the row of the line with this number, if it has one.
-fn push_row(
-    alloc: Global,
-    number: u32,
-    line: &str,
-    rows: &mut Vec<NetworkName>,
-) -> Result<(), ReadError<TableFault>>
-    ensures { PushesRow result rows.old.items rows.new.items (answered_line network_answer number line.now) }
-{
-    match read_line(alloc, line) {
-        Ok(Some(row)) => {
-            rows.push(row)?;
-            Ok(())
-        }
-        Ok(None) => Ok(()),
-        Err(ReadError::Memory) => Err(ReadError::Memory),
-        Err(ReadError::Fault(rule)) => Err(ReadError::Fault(TableFault { line: number, rule })),
-    }
 }
 
 /// The row of a line, or the rule that is named.
 fn read_line(alloc: Global, line: &str) -> Result<Option<NetworkName>, ReadError<TableRule>>
-    ensures { Reads result (network_answer (words_before_comment line.now)) }
+    ensures { Reads result (network_line_answer line.now) }
 {
     let words = words_before_comment(alloc, line)?;
     match words.as_slice().split_first() {

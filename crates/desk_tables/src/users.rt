@@ -1,15 +1,18 @@
 //! The users of a site. (passwd(5))
 
-ghost use Rattle.std.specs.Prelude.{◌≡◌, ◌≤◌, length};
+ghost use Rattle.std.specs.Prelude.{◌≡◌, ◌≤◌, IfOk, length};
 ghost use Rattle.std.specs.Option.{option_copied};
 ghost use Rattle.desk_text.specs.Reading.{Reads};
-ghost use Rattle.desk_tables.specs.Pushes.{Pushes};
+ghost use Rattle.desk_tables.specs.Index.{HasUserNames, HasUserNumbers};
 ghost use Rattle.desk_tables.specs.Users.{read_users, user_answer, user_of_name, user_of_uid};
 
 use crate::faults::{TableFault, TableRule};
-use crate::fields::{fault_at, field, field_count, is_skipped, read_number};
+use crate::fields::{field, field_count, is_skipped, read_number};
+use crate::index::{add_first, add_first_number, row_at};
+use crate::rows::read_rows;
 use desk_text::{ReadError, Sequence, Text};
-use std::alloc::Global;
+use std::alloc::{AllocError, Global};
+use std::collections::BTreeMap;
 use std::marker::Model;
 
 /// A row of the users: a name, its number, and the number of its own group.
@@ -20,19 +23,24 @@ pub struct User {
     pub gid: u32,
 }
 
-/// The users of a text, in its order.
-#[derive(Clone, Debug, Drop)]
+/// The users of a text, in its order, with the places of the first user of each name and of each number.
+#[derive(Debug, Drop)]
 pub struct Users {
     rows: Sequence<User>,
+    by_name: BTreeMap<String, usize>,
+    by_uid: BTreeMap<u32, usize>,
 }
 
 impl Model for Users {
     ghost use Rattle.std.specs.Prelude.{List};
+    ghost use Rattle.desk_tables.specs.Index.{HasUserNames, HasUserNumbers};
     ghost use Rattle.desk_tables.specs.declared.users.User.{User};
 
     ghost Value = { List User };
 
-    ghost view = { λ u. u.rows };
+    ghost view = { λ users. users.rows };
+
+    ghost invariant = { λ users. HasUserNames users.rows users.by_name × HasUserNumbers users.rows users.by_uid };
 }
 
 impl Users {
@@ -43,51 +51,51 @@ impl Users {
         requires { length text.now ≤ 4294967294 }
         ensures { Reads result (read_users text.now) }
     {
-        let mut rows = Sequence::new(alloc);
-        let mut number = 0;
-        for line in text.lines() {
-            number += 1;
-            push_user(alloc, &mut rows, number, line)?;
-        }
-        Ok(Users { rows })
+        let rows = read_rows(alloc, text, read_user)?;
+        let by_name = places_by_name(alloc, rows.as_slice())?;
+        let by_uid = places_by_uid(alloc, rows.as_slice())?;
+        Ok(Users {
+            rows,
+            by_name,
+            by_uid,
+        })
     }
 
     /// The user of a name, byte for byte: the first row that has it.
     pub fn by_name(&self, name: &str) -> Option<&User>
         ensures { option_copied result ≡ user_of_name self.now name.now }
     {
-        self.rows
-            .as_slice()
-            .iter()
-            .find(|user| user.name.as_str() == name)
+        row_at(self.rows.as_slice(), self.by_name.get(name))
     }
 
     /// The user of a number: the first row that has it, whatever its name.
     pub fn by_uid(&self, uid: u32) -> Option<&User>
         ensures { option_copied result ≡ user_of_uid self.now uid }
     {
-        self.rows.as_slice().iter().find(|user| user.uid == uid)
+        row_at(self.rows.as_slice(), self.by_uid.get(&uid))
     }
 }
 
-/// Adds the user of the line with this number, if it has one.
-fn push_user(
-    alloc: Global,
-    rows: &mut Sequence<User>,
-    number: u32,
-    line: &str,
-) -> Result<(), ReadError<TableFault>>
-    ensures { Pushes result rows.old rows.new number (user_answer line.now) }
+/// The place of the first user of each name.
+fn places_by_name(alloc: Global, rows: &[User]) -> Result<BTreeMap<String, usize>, AllocError>
+    ensures { IfOk result (λ index. HasUserNames rows.now index) }
 {
-    match read_user(alloc, line) {
-        Ok(Some(user)) => {
-            rows.push(user)?;
-            Ok(())
-        }
-        Ok(None) => Ok(()),
-        Err(ReadError::Memory) => Err(ReadError::Memory),
-        Err(ReadError::Fault(rule)) => Err(fault_at(number, rule)),
+    let mut index = BTreeMap::new(alloc);
+    for (place, user) in rows.iter().enumerate() {
+        add_first(alloc, &mut index, user.name.as_str(), place)?;
     }
+    Ok(index)
+}
+
+/// The place of the first user of each number.
+fn places_by_uid(alloc: Global, rows: &[User]) -> Result<BTreeMap<u32, usize>, AllocError>
+    ensures { IfOk result (λ index. HasUserNumbers rows.now index) }
+{
+    let mut index = BTreeMap::new(alloc);
+    for (place, user) in rows.iter().enumerate() {
+        add_first_number(&mut index, user.uid, place)?;
+    }
+    Ok(index)
 }
 
 /// The user of a line, or the rule that is named.

@@ -4,6 +4,7 @@ use super::*;
 use crate::{TableFault, TableRule};
 use desk_text::ReadError;
 use std::alloc::Global;
+use std::fmt::Write;
 use std::test::Fail;
 
 const USERS: &str = "root:*:0:0:Root:/root:/bin/sh
@@ -69,6 +70,42 @@ fn credentials_of_a_site(rt: HostRuntime) -> Result<(), Fail> {
     ];
     for (text, want) in rows {
         let have = shown(rt.alloc(), &users, &groups, text)?;
+        assert_eq!(rt; have.as_str(), want, "of {text}");
+    }
+    Ok(())
+}
+
+/// The numbers of all faults of a text, in order.
+fn faults_of(alloc: Global, users: &Users, groups: &Groups, text: &str) -> Result<String, Fail> {
+    let mut shown = String::new(alloc);
+    for fault in CRED_FAULTS {
+        if has_fault(users, groups, text, fault) {
+            write!(shown, "{}", fault.number())?;
+        }
+    }
+    Ok(shown)
+}
+
+#[test]
+fn each_fault_by_itself(rt: HostRuntime) -> Result<(), Fail> {
+    let users = Users::read(rt.alloc(), USERS)?;
+    let groups = Groups::read(rt.alloc(), GROUPS)?;
+    let rows = [
+        ("bin", ""),
+        ("bin:", ""),
+        ("0:10", ""),
+        ("7", "1"),
+        ("eve:nogrp", "12"),
+        ("0::nogrp", "24"),
+        ("", "4"),
+        (":", "4"),
+        ("00", "5"),
+        ("00:", "5"),
+        ("eve::01:nogrp", "1245"),
+        ("eve:::::::::::::::::01:nogrp", "12345"),
+    ];
+    for (text, want) in rows {
+        let have = faults_of(rt.alloc(), &users, &groups, text)?;
         assert_eq!(rt; have.as_str(), want, "of {text}");
     }
     Ok(())

@@ -2,13 +2,13 @@ use Rattle.std.proofs.Common.{◌≡◌, ◌==◌, ℕ, List, [], Some, None, ap
 use Rattle.std.specs.List.{after_first, before_first}
 use Rattle.std.proofs.lemmas.Bool.Decides.{nat_tests}
 use Rattle.std.proofs.lemmas.Str.Pattern.{split_once_first}
-use Rattle.desk_tables.specs.Elements.{elements, written_answer}
-use Rattle.desk_tables.proofs.ElementLemmas.{no_colon, with_nothing, with_others}
+use Rattle.desk_tables.specs.Elements.{elements, elements_answer, written_answer}
+use Rattle.desk_tables.proofs.ElementLemmas.{alone, with_others, without_others}
 use Rattle.desk_tables.proofs.elements.credential.Goals as goal
 
 pub returns-in-None : goal.returns-in-None
 returns-in-None c =
-    c.alone.ensures ∙ sym (no_colon c.args.users.now c.args.groups.now c.args.text.now (split_once_first 58 c.args.text.now None c.in-None.ensures.cases (lit< tt)))
+    c.alone.ensures ∙ ap (elements_answer c.args.users.now c.args.groups.now) (sym (alone c.args.text.now (split_once_first 58 c.args.text.now None c.in-None.ensures.cases (lit< tt))))
 
 pub returns-then-is_empty : goal.returns-then-is_empty
 returns-then-is_empty c =
@@ -16,7 +16,7 @@ returns-then-is_empty c =
     let cut = split_once_first 58 text (Some (c.in-Some.user, c.in-Some.others)) c.in-Some.ensures.cases (lit< tt) in
     let empty : length (after_first (λ b. b == 58) text) ≡ 0 = ap length (sym cut.2) ∙ grind (arith, nat_tests, c.is_empty.ensures, c.if-is_empty.true) in
     c.without_groups.ensures ∙ ap (λ (user : List ℕ). written_answer c.args.users.now c.args.groups.now user []) cut.1
-    ∙ sym (with_nothing c.args.users.now c.args.groups.now text cut.0 empty)
+    ∙ ap (elements_answer c.args.users.now c.args.groups.now) (sym (without_others text cut.0 empty))
 
 pub returns-else-is_empty : goal.returns-else-is_empty
 returns-else-is_empty c =

@@ -1,10 +1,10 @@
-use Rattle.std.proofs.Common.{◌≡◌, ◌≤◌, length, take}
-use Rattle.desk_tables.specs.Groups.{gids_of}
+-- the gids so far
+use Rattle.std.proofs.Common.{◌≡◌, ◌≤◌, ◌∷◌, length, take}
+use Rattle.desk_tables.specs.Groups.{each_once}
 use Rattle.desk_tables.proofs.groups.Groups.gids_of.Given as goal
 
--- the gids of the groups so far
-abbrev pub invariant-loop-group : goal.invariant-loop-group
-invariant-loop-group l = record {
-  so_far : l.gids ≡ gids_of (take l.group-index l.group-items) l.user;
+abbrev pub invariant-loop-gid : goal.invariant-loop-gid
+invariant-loop-gid l = record {
+  so_far : l.gids ≡ each_once (l.user.gid ∷ take l.gid-index l.gid-items);
   few : length l.gids ≤ 16;
 }

@@ -13,5 +13,5 @@ pub returns : goal.returns
 returns c =
     once_is number_of _ _ _ c.sort_unstable.ensures.permutation c.sort_unstable.ensures.sorted c.dedup.ensures.filtered
     ∙ ap (λ (found : List Addr). ascending (map number_of found)) (c.in_ok-addresses.ensures ∙ c.self.invariant (str_to_ascii_lowercase c.args.name.now))
-    ∙ index_is c.args.name.now c.self.inside.rows.items
+    ∙ index_is c.args.name.now c.self.inside.rows
     ∙ ap (λ (rows : List HostRow). addresses_of_host rows c.args.name.now) c.self.view_is

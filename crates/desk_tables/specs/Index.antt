@@ -1,0 +1,77 @@
+-- What the private contracts of the indexes cite: what stands under each name.
+use Rattle.std.specs.Prelude.{◌≡◌, ◌++◌, ◌==◌, List, [], ◌∷◌, ℕ, Some, None, String, Vec, if◌then◌else◌}
+use Rattle.std.specs.BTreeMap.{BTreeMap, get, get_by_text}
+use Rattle.std.specs.List.{flat_map, list_any, position}
+use Rattle.std.specs.Option.{option_map_or, option_or}
+use Rattle.std.specs.Ordering.{nat_cmp}
+use Rattle.std.specs.Str.{bytes_eq, str_to_ascii_lowercase}
+use Rattle.desk_text.specs.declared.address.Addr.{Addr}
+use Rattle.desk_tables.specs.Networks.{network_number}
+use Rattle.desk_tables.specs.declared.groups.Group.{Group}
+use Rattle.desk_tables.specs.declared.hosts.HostRow.{HostRow}
+use Rattle.desk_tables.specs.declared.networks.NetworkName.{NetworkName}
+use Rattle.desk_tables.specs.declared.users.User.{User}
+
+module _ {Y T : Type 0} where
+  -- the new index has the value under the name, unless the old one has the name; other names are as before
+  abbrev pub AddsFirst : BTreeMap (String Y) T → BTreeMap (String Y) T → List ℕ → T → Type 0
+  AddsFirst old new name value = (other : List ℕ) → get_by_text new other ≡ option_or (get_by_text old other) (if bytes_eq other name then Some value else None)
+
+  -- the same for each of these names
+  abbrev pub AddsFirsts : BTreeMap (String Y) T → BTreeMap (String Y) T → List (List ℕ) → T → Type 0
+  AddsFirsts old new names value = (other : List ℕ) → get_by_text new other ≡ option_or (get_by_text old other) (if list_any (bytes_eq other) names then Some value else None)
+
+-- the same of an index by numbers
+abbrev pub AddsFirstNumber : {T : Type 0} → BTreeMap ℕ T → BTreeMap ℕ T → ℕ → T → Type 0
+AddsFirstNumber old new number value = (other : ℕ) → get nat_cmp new other ≡ option_or (get nat_cmp old other) (if number == other then Some value else None)
+
+-- the value, where the name is the key
+abbrev pub under : {T : Type 0} → List ℕ → T → List ℕ → List T
+under key value name = if bytes_eq key name then value ∷ [] else []
+
+module _ {Y Z T : Type 0} where
+  -- the values under a name
+  abbrev pub listed : BTreeMap (String Y) (Vec T Z) → List ℕ → List T
+  listed index name = option_map_or (λ values. values.items) (get_by_text index name) []
+
+  -- the new index has the value under the name, behind those of the old one
+  abbrev pub AddsUnder : BTreeMap (String Y) (Vec T Z) → BTreeMap (String Y) (Vec T Z) → List ℕ → T → Type 0
+  AddsUnder old new name value = (key : List ℕ) → listed new key ≡ listed old key ++ under key value name
+
+  -- the same for each of these names, as `spelled` writes them
+  abbrev pub AddsUnderEach : (List ℕ → List ℕ) → BTreeMap (String Y) (Vec T Z) → BTreeMap (String Y) (Vec T Z) → List (List ℕ) → T → Type 0
+  AddsUnderEach spelled old new names value = (key : List ℕ) → listed new key ≡ listed old key ++ flat_map (λ name. under key value (spelled name)) names
+
+-- the addresses of rows whose names in small letters are the key
+abbrev pub addresses_under : List ℕ → List HostRow → List Addr
+addresses_under key rows = flat_map (λ row. flat_map (λ name. under key row.addr (str_to_ascii_lowercase name)) row.names) rows
+
+-- the gids of rows under each of their members, in their order
+abbrev pub gids_under : List ℕ → List Group → List ℕ
+gids_under member rows = flat_map (λ row. flat_map (under member row.gid) row.members) rows
+
+module _ {Y Z : Type 0} where
+  -- the index has the addresses of the rows under each name in small letters
+  abbrev pub HasAddresses : List HostRow → BTreeMap (String Y) (Vec Addr Z) → Type 0
+  HasAddresses rows index = (key : List ℕ) → listed index key ≡ addresses_under key rows
+
+  -- the index has the gids of the groups under each of their members
+  abbrev pub HasMembers : List Group → BTreeMap (String Y) (Vec ℕ Z) → Type 0
+  HasMembers rows index = (member : List ℕ) → listed index member ≡ gids_under member rows
+
+module _ {Y : Type 0} where
+  -- the index has the number of the first row of each name
+  abbrev pub HasNumbers : List NetworkName → BTreeMap (String Y) Addr → Type 0
+  HasNumbers rows index = (name : List ℕ) → get_by_text index name ≡ network_number rows name
+
+  -- the index has the place of the first user of each name
+  abbrev pub HasUserNames : List User → BTreeMap (String Y) ℕ → Type 0
+  HasUserNames rows index = (name : List ℕ) → get_by_text index name ≡ position (λ user. bytes_eq name user.name) rows
+
+  -- the index has the place of the first group of each name
+  abbrev pub HasGroupNames : List Group → BTreeMap (String Y) ℕ → Type 0
+  HasGroupNames rows index = (name : List ℕ) → get_by_text index name ≡ position (λ group. bytes_eq name group.name) rows
+
+-- the index has the place of the first user of each number
+abbrev pub HasUserNumbers : List User → BTreeMap ℕ ℕ → Type 0
+HasUserNumbers rows index = (uid : ℕ) → get nat_cmp index uid ≡ position (λ user. user.uid == uid) rows

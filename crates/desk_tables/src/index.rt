@@ -1,0 +1,61 @@
+//! Indexes of tables: what stands under each name.
+
+ghost use Rattle.std.specs.Prelude.{◌≡◌, OnOk, option_and_then, slice_get};
+ghost use Rattle.std.specs.Option.{option_copied};
+ghost use Rattle.std.specs.String.{string_bytes};
+ghost use Rattle.desk_tables.specs.Index.{AddsFirst, AddsFirstNumber, AddsUnder};
+
+use std::alloc::{AllocError, Global};
+use std::collections::BTreeMap;
+
+/// Adds the value under the name, if nothing stands there yet.
+pub fn add_first<T: Copy>(
+    alloc: Global,
+    index: &mut BTreeMap<String, T>,
+    name: &str,
+    value: T,
+) -> Result<(), AllocError>
+    ensures { OnOk result (AddsFirst index.old index.new name.now value) }
+{
+    if !index.contains_key(name) {
+        let key = String::from_str(alloc, name)?;
+        index.insert(key, value)?;
+    }
+    Ok(())
+}
+
+/// Adds the value under the number, if nothing stands there yet.
+pub fn add_first_number<T: Copy>(
+    index: &mut BTreeMap<u32, T>,
+    number: u32,
+    value: T,
+) -> Result<(), AllocError>
+    ensures { OnOk result (AddsFirstNumber index.old index.new number value) }
+{
+    if !index.contains_key(&number) {
+        index.insert(number, value)?;
+    }
+    Ok(())
+}
+
+/// Adds the value behind those that stand under the name.
+pub fn add_under<T: Copy>(
+    index: &mut BTreeMap<String, Vec<T>>,
+    name: String,
+    value: T,
+) -> Result<(), AllocError>
+    ensures { OnOk result (AddsUnder index.old index.new (string_bytes name) value) }
+{
+    index.entry(name)?.or_default().push(value)?;
+    Ok(())
+}
+
+/// The row at the place that an index gives.
+pub fn row_at<'a, Row>(rows: &'a [Row], place: Option<&usize>) -> Option<&'a Row>
+    ensures { option_copied result ≡ option_and_then (slice_get rows.now) (option_copied place.entry) }
+{
+    match place {
+        Some(place) => rows.get(*place),
+        None => None,
+    }
+}

@@ -1,0 +1,52 @@
+//! Tables of one line a row.
+
+ghost use Rattle.std.specs.Prelude.{◌≡◌, ◌≤◌, ℕ, List, Option, Result, length};
+ghost use Rattle.desk_text.specs.Reading.{Reads};
+ghost use Rattle.desk_tables.specs.Rows.{PushesRow, ReadsEachLine};
+ghost use Rattle.desk_tables.specs.Tables.{text_table};
+ghost use Rattle.desk_tables.specs.declared.faults.TableRule.{TableRule};
+
+use crate::faults::{TableFault, TableRule};
+use desk_text::{ReadError, Sequence};
+use std::alloc::Global;
+
+/// The rows of the lines of a text, each line read by itself; or its least faulty line with the rule that is named
+/// there.
+pub fn read_rows<Row: Drop, F: Fn(Global, &str) -> Result<Option<Row>, ReadError<TableRule>>>(
+    alloc: Global,
+    text: &str,
+    read: F,
+) -> Result<Sequence<Row>, ReadError<TableFault>>
+    requires callable { F.IsAlwaysCallable read }
+    requires counted { length text.now ≤ 4294967294 }
+    ensures { (answer : List ℕ → Result (Option Row) TableRule) → ReadsEachLine (F.post read) answer
+        → Reads result (text_table answer text.now) }
+{
+    let mut rows = Sequence::new(alloc);
+    let mut number = 0;
+    for line in text.lines() {
+        number += 1;
+        push_row(&mut rows, number, read(alloc, line))?;
+    }
+    Ok(rows)
+}
+
+/// Adds the row of the line with this number, if it has one.
+fn push_row<Row: Drop>(
+    rows: &mut Sequence<Row>,
+    number: u32,
+    answer: Result<Option<Row>, ReadError<TableRule>>,
+) -> Result<(), ReadError<TableFault>>
+    ensures { (spelled : Result (Option Row) TableRule) → Reads answer spelled
+        → PushesRow result rows.old rows.new (record { number = number; answer = spelled }) }
+{
+    match answer {
+        Ok(Some(row)) => {
+            rows.push(row)?;
+            Ok(())
+        }
+        Ok(None) => Ok(()),
+        Err(ReadError::Memory) => Err(ReadError::Memory),
+        Err(ReadError::Fault(rule)) => Err(ReadError::Fault(TableFault { line: number, rule })),
+    }
+}
