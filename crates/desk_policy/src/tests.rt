@@ -119,6 +119,38 @@ fn greatest_weight_wins(rt: HostRuntime) -> Result<(), Fail> {
 }
 
 #[test]
+fn networks_weigh_by_their_prefixes(rt: HostRuntime) -> Result<(), Fail> {
+    let everybody = "/a -ro\n/a -network 0.0.0.0/0\n";
+    let one = "/a -network 10.0.0.5/32 -ro\n/a 10.0.0.5\n";
+    let nested = "/a/x -network 10.1/16\n/a/y -network 10.1.2/24\n";
+    let same = "/a -network 192.168.0/24\n/a /a/x -network 192.168.0.0 -mask 255.255.255.0\n";
+    let first = "granted line 1 rw sec=sys root=65534:65533";
+    let second = "granted line 2 rw sec=sys root=65534:65533";
+    let rows = [
+        (everybody, "255.255.255.255", "/a", second),
+        (one, "10.0.0.5", "/a", second),
+        (nested, "10.1.2.9", "/a/x", "denied 3 NotListed /a line 2"),
+        (nested, "10.1.2.9", "/a/y", second),
+        (nested, "10.1.3.9", "/a/x", first),
+        (nested, "10.2.2.9", "/a/x", "denied 2 NoLine /a"),
+        (same, "192.168.0.9", "/a/x", second),
+        (same, "192.168.0.9", "/a", first),
+        (
+            "/a -network 3ffe::/16",
+            "63.254.0.1",
+            "/a",
+            "denied 2 NoLine /a",
+        ),
+    ];
+    for (text, client, dir, want) in rows {
+        let policy = policy(rt.alloc(), &["/a"], text)?;
+        let got = verdict(rt.alloc(), &policy, client, dir)?;
+        assert_eq!(rt; got.as_str(), want, "{client} asks {dir} by {text}");
+    }
+    Ok(())
+}
+
+#[test]
 fn least_selected_line_that_lists(rt: HostRuntime) -> Result<(), Fail> {
     let text = "# a\n/a/x\n/a/y -ro\n\n/a/y\n/a -alldirs 10.0.0.5\n/a/w 10.0.0.5 -ro\n";
     let policy = policy(rt.alloc(), &["/a"], text)?;
