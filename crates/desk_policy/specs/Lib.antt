@@ -5,3 +5,4 @@ pub mod Verdicts
 pub mod Scan
 pub mod Prints
 pub mod Steps
+pub mod Acting

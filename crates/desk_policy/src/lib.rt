@@ -2,6 +2,7 @@
 //! (exports(5))
 #![tactic(auto)]
 
+pub mod acting;
 pub mod addresses;
 pub mod laws;
 pub mod policies;
@@ -10,6 +11,7 @@ pub mod rows;
 mod selections;
 pub mod verdicts;
 
+pub use acting::act_as;
 pub use addresses::AddrList;
 pub use laws::{each_has_its_lines, one_list_of_addresses};
 pub use policies::Policy;

@@ -1,9 +1,9 @@
 //! Small policies, worked by hand.
 
 use super::*;
-use desk_exports::read_whole;
-use desk_tables::{FileSystems, FsId};
-use desk_text::{Addr, Path};
+use desk_exports::{Flavour, Mapping, Terms, read_whole};
+use desk_tables::{Cred, FileSystems, FsId};
+use desk_text::{Addr, Path, Sequence};
 use std::alloc::Global;
 use std::test::Fail;
 
@@ -188,5 +188,33 @@ fn file_system_beyond_the_table(rt: HostRuntime) -> Result<(), Fail> {
     let denied = Verdict::Denied(Denial::NotListed(FsId(1), 7));
     let text = verdict_text(rt.alloc(), &policy, &denied)?;
     assert_eq!(rt; text.as_str(), "denied 3 NotListed  line 7");
+    Ok(())
+}
+
+/// The printed credential as which a user with one group acts under a map.
+fn acted(alloc: Global, map: Mapping, uid: u32, gid: u32) -> Result<String, Fail> {
+    let mut flavours = Sequence::new(alloc);
+    flavours.push(Flavour::Sys)?;
+    let terms = Terms {
+        ro: false,
+        flavours,
+        map,
+    };
+    let cred = act_as(&terms, &Cred::with_group(uid, gid));
+    Ok(cred.to_string(alloc)?)
+}
+
+#[test]
+fn acting(rt: HostRuntime) -> Result<(), Fail> {
+    for (uid, gid, want) in [(0, 0, "0:10"), (1001, 100, "1001:100"), (1, 0, "1:0")] {
+        let map = Mapping::Root(Cred::with_group(0, 10));
+        let got = acted(rt.alloc(), map, uid, gid)?;
+        assert_eq!(rt; got.as_str(), want, "{uid} where root is mapped");
+    }
+    for (uid, gid) in [(5, 5), (0, 0), (65534, 0)] {
+        let map = Mapping::All(Cred::with_group(65534, 65534));
+        let got = acted(rt.alloc(), map, uid, gid)?;
+        assert_eq!(rt; got.as_str(), "65534:65534", "{uid} where all are mapped");
+    }
     Ok(())
 }
