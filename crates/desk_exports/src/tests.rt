@@ -1,10 +1,43 @@
 //! Whole texts with their entries or their faults, worked by hand.
 
 use super::*;
-use desk_tables::{FileSystems, FsId};
+use desk_tables::{FileSystems, FsId, Groups, Networks, Users};
 use desk_text::{Path, ReadError, Sequence};
 use std::alloc::Global;
 use std::test::Fail;
+
+/// The tables of a small site.
+#[derive(Drop)]
+struct Site {
+    networks: Networks,
+    users: Users,
+    groups: Groups,
+    filesystems: FileSystems,
+}
+
+impl Site {
+    /// The site with these mount points.
+    fn with(alloc: Global, mounts: &[&str]) -> Result<Site, Fail> {
+        Ok(Site {
+            networks: Networks::read(alloc, "cis-net 131.104.48\ncis-mask 255.255.255\n")?,
+            users: Users::read(alloc, "root:*:0:0::/:\ndaemon:*:1:1::/:\nbin:*:3:7::/:\n")?,
+            groups: Groups::read(
+                alloc,
+                "wheel:*:0:root\noperator:*:5:root,daemon\nbin:*:7:\n",
+            )?,
+            filesystems: table(alloc, mounts)?,
+        })
+    }
+
+    fn lent(&self) -> Tables<'_> {
+        Tables {
+            networks: &self.networks,
+            users: &self.users,
+            groups: &self.groups,
+            filesystems: &self.filesystems,
+        }
+    }
+}
 
 /// The table of these mount points.
 fn table(alloc: Global, mounts: &[&str]) -> Result<FileSystems, Fail> {
@@ -24,29 +57,37 @@ fn answer(
     if text.len() > 10000 {
         return Err("too long")?;
     }
-    Ok(read_whole(alloc, text, &table(alloc, mounts)?))
+    let site = Site::with(alloc, mounts)?;
+    Ok(read_whole(alloc, text, &site.lent()))
 }
 
-/// The entries of a short text, each on a line: the number of its file system, that of the line, its
-/// directories, terms and clients.
+/// The entries of a short text, each on a line: the number of its file system, and the entry.
 fn entries(alloc: Global, mounts: &[&str], text: &str) -> Result<String, Fail> {
     let mut out = String::new(alloc);
     for (fs, entry) in answer(alloc, mounts, text)??.as_slice() {
-        let (number, line) = (fs.0, entry.line);
-        write!(out, "{number} {line}")?;
-        for dir in entry.dirs.as_slice() {
-            let dir = dir.text();
-            write!(out, " {dir}")?;
-        }
-        if entry.alldirs {
-            out.push_str(" alldirs")?;
-        }
-        let terms = &entry.terms;
-        write!(out, " {terms}")?;
-        push_clients(&mut out, &entry.clients)?;
-        out.push('\n')?;
+        let number = fs.0;
+        write!(out, "{number} ")?;
+        push_entry(&mut out, entry)?;
     }
     Ok(out)
+}
+
+/// The number of a line, its directories, terms and clients.
+fn push_entry(out: &mut String, entry: &Entry) -> Result<(), Fail> {
+    let line = entry.line;
+    write!(out, "{line}")?;
+    for dir in entry.dirs.as_slice() {
+        let dir = dir.text();
+        write!(out, " {dir}")?;
+    }
+    if entry.alldirs {
+        out.push_str(" alldirs")?;
+    }
+    let terms = &entry.terms;
+    write!(out, " {terms}")?;
+    push_clients(out, &entry.clients)?;
+    out.push('\n')?;
+    Ok(())
 }
 
 fn push_clients(out: &mut String, clients: &Clients) -> Result<(), Fail> {
@@ -56,6 +97,18 @@ fn push_clients(out: &mut String, clients: &Clients) -> Result<(), Fail> {
                 let name = name.as_str();
                 write!(out, " [{name}]")?;
             }
+        }
+        Clients::Net(net, noted) => {
+            let (first, prefix) = (net.first(), net.prefix().get());
+            write!(out, " {first}/{prefix}")?;
+            if let Some(value) = noted {
+                let value = value.as_str();
+                write!(out, " by the class of {value}")?;
+            }
+        }
+        Clients::Net6(value) => {
+            let value = value.as_str();
+            write!(out, " ipv6 {value}")?;
         }
         Clients::World => out.push_str(" world")?,
     }
@@ -150,34 +203,272 @@ fn quotes_and_continuations(rt: HostRuntime) -> Result<(), Fail> {
     Ok(())
 }
 
+/// Each rule: a line of which it holds alone or first, and the nearest one of which no rule holds.
+const RULE_ROWS: [(&str, &str, &str); 40] = [
+    ("/a \"x", "line 1 rule 24 OpenQuote", "/a \"x\""),
+    (
+        "/a host # note",
+        "line 1 rule 25 StrayComment",
+        "/a host \\# note",
+    ),
+    ("/a -r #", "line 1 rule 25 StrayComment", "/a -r 0:"),
+    ("a/b", "line 1 rule 1 NotAbsolute", "/a/b"),
+    ("-ro /a", "line 1 rule 1 NotAbsolute", "/a -ro"),
+    ("/a -ro /a/x", "line 1 rule 2 DirectoryLate", "/a /a/x -ro"),
+    ("/a/..", "line 1 rule 3 BadPath", "/a/..."),
+    ("/a /b", "line 1 rule 4 DirectoryElsewhere", "/a /a/b"),
+    ("/c", "line 1 rule 4 DirectoryElsewhere", "/b/c"),
+    ("/a -rw", "line 1 rule 5 UnknownOption", "/a -ro"),
+    ("/a -ro=", "line 1 rule 5 UnknownOption", "/a -ro"),
+    (
+        "/a -ro,,quiet",
+        "line 1 rule 5 UnknownOption",
+        "/a -ro,quiet",
+    ),
+    ("/a -", "line 1 rule 5 UnknownOption", "/a \\-"),
+    ("/a -ro,tls=x", "line 1 rule 6 OptionLeftOut", "/a -ro tls"),
+    ("/a -mapall", "line 1 rule 7 ValueMissing", "/a -mapall 0:"),
+    (
+        "/a -mapall= 0:",
+        "line 1 rule 7 ValueMissing",
+        "/a -mapall=0:",
+    ),
+    (
+        "/a -mapall -ro",
+        "line 1 rule 7 ValueMissing",
+        "/a -mapall 0: -ro",
+    ),
+    (
+        "/a -mapall,ro 0:",
+        "line 1 rule 7 ValueMissing",
+        "/a -ro,mapall 0:",
+    ),
+    (
+        "/a -r=0: -maproot=0:",
+        "line 1 rule 8 RepeatedOption",
+        "/a -r=0: -sec=sys",
+    ),
+    ("/a 10.0.0.300", "line 1 rule 9 BadAddress", "/a 10.0.0.30"),
+    ("/a h,i", "line 1 rule 9 BadAddress", "/a h i"),
+    ("/a ''", "line 1 rule 9 BadAddress", "/a 'h'"),
+    (
+        "/a -network=cis",
+        "line 1 rule 9 BadAddress",
+        "/a -network=cis-net",
+    ),
+    (
+        "/a -network=10.300",
+        "line 1 rule 9 BadAddress",
+        "/a -network=10.30",
+    ),
+    (
+        "/a -network=10/33",
+        "line 1 rule 10 BadMask",
+        "/a -network=10/32",
+    ),
+    (
+        "/a -network=10/08",
+        "line 1 rule 10 BadMask",
+        "/a -network=10/8",
+    ),
+    (
+        "/a -network=10 -mask=255.0.255.0",
+        "line 1 rule 10 BadMask",
+        "/a -network=10 -mask=255.255.255.0",
+    ),
+    (
+        "/a -mask=255/8",
+        "line 1 rule 10 BadMask",
+        "/a -network=255/8",
+    ),
+    (
+        "/a -network=10/8 -mask=255",
+        "line 1 rule 11 MaskTwice",
+        "/a -network=10 -mask=255",
+    ),
+    (
+        "/a -mask=255",
+        "line 1 rule 12 MaskAlone",
+        "/a -mask=255 -network=10",
+    ),
+    (
+        "/a -network=224.1",
+        "line 1 rule 13 NoClass",
+        "/a -network=224.1/4",
+    ),
+    (
+        "/a -network=10/8 10.0.0.5",
+        "line 1 rule 14 NetAndHost",
+        "/a -network 10/8",
+    ),
+    (
+        "/a -maproot=0:10 -mapall=5:",
+        "line 1 rule 15 RootAndAll",
+        "/a -maproot=0:10 -ro",
+    ),
+    ("/a -sec=sys:", "line 1 rule 16 BadFlavour", "/a -sec=sys"),
+    ("/a -mapall=7", "line 1 rule 17 UnknownUser", "/a -mapall=3"),
+    (
+        "/a -mapall=bin:nogrp",
+        "line 1 rule 18 UnknownGroup",
+        "/a -mapall=bin:bin",
+    ),
+    (
+        "/a -mapall=1:1:2:3:4:5:6:7:8:9:10:11:12:13:14:15:16:17",
+        "line 1 rule 19 TooManyGroups",
+        "/a -mapall=1:1:2:3:4:5:6:7:8:9:10:11:12:13:14:15:16",
+    ),
+    (
+        "/a -maproot=0::5",
+        "line 1 rule 20 EmptyElement",
+        "/a -maproot=0:",
+    ),
+    (
+        "/a -mapall=4294967296:",
+        "line 1 rule 21 Range",
+        "/a -mapall=4294967295:",
+    ),
+    ("/a /a -alldirs", "line 1 rule 22 AlldirsMany", "/a /a -ro"),
+];
+
 #[test]
 fn each_rule(rt: HostRuntime) -> Result<(), Fail> {
+    let mounts = ["/a", "/b"];
+    for (text, want, near) in RULE_ROWS {
+        assert_eq!(rt; fault(rt.alloc(), &mounts, text)?.as_str(), want, "{text}");
+        assert!(rt; answer(rt.alloc(), &mounts, near)?.is_ok(), "{near}");
+    }
+    let text = "/a/x -alldirs";
+    assert_eq!(rt;
+        fault(rt.alloc(), &mounts, text)?.as_str(),
+        "line 1 rule 23 AlldirsNotRoot"
+    );
+    assert!(rt; answer(rt.alloc(), &mounts, "/a -alldirs")?.is_ok());
+    Ok(())
+}
+
+/// In front of each `:` a line, and behind it what it says.
+#[test]
+fn values_and_networks(rt: HostRuntime) -> Result<(), Fail> {
+    let std = "rw sec=sys root=65534:65533";
     let rows = [
-        ("/a \"x", "line 1 rule 24 OpenQuote"),
-        ("/a host # note", "line 1 rule 25 StrayComment"),
-        ("V4: /", "line 1 rule 1 NotAbsolute"),
-        ("-ro /a", "line 1 rule 1 NotAbsolute"),
-        ("/a -ro /a/x", "line 1 rule 2 DirectoryLate"),
-        ("/a/..", "line 1 rule 3 BadPath"),
-        ("/b", "line 1 rule 4 DirectoryElsewhere"),
-        ("/a /b", "line 1 rule 4 DirectoryElsewhere"),
-        ("/a -maproot=0", "line 1 rule 5 UnknownOption"),
-        ("/a -network 10", "line 1 rule 5 UnknownOption"),
-        ("/a -ro=yes", "line 1 rule 5 UnknownOption"),
-        ("/a -ro,,quiet", "line 1 rule 5 UnknownOption"),
-        ("/a -", "line 1 rule 5 UnknownOption"),
-        ("/a -tls", "line 1 rule 6 OptionLeftOut"),
-        ("/a -ro,tls=x h", "line 1 rule 6 OptionLeftOut"),
-        ("/a 10.0.0.300", "line 1 rule 9 BadAddress"),
-        ("/a h,i", "line 1 rule 9 BadAddress"),
-        ("/a ro=1", "line 1 rule 9 BadAddress"),
-        ("/a ''", "line 1 rule 9 BadAddress"),
-        ("/a /a -alldirs", "line 1 rule 22 AlldirsMany"),
-        ("/a/x -ro,alldirs", "line 1 rule 23 AlldirsNotRoot"),
+        ("/a -network 127", "127.0.0.0/8 by the class of 127"),
+        (
+            "/a -network 128.1.2.3",
+            "128.1.0.0/16 by the class of 128.1.2.3",
+        ),
+        (
+            "/a -network 191.255",
+            "191.255.0.0/16 by the class of 191.255",
+        ),
+        (
+            "/a -network 192.168.33.9",
+            "192.168.33.0/24 by the class of 192.168.33.9",
+        ),
+        ("/a -network 223", "223.0.0.0/24 by the class of 223"),
+        ("/a -network 192.168.0/24", "192.168.0.0/24"),
+        ("/a -network=10.1.2.3 -mask 255", "10.0.0.0/8"),
+        ("/a -mask cis-mask -network cis-net", "131.104.48.0/24"),
+        ("/a -network 1.2.3.4/0", "0.0.0.0/0"),
+        (
+            "/a -network cis-net",
+            "131.104.0.0/16 by the class of cis-net",
+        ),
+        (
+            "/a -network 3ffe:1ce1:1:fe80::/64",
+            "ipv6 3ffe:1ce1:1:fe80::/64",
+        ),
+        ("/a -network ::/999 -mask x", "ipv6 ::/999"),
     ];
     for (text, want) in rows {
-        assert_eq!(rt; fault(rt.alloc(), &["/a"], text)?.as_str(), want, "{text}");
+        let want = format!(in rt.alloc(); "0 1 /a {std} {want}\n")?;
+        assert_eq!(rt;
+            entries(rt.alloc(), &["/a"], text)?.as_str(),
+            want.as_str(),
+            "{text}"
+        );
     }
+    Ok(())
+}
+
+#[test]
+fn flavours_and_credentials(rt: HostRuntime) -> Result<(), Fail> {
+    let rows = [
+        (
+            "/a -sec=krb5:sys:krb5",
+            "rw sec=krb5:sys root=65534:65533 world",
+        ),
+        (
+            "/a -sec krb5p:krb5i:krb5p:krb5i -ro",
+            "ro sec=krb5p:krb5i root=65534:65533 world",
+        ),
+        ("/a -maproot=daemon", "rw sec=sys root=1:1:5 world"),
+        ("/a -r 0:10 h", "rw sec=sys root=0:10 [h]"),
+        ("/a -ro,r bin: h", "ro sec=sys root=3: [h]"),
+        ("/a -mapall=root", "rw sec=sys all=0:0:5 world"),
+        ("/a -quiet,mapall 3:wheel:9", "rw sec=sys all=3:0:9 world"),
+        ("/a h -mapall=3 i", "rw sec=sys all=3:7 [h] [i]"),
+        ("/a -sec \\\n sys h", "rw sec=sys root=65534:65533 [h]"),
+    ];
+    for (text, want) in rows {
+        let want = format!(in rt.alloc(); "0 1 /a {want}\n")?;
+        assert_eq!(rt;
+            entries(rt.alloc(), &["/a"], text)?.as_str(),
+            want.as_str(),
+            "{text}"
+        );
+    }
+    Ok(())
+}
+
+/// The entries of the file of the second of the mount points `/a` and `/b`, or its fault.
+fn file(alloc: Global, text: &str) -> Result<String, Fail> {
+    if text.len() > 10000 {
+        return Err("too long")?;
+    }
+    let site = Site::with(alloc, &["/b", "/a"])?;
+    let mut out = String::new(alloc);
+    match read_file(alloc, text, &site.lent(), FsId(1)) {
+        Ok(entries) => {
+            for entry in entries.as_slice() {
+                push_entry(&mut out, entry)?;
+            }
+        }
+        Err(ReadError::Memory) => Err("no memory")?,
+        Err(ReadError::Fault(fault)) => {
+            let (line, name) = (fault.line, fault.rule.name());
+            write!(out, "line {line} {name}")?;
+        }
+    }
+    Ok(out)
+}
+
+#[test]
+fn the_file_of_a_file_system(rt: HostRuntime) -> Result<(), Fail> {
+    let rows = [
+        ("", ""),
+        (
+            "/b -network 10/8\nV4: / -sec=zz /c -nosuch\n# x\n/b/x -ro h\n",
+            "1 /b rw sec=sys root=65534:65533 10.0.0.0/8\n4 /b/x ro sec=sys root=65534:65533 [h]\n",
+        ),
+        ("/b\n/a\n", "line 2 DirectoryElsewhere"),
+        ("V4: / # x\n/c\n", "line 1 StrayComment"),
+        ("\n\"V4:\" 'x", "line 2 OpenQuote"),
+        ("v4: /b\n", "line 1 NotAbsolute"),
+    ];
+    for (text, want) in rows {
+        assert_eq!(rt; file(rt.alloc(), text)?.as_str(), want, "{text}");
+    }
+    Ok(())
+}
+
+#[test]
+fn lines_of_v4_take_no_part(rt: HostRuntime) -> Result<(), Fail> {
+    let text = "V4: / -sec=krb5:krb5i:krb5p -network 131.104.48 -mask 255.255.255.0\n/a\n";
+    assert_eq!(rt;
+        entries(rt.alloc(), &["/a"], text)?.as_str(),
+        "0 2 /a rw sec=sys root=65534:65533 world\n"
+    );
     Ok(())
 }
 
@@ -191,8 +482,31 @@ fn first_of_several_rules(rt: HostRuntime) -> Result<(), Fail> {
         ("/a/.. /b -zz", "line 1 rule 3 BadPath"),
         ("/b /a -zz", "line 1 rule 4 DirectoryElsewhere"),
         ("/a -tls,zz", "line 1 rule 5 UnknownOption"),
-        ("/a 1.2 -tls", "line 1 rule 6 OptionLeftOut"),
-        ("/a /a/x -alldirs 1.2", "line 1 rule 9 BadAddress"),
+        ("/a -tls,sec", "line 1 rule 6 OptionLeftOut"),
+        ("/a -sec -sec=sys", "line 1 rule 7 ValueMissing"),
+        ("/a -sec=sys -sec=sys 1.2", "line 1 rule 8 RepeatedOption"),
+        ("/a -mask=1 1.2", "line 1 rule 9 BadAddress"),
+        ("/a -network 1/8 -mask=1", "line 1 rule 10 BadMask"),
+        ("/a -network 1/8 -mask=255 h", "line 1 rule 11 MaskTwice"),
+        ("/a -mask=255 -sec=x", "line 1 rule 12 MaskAlone"),
+        ("/a -network 230 h", "line 1 rule 13 NoClass"),
+        (
+            "/a -network ::1 h -r=0: -mapall=0:",
+            "line 1 rule 14 NetAndHost",
+        ),
+        ("/a -r=0: -mapall=0: -sec=x", "line 1 rule 15 RootAndAll"),
+        ("/a -sec=x -r=nosuch", "line 1 rule 16 BadFlavour"),
+        ("/a -r=nosuch:nosuch:", "line 1 rule 17 UnknownUser"),
+        (
+            "/a -r=0:nosuch:1:2:3:4:5:6:7:8:9:10:11:12:13:14:15:16",
+            "line 1 rule 18 UnknownGroup",
+        ),
+        (
+            "/a -r=0::1:2:3:4:5:6:7:8:9:10:11:12:13:14:15:16",
+            "line 1 rule 19 TooManyGroups",
+        ),
+        ("/a -r=0::01", "line 1 rule 20 EmptyElement"),
+        ("/a /a/x -alldirs -r=0:01", "line 1 rule 21 Range"),
         ("/a /a/x -alldirs", "line 1 rule 22 AlldirsMany"),
     ];
     for (text, want) in rows {

@@ -1,8 +1,8 @@
 //! Small policies, worked by hand.
 
 use super::*;
-use desk_exports::{Flavour, Mapping, Terms, read_whole};
-use desk_tables::{Cred, FileSystems, FsId};
+use desk_exports::{Entry, Flavour, Mapping, Tables, Terms, read_whole};
+use desk_tables::{Cred, FileSystems, FsId, Groups, Networks, Users};
 use desk_text::{Addr, Path, Sequence};
 use std::alloc::Global;
 use std::test::Fail;
@@ -16,13 +16,28 @@ fn table(alloc: Global, mounts: &[&str]) -> Result<FileSystems, Fail> {
     Ok(FileSystems::from_mounts(alloc, paths)?.ok_or("too many")?)
 }
 
-/// The policy of a short text with these mount points.
-fn policy(alloc: Global, mounts: &[&str], text: &str) -> Result<Policy, Fail> {
+/// The entries of a short text, read with these file systems and no other table.
+fn entries(
+    alloc: Global,
+    filesystems: &FileSystems,
+    text: &str,
+) -> Result<Sequence<(FsId, Entry)>, Fail> {
     if text.len() > 10000 {
         return Err("too long")?;
     }
+    let tables = Tables {
+        networks: &Networks::new(alloc),
+        users: &Users::new(alloc),
+        groups: &Groups::new(alloc),
+        filesystems,
+    };
+    Ok(read_whole(alloc, text, &tables)?)
+}
+
+/// The policy of a short text with these mount points.
+fn policy(alloc: Global, mounts: &[&str], text: &str) -> Result<Policy, Fail> {
     let filesystems = table(alloc, mounts)?;
-    let entries = read_whole(alloc, text, &filesystems)?;
+    let entries = entries(alloc, &filesystems, text)?;
     Ok(Policy::of_entries(alloc, filesystems, entries)?)
 }
 
@@ -213,7 +228,7 @@ fn lines_of_each_file_system(rt: HostRuntime) -> Result<(), Fail> {
 
 #[test]
 fn file_system_beyond_the_table(rt: HostRuntime) -> Result<(), Fail> {
-    let entries = read_whole(rt.alloc(), "/usr", &table(rt.alloc(), &["/", "/usr"])?)?;
+    let entries = entries(rt.alloc(), &table(rt.alloc(), &["/", "/usr"])?, "/usr")?;
     let policy = Policy::of_entries(rt.alloc(), table(rt.alloc(), &["/"])?, entries)?;
     assert_eq!(rt; policy.rows(FsId(0)).len(), 0);
     assert_eq!(rt; policy.rows(FsId(1)).len(), 0);

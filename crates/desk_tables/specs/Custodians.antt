@@ -54,7 +54,7 @@ rules = rule.Fields ∷ rule.Name ∷ rule.Duplicate ∷ rule.Digest ∷ []
 abbrev pub custodian_of : List (List ℕ) → Custodian
 custodian_of words = record { name = name_word words; digest = result_unwrap_or (decode_sized (digest_word words) 32) [] }
 
--- what a line of these words answers, where these names are listed before; one with an open quote has no fields
+-- what a line of these words answers, where these names are listed before; an open quote breaks the rule on fields
 abbrev pub values_answer : List (List ℕ) → Result (List (List ℕ)) OpenQuote → Result (Option Custodian) TableRule
 values_answer before (Ok words) = unless_rule (find (breaks before words) rules) (custodian_of words)
 values_answer before (Err quote) = Err rule.Fields

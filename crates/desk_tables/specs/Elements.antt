@@ -39,7 +39,7 @@ user_named users element =
     else (if length element == 0 then None else user_of_name users element)
 
 -- Whether a fault holds of a user alone: it is neither empty nor out of range and nobody has it; it has more than
--- sixteen groups, each counted once; it is empty; it is out of range.
+-- sixteen groups, its own among them, each counted once; it is empty; it is out of range.
 abbrev pub alone_breaks : List User → List Group → List ℕ → CredFault → Bool
 alone_breaks users groups user UnknownUser = not (length user == 0) && (not (is_out_of_range user) && is_none (user_named users user))
 alone_breaks users groups user UnknownGroup = false

@@ -50,7 +50,7 @@ abbrev pub mount_of : List (List ℕ) → Mount
 mount_of words = record { path = result_unwrap_or (path_word words) []; custodians = drop 1 words }
 
 -- what a line of these words answers, where so many lines stand before it and list these mount points; one with an open
--- quote has no fields
+-- quote breaks the rule on fields
 abbrev pub values_answer : ℕ → List (List (List ℕ)) → Result (List (List ℕ)) OpenQuote → Result (Option Mount) TableRule
 values_answer count before (Ok words) = unless_rule (find (breaks count before words) rules) (mount_of words)
 values_answer count before (Err quote) = Err rule.Fields

@@ -67,7 +67,10 @@ impl FileSystems {
     }
 
     /// The table of a text: one mount point a line, and behind it the one or more custodians who
-    /// keep its exports file. The text has at most 4,294,967,294 bytes.
+    /// keep its exports file. The text has at most 4,294,967,294 bytes. The faults of a line are
+    /// Fields (no custodian, or a quote that does not close), Duplicate (the mount point is listed
+    /// before, in any spelling), BadPath and TooMany (the 257th mount point). That the custodians are
+    /// listed themselves is not asked: it needs their file.
     pub fn read(alloc: Global, text: &str) -> Result<FileSystems, ReadError<TableFault>>
         requires { length text.now ≤ 4294967294 }
         ensures { Reads result (read_filesystems text.now) }

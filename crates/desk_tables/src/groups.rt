@@ -1,6 +1,6 @@
 //! The groups of a site. (group(5))
 
-ghost use Rattle.std.specs.Prelude.{◌≡◌, ◌≤◌, IfOk, OnOk, length};
+ghost use Rattle.std.specs.Prelude.{◌≡◌, ◌≤◌, [], IfOk, OnOk, length};
 ghost use Rattle.std.specs.Option.{option_copied};
 ghost use Rattle.desk_text.specs.Reading.{Reads};
 ghost use Rattle.desk_tables.specs.Groups.{at_most_16, gids_of, group_answer, group_of_name, has_member, members_in, read_groups};
@@ -47,6 +47,17 @@ impl Model for Groups {
 }
 
 impl Groups {
+    /// No groups.
+    pub fn new(alloc: Global) -> Groups
+        ensures { result ≡ [] }
+    {
+        Groups {
+            rows: Sequence::new(alloc),
+            by_name: BTreeMap::new(alloc),
+            by_member: BTreeMap::new(alloc),
+        }
+    }
+
     /// Reads lines `group:password:gid:member,member`, where empty members are dropped. Lines of blanks, and those whose
     /// first character that is no blank is `#`, are skipped. The faults are Fields (not four), Number (the gid is no
     /// decimal up to 4294967295) and Name (it is empty).

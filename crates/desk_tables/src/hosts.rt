@@ -1,6 +1,6 @@
 //! The hosts file. (hosts(5))
 
-ghost use Rattle.std.specs.Prelude.{◌≡◌, ◌≤◌, ◌∷◌, IfOk, OnOk, length, map};
+ghost use Rattle.std.specs.Prelude.{◌≡◌, ◌≤◌, ◌∷◌, [], IfOk, OnOk, length, map};
 ghost use Rattle.std.specs.Str.{str_to_ascii_lowercase};
 ghost use Rattle.desk_text.specs.Addr.{number_of};
 ghost use Rattle.desk_text.specs.Reading.{Reads};
@@ -44,6 +44,16 @@ impl Model for Hosts {
 }
 
 impl Hosts {
+    /// No hosts.
+    pub fn new(alloc: Global) -> Hosts
+        ensures { result ≡ [] }
+    {
+        Hosts {
+            rows: Sequence::new(alloc),
+            index: BTreeMap::new(alloc),
+        }
+    }
+
     /// Reads a hosts file: on each line an address, a name and its aliases, between blanks. `#` begins
     /// a comment. A line without a word before its comment, and one whose address has a `:`, is
     /// skipped. The faults of a line are Fields (no name), Number (the address does not read) and

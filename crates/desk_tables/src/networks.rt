@@ -1,6 +1,6 @@
 //! The networks file. (networks(5))
 
-ghost use Rattle.std.specs.Prelude.{◌≡◌, ◌≤◌, ◌∷◌, IfOk, OnOk, length, map};
+ghost use Rattle.std.specs.Prelude.{◌≡◌, ◌≤◌, ◌∷◌, [], IfOk, OnOk, length, map};
 ghost use Rattle.desk_text.specs.Reading.{Reads};
 ghost use Rattle.desk_tables.specs.Networks.{network_answer, network_line_answer, network_number, read_networks};
 ghost use Rattle.desk_tables.specs.Index.{AddsFirsts, HasNumbers};
@@ -41,6 +41,16 @@ impl Model for Networks {
 }
 
 impl Networks {
+    /// No networks.
+    pub fn new(alloc: Global) -> Networks
+        ensures { result ≡ [] }
+    {
+        Networks {
+            rows: Sequence::new(alloc),
+            numbers: BTreeMap::new(alloc),
+        }
+    }
+
     /// Reads a networks file: on each line a name, a number of one to four parts, and aliases, between
     /// blanks. `#` begins a comment, and a line without a word before its comment is skipped. The
     /// faults of a line are Fields (no number), Number (the number does not read) and Name (a name is

@@ -110,3 +110,26 @@ fn printed_credentials(rt: HostRuntime) -> Result<(), Fail> {
     );
     Ok(())
 }
+
+#[test]
+fn tables_without_rows(rt: HostRuntime) -> Result<(), Fail> {
+    let alloc = rt.alloc();
+    let (users, groups) = (Users::new(alloc), Groups::new(alloc));
+    assert!(rt; Hosts::new(alloc).addresses(alloc, "sneezy")?.is_empty());
+    assert!(rt; Networks::new(alloc).find("cis-net").is_none());
+    assert!(rt; users.by_uid(0).is_none());
+    assert!(rt; groups.by_name("wheel").is_none());
+    for (text, want) in [
+        ("0:10", "0:10"),
+        ("root", "fault 1"),
+        ("0", "fault 1"),
+        ("0:wheel", "fault 2"),
+    ] {
+        let have = match credential(&users, &groups, text) {
+            Ok(cred) => cred.to_string(alloc)?,
+            Err(fault) => format!(in alloc; "fault {}", fault.number())?,
+        };
+        assert_eq!(rt; have.as_str(), want, "of {text}");
+    }
+    Ok(())
+}

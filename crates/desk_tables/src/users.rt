@@ -1,6 +1,6 @@
 //! The users of a site. (passwd(5))
 
-ghost use Rattle.std.specs.Prelude.{◌≡◌, ◌≤◌, IfOk, length};
+ghost use Rattle.std.specs.Prelude.{◌≡◌, ◌≤◌, [], IfOk, length};
 ghost use Rattle.std.specs.Option.{option_copied};
 ghost use Rattle.desk_text.specs.Reading.{Reads};
 ghost use Rattle.desk_tables.specs.Index.{HasUserNames, HasUserNumbers};
@@ -44,6 +44,17 @@ impl Model for Users {
 }
 
 impl Users {
+    /// No users.
+    pub fn new(alloc: Global) -> Users
+        ensures { result ≡ [] }
+    {
+        Users {
+            rows: Sequence::new(alloc),
+            by_name: BTreeMap::new(alloc),
+            by_uid: BTreeMap::new(alloc),
+        }
+    }
+
     /// Reads lines `name:password:uid:gid:gecos:home:shell`. Lines of blanks, and those whose first character that is no
     /// blank is `#`, are skipped. The faults are Fields (not seven), Number (the uid or the gid is no decimal up to
     /// 4294967295) and Name (it is empty).

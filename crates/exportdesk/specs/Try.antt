@@ -4,6 +4,7 @@ use Rattle.std.specs.Fmt.{decimal}
 use Rattle.desk_tables.specs.declared.filesystems.FsId.{FsId}
 use Rattle.desk_tables.specs.declared.filesystems.Mount.{Mount}
 use Rattle.desk_exports.specs.Files.{whole_answer}
+use Rattle.desk_exports.specs.Lent.{only_filesystems}
 use Rattle.desk_exports.specs.Rules.{rule_name, rule_number}
 use Rattle.desk_exports.specs.declared.entry.Entry.{Entry}
 use Rattle.desk_exports.specs.declared.files.LineFault.{LineFault}
@@ -20,9 +21,9 @@ abbrev pub verdict_over : List Mount → ℕ → List (List ℕ) → Result (Lis
 verdict_over table address path (Ok placed) = Ok (printed_verdict (content_of table placed) address path)
 verdict_over table address path (Err fault) = Err fault
 
--- the printed verdict for an address and a path over an exports text, with these file systems; or the text's first fault
+-- the printed verdict for an address and a path over an exports text, with these file systems and no other table; or the text's first fault
 abbrev pub try_answer : List Mount → List ℕ → ℕ → List (List ℕ) → Result (List ℕ) LineFault
-try_answer table text address path = verdict_over table address path (whole_answer table text)
+try_answer table text address path = verdict_over table address path (whole_answer (only_filesystems table) text)
 
 -- a fault as it is printed
 abbrev pub fault_line : LineFault → List ℕ

@@ -5,13 +5,15 @@ ghost use Rattle.std.specs.Fmt.{decimal};
 ghost use Rattle.std.specs.List.{starts_with};
 ghost use Rattle.std.specs.String.{string_bytes};
 ghost use Rattle.desk_text.specs.Addr.{number_of};
-ghost use Rattle.desk_text.specs.Reading.{ReadsAs};
+ghost use Rattle.desk_text.specs.Reading.{Reads, ReadsAs};
+ghost use Rattle.desk_exports.specs.Files.{EntriesAscend, whole_answer};
+ghost use Rattle.desk_exports.specs.Lent.{only_filesystems};
 ghost use Rattle.exportdesk.specs.Try.{fault_line, try_answer};
 
-use desk_exports::{LineFault, read_whole};
+use desk_exports::{Entry, LineFault, Tables, read_whole};
 use desk_policy::{Policy, decide, verdict_text};
-use desk_tables::FileSystems;
-use desk_text::{Addr, Path, ReadError};
+use desk_tables::{FileSystems, FsId, Groups, Networks, Users};
+use desk_text::{Addr, Path, ReadError, Sequence};
 use std::alloc::{AllocError, Global};
 
 /// The verdict for a client's address and a directory, over a whole exports text with these file
@@ -26,10 +28,32 @@ pub fn try_text(
     requires { length text.now ≤ 4294967294 }
     ensures { ReadsAs string_bytes result (try_answer filesystems.now text.now (number_of address) path.now) }
 {
-    let entries = read_whole(alloc, text, filesystems)?;
+    let entries = read_with_mounts(alloc, text, filesystems)?;
     let policy = Policy::of_entries(alloc, filesystems.clone()?, entries)?;
     let verdict = decide(&policy, address, path);
     Ok(verdict_text(alloc, &policy, &verdict)?)
+}
+
+/// The entries of a text, read with these file systems and no row of another table.
+fn read_with_mounts(
+    alloc: Global,
+    text: &str,
+    filesystems: &FileSystems,
+) -> Result<Sequence<(FsId, Entry)>, ReadError<LineFault>>
+    requires { length text.now ≤ 4294967294 }
+    ensures read { Reads result (whole_answer (only_filesystems filesystems.now) text.now) }
+    ensures ascending { IfOk result EntriesAscend }
+{
+    let networks = Networks::new(alloc);
+    let users = Users::new(alloc);
+    let groups = Groups::new(alloc);
+    let tables = Tables {
+        networks: &networks,
+        users: &users,
+        groups: &groups,
+        filesystems,
+    };
+    read_whole(alloc, text, &tables)
 }
 
 /// A fault as it is printed, without a line end.
