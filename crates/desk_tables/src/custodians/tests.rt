@@ -75,6 +75,7 @@ fn faults(rt: HostRuntime) -> Result<(), Fail> {
         ("site", (1, TableRule::Fields)),
         ("site D D", (1, TableRule::Fields)),
         ("site D\nulf \"D", (2, TableRule::Fields)),
+        ("Ulf D", (1, TableRule::Name)),
         ("Site D", (1, TableRule::Name)),
         ("'' D", (1, TableRule::Name)),
         ("a.b x", (1, TableRule::Name)),
@@ -88,7 +89,15 @@ fn faults(rt: HostRuntime) -> Result<(), Fail> {
     for (text, want) in rows {
         assert_eq!(rt; fault(rt.alloc(), text)?, Some(want), "of {text}");
     }
-    let letter = "site ga7816bf8f01cfea414140de5dae2223b00361a396177a9cb410ff61f20015ad";
-    assert_eq!(rt; fault(rt.alloc(), letter)?, Some((1, TableRule::Digest)));
+    for digits in [
+        "ga7816bf8f01cfea414140de5dae2223b00361a396177a9cb410ff61f20015ad",
+        "ba7816bf8f01cfea414140de5dae2223b00361a396177a9cb410ff61f20015a",
+    ] {
+        let text = format!(in rt.alloc(); "site {digits}")?;
+        assert_eq!(rt;
+            fault(rt.alloc(), text.as_str())?,
+            Some((1, TableRule::Digest))
+        );
+    }
     Ok(())
 }

@@ -68,6 +68,7 @@ fn comments_blanks_and_line_ends(rt: HostRuntime) -> Result<(), Fail> {
         "\t10.0.0.5 \t a#b c\n",
         "# 10.0.0.6 a\n \t# x\n\n10.0.0.5 a # 10.0.0.7 a\n",
         "::1 a\nfe80::1\n:\n10.0.0.5 a\n",
+        "::1 localhost b\n10.0.0.5 a\n",
     ] {
         let found = addresses(rt.alloc(), text, "a")?;
         assert_eq!(rt; found.as_str(), "10.0.0.5", "{text}");

@@ -86,6 +86,7 @@ fn faults(rt: HostRuntime) -> Result<(), Fail> {
         ("/a", Some((1, TableRule::Fields))),
         ("/a ulf\n/b 'ulf", Some((2, TableRule::Fields))),
         ("a", Some((1, TableRule::Fields))),
+        ("/a ulf\n/a/ site", Some((2, TableRule::Duplicate))),
         ("/a ulf\n/b ulf\n//a/ ulf", Some((3, TableRule::Duplicate))),
         ("a ulf", Some((1, TableRule::BadPath))),
         ("/a/../b ulf", Some((1, TableRule::BadPath))),
