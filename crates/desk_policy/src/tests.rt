@@ -1,5 +1,8 @@
 //! Small policies, worked by hand.
 
+ghost use Rattle.std.specs.Prelude.{IfOk};
+ghost use Rattle.desk_exports.specs.Files.{EntriesAscend};
+
 use super::*;
 use desk_exports::{Entry, Flavour, Mapping, Tables, Terms, read_whole};
 use desk_tables::{Cred, FileSystems, FsId, Groups, Networks, Users};
@@ -21,7 +24,9 @@ fn entries(
     alloc: Global,
     filesystems: &FileSystems,
     text: &str,
-) -> Result<Sequence<(FsId, Entry)>, Fail> {
+) -> Result<Sequence<(FsId, Entry)>, Fail>
+    ensures { IfOk result EntriesAscend }
+{
     if text.len() > 10000 {
         return Err("too long")?;
     }
