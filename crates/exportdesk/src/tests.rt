@@ -156,17 +156,25 @@ fn networks_weigh_by_their_prefixes(rt: HostRuntime) -> Result<(), Fail> {
 
 #[test]
 fn a_quoted_directory_on_a_continued_line(rt: HostRuntime) -> Result<(), Fail> {
-    let mut input = "\"/a/my disk\" \\\n-sec=krb5:sys:krb5 \\\n10.0.0.5\n".as_bytes();
-    let mut out = Vec::new(rt.alloc());
-    let mut err = Vec::new(rt.alloc());
-    let words = ["try", "-", "10.0.0.5", "/a//my disk/", "/a"];
-    let status = run(&rt, words.as_slice(), &mut input, &mut out, &mut err);
-    let out = String::from_utf8(out)?;
-    assert_eq!(rt;
-        out.as_str(),
-        "granted line 1 rw sec=krb5:sys root=65534:65533\n"
-    );
-    assert_eq!(rt; status, 0);
+    for (text, line) in [
+        (
+            "\"/a/my disk\" \\\n10.0.0.5\n",
+            "granted line 1 rw sec=sys root=65534:65533\n",
+        ),
+        (
+            "\"/a/my disk\" \\\n-sec=krb5:sys:krb5 \\\n10.0.0.5\n",
+            "granted line 1 rw sec=krb5:sys root=65534:65533\n",
+        ),
+    ] {
+        let mut input = text.as_bytes();
+        let mut out = Vec::new(rt.alloc());
+        let mut err = Vec::new(rt.alloc());
+        let words = ["try", "-", "10.0.0.5", "/a//my disk/", "/a"];
+        let status = run(&rt, words.as_slice(), &mut input, &mut out, &mut err);
+        let out = String::from_utf8(out)?;
+        assert_eq!(rt; out.as_str(), line);
+        assert_eq!(rt; status, 0);
+    }
     Ok(())
 }
 
