@@ -112,6 +112,40 @@ fn verdicts(rt: HostRuntime) -> Result<(), Fail> {
         ),
         ("10.0.0.6 /a/x /a", LINES, 1, "denied 3 NotListed /a line 1"),
         ("10.0.0.5 /a /a", "/a host\0\n", 1, "denied 2 NoLine /a"),
+        ("10.0.0.5 /a /a", "V4: /\n", 1, "denied 2 NoLine /a"),
+        (
+            "10.0.0.5 /a /a",
+            "/a -network fe80::/10\n",
+            1,
+            "denied 2 NoLine /a",
+        ),
+    ] {
+        let shown = shown(rt.alloc(), status, line)?;
+        let answer = tried(&rt, words, text)?;
+        assert_eq!(rt; answer.as_str(), shown.as_str(), "{words}");
+    }
+    Ok(())
+}
+
+#[test]
+fn networks_weigh_by_their_prefixes(rt: HostRuntime) -> Result<(), Fail> {
+    let nets = "/a/x -network 10.1/16\n/a/y -network 10.1.2/24\n";
+    let std = "granted line 2 rw sec=sys root=65534:65533";
+    for (words, text, status, line) in [
+        (
+            "255.255.255.255 /a /a",
+            "/a -ro\n/a -network 0.0.0.0/0\n",
+            0,
+            std,
+        ),
+        (
+            "10.0.0.5 /a /a",
+            "/a -network 10.0.0.5/32 -ro\n/a 10.0.0.5\n",
+            0,
+            std,
+        ),
+        ("10.1.2.9 /a/x /a", nets, 1, "denied 3 NotListed /a line 2"),
+        ("10.1.2.9 /a/y /a", nets, 0, std),
     ] {
         let shown = shown(rt.alloc(), status, line)?;
         let answer = tried(&rt, words, text)?;
@@ -122,7 +156,7 @@ fn verdicts(rt: HostRuntime) -> Result<(), Fail> {
 
 #[test]
 fn a_quoted_directory_on_a_continued_line(rt: HostRuntime) -> Result<(), Fail> {
-    let mut input = "\"/a/my disk\" \\\n10.0.0.5\n".as_bytes();
+    let mut input = "\"/a/my disk\" \\\n-sec=krb5:sys:krb5 \\\n10.0.0.5\n".as_bytes();
     let mut out = Vec::new(rt.alloc());
     let mut err = Vec::new(rt.alloc());
     let words = ["try", "-", "10.0.0.5", "/a//my disk/", "/a"];
@@ -130,7 +164,7 @@ fn a_quoted_directory_on_a_continued_line(rt: HostRuntime) -> Result<(), Fail> {
     let out = String::from_utf8(out)?;
     assert_eq!(rt;
         out.as_str(),
-        "granted line 1 rw sec=sys root=65534:65533\n"
+        "granted line 1 rw sec=krb5:sys root=65534:65533\n"
     );
     assert_eq!(rt; status, 0);
     Ok(())
@@ -168,11 +202,46 @@ fn faults_by_their_first_rule(rt: HostRuntime) -> Result<(), Fail> {
         (
             "10.0.0.5 /a /a",
             "/a\n/a -sec=sys\n/a -foo",
-            "fault line 2 rule 5 UnknownOption",
+            "fault line 3 rule 5 UnknownOption",
         ),
         ("10.0.0.5 /a /a", "/a/..", "fault line 1 rule 3 BadPath"),
         ("10.0.0.5 /a /a", "/a\0", "fault line 1 rule 3 BadPath"),
-        ("10.0.0.5 /a /a", "V4: /", "fault line 1 rule 1 NotAbsolute"),
+        ("10.0.0.5 /a /a", "v4: /", "fault line 1 rule 1 NotAbsolute"),
+        (
+            "10.0.0.5 /a /a",
+            "/a -network 10 -mask 255.0.255.0",
+            "fault line 1 rule 10 BadMask",
+        ),
+        (
+            "10.0.0.5 /a /a",
+            "/a -network 224.1",
+            "fault line 1 rule 13 NoClass",
+        ),
+        (
+            "10.0.0.5 /a /a",
+            "/a -maproot=0:10 -mapall=5:",
+            "fault line 1 rule 15 RootAndAll",
+        ),
+        (
+            "10.0.0.5 /a /a",
+            "/a -maproot=0::5",
+            "fault line 1 rule 20 EmptyElement",
+        ),
+        (
+            "10.0.0.5 /a /a",
+            "/a -mask 255.0.0.0",
+            "fault line 1 rule 12 MaskAlone",
+        ),
+        (
+            "10.0.0.5 /a /a",
+            "/a -network 10/8 10.0.0.5",
+            "fault line 1 rule 14 NetAndHost",
+        ),
+        (
+            "10.0.0.5 /a /a",
+            "/a -maproot=root",
+            "fault line 1 rule 17 UnknownUser",
+        ),
         ("10.0.0.5 /a /a", "\0", "fault line 1 rule 1 NotAbsolute"),
         (
             "10.0.0.5 /a /a",
