@@ -1,5 +1,8 @@
 //! Small policies, worked by hand.
 
+ghost use Rattle.std.specs.Prelude.{IfOk};
+ghost use Rattle.desk_exports.specs.Files.{EntriesAscend};
+
 use super::*;
 use desk_exports::{Entry, Flavour, Mapping, Tables, Terms, read_whole};
 use desk_tables::{Cred, FileSystems, FsId, Groups, Networks, Users};
@@ -21,7 +24,9 @@ fn entries(
     alloc: Global,
     filesystems: &FileSystems,
     text: &str,
-) -> Result<Sequence<(FsId, Entry)>, Fail> {
+) -> Result<Sequence<(FsId, Entry)>, Fail>
+    ensures { IfOk result EntriesAscend }
+{
     if text.len() > 10000 {
         return Err("too long")?;
     }
@@ -129,6 +134,38 @@ fn greatest_weight_wins(rt: HostRuntime) -> Result<(), Fail> {
     for (client, dir, want) in rows {
         let got = verdict(rt.alloc(), &policy, client, dir)?;
         assert_eq!(rt; got.as_str(), want, "{client} asks {dir}");
+    }
+    Ok(())
+}
+
+#[test]
+fn networks_weigh_by_their_prefixes(rt: HostRuntime) -> Result<(), Fail> {
+    let everybody = "/a -ro\n/a -network 0.0.0.0/0\n";
+    let one = "/a -network 10.0.0.5/32 -ro\n/a 10.0.0.5\n";
+    let nested = "/a/x -network 10.1/16\n/a/y -network 10.1.2/24\n";
+    let same = "/a -network 192.168.0/24\n/a /a/x -network 192.168.0.0 -mask 255.255.255.0\n";
+    let first = "granted line 1 rw sec=sys root=65534:65533";
+    let second = "granted line 2 rw sec=sys root=65534:65533";
+    let rows = [
+        (everybody, "255.255.255.255", "/a", second),
+        (one, "10.0.0.5", "/a", second),
+        (nested, "10.1.2.9", "/a/x", "denied 3 NotListed /a line 2"),
+        (nested, "10.1.2.9", "/a/y", second),
+        (nested, "10.1.3.9", "/a/x", first),
+        (nested, "10.2.2.9", "/a/x", "denied 2 NoLine /a"),
+        (same, "192.168.0.9", "/a/x", second),
+        (same, "192.168.0.9", "/a", first),
+        (
+            "/a -network 3ffe::/16",
+            "63.254.0.1",
+            "/a",
+            "denied 2 NoLine /a",
+        ),
+    ];
+    for (text, client, dir, want) in rows {
+        let policy = policy(rt.alloc(), &["/a"], text)?;
+        let got = verdict(rt.alloc(), &policy, client, dir)?;
+        assert_eq!(rt; got.as_str(), want, "{client} asks {dir} by {text}");
     }
     Ok(())
 }
