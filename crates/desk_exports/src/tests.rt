@@ -203,151 +203,66 @@ fn quotes_and_continuations(rt: HostRuntime) -> Result<(), Fail> {
     Ok(())
 }
 
-/// Each rule: a line of which it holds alone or first, and the nearest one of which no rule holds.
-const RULE_ROWS: [(&str, &str, &str); 40] = [
-    ("/a \"x", "line 1 rule 24 OpenQuote", "/a \"x\""),
-    (
-        "/a host # note",
-        "line 1 rule 25 StrayComment",
-        "/a host \\# note",
-    ),
-    ("/a -r #", "line 1 rule 25 StrayComment", "/a -r 0:"),
-    ("a/b", "line 1 rule 1 NotAbsolute", "/a/b"),
-    ("-ro /a", "line 1 rule 1 NotAbsolute", "/a -ro"),
-    ("/a -ro /a/x", "line 1 rule 2 DirectoryLate", "/a /a/x -ro"),
-    ("/a/..", "line 1 rule 3 BadPath", "/a/..."),
-    ("/a /b", "line 1 rule 4 DirectoryElsewhere", "/a /a/b"),
-    ("/c", "line 1 rule 4 DirectoryElsewhere", "/b/c"),
-    ("/a -rw", "line 1 rule 5 UnknownOption", "/a -ro"),
-    ("/a -ro=", "line 1 rule 5 UnknownOption", "/a -ro"),
-    (
-        "/a -ro,,quiet",
-        "line 1 rule 5 UnknownOption",
-        "/a -ro,quiet",
-    ),
-    ("/a -", "line 1 rule 5 UnknownOption", "/a \\-"),
-    ("/a -ro,tls=x", "line 1 rule 6 OptionLeftOut", "/a -ro tls"),
-    ("/a -mapall", "line 1 rule 7 ValueMissing", "/a -mapall 0:"),
-    (
-        "/a -mapall= 0:",
-        "line 1 rule 7 ValueMissing",
-        "/a -mapall=0:",
-    ),
-    (
-        "/a -mapall -ro",
-        "line 1 rule 7 ValueMissing",
-        "/a -mapall 0: -ro",
-    ),
-    (
-        "/a -mapall,ro 0:",
-        "line 1 rule 7 ValueMissing",
-        "/a -ro,mapall 0:",
-    ),
-    (
-        "/a -r=0: -maproot=0:",
-        "line 1 rule 8 RepeatedOption",
-        "/a -r=0: -sec=sys",
-    ),
-    ("/a 10.0.0.300", "line 1 rule 9 BadAddress", "/a 10.0.0.30"),
-    ("/a h,i", "line 1 rule 9 BadAddress", "/a h i"),
-    ("/a ''", "line 1 rule 9 BadAddress", "/a 'h'"),
-    (
-        "/a -network=cis",
-        "line 1 rule 9 BadAddress",
-        "/a -network=cis-net",
-    ),
-    (
-        "/a -network=10.300",
-        "line 1 rule 9 BadAddress",
-        "/a -network=10.30",
-    ),
-    (
-        "/a -network=10/33",
-        "line 1 rule 10 BadMask",
-        "/a -network=10/32",
-    ),
-    (
-        "/a -network=10/08",
-        "line 1 rule 10 BadMask",
-        "/a -network=10/8",
-    ),
-    (
-        "/a -network=10 -mask=255.0.255.0",
-        "line 1 rule 10 BadMask",
-        "/a -network=10 -mask=255.255.255.0",
-    ),
-    (
-        "/a -mask=255/8",
-        "line 1 rule 10 BadMask",
-        "/a -network=255/8",
-    ),
-    (
-        "/a -network=10/8 -mask=255",
-        "line 1 rule 11 MaskTwice",
-        "/a -network=10 -mask=255",
-    ),
-    (
-        "/a -mask=255",
-        "line 1 rule 12 MaskAlone",
-        "/a -mask=255 -network=10",
-    ),
-    (
-        "/a -network=224.1",
-        "line 1 rule 13 NoClass",
-        "/a -network=224.1/4",
-    ),
-    (
-        "/a -network=10/8 10.0.0.5",
-        "line 1 rule 14 NetAndHost",
-        "/a -network 10/8",
-    ),
-    (
-        "/a -maproot=0:10 -mapall=5:",
-        "line 1 rule 15 RootAndAll",
-        "/a -maproot=0:10 -ro",
-    ),
-    ("/a -sec=sys:", "line 1 rule 16 BadFlavour", "/a -sec=sys"),
-    ("/a -mapall=7", "line 1 rule 17 UnknownUser", "/a -mapall=3"),
-    (
-        "/a -mapall=bin:nogrp",
-        "line 1 rule 18 UnknownGroup",
-        "/a -mapall=bin:bin",
-    ),
-    (
-        "/a -mapall=1:1:2:3:4:5:6:7:8:9:10:11:12:13:14:15:16:17",
-        "line 1 rule 19 TooManyGroups",
-        "/a -mapall=1:1:2:3:4:5:6:7:8:9:10:11:12:13:14:15:16",
-    ),
-    (
-        "/a -maproot=0::5",
-        "line 1 rule 20 EmptyElement",
-        "/a -maproot=0:",
-    ),
-    (
-        "/a -mapall=4294967296:",
-        "line 1 rule 21 Range",
-        "/a -mapall=4294967295:",
-    ),
-    ("/a /a -alldirs", "line 1 rule 22 AlldirsMany", "/a /a -ro"),
-];
+/// Each rule, a line of which it holds alone or first, and the nearest one of which no rule holds.
+const RULE_ROWS: &str = "24 OpenQuote;/a \"x;/a \"x\"
+25 StrayComment;/a host # note;/a host \\# note
+25 StrayComment;/a -r #;/a -r 0:
+1 NotAbsolute;a/b;/a/b
+1 NotAbsolute;-ro /a;/a -ro
+2 DirectoryLate;/a -ro /a/x;/a /a/x -ro
+3 BadPath;/a/..;/a/...
+4 DirectoryElsewhere;/a /b;/a /a/b
+4 DirectoryElsewhere;/c;/b/c
+5 UnknownOption;/a -rw;/a -ro
+5 UnknownOption;/a -ro=;/a -ro
+5 UnknownOption;/a -ro,,quiet;/a -ro,quiet
+5 UnknownOption;/a -;/a \\-
+6 OptionLeftOut;/a -ro,tls=x;/a -ro tls
+7 ValueMissing;/a -mapall;/a -mapall 0:
+7 ValueMissing;/a -mapall= 0:;/a -mapall=0:
+7 ValueMissing;/a -mapall -ro;/a -mapall 0: -ro
+7 ValueMissing;/a -mapall,ro 0:;/a -ro,mapall 0:
+8 RepeatedOption;/a -r=0: -maproot=0:;/a -r=0: -sec=sys
+9 BadAddress;/a 10.0.0.300;/a 10.0.0.30
+9 BadAddress;/a h,i;/a h i
+9 BadAddress;/a '';/a 'h'
+9 BadAddress;/a -network=cis;/a -network=cis-net
+9 BadAddress;/a -network=10.300;/a -network=10.30
+10 BadMask;/a -network=10/33;/a -network=10/32
+10 BadMask;/a -network=10/08;/a -network=10/8
+10 BadMask;/a -network=10 -mask=255.0.255.0;/a -network=10 -mask=255.255.255.0
+10 BadMask;/a -mask=255/8;/a -network=255/8
+11 MaskTwice;/a -network=10/8 -mask=255;/a -network=10 -mask=255
+12 MaskAlone;/a -mask=255;/a -mask=255 -network=10
+13 NoClass;/a -network=224.1;/a -network=224.1/4
+14 NetAndHost;/a -network=10/8 10.0.0.5;/a -network 10/8
+15 RootAndAll;/a -maproot=0:10 -mapall=5:;/a -maproot=0:10 -ro
+16 BadFlavour;/a -sec=sys:;/a -sec=sys
+17 UnknownUser;/a -mapall=7;/a -mapall=3
+18 UnknownGroup;/a -mapall=bin:nogrp;/a -mapall=bin:bin
+19 TooManyGroups;/a -mapall=1:1:2:3:4:5:6:7:8:9:10:11:12:13:14:15:16:17;/a -mapall=1:1:2:3:4:5:6:7:8:9:10:11:12:13:14:15:16
+20 EmptyElement;/a -maproot=0::5;/a -maproot=0:
+21 Range;/a -mapall=4294967296:;/a -mapall=4294967295:
+22 AlldirsMany;/a /a -alldirs;/a /a -ro
+23 AlldirsNotRoot;/a/x -alldirs;/a -alldirs";
 
 #[test]
 fn each_rule(rt: HostRuntime) -> Result<(), Fail> {
     let mounts = ["/a", "/b"];
-    for (text, want, near) in RULE_ROWS {
-        assert_eq!(rt; fault(rt.alloc(), &mounts, text)?.as_str(), want, "{text}");
+    for row in RULE_ROWS.lines() {
+        let (rule, lines) = row.split_once(';').ok_or("no line")?;
+        let (text, near) = lines.split_once(';').ok_or("one line")?;
+        let want = format!(in rt.alloc(); "line 1 rule {rule}")?;
+        assert_eq!(rt;
+            fault(rt.alloc(), &mounts, text)?.as_str(),
+            want.as_str(),
+            "{text}"
+        );
         assert!(rt; answer(rt.alloc(), &mounts, near)?.is_ok(), "{near}");
     }
-    let text = "/a/x -alldirs";
-    assert_eq!(rt;
-        fault(rt.alloc(), &mounts, text)?.as_str(),
-        "line 1 rule 23 AlldirsNotRoot"
-    );
-    assert!(rt; answer(rt.alloc(), &mounts, "/a -alldirs")?.is_ok());
     Ok(())
 }
 
-/// In front of each `:` a line, and behind it what it says.
 #[test]
 fn values_and_networks(rt: HostRuntime) -> Result<(), Fail> {
     let std = "rw sec=sys root=65534:65533";
