@@ -2,10 +2,13 @@
 use Rattle.std.proofs.Common.{◌≡◌, ℕ, ◌≤◌, Bool, true, false, not, ◌&&◌, ◌||◌, cond, eqb, List, [], ◌∷◌, length, Result, Ok, Err, refl, sym, ap, ◌∙◌, arith}
 use Rattle.std.specs.List.{AllByRecursion, join_with_byte, list_all, list_any, slice_split}
 use Rattle.std.specs.Prelude.{nat_lt}
+use Rattle.std.specs.Cmp.Lexicographic.{pointwise}
 use Rattle.std.proofs.lemmas.Bool.{cond-false, le-ltb}
+use Rattle.std.proofs.lemmas.Bool.Decides.{Decides-eqb, same_from_decides}
 use Rattle.std.proofs.lemmas.List.Elements.{All-from_recursion}
 use Rattle.std.proofs.lemmas.List.Splits.{slice_split_at, slice_split_none}
-use Rattle.desk_text.specs.Path.{IsPath, components, is_component, is_dot_component, longest_path, path_text, read_path}
+use Rattle.std.proofs.lemmas.Slice.Eq.{bytes_eq-Decides, slice_eq-Decides}
+use Rattle.desk_text.specs.Path.{IsPath, components, is_component, is_dot_component, longest_path, path_text, read_path, same_path}
 use Rattle.desk_text.specs.Laws.{PathsReadBack, PrintedPathsDiffer}
 use Rattle.desk_text.proofs.Slashes.{IsComponent, NoSlash, are_components, joined_components}
 
@@ -48,6 +51,15 @@ components_are_path text = components_pass (components text) (are_components tex
 pub printed_paths_differ : PrintedPathsDiffer
 printed_paths_differ path other p q same =
     sym (joined_components path (components_from path p)) ∙ ap components same ∙ joined_components other (components_from other q)
+
+-- the same texts are those of the same paths
+pub same_texts : (text other : List ℕ) (r : Bool) → path_text (components text) ≡ text → path_text (components other) ≡ other → r ≡ pointwise eqb text other
+    → r ≡ same_path (components text) (components other)
+same_texts text other r own own' is =
+    let texts = slice_eq-Decides Decides-eqb text other r is in
+    same_from_decides r (same_path (components text) (components other))
+    (λ e. ap components (texts.0 e), λ same. texts.1 (sym own ∙ ap path_text same ∙ own'))
+    (slice_eq-Decides bytes_eq-Decides (components text) (components other) _ refl)
 
 -- the parts of a printed path
 parts_of_joined : (part : List ℕ) (path : List (List ℕ)) → AllByRecursion IsComponent (part ∷ path) → slice_split (λ b. eqb b 47) (join_with_byte 47 (part ∷ path)) ≡ part ∷ path

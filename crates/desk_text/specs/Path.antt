@@ -1,6 +1,7 @@
 -- Paths as lists of components.
 use Rattle.std.specs.Prelude.{ℕ, ◌==◌, nat_lt, nat_le, Bool, true, false, not, ◌&&◌, IsTrue, List, [], ◌∷◌, length, slice_index, filter, Result, Ok, Err, if◌then◌else◌}
 use Rattle.std.specs.List.{slice_split, list_any, list_all, join_with_byte}
+use Rattle.std.specs.Cmp.Lexicographic.{pointwise}
 use Rattle.std.specs.Str.{bytes_eq}
 use Rattle.desk_text.specs.declared.path.PathFault.{PathFault}
 use Rattle.desk_text.specs.declared.path.PathFault.TheVariants.{NotAbsolute, DotComponent, TooLong, NulByte}
@@ -42,9 +43,13 @@ is_under path [] = true
 is_under [] (part ∷ above) = false
 is_under (own ∷ path) (part ∷ above) = bytes_eq own part && is_under path above
 
--- two paths are the same if they are printed alike; these are just those with the same components (law `printed_paths_differ`)
+-- two paths are the same if they have the same components
 abbrev pub same_path : List (List ℕ) → List (List ℕ) → Bool
-same_path path other = bytes_eq (path_text path) (path_text other)
+same_path path other = pointwise bytes_eq path other
+
+-- two paths are printed alike; these are just the same ones (law `printed_paths_differ`)
+abbrev pub are_printed_alike : List (List ℕ) → List (List ℕ) → Bool
+are_printed_alike path other = bytes_eq (path_text path) (path_text other)
 
 -- the most bytes that the text of a path may have
 abbrev pub longest_path : ℕ
