@@ -4,25 +4,27 @@ use Rattle.std.specs.List.{cons_option}
 use Rattle.std.specs.Option.{option_zip}
 use Rattle.std.specs.Result.{result_map_both}
 use Rattle.desk_text.specs.Lines.{LogicalLine, logical_lines}
-use Rattle.desk_text.specs.declared.quoting.OpenQuote.{OpenQuote}
+use Rattle.desk_text.specs.Reading.{answered_value, fault_at, read_lines, unless_fault}
+use Rattle.desk_text.specs.declared.reading.LineFault.{LineFault}
+use Rattle.desk_text.specs.declared.word.OpenQuote.{OpenQuote}
 use Rattle.desk_tables.specs.Mounts.{fs_of}
 use Rattle.desk_tables.specs.declared.filesystems.FsId.{FsId}
 use Rattle.desk_exports.specs.Clients.{clients_of}
 use Rattle.desk_exports.specs.Entry.{entry_of, mapping_of, terms_of}
-use Rattle.desk_exports.specs.Files.{fault_in, faults, found, found_in, home_of, line_says, lines_answer, text_answer, unless_fault, words_say}
+use Rattle.desk_exports.specs.Files.{answered_line, home_of, line_says, text_answer, words_say}
 use Rattle.desk_exports.specs.Flavours.{flavours_of}
-use Rattle.desk_exports.specs.Laws.{AnswersSayWhat, EntriesAreTheAnswers, FirstFaultIsNamed, IsFirstFault, SaysWhat, takes_part, takes_part_in}
+use Rattle.desk_exports.specs.Laws.{AnswersSayWhat, EntriesAreTheAnswers, FirstFaultIsNamed, IsFirstFault, SaysWhat, faults, takes_part, takes_part_in}
 use Rattle.desk_exports.specs.Lines.{read_grammar_line, unless_broken}
 use Rattle.desk_exports.specs.Options.{has_option}
 use Rattle.desk_exports.specs.Rules.{first_broken_rule}
 use Rattle.desk_exports.specs.Tables.{TableRows}
 use Rattle.desk_exports.specs.declared.entry.Entry.{Entry}
-use Rattle.desk_exports.specs.declared.files.LineFault.{LineFault}
 use Rattle.desk_exports.specs.declared.files.Scope.{Scope}
 use Rattle.desk_exports.specs.declared.grammar.GrammarLine.{GrammarLine}
 use Rattle.desk_exports.specs.declared.options.Keyword.TheVariants as keyword
 use Rattle.desk_exports.specs.declared.rules.Rule.{Rule}
 use Rattle.desk_exports.specs.declared.rules.Rule.TheVariants.{StrayComment}
+use Rattle.desk_exports.proofs.FileLemmas.{found}
 use Rattle.desk_exports.proofs.EntryLemmas.{entry_parts, term_parts}
 use Rattle.desk_exports.proofs.RuleOrder.{named_if_broken}
 use Rattle.desk_exports.proofs.SoundLines.{lines_are_sound}
@@ -108,7 +110,7 @@ GivesIf false answer = answer ≡ Ok None
 
 module _ (tables : TableRows) (scope : Scope) (number : ℕ) where
   given_by_rule : (home : Option FsId) (parts : GrammarLine) (broken : Option Rule) → first_broken_rule tables home parts ≡ broken
-      → fault_in number (answer_unless home broken (entry_of tables number parts)) ≡ None → Gives (answer_unless home broken (entry_of tables number parts))
+      → fault_at number (answer_unless home broken (entry_of tables number parts)) ≡ None → Gives (answer_unless home broken (entry_of tables number parts))
   given_by_rule home parts (Some r) first f = absurd (cc)
   given_by_rule home parts None first f =
       let sound = lines_are_sound tables home number parts first in
@@ -118,13 +120,13 @@ module _ (tables : TableRows) (scope : Scope) (number : ℕ) where
       }
 
   given_by_version : (v4 stray : Bool) (home : Option FsId) (parts : GrammarLine)
-      → fault_in number (answer_for v4 stray home (first_broken_rule tables home parts) (entry_of tables number parts)) ≡ None
+      → fault_at number (answer_for v4 stray home (first_broken_rule tables home parts) (entry_of tables number parts)) ≡ None
       → GivesIf (not v4) (answer_for v4 stray home (first_broken_rule tables home parts) (entry_of tables number parts))
   given_by_version true true home parts f = absurd (cc)
   given_by_version true false home parts f = ap Ok (nothing_beside home)
   given_by_version false stray home parts f = given_by_rule home parts (first_broken_rule tables home parts) refl f
 
-  given_by_words : (parts : Result GrammarLine OpenQuote) → fault_in number (words_say tables scope number parts) ≡ None → GivesIf (takes_part_in parts) (words_say tables scope number parts)
+  given_by_words : (parts : Result GrammarLine OpenQuote) → fault_at number (words_say tables scope number parts) ≡ None → GivesIf (takes_part_in parts) (words_say tables scope number parts)
   given_by_words (Err quote) f = absurd (cc)
   given_by_words (Ok parts) f = given_by_version parts.is_v4 parts.has_stray_comment (home_of tables scope parts) parts f
 
@@ -133,33 +135,33 @@ module _ {X : Type 0} (answer : LogicalLine → Result (Option X) Rule) where
   abbrev AreAnswers : List X → List LogicalLine → Type 0
   AreAnswers xs ls = map answer ls ≡ map (λ (x : X). Ok (Some x)) xs
 
-  module _ (given : (l : LogicalLine) → fault_in l.number (answer l) ≡ None → GivesIf (takes_part l) (answer l)) where
+  module _ (given : (l : LogicalLine) → fault_at l.number (answer l) ≡ None → GivesIf (takes_part l) (answer l)) where
     -- the fault of a line that has one comes first
-    parts_of_faults : (o : Option LineFault) (more : List LineFault) → cons_option o more ≡ [] → (o ≡ None) × (more ≡ [])
+    parts_of_faults : (o : Option (LineFault Rule)) (more : List (LineFault Rule)) → cons_option o more ≡ [] → (o ≡ None) × (more ≡ [])
     parts_of_faults None more e = (refl, e)
     parts_of_faults (Some fault) more e = absurd (cc)
 
     one_more : (l : LogicalLine) (ls : List LogicalLine) (part : Bool) → GivesIf part (answer l) → AreAnswers (found answer ls) (filter takes_part ls)
-        → AreAnswers (cons_option (found_in (answer l)) (found answer ls)) (cond part (l ∷ filter takes_part ls) (filter takes_part ls))
+        → AreAnswers (cons_option (answered_value (answer l)) (found answer ls)) (cond part (l ∷ filter takes_part ls) (filter takes_part ls))
     one_more l ls false h are =
-        let none : cons_option (found_in (answer l)) (found answer ls) ≡ found answer ls = ap (λ b. cons_option (found_in b) (found answer ls)) h in
+        let none : cons_option (answered_value (answer l)) (found answer ls) ≡ found answer ls = ap (λ b. cons_option (answered_value b) (found answer ls)) h in
         subst (λ xs. AreAnswers xs (filter takes_part ls)) (sym none) are
     one_more l ls true h are =
-        let first : cons_option (found_in (answer l)) (found answer ls) ≡ h.value ∷ found answer ls = ap (λ b. cons_option (found_in b) (found answer ls)) h.is in
+        let first : cons_option (answered_value (answer l)) (found answer ls) ≡ h.value ∷ found answer ls = ap (λ b. cons_option (answered_value b) (found answer ls)) h.is in
         subst (λ xs. AreAnswers xs (l ∷ filter takes_part ls)) (sym first)
         (ap (λ a. a ∷ map answer (filter takes_part ls)) h.is ∙ ap (λ rest. Ok (Some h.value) ∷ rest) are)
 
     each : (ls : List LogicalLine) → faults answer ls ≡ [] → AreAnswers (found answer ls) (filter takes_part ls)
     each [] e = refl
     each (l ∷ ls) e =
-        let both = parts_of_faults (fault_in l.number (answer l)) (faults answer ls) e in
+        let both = parts_of_faults (fault_at l.number (answer l)) (faults answer ls) e in
         one_more l ls (takes_part l) (given l both.0) (each ls both.1)
 
-    found_of : (fs : List LineFault) (xs found : List X) → unless_fault fs xs ≡ Ok found → (fs ≡ []) × (xs ≡ found)
+    found_of : (fs : List (LineFault Rule)) (xs found : List X) → unless_fault fs xs ≡ Ok found → (fs ≡ []) × (xs ≡ found)
     found_of [] xs found e = (refl, (cc))
     found_of (f ∷ fs) xs found e = absurd (cc)
 
-    have_answers : (ls : List LogicalLine) (xs : List X) → lines_answer answer ls ≡ Ok xs → AreAnswers xs (filter takes_part ls)
+    have_answers : (ls : List LogicalLine) (xs : List X) → read_lines (map (answered_line answer) ls) ≡ Ok xs → AreAnswers xs (filter takes_part ls)
     have_answers ls xs e =
         let both = found_of (faults answer ls) (found answer ls) xs e in
         subst (λ ys. AreAnswers ys (filter takes_part ls)) both.1 (each ls both.0)
@@ -187,14 +189,14 @@ entry_numbers tables scope text entries e =
     (filter takes_part (logical_lines text)) entries (entries_are_the_answers tables scope text entries e)
 
 -- the rule of a fault is what the line answers
-rule_of : {X : Type 0} (number : ℕ) (answer : Result (Option X) Rule) (fault : LineFault) → fault_in number answer ≡ Some fault → (fault.line ≡ number) × (answer ≡ Err fault.rule)
+rule_of : {X : Type 0} (number : ℕ) (answer : Result (Option X) Rule) (fault : (LineFault Rule)) → fault_at number answer ≡ Some fault → (fault.line ≡ number) × (answer ≡ Err fault.rule)
 rule_of number (Ok o) fault e = absurd (cc)
 rule_of number (Err r) fault e =
     let same : fault ≡ record { line = number; rule = r } = (cc) in
-    (ap (λ (f : LineFault). f.line) same, ap Err (sym (ap (λ (f : LineFault). f.rule) same)))
+    (ap (λ (f : (LineFault Rule)). f.line) same, ap Err (sym (ap (λ (f : (LineFault Rule)). f.rule) same)))
 
 module _ {X : Type 0} (answer : LogicalLine → Result (Option X) Rule) where
-  first_at : (l : LogicalLine) (ls : List LogicalLine) (fault : LineFault) (more : List LineFault) (o : Option LineFault) → fault_in l.number (answer l) ≡ o → cons_option o (faults answer ls) ≡ fault ∷ more
+  first_at : (l : LogicalLine) (ls : List LogicalLine) (fault : (LineFault Rule)) (more : List (LineFault Rule)) (o : Option (LineFault Rule)) → fault_at l.number (answer l) ≡ o → cons_option o (faults answer ls) ≡ fault ∷ more
       → (faults answer ls ≡ fault ∷ more → IsFirstFault answer ls fault) → IsFirstFault answer (l ∷ ls) fault
   first_at l ls fault more (Some f) is e later =
       let same : f ≡ fault = cc in
@@ -212,15 +214,15 @@ module _ {X : Type 0} (answer : LogicalLine → Result (Option X) Rule) where
         rule = rest.rule;
       }
 
-  first_fault : (ls : List LogicalLine) (fault : LineFault) (more : List LineFault) → faults answer ls ≡ fault ∷ more → IsFirstFault answer ls fault
+  first_fault : (ls : List LogicalLine) (fault : (LineFault Rule)) (more : List (LineFault Rule)) → faults answer ls ≡ fault ∷ more → IsFirstFault answer ls fault
   first_fault [] fault more e = absurd (cc)
-  first_fault (l ∷ ls) fault more e = first_at l ls fault more (fault_in l.number (answer l)) refl e (λ f. first_fault ls fault more f)
+  first_fault (l ∷ ls) fault more e = first_at l ls fault more (fault_at l.number (answer l)) refl e (λ f. first_fault ls fault more f)
 
-  first_of : (fs : List LineFault) (xs : List X) (fault : LineFault) → unless_fault fs xs ≡ Err fault → (more : List LineFault) × (fs ≡ fault ∷ more)
+  first_of : (fs : List (LineFault Rule)) (xs : List X) (fault : (LineFault Rule)) → unless_fault fs xs ≡ Err fault → (more : List (LineFault Rule)) × (fs ≡ fault ∷ more)
   first_of [] xs fault e = absurd (cc)
   first_of (f ∷ fs) xs fault e = (fs, (let same : f ≡ fault = cc in ap (λ g. g ∷ fs) same))
 
-  first_named : (ls : List LogicalLine) (fault : LineFault) → lines_answer answer ls ≡ Err fault → IsFirstFault answer ls fault
+  first_named : (ls : List LogicalLine) (fault : (LineFault Rule)) → read_lines (map (answered_line answer) ls) ≡ Err fault → IsFirstFault answer ls fault
   first_named ls fault e =
       let first = first_of (faults answer ls) (found answer ls) fault e in
       first_fault ls fault first.0 first.1

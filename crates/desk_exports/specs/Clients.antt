@@ -4,8 +4,9 @@ use Rattle.std.specs.Char.{is_ascii_digit}
 use Rattle.std.specs.List.{list_any, before_first, after_first}
 use Rattle.std.specs.Option.{option_map}
 use Rattle.std.specs.Result.{result_ok}
-use Rattle.desk_text.specs.Addr.{number_of, read_short}
-use Rattle.desk_text.specs.Networks.{block_of, prefix_of_mask, read_prefix}
+use Rattle.desk_text.specs.Address.{number_of, read_short}
+use Rattle.desk_text.specs.Bytes.{is_ipv6}
+use Rattle.desk_text.specs.Network.{block_of, prefix_of_mask, read_prefix}
 use Rattle.desk_tables.specs.Networks.{network_number}
 use Rattle.desk_tables.specs.declared.networks.NetworkName.{NetworkName}
 use Rattle.desk_exports.specs.Options.{has_option, setting_or, value_of}
@@ -13,10 +14,6 @@ use Rattle.desk_exports.specs.declared.entry.Clients.{Clients}
 use Rattle.desk_exports.specs.declared.entry.Clients.TheVariants.{Hosts, Net, Net6, World}
 use Rattle.desk_exports.specs.declared.options.Keyword.TheVariants as keyword
 use Rattle.desk_exports.specs.declared.options.Setting.{Setting}
-
--- a value with `:` is a network of IPv6
-abbrev pub is_ipv6 : List ℕ → Bool
-is_ipv6 value = list_any (λ b. b == 58) value
 
 -- what stands before the first `/` is the network, and what stands behind it its prefix
 abbrev pub network_text : List ℕ → List ℕ

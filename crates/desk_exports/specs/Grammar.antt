@@ -3,7 +3,7 @@ use Rattle.std.specs.Prelude.{ℕ, Bool, false, not, ◌==◌, ◌&&◌, ◌||�
 use Rattle.std.specs.List.{slice_split, list_any, before_first, after_first, prefix_len}
 use Rattle.std.specs.Str.{bytes_eq}
 use Rattle.desk_text.specs.Path.{is_absolute, read_path}
-use Rattle.desk_text.specs.Words.{RawWord, word_value}
+use Rattle.desk_text.specs.Word.{RawWord, word_value}
 use Rattle.desk_exports.specs.Options.{keyword_of, takes_value}
 use Rattle.desk_exports.specs.declared.grammar.GrammarWord.{GrammarWord}
 use Rattle.desk_exports.specs.declared.options.Setting.{Setting}

@@ -2,6 +2,7 @@
 use Rattle.std.specs.Prelude.{ℕ, List, ◌++◌, ◌∷◌, codes, map, if◌then◌else◌}
 use Rattle.std.specs.Fmt.{decimal}
 use Rattle.std.specs.List.{join_with_byte}
+use Rattle.desk_text.specs.declared.reading.LineFault.{LineFault}
 use Rattle.desk_tables.specs.Credentials.{cred_text}
 use Rattle.desk_exports.specs.Flavours.{flavour_word}
 use Rattle.desk_exports.specs.Rules.{rule_name, rule_number}
@@ -9,7 +10,7 @@ use Rattle.desk_exports.specs.declared.entry.Flavour.{Flavour}
 use Rattle.desk_exports.specs.declared.entry.Mapping.{Mapping}
 use Rattle.desk_exports.specs.declared.entry.Mapping.TheVariants.{Root, All}
 use Rattle.desk_exports.specs.declared.entry.Terms.{Terms}
-use Rattle.desk_exports.specs.declared.files.LineFault.{LineFault}
+use Rattle.desk_exports.specs.declared.rules.Rule.{Rule}
 
 -- flavours are printed with colons between them
 abbrev pub flavours_text : List Flavour → List ℕ
@@ -25,5 +26,5 @@ abbrev pub terms_text : Terms → List ℕ
 terms_text terms = (if terms.ro then codes "ro" else codes "rw") ++ codes " sec=" ++ flavours_text terms.flavours ++ 32 ∷ mapping_text terms.map
 
 -- a fault, as `fault line 3 rule 14 NetAndHost`
-abbrev pub fault_line : LineFault → List ℕ
+abbrev pub fault_line : LineFault Rule → List ℕ
 fault_line fault = codes "fault line " ++ decimal fault.line ++ codes " rule " ++ decimal (rule_number fault.rule) ++ 32 ∷ rule_name fault.rule

@@ -3,21 +3,14 @@
 ghost use Rattle.std.specs.Prelude.{◌≡◌, ◌==◌, IfOk, slice_index};
 ghost use Rattle.std.specs.Char.{is_ascii_digit};
 ghost use Rattle.std.specs.Option.{option_copied, option_map};
-ghost use Rattle.desk_text.specs.Addr.{number_of};
+ghost use Rattle.desk_text.specs.Address.{number_of};
 ghost use Rattle.desk_exports.specs.Clients as spec;
 
 use crate::entry::Clients;
 use crate::options::{Keyword, Setting, has_option, value_of};
 use desk_tables::Networks;
-use desk_text::{Addr, Net, Prefix, Sequence, Text};
+use desk_text::{Addr, Net, Prefix, Sequence, Text, is_ipv6};
 use std::alloc::{AllocError, Global};
-
-/// Whether a value is a network of IPv6.
-pub(crate) fn is_ipv6(value: &str) -> bool
-    ensures { result ≡ spec.is_ipv6 value.now }
-{
-    value.as_bytes().iter().any(|byte| *byte == b':')
-}
 
 pub(crate) fn has_slash(value: &str) -> bool
     ensures { result ≡ spec.has_slash value.now }

@@ -4,7 +4,7 @@ ghost use Rattle.std.specs.Prelude.{◌≡◌, ◌≤◌, ◌++◌, ◌==◌, If
 ghost use Rattle.std.specs.List.{list_any, prefix_len};
 ghost use Rattle.std.specs.Option.{option_copied};
 ghost use Rattle.desk_text.specs.Path.{is_absolute, read_path};
-ghost use Rattle.desk_text.specs.Shown.{word_of};
+ghost use Rattle.desk_text.specs.Views.{word_of};
 ghost use Rattle.desk_exports.specs.Grammar as spec;
 
 use crate::options::{Setting, wants_value};
@@ -136,11 +136,7 @@ fn paths(
 fn read_path(alloc: Global, text: &str) -> Result<Result<Path, PathFault>, AllocError>
     ensures { IfOk result (λ path. path ≡ read_path text.now) }
 {
-    match Path::read(alloc, text) {
-        Ok(path) => Ok(Ok(path)),
-        Err(ReadError::Fault(fault)) => Ok(Err(fault)),
-        Err(ReadError::Memory) => Err(AllocError),
-    }
+    ReadError::split(Path::read(alloc, text))
 }
 
 fn settings(alloc: Global, words: &[GrammarWord]) -> Result<Sequence<Setting>, AllocError>

@@ -14,7 +14,7 @@ pub mod rules;
 pub mod tables;
 
 pub use entry::{Clients, Entry, Flavour, Mapping, Terms};
-pub use files::{LineFault, Scope, read_file, read_whole};
+pub use files::{Scope, read_file, read_whole};
 pub use grammar::{GrammarLine, GrammarWord};
 pub use lines::{fs_of_line, read_line};
 pub use options::{Keyword, Setting};

@@ -87,6 +87,6 @@ fn is_not_root(mount: Option<&Path>, directory: &Result<Path, PathFault>) -> boo
     match (mount, directory) {
         (_, Err(_)) => false,
         (None, Ok(_)) => true,
-        (Some(mount), Ok(path)) => path.text() != mount.text(),
+        (Some(mount), Ok(path)) => !(*path == *mount),
     }
 }

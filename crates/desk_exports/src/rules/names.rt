@@ -2,7 +2,7 @@
 
 ghost use Rattle.std.specs.Prelude.{◌≡◌, ◌==◌, ◌||◌};
 ghost use Rattle.std.specs.List.{list_any};
-ghost use Rattle.desk_text.specs.Addr.{is_address};
+ghost use Rattle.desk_text.specs.Address.{is_address};
 ghost use Rattle.desk_exports.specs.Rules as spec;
 
 use desk_text::{Addr, Text, is_dotted};

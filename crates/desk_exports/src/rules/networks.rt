@@ -2,18 +2,19 @@
 
 ghost use Rattle.std.specs.Prelude.{◌≡◌, false, is_none};
 ghost use Rattle.std.specs.Option.{option_map, option_map_or};
-ghost use Rattle.desk_text.specs.Addr.{number_of};
-ghost use Rattle.desk_exports.specs.Clients.{class_prefix, is_ipv6};
+ghost use Rattle.desk_text.specs.Address.{number_of};
+ghost use Rattle.desk_text.specs.Bytes.{is_ipv6};
+ghost use Rattle.desk_exports.specs.Clients.{class_prefix};
 ghost use Rattle.desk_exports.specs.Options.{of_value};
 ghost use Rattle.desk_exports.specs.Rules as spec;
 ghost use Rattle.desk_exports.specs.declared.options.Keyword.TheVariants as keyword;
 
 use crate::clients::{
-    class_prefix, has_slash, is_ipv6, mask_prefix, network_address, prefix_text,
+    class_prefix, has_slash, mask_prefix, network_address, prefix_text,
 };
 use crate::options::{Keyword, Setting, value_of};
 use desk_tables::Networks;
-use desk_text::{Addr, Prefix};
+use desk_text::{Addr, Prefix, is_ipv6};
 
 /// Whether the network is one of IPv6.
 pub(crate) fn has_ipv6_network(settings: &[Setting]) -> bool

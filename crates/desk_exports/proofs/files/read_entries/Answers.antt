@@ -1,17 +1,17 @@
-use Rattle.std.proofs.Common.{◌≡◌, ◌++◌, ◌∙◌, ap, sym, subst, take, List, [], Option, Result, Ok, Err}
+use Rattle.std.proofs.Common.{◌≡◌, ◌++◌, ◌∙◌, ap, sym, subst, take, map, List, [], Option, Result, Ok, Err}
 use Rattle.std.specs.List.{cons_option}
 use Rattle.std.proofs.lemmas.List.{take_all}
 use Rattle.std.proofs.lemmas.Result.{err_from_is_err_and}
 use Rattle.desk_text.specs.Lines.{AreNumberedUp, LogicalLine, logical_lines}
-use Rattle.desk_text.specs.Reading.{Reads}
+use Rattle.desk_text.specs.Reading.{Reads, answered_value, read_lines, unless_fault}
 use Rattle.desk_tables.specs.declared.filesystems.FsId.{FsId}
-use Rattle.desk_exports.specs.Files.{faults, found, found_in, line_says, lines_answer, text_answer, unless_fault}
-use Rattle.desk_exports.specs.Laws.{takes_part}
+use Rattle.desk_exports.specs.Files.{answered_line, line_says, text_answer}
+use Rattle.desk_exports.specs.Laws.{faults, takes_part}
 use Rattle.desk_exports.specs.Tables.{table_rows}
 use Rattle.desk_exports.specs.declared.entry.Entry.{Entry}
 use Rattle.desk_exports.specs.declared.rules.Rule.{Rule}
 use Rattle.desk_exports.proofs.AscendingEntries.{found_ascend}
-use Rattle.desk_exports.proofs.FileLemmas.{exit, faults_more, found_more}
+use Rattle.desk_exports.proofs.FileLemmas.{exit, faults_more, found, found_more}
 use Rattle.desk_exports.proofs.TextAnswers.{entry_numbers}
 use Rattle.desk_exports.proofs.files.read_entries.Goals as goal
 
@@ -21,7 +21,7 @@ returns-in_err-push_entry-clause-read c =
     let ls : List LogicalLine = c.deref-line-items.result.now in
     let text : ls ≡ logical_lines c.args.text.now = c.deref-line-items.ensures.value ∙ c.in_ok-lines.ensures.lines in
     let p = err_from_is_err_and c.from_residual-in_err-push_entry.result c.from_residual-in_err-push_entry.ensures.1 in
-    let P : List LogicalLine → Type 0 = λ lines. Reads {X = List (FsId × Entry)} (Err c.in_err-push_entry.field-0.0) (lines_answer answer lines) in
+    let P : List LogicalLine → Type 0 = λ lines. Reads {X = List (FsId × Entry)} (Err c.in_err-push_entry.field-0.0) (read_lines (map (answered_line answer) lines)) in
     rw (p.1, p.2) (subst P text (exit answer ls c.loop-line.line-index c.in_err-push_entry.field-0.0 c.line-item.result c.loop-line.entries c.push_entry.new.entries
     c.loop-line-test.true c.line-item.is c.loop-line.invariant.sound c.in_err-push_entry.ensures))
 
@@ -34,7 +34,7 @@ loop-line-preserved c =
           ∙ ap (λ o. faults answer (take c.loop-line.line-index ls) ++ cons_option o []) c.in_ok-push_entry.ensures.0
           ∙ ap (λ fs. fs ++ []) c.loop-line.invariant.sound;
       read = c.in_ok-push_entry.ensures.1
-          ∙ ap (λ es. es ++ cons_option (found_in (answer c.line-item.result)) []) c.loop-line.invariant.read
+          ∙ ap (λ es. es ++ cons_option (answered_value (answer c.line-item.result)) []) c.loop-line.invariant.read
           ∙ sym (found_more answer ls c.loop-line.line-index c.line-item.result c.loop-line-test.true c.line-item.is);
     }
 

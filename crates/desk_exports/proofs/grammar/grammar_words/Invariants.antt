@@ -1,5 +1,5 @@
 use Rattle.std.proofs.Common.{◌≡◌, map, take}
-use Rattle.desk_text.specs.Shown.{word_of}
+use Rattle.desk_text.specs.Views.{word_of}
 use Rattle.desk_exports.specs.Grammar.{grammar_word}
 use Rattle.desk_exports.proofs.grammar.grammar_words.Given as goal
 
