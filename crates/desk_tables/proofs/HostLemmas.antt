@@ -8,7 +8,7 @@ use Rattle.std.proofs.lemmas.List.Folds.{list_any-append}
 use Rattle.desk_text.specs.Addr.{number_of}
 use Rattle.desk_text.specs.declared.address.Addr.{Addr}
 use Rattle.desk_tables.specs.Ascending.{ascending}
-use Rattle.desk_tables.specs.Index.{addresses_under, under}
+use Rattle.desk_tables.specs.PrivateIndex.{addresses_under, under}
 use Rattle.desk_tables.specs.Hosts.{addresses_of_host, is_host}
 use Rattle.desk_tables.specs.declared.hosts.HostRow.{HostRow}
 use Rattle.desk_tables.proofs.AscendingLemmas.{ascending_has, ascending_rises, has, one_list}

@@ -9,10 +9,10 @@ use Rattle.std.specs.Str.Lines.{lines}
 use Rattle.desk_text.specs.Reading.{Reads}
 use Rattle.desk_text.specs.declared.reading.ReadError.{ReadError}
 use Rattle.desk_text.specs.declared.reading.ReadError.TheVariants.{Fault, Memory}
-use Rattle.desk_tables.specs.Rows.{PushesRow}
-use Rattle.desk_tables.specs.Tables.{Answered, answered_line, answered_lines, fault_of, row_in, table_of, unless_fault}
-use Rattle.desk_tables.specs.declared.faults.TableFault.{TableFault}
-use Rattle.desk_tables.specs.declared.faults.TableRule.{TableRule}
+use Rattle.desk_tables.specs.PrivateRows.{PushesRow}
+use Rattle.desk_tables.specs.Rows.{Answered, answered_line, answered_lines, fault_of, row_in, table_of, unless_fault}
+use Rattle.desk_tables.specs.declared.rules.TableFault.{TableFault}
+use Rattle.desk_tables.specs.declared.rules.TableRule.{TableRule}
 
 module _ {Row : Type 0} (answer : List ℕ → Result (Option Row) TableRule) (text : List ℕ) where
   -- the line with its number is the one at its place

@@ -1,20 +1,45 @@
--- What the contracts of the reader from line to line cite.
-use Rattle.std.specs.Prelude.{◌≡◌, ◌++◌, ℕ, List, [], Some, None, Option, Result, Ok, Err}
-use Rattle.std.specs.Borrow.{Bor}
-use Rattle.std.specs.List.{cons_option}
-use Rattle.desk_text.specs.Reading.{Reads}
-use Rattle.desk_text.specs.declared.reading.ReadError.{ReadError}
-use Rattle.desk_text.specs.declared.reading.ReadError.TheVariants.{Fault, Memory}
-use Rattle.desk_tables.specs.Tables.{Answered, fault_of, row_in}
-use Rattle.desk_tables.specs.declared.faults.TableFault.{TableFault}
-use Rattle.desk_tables.specs.declared.faults.TableRule.{TableRule}
+-- How a table is read: line by line, up to the first fault. (this project's own)
+use Rattle.std.specs.Prelude.{ℕ, List, [], ◌∷◌, Option, Some, None, Result, Ok, Err, map}
+use Rattle.std.specs.List.{enumerate_from, filter_map}
+use Rattle.std.specs.Str.Lines.{lines}
+use Rattle.desk_tables.specs.declared.rules.TableFault.{TableFault}
+use Rattle.desk_tables.specs.declared.rules.TableRule.{TableRule}
 
--- Each call of a reader of lines answers what the line spells; `returned` relates its arguments and its result.
-abbrev pub ReadsEachLine : {Alloc Row : Type 0} → (Alloc → Bor (List ℕ) → Result (Option Row) (ReadError TableRule) → Type 0) → (List ℕ → Result (Option Row) TableRule) → Type 0
-ReadsEachLine {Alloc = Alloc} {Row = Row} returned answer = (alloc : Alloc) (line : Bor (List ℕ)) (read : Result (Option Row) (ReadError TableRule)) → returned alloc line read → Reads read (answer line.now)
+-- a line of a table with its number: it answers its row, nothing if it is skipped, or the first rule that it breaks
+pub record Answered (Row : Type 0) : Type 0 where
+  pub number : ℕ
+  pub answer : Result (Option Row) TableRule
 
--- The row of a line is added to those before it, or its fault is returned; want of memory says nothing.
-abbrev pub PushesRow : {Row : Type 0} → Result (Unit {0}) (ReadError TableFault) → List Row → List Row → Answered Row → Type 0
-PushesRow (Ok done) old new line = (fault_of line ≡ None) × (new ≡ old ++ cons_option (row_in line.answer) [])
-PushesRow (Err Memory) old new line = Unit {0}
-PushesRow (Err (Fault fault)) old new line = fault_of line ≡ Some fault
+-- the fault of a line, if it has one
+abbrev pub fault_of : {Row : Type 0} → Answered Row → Option TableFault
+fault_of line = fault_in line.number line.answer
+  where
+    fault_in : {Row : Type 0} → ℕ → Result (Option Row) TableRule → Option TableFault
+    fault_in number (Ok row) = None
+    fault_in number (Err rule) = Some (record { line = number; rule = rule })
+
+-- the row of a line, if it has one
+abbrev pub row_in : {Row : Type 0} → Result (Option Row) TableRule → Option Row
+row_in (Ok row) = row
+row_in (Err rule) = None
+
+-- the rows if no line has a fault, else the first fault
+abbrev pub unless_fault : {Row : Type 0} → List TableFault → List Row → Result (List Row) TableFault
+unless_fault [] rows = Ok rows
+unless_fault (fault ∷ more) rows = Err fault
+
+-- what a table of these lines answers: its rows in order, or its first faulty line with the first rule that it breaks
+abbrev pub table_of : {Row : Type 0} → List (Answered Row) → Result (List Row) TableFault
+table_of lines = unless_fault (filter_map fault_of lines) (filter_map (λ line. row_in line.answer) lines)
+
+-- a line with its number, and what it answers
+abbrev pub answered_line : {Row : Type 0} → (List ℕ → Result (Option Row) TableRule) → ℕ × List ℕ → Answered Row
+answered_line answer line = record { number = line.0; answer = answer line.1 }
+
+-- each line of a text with its number, from 1, and what it answers
+abbrev pub answered_lines : {Row : Type 0} → (List ℕ → Result (Option Row) TableRule) → List ℕ → List (Answered Row)
+answered_lines answer text = map (answered_line answer) (enumerate_from 1 (lines text))
+
+-- what a table answers of which each line is read by itself
+abbrev pub text_table : {Row : Type 0} → (List ℕ → Result (Option Row) TableRule) → List ℕ → Result (List Row) TableFault
+text_table answer text = table_of (answered_lines answer text)

@@ -8,10 +8,10 @@ ghost use Rattle.std.specs.Str.{bytes_eq};
 ghost use Rattle.desk_text.specs.Reading.{Reads, ReadsAs};
 ghost use Rattle.desk_text.specs.Lines.{logical_lines};
 ghost use Rattle.desk_tables.specs.Custodians as spec;
-ghost use Rattle.desk_tables.specs.WordLines.{line_values, lines_table};
+ghost use Rattle.desk_tables.specs.QuotedLines.{line_values, lines_table};
 
-use crate::faults::{TableFault, TableRule};
-use crate::word_lines::{at_line, line_values};
+use crate::quoted_lines::{at_line, line_values};
+use crate::rules::{TableFault, TableRule};
 use desk_text::{Line, ReadError, Sequence, Text, logical_lines};
 use hex::FromHex;
 use std::alloc::{AllocError, Global};
@@ -22,14 +22,14 @@ use std::marker::Model;
 const LONGEST_NAME: usize = 32;
 
 /// A custodian: a name, and the SHA-256 digest of a key.
-#[derive(Clone, Debug, Drop)]
+#[derive(Drop)]
 pub struct Custodian {
     pub name: Text,
     pub digest: [u8; 32],
 }
 
 /// The custodians of a site, in the order of their lines, and beside them the digest of each name.
-#[derive(Debug, Drop)]
+#[derive(Drop)]
 pub struct Custodians {
     rows: Sequence<Custodian>,
     digests: BTreeMap<String, [u8; 32]>,

@@ -2,11 +2,11 @@
 
 ghost use Rattle.std.specs.Prelude.{◌≡◌, ◌≤◌, ℕ, List, Option, Result, length};
 ghost use Rattle.desk_text.specs.Reading.{Reads};
-ghost use Rattle.desk_tables.specs.Rows.{PushesRow, ReadsEachLine};
-ghost use Rattle.desk_tables.specs.Tables.{text_table};
-ghost use Rattle.desk_tables.specs.declared.faults.TableRule.{TableRule};
+ghost use Rattle.desk_tables.specs.PrivateRows.{PushesRow, ReadsEachLine};
+ghost use Rattle.desk_tables.specs.Rows.{text_table};
+ghost use Rattle.desk_tables.specs.declared.rules.TableRule.{TableRule};
 
-use crate::faults::{TableFault, TableRule};
+use crate::rules::{TableFault, TableRule};
 use desk_text::{ReadError, Sequence};
 use std::alloc::Global;
 

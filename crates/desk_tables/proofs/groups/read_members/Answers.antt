@@ -4,7 +4,7 @@ use Rattle.std.specs.Str.Iter.{split_text, split_has_more, split_pattern}
 use Rattle.std.proofs.lemmas.Iterator.Splits.{YieldsList-from_str_split}
 use Rattle.std.proofs.lemmas.Iterator.Consumers.{YieldsList-turn, YieldsList-end}
 use Rattle.std.proofs.lemmas.List.{length_push}
-use Rattle.desk_tables.proofs.FieldLemmas.{dropped, kept}
+use Rattle.desk_tables.proofs.ColonLineLemmas.{dropped, kept}
 use Rattle.desk_tables.proofs.groups.read_members.Goals as goal
 
 abbrev is_kept : List ℕ → Bool

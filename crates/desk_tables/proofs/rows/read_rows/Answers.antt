@@ -6,7 +6,7 @@ use Rattle.std.proofs.lemmas.Result.{err_from_is_err_and}
 use Rattle.std.specs.List.{filter_map}
 use Rattle.std.specs.Str.Iter.{lines_rest}
 use Rattle.std.specs.Str.Lines.{lines}
-use Rattle.desk_tables.specs.Tables.{answered_lines, fault_of, row_in}
+use Rattle.desk_tables.specs.Rows.{answered_lines, fault_of, row_in}
 use Rattle.desk_tables.proofs.RowLemmas.{all_lines, all_read, exit, line_is, read_more, sound_more}
 use Rattle.desk_tables.proofs.rows.read_rows.Goals as goal
 

@@ -1,9 +1,9 @@
 -- No line so far has a fault, and the rows are theirs.
 use Rattle.std.proofs.Common.{◌≡◌, ℕ, List, [], Option, Result, length, take}
 use Rattle.std.specs.List.{filter_map}
-use Rattle.desk_tables.specs.Rows.{ReadsEachLine}
-use Rattle.desk_tables.specs.Tables.{answered_lines, fault_of, row_in}
-use Rattle.desk_tables.specs.declared.faults.TableRule.{TableRule}
+use Rattle.desk_tables.specs.PrivateRows.{ReadsEachLine}
+use Rattle.desk_tables.specs.Rows.{answered_lines, fault_of, row_in}
+use Rattle.desk_tables.specs.declared.rules.TableRule.{TableRule}
 use Rattle.desk_tables.proofs.rows.read_rows.Given as goal
 
 abbrev pub invariant-loop-line : goal.invariant-loop-line
