@@ -4,7 +4,7 @@ use Rattle.std.specs.List.{flat_map}
 use Rattle.std.proofs.lemmas.Bool.{cond_both, eqb-true}
 use Rattle.std.proofs.lemmas.List.{append-nil}
 use Rattle.std.proofs.lemmas.List.Concat.{flat_map-append}
-use Rattle.desk_text.specs.Words.{Character, Bare, Escaped, Lone, Single, Quoted, characters, atoms_of, quoted, is_quote, is_bare, character_text, atom_text}
+use Rattle.desk_text.specs.Word.{Character, Bare, Escaped, Lone, Single, Quoted, characters, atoms_of, quoted, is_quote, is_bare, character_text, atom_text}
 use Rattle.desk_text.specs.Laws.{AtomsWriteText}
 
 characters_write : (text : List ℕ) → flat_map character_text (characters text) ≡ text

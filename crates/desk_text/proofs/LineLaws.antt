@@ -10,7 +10,7 @@ use Rattle.std.proofs.lemmas.List.Kept.{AllPairs-cons, AllPairs-filter}
 use Rattle.std.proofs.lemmas.List.Splits.{join_with_byte-slice_split}
 use Rattle.desk_text.specs.Lines.{PhysicalLine, physical_line, physical_lines_from, physical_lines, LogicalLine, is_continued, trimmed, groups, numbered, kept, is_skipped, logical_lines}
 use Rattle.desk_text.specs.Laws.{Slice, AreSlices, whole_slice, text_slice, parts_of, PhysicalLinesAreLines, LinesAscend, PartsAreSlices}
-use Rattle.desk_text.proofs.OneGrouping.{all_lines}
+use Rattle.desk_text.proofs.GroupsAreUnique.{all_lines}
 
 wholes : (start : ℕ) (parts : List (List ℕ)) → map (λ (part : PhysicalLine). part.whole) (physical_lines_from start parts) ≡ lines_of_parts parts
 wholes start [] = refl

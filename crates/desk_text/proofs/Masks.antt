@@ -7,7 +7,7 @@ use Rattle.std.proofs.lemmas.Nat.{leading_le}
 use Rattle.std.proofs.lemmas.List.FromFn.{get_or-range_with_len, length-range_with_len}
 use Rattle.std.proofs.lemmas.List.Recursion.{and_at}
 use Rattle.desk_text.specs.Laws.{MasksReadBack}
-use Rattle.desk_text.specs.Networks.{mask_of, prefix_of_mask}
+use Rattle.desk_text.specs.Network.{mask_of, prefix_of_mask}
 
 -- a test that all numbers below n pass
 passes_below : (test : ℕ → Bool) (n : ℕ) → list_all test (range_with_len 0 n) ≡ true → (k : ℕ) → k < n → test k ≡ true

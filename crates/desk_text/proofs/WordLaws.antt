@@ -8,7 +8,7 @@ use Rattle.std.proofs.lemmas.List.Concat.{flat_map-append}
 use Rattle.std.proofs.lemmas.List.Elements.{All-from_recursion}
 use Rattle.std.proofs.lemmas.List.Splits.{slice_split_at, slice_split_none, slice_split-cons_yes}
 use Rattle.desk_text.specs.Lines.{PhysicalLine, LogicalLine, logical_lines}
-use Rattle.desk_text.specs.Words.{Bare, Escaped, Lone, Atom, Single, Quoted, Unclosed, atoms, atom_text, is_separator, raw_word, words_from, words_at, line_words}
+use Rattle.desk_text.specs.Word.{Bare, Escaped, Lone, Atom, Single, Quoted, Unclosed, atoms, atom_text, is_separator, raw_word, words_from, words_at, line_words}
 use Rattle.desk_text.specs.Laws.{Slice, AreSlices, text_slice, raw_slice, parts_of, WordsAreSlices, Run, AreMaximal, atoms_in, written, words_in, WordsAreMaximalRuns}
 use Rattle.desk_text.proofs.AtomLaws.{atoms_write_text}
 use Rattle.desk_text.proofs.LineLaws.{AreSlices-weaken, parts_are_slices}

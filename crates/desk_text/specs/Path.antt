@@ -5,6 +5,13 @@ use Rattle.std.specs.Str.{bytes_eq}
 use Rattle.desk_text.specs.declared.path.PathFault.{PathFault}
 use Rattle.desk_text.specs.declared.path.PathFault.TheVariants.{NotAbsolute, DotComponent, TooLong, NulByte}
 
+-- the number of a fault
+abbrev pub path_fault_number : PathFault → ℕ
+path_fault_number NotAbsolute = 1
+path_fault_number DotComponent = 2
+path_fault_number TooLong = 3
+path_fault_number NulByte = 4
+
 -- a text that begins with a slash
 abbrev pub is_absolute : List ℕ → Bool
 is_absolute text = slice_index text 0 == 47

@@ -1,12 +1,11 @@
 //! Laws of networks, paths, logical lines and words. Each is proved as the contract of a function that does
 //! nothing: the definitions walk over a text, and these say what they come to.
 
-ghost use Rattle.desk_text.specs.Laws.{AtomsWriteText, CoversBetweenFirstAndLast, LinesAscend, MasksReadBack, OneReading, PartsAreSlices, PhysicalLinesAreLines, PrintedPathsDiffer, WordsAreMaximalRuns, WordsAreSlices};
-ghost use Rattle.desk_text.specs.Lines.{OneGrouping};
+ghost use Rattle.desk_text.specs.Laws.{AtomsAreUnique, AtomsWriteText, CoversBetweenFirstAndLast, GroupsAreUnique, LinesAscend, MasksReadBack, PartsAreSlices, PhysicalLinesAreLines, PrintedPathsDiffer, SortedSetsAreUnique, WordsAreMaximalRuns, WordsAreSlices};
 
 /// The physical lines of a text fall into groups in one way.
-pub fn one_grouping()
-    ensures { OneGrouping }
+pub fn groups_are_unique()
+    ensures { GroupsAreUnique }
 {}
 
 /// The physical lines are std's lines of the text.
@@ -35,8 +34,8 @@ pub fn atoms_write_text()
 {}
 
 /// A text is written by one list of atoms.
-pub fn one_reading()
-    ensures { OneReading }
+pub fn atoms_are_unique()
+    ensures { AtomsAreUnique }
 {}
 
 /// The words of a text are its maximal runs of atoms without a blank.
@@ -47,6 +46,11 @@ pub fn words_are_maximal_runs()
 /// Paths that texts write and that are printed alike have the same components.
 pub fn printed_paths_differ()
     ensures { PrintedPathsDiffer }
+{}
+
+/// Numbers have one list that ascends, each once, and has just them: their sorted set.
+pub fn sorted_sets_are_unique()
+    ensures { SortedSetsAreUnique }
 {}
 
 /// The mask of a prefix reads as that prefix.
