@@ -11,7 +11,6 @@ use Rattle.std.specs.Result.{is_err, result_ok}
 use Rattle.std.specs.Str.{bytes_eq}
 use Rattle.hex.specs.Hex.{decode_sized}
 use Rattle.desk_text.specs.Lines.{LogicalLine}
-use Rattle.desk_text.specs.declared.quoting.OpenQuote.{OpenQuote}
 use Rattle.desk_tables.proofs.QuotedLineLemmas.{unless_ok}
 use Rattle.desk_tables.specs.Rules.{unless_rule}
 use Rattle.desk_tables.specs.QuotedLines.{line_values}
@@ -121,9 +120,9 @@ name_of_row words None row h = absurd (cc)
 name_of_row words (Some d) row h = let same : record { name = name_word words; digest = d } ≡ row = cc in ap (λ (k : Custodian). k.name) same
 
 -- a row's name is the name that its line lists
-named_on : (before : List (List ℕ)) (words : Result (List (List ℕ)) OpenQuote) (row : Custodian) → values_answer before words ≡ Ok (Some row) → name_in words ≡ Some row.name
+named_on : (before : List (List ℕ)) (words : Result (List (List ℕ)) TableRule) (row : Custodian) → values_answer before words ≡ Ok (Some row) → name_in words ≡ Some row.name
 named_on before (Ok words) row h = ap Some (name_of_row words (result_ok (decode_sized (digest_word words) 32)) row (unless_ok (find (breaks before words) rules) (row_of words) row h))
-named_on before (Err quote) row h = absurd (cc)
+named_on before (Err rule) row h = absurd (cc)
 
 names-append : (rows : List Custodian) (row : Custodian) → names (rows ++ row ∷ []) ≡ names rows ++ row.name ∷ []
 names-append [] row = refl

@@ -1,7 +1,7 @@
 -- Mount points in their places, and what a line of file systems answers, by the tests of its rules.
-use Rattle.std.proofs.Common.{◌≡◌, ◌<◌, ◌≤◌, ℕ, ◌+◌, Bool, true, false, ◌||◌, List, [], ◌∷◌, ◌++◌, Some, None, Result, Ok, Err, Option, cond, find, get_or, length, take, drop, zero, suc, refl, ap, sym, ◌∙◌, arith, nat_cmp, nat_le}
+use Rattle.std.proofs.Common.{◌≡◌, ◌<◌, ◌≤◌, ℕ, ◌+◌, Bool, true, false, ◌||◌, List, [], ◌∷◌, ◌++◌, Some, None, Result, Ok, Err, Option, cond, find, get_or, length, take, drop, zero, suc, refl, ap, subst, sym, ◌∙◌, arith, nat_cmp, nat_le}
 use Rattle.std.specs.Prelude.{nat_lt}
-use Rattle.std.specs.List.{All, count_by, cons_option, insert, list_any, prefix_len}
+use Rattle.std.specs.List.{All, count_by, cons_option, filter_map, insert, list_any, prefix_len, remove}
 use Rattle.std.specs.Option.{option_map}
 use Rattle.std.specs.Ordering.{is_eq, is_lt, ordering_reverse}
 use Rattle.std.specs.declared.cmp.Ordering.{Ordering}
@@ -10,23 +10,23 @@ use Rattle.std.specs.Cmp.Lexicographic.{slice_cmp, on_texts, texts_ties}
 use Rattle.std.specs.Result.{is_err, result_map_both, result_ok}
 use Rattle.std.proofs.lemmas.Bool.{le-leb}
 use Rattle.std.proofs.lemmas.Bool.Decides.{nat_tests}
-use Rattle.std.proofs.lemmas.List.{length-take-le, take_more}
+use Rattle.std.proofs.lemmas.List.{length_push}
 use Rattle.std.proofs.lemmas.List.Elements.{filter_map-append}
 use Rattle.std.proofs.lemmas.List.Kept.{AllPairs-cons}
 use Rattle.std.proofs.lemmas.List.Sums.{sum_by-cons}
-use Rattle.desk_text.specs.Lines.{LogicalLine}
+use Rattle.desk_text.specs.Lines.{LogicalLine, logical_lines}
 use Rattle.desk_text.specs.Path.{path_text, read_path, same_path}
-use Rattle.desk_text.specs.Reading.{Reads}
+use Rattle.desk_text.specs.Reading.{Reads, answered_value, fault_at, fault_of, unless_fault, value_of}
 use Rattle.desk_text.specs.declared.path.PathFault.{PathFault}
-use Rattle.desk_text.specs.declared.quoting.OpenQuote.{OpenQuote}
 use Rattle.desk_text.specs.declared.reading.ReadError.{ReadError}
 use Rattle.desk_text.specs.declared.reading.ReadError.TheVariants.{Fault, Memory}
 use Rattle.desk_tables.proofs.QuotedLineLemmas.{unless_ok}
-use Rattle.desk_tables.specs.FileSystemsText.{breaks, in_order, is_listed, path_in, path_word, paths_on, put, put_all, row_of, rules, values_answer}
+use Rattle.desk_tables.specs.FileSystemsText.{breaks, in_order, is_listed, line_answer, path_in, path_word, paths_on, put, put_all, row_of, rules, values_answer}
 use Rattle.desk_tables.specs.FileSystems.{AreAscending, is_before, mount_points}
 use Rattle.desk_tables.specs.Rules.{unless_rule}
-use Rattle.desk_tables.specs.QuotedLines.{line_values}
-use Rattle.desk_tables.specs.declared.rules.TableFault.{TableFault}
+use Rattle.desk_tables.specs.Laws.{TablesAreInOrder}
+use Rattle.desk_tables.specs.QuotedLines.{answers, line_values}
+use Rattle.desk_tables.specs.Rules.{TableFault}
 use Rattle.desk_tables.specs.declared.rules.TableRule.{TableRule}
 use Rattle.desk_tables.specs.declared.rules.TableRule.TheVariants as rule
 use Rattle.desk_tables.specs.declared.filesystems.Mount.{Mount}
@@ -176,7 +176,7 @@ module _ (number count : ℕ) (before : List (List (List ℕ))) (words : List (L
         ∙ ap (λ (r : Result (List (List ℕ)) PathFault). Ok (option_map (λ p. record { path = p; custodians = drop 1 words; line = number }) (result_ok r))) reads
 
 -- what is known of a line without a fault
-pub record IsGood (count : ℕ) (before : List (List (List ℕ))) (words : Result (List (List ℕ)) OpenQuote) (row : Mount) : Type 0 where
+pub record IsGood (count : ℕ) (before : List (List (List ℕ))) (words : Result (List (List ℕ)) TableRule) (row : Mount) : Type 0 where
   pub fresh : list_any (same_path row.path) before ≡ false
   pub few : count < 256
   pub listed : path_in words ≡ Some row.path
@@ -199,8 +199,8 @@ path_is number before others (Ok path) row u h =
     )
 path_is number before others (Err fault) row u h = absurd (cc)
 
-pub good_line : (number count : ℕ) (before : List (List (List ℕ))) (words : Result (List (List ℕ)) OpenQuote) (row : Mount) → values_answer number count before words ≡ Ok (Some row) → IsGood count before words row
-good_line number count before (Err quote) row h = absurd (cc)
+pub good_line : (number count : ℕ) (before : List (List (List ℕ))) (words : Result (List (List ℕ)) TableRule) (row : Mount) → values_answer number count before words ≡ Ok (Some row) → IsGood count before words row
+good_line number count before (Err rule) row h = absurd (cc)
 good_line number count before (Ok words) row h =
     let facts = good_by (nat_lt (length words) 2) (is_listed before (path_word words)) (is_err (path_word words)) (nat_le 256 count) (row_of number words) row h in
     let path = path_is number before (drop 1 words) (path_word words) row facts.0 (unless_ok (find (breaks count before words) rules) (row_of number words) row h) in
@@ -211,31 +211,91 @@ good_line number count before (Ok words) row h =
     }
 
 -- only what is listed counts, in any order
-pub same_answer : (number count : ℕ) (before other : List (List (List ℕ))) (words : Result (List (List ℕ)) OpenQuote) → ((path : List (List ℕ)) → list_any (same_path path) before ≡ list_any (same_path path) other) → values_answer number count before words ≡ values_answer number count other words
-same_answer number count before other (Err quote) agree = refl
+pub same_answer : (number count : ℕ) (before other : List (List (List ℕ))) (words : Result (List (List ℕ)) TableRule) → ((path : List (List ℕ)) → list_any (same_path path) before ≡ list_any (same_path path) other) → values_answer number count before words ≡ values_answer number count other words
+same_answer number count before other (Err rule) agree = refl
 same_answer number count before other (Ok words) agree =
     let listed : (r : Result (List (List ℕ)) PathFault) → is_listed before r ≡ is_listed other r = λ r. elim r as (λ q. is_listed before q ≡ is_listed other q) [ Ok path ↦ agree path | Err fault ↦ refl ] in
     ap (λ t. by_tests (nat_lt (length words) 2) t (is_err (path_word words)) (nat_le 256 count) (row_of number words)) (listed (path_word words))
 
-module _ (ls : List LogicalLine) (i : ℕ) (x : LogicalLine) (below : i < length ls) (is : x ≡ get_or ls i x) where
+-- the table of good lines: it lists just their mount points, each before the later ones, and at most 256
+pub record IsTableBehind (before : List LogicalLine) (table : List Mount) : Type 0 where
+  pub listed : (path : List (List ℕ)) → list_any (same_path path) (mount_points table) ≡ list_any (same_path path) (paths_on before)
+  pub counted : length table ≡ length before
+  pub ascending : AreAscending table
+  pub few : length table ≤ 256
+
+pub behind_nothing : IsTableBehind [] []
+behind_nothing = record { listed = λ path. refl; counted = refl; ascending = λ i j d less inside. absurd (omega arith); few = omega arith }
+
+module _ (before : List LogicalLine) (line : LogicalLine) (table : List Mount) (row : Mount) (behind : IsTableBehind before table) (good : line_answer before line ≡ Ok (Some row)) where
+  abbrev known : IsGood (length before) (paths_on before) (line_values line) row
+  known = good_line line.number (length before) (paths_on before) (line_values line) row good
+
   -- one line more lists one mount point more
-  next_paths : (row : Mount) → path_in (line_values x) ≡ Some row.path → paths_on (take (i + 1) ls) ≡ paths_on (take i ls) ++ row.path ∷ []
-  next_paths row listed =
-      ap paths_on (take_more ls i x below)
-      ∙ filter_map-append (λ l. path_in (line_values l)) (take i ls) (get_or ls i x ∷ [])
-      ∙ ap (λ (l : LogicalLine). paths_on (take i ls) ++ cons_option (path_in (line_values l)) []) (sym is)
-      ∙ ap (λ o. paths_on (take i ls) ++ cons_option o []) listed
+  paths_push : paths_on (before ++ line ∷ []) ≡ paths_on before ++ row.path ∷ []
+  paths_push = filter_map-append (λ l. path_in (line_values l)) before (line ∷ []) ∙ ap (λ o. paths_on before ++ cons_option o []) known.listed
 
-  pub next_listed : (row : Mount) (table : List Mount) → path_in (line_values x) ≡ Some row.path → ((path : List (List ℕ)) → list_any (same_path path) (mount_points table) ≡ list_any (same_path path) (paths_on (take i ls)))
-      → (path : List (List ℕ)) → list_any (same_path path) (mount_points (put row table)) ≡ list_any (same_path path) (paths_on (take (i + 1) ls))
-  next_listed row table listed agree path =
-      points_put (same_path path) row table
-      ∙ ap (λ b. same_path path row.path || b) (agree path)
-      ∙ sym (any_push (same_path path) (paths_on (take i ls)) row.path)
-      ∙ ap (list_any (same_path path)) (sym (next_paths row listed))
+  pub next_behind : IsTableBehind (before ++ line ∷ []) (put row table)
+  next_behind = record {
+    listed = λ path.
+        points_put (same_path path) row table
+        ∙ ap (λ b. same_path path row.path || b) (behind.listed path)
+        ∙ sym (any_push (same_path path) (paths_on before) row.path)
+        ∙ ap (list_any (same_path path)) (sym paths_push);
+    counted = omega (arith, length-put row table, length_push before line, behind.counted);
+    ascending = put-ascends row table behind.ascending (behind.listed row.path ∙ known.fresh);
+    few = let below : length before < 256 = known.few in omega (arith, length-put row table, behind.counted);
+  }
 
-  pub next_count : (table : List Mount) (row : Mount) → length table ≡ length (take i ls) → length (put row table) ≡ length (take (i + 1) ls)
-  next_count table row same = omega (arith, length-put row table, length-take-le i ls (omega arith), length-take-le (i + 1) ls (omega arith))
+no_row : (number : ℕ) (others : List (List ℕ)) (r : Result (List (List ℕ)) PathFault) → is_err r ≡ false → option_map {U = Mount} (λ path. record { path = path; custodians = others; line = number }) (result_ok r) ≡ None → ⊥
+no_row number others (Ok path) e h = absurd (cc)
+no_row number others (Err fault) e h = absurd (cc)
+
+none_by : (f u b m : Bool) (spelled : Option Mount) → (b ≡ false → spelled ≡ None → ⊥) → by_tests f u b m spelled ≡ Ok None → ⊥
+none_by true u b m spelled read h = absurd (cc)
+none_by false true b m spelled read h = absurd (cc)
+none_by false false true m spelled read h = absurd (cc)
+none_by false false false true spelled read h = absurd (cc)
+none_by false false false false spelled read h = read refl (cc)
+
+-- no line is skipped: one that breaks no rule has its row
+pub not_skipped : (number count : ℕ) (before : List (List (List ℕ))) (words : Result (List (List ℕ)) TableRule) → values_answer number count before words ≡ Ok None → ⊥
+not_skipped number count before (Err rule) h = absurd (cc)
+not_skipped number count before (Ok words) h =
+    none_by (nat_lt (length words) 2) (is_listed before (path_word words)) (is_err (path_word words)) (nat_le 256 count) (row_of number words)
+    (λ reads none. no_row number (drop 1 words) (path_word words) reads none) h
+
+-- a table in order, of at most 256 mount points
+abbrev pub IsInOrder : List Mount → Type 0
+IsInOrder table = AreAscending table × (length table ≤ 256)
+
+abbrev good_from : List LogicalLine → List LogicalLine → List TableFault
+good_from before more = filter_map fault_of (answers line_answer before more)
+
+abbrev rows_from : List LogicalLine → List LogicalLine → List Mount
+rows_from before more = filter_map value_of (answers line_answer before more)
+
+by_answer : (before : List LogicalLine) (line : LogicalLine) (more : List LogicalLine) (table : List Mount) (a : Result (Option Mount) TableRule) → line_answer before line ≡ a
+    → ((row : Mount) → line_answer before line ≡ Ok (Some row) → good_from (before ++ line ∷ []) more ≡ [] → IsInOrder (put_all (put row table) (rows_from (before ++ line ∷ []) more)))
+    → cons_option (fault_at line.number a) (good_from (before ++ line ∷ []) more) ≡ [] → IsInOrder (put_all table (cons_option (answered_value a) (rows_from (before ++ line ∷ []) more)))
+by_answer before line more table (Ok (Some row)) e further good = further row e good
+by_answer before line more table (Ok None) e further good = absurd (not_skipped line.number (length before) (paths_on before) (line_values line) e)
+by_answer before line more table (Err rule) e further good = absurd (cc)
+
+-- the mount points of good lines, put in order, ascend
+in_order_from : (before more : List LogicalLine) (table : List Mount) → IsTableBehind before table → good_from before more ≡ [] → IsInOrder (put_all table (rows_from before more))
+in_order_from before [] table behind good = (behind.ascending, behind.few)
+in_order_from before (line ∷ more) table behind good =
+    by_answer before line more table (line_answer before line) refl
+    (λ row e others. in_order_from (before ++ line ∷ []) more (put row table) (next_behind before line table row behind e) others) good
+
+in_order_by : (faults : List TableFault) (rows table : List Mount) → (faults ≡ [] → IsInOrder (put_all [] rows)) → in_order (unless_fault faults rows) ≡ Ok table → IsInOrder table
+in_order_by [] rows table up h = let same : put_all [] rows ≡ table = cc in subst IsInOrder same (up refl)
+in_order_by (fault ∷ more) rows table up h = absurd (cc)
+
+pub tables_are_in_order : TablesAreInOrder
+tables_are_in_order text table h =
+    in_order_by (good_from [] (logical_lines text)) (rows_from [] (logical_lines text)) table (in_order_from [] (logical_lines text) [] behind_nothing) h
 
 -- where the lines have a fault, so has the table
 pub fault_in_order : (e : ReadError TableFault) (spelled : Result (List Mount) TableFault) → Reads {X = List Mount} (Err e) spelled → Reads {X = List Mount} (Err e) (in_order spelled)
@@ -249,6 +309,11 @@ path_back (Err fault) path h = absurd (cc)
 first_word : (words : List (List ℕ)) (x : List ℕ) → 2 ≤ length words → x ≡ get_or words 0 x → x ≡ get_or words 0 []
 first_word [] x two h = absurd (omega arith)
 first_word (word ∷ words) x two h = h
+
+-- the words behind the first
+pub rest_of : (words : List (List ℕ)) → 2 ≤ length words → remove words 0 ≡ drop 1 words
+rest_of [] two = absurd (omega arith)
+rest_of (word ∷ words) two = refl
 
 -- the path of a line's first word, as a path is read
 pub path_of_first : (words : List (List ℕ)) (x text : List ℕ) (path : List (List ℕ)) → 2 ≤ length words → x ≡ get_or words 0 x → text ≡ x → result_map_both (λ p. p) (λ fault. rule.BadPath) (read_path text) ≡ Ok path → path_word words ≡ Ok path

@@ -5,7 +5,6 @@ pub mod FileSystemLemmas
 pub mod TableLemmas
 pub mod OneTable
 pub mod SpacedLineLemmas
-pub mod AscendingLemmas
 pub mod HostLawLemmas
 pub mod NetworkLemmas
 pub mod HostLemmas

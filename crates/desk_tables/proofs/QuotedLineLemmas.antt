@@ -8,11 +8,11 @@ use Rattle.desk_text.specs.Lines.{LogicalLine}
 use Rattle.desk_text.specs.Reading.{Reads, ReadsAs}
 use Rattle.desk_text.specs.declared.reading.ReadError.{ReadError}
 use Rattle.desk_text.specs.declared.reading.ReadError.TheVariants.{Fault, Memory}
-use Rattle.desk_tables.specs.Rows.{Answered, fault_of, row_in, unless_fault}
+use Rattle.desk_text.specs.Reading.{AnsweredLine, answered_value, fault_of, unless_fault, value_of}
 use Rattle.desk_tables.specs.Rules.{unless_rule}
 use Rattle.desk_tables.specs.QuotedLines.{answers, lines_table}
 use Rattle.desk_tables.specs.PrivateQuotedLines.{at_line}
-use Rattle.desk_tables.specs.declared.rules.TableFault.{TableFault}
+use Rattle.desk_tables.specs.Rules.{TableFault}
 use Rattle.desk_tables.specs.declared.rules.TableRule.{TableRule}
 
 -- the row of a line that breaks no rule
@@ -35,12 +35,12 @@ module _ {Row : Type 0} (answer : List LogicalLine → LogicalLine → Result (O
   faults_on lines = filter_map fault_of (answers answer [] lines)
 
   abbrev pub rows_on : List LogicalLine → List Row
-  rows_on lines = filter_map (λ line. row_in line.answer) (answers answer [] lines)
+  rows_on lines = filter_map value_of (answers answer [] lines)
 
   answers-append : (before xs ys : List LogicalLine) → answers answer before (xs ++ ys) ≡ answers answer before xs ++ answers answer (before ++ xs) ys
   answers-append before [] ys = ap (λ b. answers answer b ys) (sym (append-nil before))
   answers-append before (x ∷ xs) ys =
-      ap (λ (more : List (Answered Row)). record { number = x.number; answer = answer before x } ∷ more)
+      ap (λ (more : List (AnsweredLine Row TableRule)). record { number = x.number; answer = answer before x } ∷ more)
       (answers-append (before ++ x ∷ []) xs ys ∙ ap (λ b. answers answer (before ++ x ∷ []) xs ++ answers answer b ys) (append_assoc before (x ∷ []) xs))
 
   pub whole : (lines : List LogicalLine) → faults_on lines ≡ [] → lines_table answer lines ≡ Ok (rows_on lines)
@@ -63,14 +63,14 @@ module _ {Row : Type 0} (answer : List LogicalLine → LogicalLine → Result (O
 
     pub next_rows : (x : LogicalLine) (row : Row) → i < length ls → x ≡ get_or ls i x → answer (take i ls) x ≡ Ok (Some row) → rows_on (take (i + 1) ls) ≡ rows_on (take i ls) ++ row ∷ []
     next_rows x row below is good =
-        ap (filter_map (λ line. row_in line.answer)) (next x below is)
-        ∙ filter_map-append (λ line. row_in line.answer) (answers answer [] (take i ls)) (record { number = x.number; answer = answer (take i ls) x } ∷ [])
-        ∙ ap (λ a. rows_on (take i ls) ++ cons_option (row_in a) []) good
+        ap (filter_map value_of) (next x below is)
+        ∙ filter_map-append value_of (answers answer [] (take i ls)) (record { number = x.number; answer = answer (take i ls) x } ∷ [])
+        ∙ ap (λ a. rows_on (take i ls) ++ cons_option (answered_value a) []) good
 
     -- the first line with a fault is the answer
     first_fault : (x : LogicalLine) (f : TableFault) → i < length ls → x ≡ get_or ls i x → faults_on (take i ls) ≡ [] → fault_of (record { number = x.number; answer = answer (take i ls) x }) ≡ Some f → lines_table answer ls ≡ Err f
     first_fault x f below is none found =
-        let rest : List (Answered Row) = answers answer (take i ls ++ x ∷ []) (drop (suc i) ls) in
+        let rest : List (AnsweredLine Row TableRule) = answers answer (take i ls ++ x ∷ []) (drop (suc i) ls) in
         let split : answers answer [] ls ≡ answers answer [] (take i ls) ++ (record { number = x.number; answer = answer (take i ls) x } ∷ rest) =
         ap (answers answer []) (sym (take-append-drop i ls))
         ∙ answers-append [] (take i ls) (drop i ls)

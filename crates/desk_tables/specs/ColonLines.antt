@@ -1,9 +1,8 @@
 -- Lines of fields with colons between them. (passwd(5), group(5))
-use Rattle.std.specs.Prelude.{ℕ, ◌^◌, ◌==◌, nat_lt, Bool, not, ◌&&◌, Option, Some, None, List, [], find, slice_index_or, if◌then◌else◌}
+use Rattle.std.specs.Prelude.{ℕ, ◌==◌, Bool, Option, List, [], slice_index_or}
 use Rattle.std.specs.List.{slice_split}
-use Rattle.std.specs.Str.Parse.{digits_value}
-use Rattle.desk_text.specs.Addr.{has_leading_zero, is_digits}
-use Rattle.desk_text.specs.Lines.{is_blank, skips}
+use Rattle.desk_text.specs.Bytes.{first_non_blank, read_decimal}
+use Rattle.desk_text.specs.Lines.{skips}
 
 -- the fields of a line, between its colons
 abbrev pub fields : List ℕ → List (List ℕ)
@@ -13,14 +12,10 @@ fields line = slice_split (λ b. b == 58) line
 abbrev pub field : ℕ → List ℕ → List ℕ
 field place line = slice_index_or (fields line) place []
 
--- a decimal is `0`, or digits that do not begin with `0`
-abbrev pub is_decimal : List ℕ → Bool
-is_decimal text = is_digits text && not (has_leading_zero text)
-
 -- the number that a decimal up to 4294967295 writes; another text writes none
 abbrev pub number_in : List ℕ → Option ℕ
-number_in text = if is_decimal text && nat_lt (digits_value 10 text) (2 ^ 32) then Some (digits_value 10 text) else None
+number_in text = read_decimal 4294967295 text
 
--- a line is skipped where its first character that is no blank is `#`, or where it has none
+-- a line is skipped if its first character that is not a blank is `#`, or if it has none
 abbrev pub skips_line : List ℕ → Bool
-skips_line line = skips (find (λ b. not (is_blank b)) line)
+skips_line line = skips (first_non_blank line)

@@ -2,7 +2,7 @@
 use Rattle.std.specs.Prelude.{ℕ, ◌==◌, nat_lt, Bool, false, not, ◌&&◌, Option, Some, None, Result, Ok, Err, is_none, option_and_then, List, [], ◌∷◌, find, length, if◌then◌else◌}
 use Rattle.std.specs.List.{filter_map, list_any, slice_split}
 use Rattle.std.specs.Option.{option_map, option_map_or}
-use Rattle.desk_text.specs.Addr.{is_digits}
+use Rattle.desk_text.specs.Bytes.{is_digits}
 use Rattle.desk_tables.specs.ColonLines.{number_in}
 use Rattle.desk_tables.specs.Groups.{gids_of, group_of_name}
 use Rattle.desk_tables.specs.Users.{user_of_name, user_of_uid}

@@ -6,11 +6,10 @@ use Rattle.std.specs.Result.{result_ok}
 use Rattle.std.specs.Str.{bytes_eq}
 use Rattle.hex.specs.Hex.{decode_sized}
 use Rattle.desk_text.specs.Lines.{LogicalLine, logical_lines}
-use Rattle.desk_text.specs.declared.quoting.OpenQuote.{OpenQuote}
 use Rattle.desk_tables.specs.Rules.{unless_rule}
 use Rattle.desk_tables.specs.QuotedLines.{line_values, lines_table}
 use Rattle.desk_tables.specs.declared.custodians.Custodian.{Custodian}
-use Rattle.desk_tables.specs.declared.rules.TableFault.{TableFault}
+use Rattle.desk_tables.specs.Rules.{TableFault}
 use Rattle.desk_tables.specs.declared.rules.TableRule.{TableRule}
 use Rattle.desk_tables.specs.declared.rules.TableRule.TheVariants as rule
 
@@ -51,15 +50,15 @@ rules = rule.Fields ∷ rule.Name ∷ rule.Duplicate ∷ rule.Digest ∷ []
 abbrev pub row_of : List (List ℕ) → Option Custodian
 row_of words = option_map (λ digest. record { name = name_word words; digest = digest }) (result_ok (decode_sized (digest_word words) 32))
 
--- what a line of these words answers, if these names are listed before; an open quote breaks the rule on fields
-abbrev pub values_answer : List (List ℕ) → Result (List (List ℕ)) OpenQuote → Result (Option Custodian) TableRule
+-- what a line of these words answers, if these names are listed before
+abbrev pub values_answer : List (List ℕ) → Result (List (List ℕ)) TableRule → Result (Option Custodian) TableRule
 values_answer before (Ok words) = unless_rule (find (breaks before words) rules) (row_of words)
-values_answer before (Err quote) = Err rule.Fields
+values_answer before (Err rule) = Err rule
 
 -- the name that a line lists, if each quote closes
-abbrev pub name_in : Result (List (List ℕ)) OpenQuote → Option (List ℕ)
+abbrev pub name_in : Result (List (List ℕ)) TableRule → Option (List ℕ)
 name_in (Ok words) = Some (name_word words)
-name_in (Err quote) = None
+name_in (Err rule) = None
 
 -- the names that lines list
 abbrev pub names_on : List LogicalLine → List (List ℕ)

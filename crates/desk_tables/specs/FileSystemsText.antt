@@ -7,11 +7,10 @@ use Rattle.std.specs.Str.{bytes_eq}
 use Rattle.desk_text.specs.Lines.{LogicalLine, logical_lines}
 use Rattle.desk_text.specs.Path.{read_path, same_path}
 use Rattle.desk_text.specs.declared.path.PathFault.{PathFault}
-use Rattle.desk_text.specs.declared.quoting.OpenQuote.{OpenQuote}
 use Rattle.desk_tables.specs.FileSystems.{is_before}
 use Rattle.desk_tables.specs.Rules.{unless_rule}
 use Rattle.desk_tables.specs.QuotedLines.{line_values, lines_table}
-use Rattle.desk_tables.specs.declared.rules.TableFault.{TableFault}
+use Rattle.desk_tables.specs.Rules.{TableFault}
 use Rattle.desk_tables.specs.declared.rules.TableRule.{TableRule}
 use Rattle.desk_tables.specs.declared.rules.TableRule.TheVariants as rule
 use Rattle.desk_tables.specs.declared.filesystems.Mount.{Mount}
@@ -49,15 +48,15 @@ abbrev pub row_of : ℕ → List (List ℕ) → Option Mount
 row_of number words = option_map (λ path. record { path = path; custodians = drop 1 words; line = number }) (result_ok (path_word words))
 
 -- what the line with this number answers, which has these words, if it comes behind so many lines that list these mount
--- points; an open quote breaks the rule on fields
-abbrev pub values_answer : ℕ → ℕ → List (List (List ℕ)) → Result (List (List ℕ)) OpenQuote → Result (Option Mount) TableRule
+-- points
+abbrev pub values_answer : ℕ → ℕ → List (List (List ℕ)) → Result (List (List ℕ)) TableRule → Result (Option Mount) TableRule
 values_answer number count before (Ok words) = unless_rule (find (breaks count before words) rules) (row_of number words)
-values_answer number count before (Err quote) = Err rule.Fields
+values_answer number count before (Err rule) = Err rule
 
 -- the mount point that a line lists, if each quote closes and the first word is a path
-abbrev pub path_in : Result (List (List ℕ)) OpenQuote → Option (List (List ℕ))
+abbrev pub path_in : Result (List (List ℕ)) TableRule → Option (List (List ℕ))
 path_in (Ok words) = result_ok (path_word words)
-path_in (Err quote) = None
+path_in (Err rule) = None
 
 -- the mount points that lines list
 abbrev pub paths_on : List LogicalLine → List (List (List ℕ))

@@ -5,19 +5,16 @@ use Rattle.std.specs.List.Sorted.{IsStrictlyIncreasing}
 use Rattle.std.specs.Option.{option_map}
 use Rattle.std.specs.Result.{result_ok}
 use Rattle.std.specs.Str.{str_eq_ignore_ascii_case}
-use Rattle.desk_text.specs.Addr.{number_of, read_addr}
-use Rattle.desk_tables.specs.Ascending.{ascending}
+use Rattle.desk_text.specs.AddrSet.{is_among, sorted_set}
+use Rattle.desk_text.specs.Address.{number_of, read_addr}
+use Rattle.desk_text.specs.Bytes.{is_ipv6}
 use Rattle.desk_tables.specs.SpacedLines.{is_long_name, words_before_comment}
 use Rattle.desk_tables.specs.Rows.{text_table}
 use Rattle.desk_tables.specs.Rules.{unless_rule}
-use Rattle.desk_tables.specs.declared.rules.TableFault.{TableFault}
+use Rattle.desk_tables.specs.Rules.{TableFault}
 use Rattle.desk_tables.specs.declared.rules.TableRule.{TableRule}
 use Rattle.desk_tables.specs.declared.rules.TableRule.TheVariants.{Fields, Number, Name}
 use Rattle.desk_tables.specs.declared.hosts.HostRow.{HostRow}
-
--- an IPv6 address has a `:`
-abbrev pub is_ipv6 : List ℕ → Bool
-is_ipv6 address = list_any (λ b. b == 58) address
 
 -- Whether a line with this address and these names breaks a rule: it has no name; its address is not one; a name is over
 -- 255 bytes. It breaks no other rule.
@@ -57,13 +54,13 @@ is_host name row = list_any (str_eq_ignore_ascii_case name) row.names
 
 -- the addresses of all rows that have the name, in ascending order, each once
 abbrev pub addresses_of_host : List HostRow → List ℕ → List ℕ
-addresses_of_host rows name = ascending (map (λ row. number_of row.addr) (filter (is_host name) rows))
+addresses_of_host rows name = sorted_set (map (λ row. number_of row.addr) (filter (is_host name) rows))
 
--- these addresses ascend, each once, and an address is among them exactly where some row with the name has it
+-- these addresses ascend, each once, and an address is among them exactly if some row with the name has it
 pub record AreAddressesOf (rows : List HostRow) (name : List ℕ) (addresses : List ℕ) : Type 0 where
   pub ascend : IsStrictlyIncreasing addresses
-  pub each : (address : ℕ) → list_any (λ other. other == address) addresses ≡ list_any (λ row. is_host name row && (number_of row.addr == address)) rows
+  pub each : (address : ℕ) → is_among address addresses ≡ list_any (λ row. is_host name row && (number_of row.addr == address)) rows
 
 -- a name has one list of such addresses, and it is this one
-abbrev pub OneListOfAddresses : Type 0
-OneListOfAddresses = (rows : List HostRow) (name addresses : List ℕ) → AreAddressesOf rows name addresses ↔ (addresses ≡ addresses_of_host rows name)
+abbrev pub AddressesAreUnique : Type 0
+AddressesAreUnique = (rows : List HostRow) (name addresses : List ℕ) → AreAddressesOf rows name addresses ↔ (addresses ≡ addresses_of_host rows name)

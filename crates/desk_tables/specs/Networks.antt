@@ -5,12 +5,12 @@ use Rattle.std.specs.List.{list_any}
 use Rattle.std.specs.Option.{option_map}
 use Rattle.std.specs.Result.{result_ok}
 use Rattle.std.specs.Str.{bytes_eq}
-use Rattle.desk_text.specs.Addr.{read_short}
+use Rattle.desk_text.specs.Address.{read_short}
 use Rattle.desk_text.specs.declared.address.Addr.{Addr}
 use Rattle.desk_tables.specs.SpacedLines.{is_long_name, words_before_comment}
 use Rattle.desk_tables.specs.Rows.{text_table}
 use Rattle.desk_tables.specs.Rules.{unless_rule}
-use Rattle.desk_tables.specs.declared.rules.TableFault.{TableFault}
+use Rattle.desk_tables.specs.Rules.{TableFault}
 use Rattle.desk_tables.specs.declared.rules.TableRule.{TableRule}
 use Rattle.desk_tables.specs.declared.rules.TableRule.TheVariants.{Fields, Number, Name}
 use Rattle.desk_tables.specs.declared.networks.NetworkName.{NetworkName}

@@ -1,6 +1,6 @@
 -- What the private contracts of lines of words with quotes cite.
 use Rattle.std.specs.Prelude.{ℕ, Option, Result, Ok, Err}
-use Rattle.desk_tables.specs.declared.rules.TableFault.{TableFault}
+use Rattle.desk_tables.specs.Rules.{TableFault}
 use Rattle.desk_tables.specs.declared.rules.TableRule.{TableRule}
 
 -- what the line with this number answers: a row, or its fault

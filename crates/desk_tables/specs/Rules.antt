@@ -1,7 +1,12 @@
 -- The rules of a table's lines. (this project's own)
 use Rattle.std.specs.Prelude.{ℕ, List, Option, Some, None, Result, Ok, Err, codes}
+use Rattle.desk_text.specs.declared.reading.LineFault.{LineFault}
 use Rattle.desk_tables.specs.declared.rules.TableRule.{TableRule}
 use Rattle.desk_tables.specs.declared.rules.TableRule.TheVariants.{Fields, Number, Name, Duplicate, BadPath, Custodian, Digest, TooMany}
+
+-- the first faulty line of a table, and the first rule that it breaks
+abbrev pub TableFault : Type 0
+TableFault = LineFault TableRule
 
 -- the number of a rule
 abbrev pub rule_number : TableRule → ℕ

@@ -1,7 +1,7 @@
 -- The lines of hosts(5) and networks(5): words between blanks, up to a comment.
 use Rattle.std.specs.Prelude.{ℕ, ◌==◌, Bool, not, List, length, filter, nat_lt}
 use Rattle.std.specs.List.{before_first, slice_split}
-use Rattle.desk_text.specs.Lines.{is_blank}
+use Rattle.desk_text.specs.Bytes.{is_blank}
 
 -- the words of a text: what is between its blanks
 abbrev pub words_of : List ℕ → List (List ℕ)

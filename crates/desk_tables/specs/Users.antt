@@ -5,7 +5,7 @@ use Rattle.std.specs.Str.{bytes_eq}
 use Rattle.desk_tables.specs.ColonLines.{field, fields, number_in, skips_line}
 use Rattle.desk_tables.specs.Rows.{text_table}
 use Rattle.desk_tables.specs.Rules.{unless_rule}
-use Rattle.desk_tables.specs.declared.rules.TableFault.{TableFault}
+use Rattle.desk_tables.specs.Rules.{TableFault}
 use Rattle.desk_tables.specs.declared.rules.TableRule.{TableRule}
 use Rattle.desk_tables.specs.declared.rules.TableRule.TheVariants.{Fields, Number, Name}
 use Rattle.desk_tables.specs.declared.users.User.{User}

@@ -10,10 +10,11 @@ ghost use Rattle.desk_tables.specs.Users.{user_of_name};
 ghost use Rattle.desk_tables.specs.declared.credential_text.CredFault.TheVariants.{TooManyGroups};
 ghost use Rattle.desk_tables.specs.declared.groups.Group.{Group};
 
-use crate::colon_lines::{is_digits, read_number};
+use crate::colon_lines::read_number;
 use crate::credentials::{Cred, GroupIds};
 use crate::groups::Groups;
 use crate::users::{User, Users};
+use desk_text::is_digits;
 use thiserror::Error;
 
 /// Why a credential text stands for no credential. Of several faults the first in this order is named.

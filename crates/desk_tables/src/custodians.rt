@@ -12,7 +12,7 @@ ghost use Rattle.desk_tables.specs.QuotedLines.{line_values, lines_table};
 
 use crate::quoted_lines::{at_line, line_values};
 use crate::rules::{TableFault, TableRule};
-use desk_text::{Line, ReadError, Sequence, Text, logical_lines};
+use desk_text::{Line, LineFault, ReadError, Sequence, Text, logical_lines};
 use hex::FromHex;
 use std::alloc::{AllocError, Global};
 use std::collections::BTreeMap;
@@ -58,7 +58,7 @@ impl Custodians {
     {
         let table = read_rows(alloc, text)?;
         if table.digest_of("site").is_none() {
-            return Err(ReadError::Fault(TableFault {
+            return Err(ReadError::Fault(LineFault {
                 line: 0,
                 rule: TableRule::Custodian,
             }));
@@ -150,11 +150,8 @@ fn read_line(
     ensures { ReadsAs (λ row. Some row) result
         (spec.values_answer (map (λ row. row.name) before.now) (line_values line.now)) }
 {
-    match line_values(alloc, line) {
-        Ok(words) => read_words(alloc, words.as_slice(), before),
-        Err(ReadError::Fault(_)) => Err(ReadError::Fault(TableRule::Fields)),
-        Err(ReadError::Memory) => Err(ReadError::Memory),
-    }
+    let words = line_values(alloc, line)?;
+    read_words(alloc, words.as_slice(), before)
 }
 
 /// The custodian that words name, or the rule that is named, where these custodians are listed

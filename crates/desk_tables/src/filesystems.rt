@@ -79,8 +79,7 @@ impl FileSystems {
         ensures ascending { IfOk result (λ table. AreAscending table) }
         ensures few { IfOk result (λ table. length table ≤ 256) }
     {
-        let table = read_mounts(alloc, text)?;
-        let mounts = sequence_of(alloc, table)?;
+        let mounts = Sequence::from_vec(read_mounts(alloc, text)?);
         Ok(FileSystems { mounts })
     }
 
@@ -133,17 +132,6 @@ fn is_among(names: &[Text], name: &str) -> bool
     ensures { result ≡ list_any (bytes_eq name.now) names.now }
 {
     names.iter().any(|other| name == other.as_str())
-}
-
-/// The mount points in a row.
-fn sequence_of(alloc: Global, table: Vec<Mount>) -> Result<Sequence<Mount>, AllocError>
-    ensures { IfOk result (λ mounts. mounts ≡ table.items) }
-{
-    let mut mounts = Sequence::new(alloc);
-    for mount in table {
-        mounts.push(mount)?;
-    }
-    Ok(mounts)
 }
 
 /// The place of the last mount point that the path is under.

@@ -37,22 +37,19 @@ fn read_line(alloc: Global, line: &Line, before: &[Mount]) -> Result<Mount, Read
     ensures { ReadsAs (λ row. Some row) result
         (spec.values_answer line.now.number (length before.now) (mount_points before.now) (line_values line.now)) }
 {
-    match line_values(alloc, line) {
-        Ok(words) => read_words(alloc, line.number(), words.as_slice(), before),
-        Err(ReadError::Fault(_)) => Err(ReadError::Fault(TableRule::Fields)),
-        Err(ReadError::Memory) => Err(ReadError::Memory),
-    }
+    let words = line_values(alloc, line)?;
+    read_words(alloc, line.number(), words, before)
 }
 
 /// The mount point that words list, or the rule that is named, where these are listed before.
 fn read_words(
     alloc: Global,
     line: u32,
-    words: &[Text],
+    words: Vec<Text>,
     before: &[Mount],
 ) -> Result<Mount, ReadError<TableRule>>
     ensures { ReadsAs (λ row. Some row) result
-        (spec.values_answer line (length before.now) (mount_points before.now) (Ok words.now)) }
+        (spec.values_answer line (length before.now) (mount_points before.now) (Ok words.items)) }
 {
     if words.len() < 2 {
         return Err(ReadError::Fault(TableRule::Fields));
@@ -64,10 +61,11 @@ fn read_words(
     if before.len() >= MOST_MOUNT_POINTS {
         return Err(ReadError::Fault(TableRule::TooMany));
     }
-    let custodians = copies(alloc, &words[1..])?;
+    let mut custodians = words;
+    let _ = custodians.remove(0);
     Ok(Mount {
         path,
-        custodians,
+        custodians: Sequence::from_vec(custodians),
         line,
     })
 }
@@ -97,15 +95,4 @@ fn place_of(table: &[Mount], path: &Path) -> usize
     ensures fits { result ≤ length table.now }
 {
     table.iter().take_while(|mount| mount.path < *path).count()
-}
-
-/// Copies of texts.
-fn copies(alloc: Global, texts: &[Text]) -> Result<Sequence<Text>, AllocError>
-    ensures { IfOk result (λ copies. copies ≡ texts.now) }
-{
-    let mut copies = Sequence::new(alloc);
-    for text in texts {
-        copies.push(Text::copy(alloc, text.as_str())?)?;
-    }
-    Ok(copies)
 }

@@ -2,7 +2,7 @@
 
 ghost use Rattle.std.specs.Prelude.{◌≡◌, ◌≤◌, ◌∷◌, [], IfOk, OnOk, length, map};
 ghost use Rattle.std.specs.Str.{str_to_ascii_lowercase};
-ghost use Rattle.desk_text.specs.Addr.{number_of};
+ghost use Rattle.desk_text.specs.Address.{number_of};
 ghost use Rattle.desk_text.specs.Reading.{Reads};
 ghost use Rattle.desk_tables.specs.Hosts as spec;
 ghost use Rattle.desk_tables.specs.PrivateIndex.{AddsUnderEach, HasAddresses, listed};
@@ -11,7 +11,7 @@ use crate::index::add_under;
 use crate::rows::read_rows;
 use crate::rules::{TableFault, TableRule};
 use crate::spaced_lines::{has_long_name, push_copies, words_before_comment};
-use desk_text::{Addr, ReadError, Sequence, Text};
+use desk_text::{Addr, AddrSet, ReadError, Sequence, Text, is_ipv6};
 use std::alloc::{AllocError, Global};
 use std::collections::BTreeMap;
 use std::marker::Model;
@@ -72,10 +72,8 @@ impl Hosts {
     pub fn addresses(&self, alloc: Global, name: &str) -> Result<Vec<Addr>, AllocError>
         ensures { IfOk result (λ v. map number_of v.items ≡ spec.addresses_of_host self.now name.now) }
     {
-        let mut addresses = listed_addresses(alloc, &self.index, name)?;
-        addresses.sort_unstable();
-        addresses.dedup();
-        Ok(addresses)
+        let addresses = listed_addresses(alloc, &self.index, name)?;
+        Ok(AddrSet::from_vec(addresses).into_vec())
     }
 }
 
@@ -160,11 +158,4 @@ fn read_row(
         addr,
         names: copies,
     }))
-}
-
-/// Whether an address is one of IPv6.
-fn is_ipv6(address: &str) -> bool
-    ensures { result ≡ spec.is_ipv6 address.now }
-{
-    address.as_bytes().contains(&b':')
 }

@@ -1,39 +1,41 @@
-//! Lines of words, as the tables of file systems and custodians have them.
+//! Lines of words with quotes, as the tables of file systems and custodians have them.
 
 ghost use Rattle.std.specs.Prelude.{◌≡◌, IfOk, Option, Result, Some, map};
 ghost use Rattle.desk_text.specs.Reading.{ReadsAs};
-ghost use Rattle.desk_text.specs.Shown.{word_of};
-ghost use Rattle.desk_text.specs.Words.{word_value};
+ghost use Rattle.desk_text.specs.Views.{word_of};
+ghost use Rattle.desk_text.specs.Word.{word_value};
 ghost use Rattle.desk_tables.specs.QuotedLines.{line_values};
 ghost use Rattle.desk_tables.specs.PrivateQuotedLines.{at_line};
 ghost use Rattle.desk_tables.specs.declared.rules.TableRule.{TableRule};
 
 use crate::rules::{TableFault, TableRule};
-use desk_text::{Line, OpenQuote, ReadError, Text, Word, unquote, words};
+use desk_text::{Line, LineFault, ReadError, Text, Word, unquote, words};
 use std::alloc::{AllocError, Global};
 
-/// The words of a line by what they stand for.
-pub fn line_values(alloc: Global, line: &Line) -> Result<Vec<Text>, ReadError<OpenQuote>>
+/// Reads the values of the words of a line. A quote that does not close breaks the rule on fields.
+pub fn line_values(alloc: Global, line: &Line) -> Result<Vec<Text>, ReadError<TableRule>>
     ensures { ReadsAs (λ v. v.items) result (line_values line.now) }
 {
-    let words = words(alloc, line)?;
-    let values = values_of(alloc, words.as_slice())?;
-    Ok(values)
+    match words(alloc, line) {
+        Ok(words) => Ok(values_of(alloc, words.as_slice())?),
+        Err(ReadError::Fault(_)) => Err(ReadError::Fault(TableRule::Fields)),
+        Err(ReadError::Memory) => Err(ReadError::Memory),
+    }
 }
 
-/// What words stand for.
+/// Resolves the quotes and escapes of words.
 fn values_of(alloc: Global, words: &[Word]) -> Result<Vec<Text>, AllocError>
     ensures { IfOk result (λ v. v.items ≡ map (λ w. word_value w.raw) (map word_of words.now)) }
 {
     let mut values = Vec::new(alloc);
     for word in words {
         let value = unquote(alloc, word)?;
-        values.push(Text::copy(alloc, value.as_str())?)?;
+        values.push(Text::from_string(value))?;
     }
     Ok(values)
 }
 
-/// What the line with this number answers: its row, or the rule that is named there.
+/// Adds the number of the line to the rule that it breaks.
 pub fn at_line<Row>(
     number: u32,
     answer: Result<Row, ReadError<TableRule>>,
@@ -44,6 +46,6 @@ pub fn at_line<Row>(
     match answer {
         Ok(row) => Ok(row),
         Err(ReadError::Memory) => Err(ReadError::Memory),
-        Err(ReadError::Fault(rule)) => Err(ReadError::Fault(TableFault { line: number, rule })),
+        Err(ReadError::Fault(rule)) => Err(ReadError::Fault(LineFault { line: number, rule })),
     }
 }

@@ -1,22 +1,23 @@
-//! What is wrong with a line of a table.
+//! The rules that a line of a table may break.
 
 ghost use Rattle.std.specs.Prelude.{◌≡◌};
 ghost use Rattle.desk_tables.specs.Rules.{rule_name, rule_number};
 
+use desk_text::LineFault;
 use thiserror::Error;
 
-/// Why a line of a table is refused. Of several faults of one line the first in this order is named.
+/// A rule that a line of a table may break. Of a line that breaks several the first in this order is reported.
 #[derive(Clone, Copy, Debug, PartialEq, Eq, Error)]
 pub enum TableRule {
     #[error("it has too few or too many fields, or a quote that does not close")]
     Fields,
-    #[error("a number or an address does not read")]
+    #[error("a number or an address cannot be read")]
     Number,
     #[error("a name is empty, too long, or has a character that it may not have")]
     Name,
-    #[error("its name or mount point is listed before")]
+    #[error("this name or mount point is already on an earlier line")]
     Duplicate,
-    #[error("its mount point is no path")]
+    #[error("its mount point is not a path")]
     BadPath,
     #[error("a custodian is not listed")]
     Custodian,
@@ -27,14 +28,14 @@ pub enum TableRule {
 }
 
 impl TableRule {
-    /// The number of the rule, from 1.
+    /// Returns the number of the rule, from 1.
     pub fn number(self) -> u32
         ensures { result ≡ rule_number self }
     {
         self as u32 + 1
     }
 
-    /// The name of the rule.
+    /// Returns the name of the rule.
     pub fn name(self) -> &'static str
         ensures { result.now ≡ rule_name self }
     {
@@ -51,11 +52,5 @@ impl TableRule {
     }
 }
 
-/// The least faulty line of a table, by the number of its first physical line, and the rule that is
-/// named of it. A fault of the table as a whole has line 0.
-#[derive(Clone, Copy, Debug, PartialEq, Eq, Error)]
-#[error("line {line}: {rule}")]
-pub struct TableFault {
-    pub line: u32,
-    pub rule: TableRule,
-}
+/// The first faulty line of a table, and the first rule that it breaks. A fault of the table as a whole has line 0.
+pub type TableFault = LineFault<TableRule>;

@@ -8,7 +8,7 @@ use Rattle.desk_tables.specs.Custodians as spec
 use Rattle.desk_tables.specs.QuotedLines.{line_values, lines_table}
 use Rattle.desk_tables.specs.PrivateQuotedLines.{at_line}
 use Rattle.desk_tables.specs.declared.custodians.Custodian.{Custodian}
-use Rattle.desk_tables.specs.declared.rules.TableFault.{TableFault}
+use Rattle.desk_tables.specs.Rules.{TableFault}
 use Rattle.desk_tables.proofs.CustodianLemmas.{names, next_names}
 use Rattle.desk_tables.proofs.QuotedLineLemmas.{exit, faults_on, next_faults, next_rows, row_at, rows_on, whole}
 use Rattle.desk_tables.proofs.custodians.read_rows.Goals as goal

@@ -1,19 +1,18 @@
-use Rattle.std.proofs.Common.{◌≡◌, ◌∙◌, ap, sym, subst, take, length, List, ℕ, [], Err, Ok, Option, Some, Result, ◌<◌, arith}
-use Rattle.std.proofs.lemmas.List.{take_all}
+use Rattle.std.proofs.Common.{◌≡◌, ◌∙◌, ap, sym, subst, take, length, List, ℕ, [], Err, Ok, Option, Some, Result, ◌++◌, ◌∷◌}
+use Rattle.std.proofs.lemmas.List.{take_all, take_more}
 use Rattle.std.proofs.lemmas.Result.{err_from_is_err_and}
-use Rattle.std.specs.List.{insert, list_any, prefix_len}
+use Rattle.std.specs.List.{insert, prefix_len}
 use Rattle.desk_text.specs.Lines.{LogicalLine, logical_lines}
-use Rattle.desk_text.specs.Path.{same_path}
 use Rattle.desk_text.specs.Reading.{Reads, ReadsAs}
 use Rattle.desk_text.specs.declared.reading.ReadError.{ReadError}
 use Rattle.desk_tables.specs.FileSystemsText as spec
-use Rattle.desk_tables.specs.FileSystems.{AreAscending, is_before, mount_points}
+use Rattle.desk_tables.specs.FileSystems.{is_before, mount_points}
 use Rattle.desk_tables.specs.QuotedLines.{line_values, lines_table}
 use Rattle.desk_tables.specs.PrivateQuotedLines.{at_line}
 use Rattle.desk_tables.specs.declared.filesystems.Mount.{Mount}
-use Rattle.desk_tables.specs.declared.rules.TableFault.{TableFault}
+use Rattle.desk_tables.specs.Rules.{TableFault}
 use Rattle.desk_tables.specs.declared.rules.TableRule.{TableRule}
-use Rattle.desk_tables.proofs.FileSystemsTextLemmas.{IsGood, fault_in_order, good_line, insert-put, length-put, next_count, next_listed, next_table, put-ascends, same_answer}
+use Rattle.desk_tables.proofs.FileSystemsTextLemmas.{IsTableBehind, fault_in_order, insert-put, next_behind, next_table, same_answer}
 use Rattle.desk_tables.proofs.QuotedLineLemmas.{exit, faults_on, next_faults, next_rows, row_at, rows_on, whole}
 use Rattle.desk_tables.proofs.filesystems_text.read_mounts.Goals as goal
 
@@ -25,8 +24,8 @@ returns-in_err-mount-clause-read c =
     let table : List Mount = c.loop-line.table.items in
     let same : spec.values_answer x.number (length c.as_slice.result.now) (mount_points c.as_slice.result.now) (line_values x) ≡ spec.line_answer (take i ls) x =
     ap (λ t. spec.values_answer x.number (length t) (mount_points t) (line_values x)) c.as_slice.ensures.value
-    ∙ ap (λ n. spec.values_answer x.number n (mount_points table) (line_values x)) c.loop-line.invariant.counted
-    ∙ same_answer x.number (length (take i ls)) (mount_points table) (spec.paths_on (take i ls)) (line_values x) c.loop-line.invariant.listed in
+    ∙ ap (λ n. spec.values_answer x.number n (mount_points table) (line_values x)) c.loop-line.invariant.behind.counted
+    ∙ same_answer x.number (length (take i ls)) (mount_points table) (spec.paths_on (take i ls)) (line_values x) c.loop-line.invariant.behind.listed in
     let N : Result (Option Mount) TableRule → Type 0 = λ a. ReadsAs {T = Mount} (λ row. Some row) c.read_line.result a in
     let M : ℕ → Type 0 = λ n. ReadsAs {T = Mount} (λ row. Some row) c.at_line.result (at_line n (spec.line_answer (take i ls) x)) in
     let R : Result Mount (ReadError TableFault) → Type 0 = λ r. ReadsAs (λ row. Some row) r (at_line x.number (spec.line_answer (take i ls) x)) in
@@ -45,24 +44,22 @@ loop-line-preserved c =
     let table : List Mount = c.loop-line.table.items in
     let same : spec.values_answer x.number (length c.as_slice.result.now) (mount_points c.as_slice.result.now) (line_values x) ≡ spec.line_answer (take i ls) x =
     ap (λ t. spec.values_answer x.number (length t) (mount_points t) (line_values x)) c.as_slice.ensures.value
-    ∙ ap (λ n. spec.values_answer x.number n (mount_points table) (line_values x)) c.loop-line.invariant.counted
-    ∙ same_answer x.number (length (take i ls)) (mount_points table) (spec.paths_on (take i ls)) (line_values x) c.loop-line.invariant.listed in
+    ∙ ap (λ n. spec.values_answer x.number n (mount_points table) (line_values x)) c.loop-line.invariant.behind.counted
+    ∙ same_answer x.number (length (take i ls)) (mount_points table) (spec.paths_on (take i ls)) (line_values x) c.loop-line.invariant.behind.listed in
     let N : Result (Option Mount) TableRule → Type 0 = λ a. ReadsAs {T = Mount} (λ row. Some row) c.read_line.result a in
     let M : ℕ → Type 0 = λ n. ReadsAs {T = Mount} (λ row. Some row) c.at_line.result (at_line n (spec.line_answer (take i ls) x)) in
     let R : Result Mount (ReadError TableFault) → Type 0 = λ r. ReadsAs (λ row. Some row) r (at_line x.number (spec.line_answer (take i ls) x)) in
     let told : M x.number = subst M c.number.ensures (c.at_line.ensures (spec.line_answer (take i ls) x) (subst N same c.read_line.ensures)) in
     let mount : Mount = c.in_ok-mount.mount in
     let good : spec.line_answer (take i ls) x ≡ Ok (Some mount) = row_at x.number (spec.line_answer (take i ls) x) mount (subst R c.in_ok-mount.was told) in
-    let known : IsGood (length (take i ls)) (spec.paths_on (take i ls)) (line_values x) mount = good_line x.number (length (take i ls)) (spec.paths_on (take i ls)) (line_values x) mount good in
     let place : c.place_of-place.result ≡ prefix_len (λ next. is_before next.path mount.path) table = c.place_of-place.ensures.count ∙ ap (prefix_len (λ next. is_before next.path mount.path)) c.as_slice-in-loop-line.ensures.value in
     let new : c.insert.new.self.items ≡ spec.put mount table = c.in_ok-insert.ensures.items ∙ ap (λ n. insert table n mount) place ∙ insert-put mount table in
     record {
       sound = next_faults spec.line_answer ls i x mount c.loop-line-test.true c.line-item.is good c.loop-line.invariant.sound;
       read = new ∙ next_table table (rows_on spec.line_answer (take i ls)) mount c.loop-line.invariant.read ∙ ap (spec.put_all []) (sym (next_rows spec.line_answer ls i x mount c.loop-line-test.true c.line-item.is good));
-      listed = λ path. ap (λ t. list_any (same_path path) (mount_points t)) new ∙ next_listed ls i x c.loop-line-test.true c.line-item.is mount table known.listed c.loop-line.invariant.listed path;
-      counted = ap length new ∙ next_count ls i x c.loop-line-test.true c.line-item.is table mount c.loop-line.invariant.counted;
-      ascending = subst AreAscending (sym new) (put-ascends mount table c.loop-line.invariant.ascending (c.loop-line.invariant.listed mount.path ∙ known.fresh));
-      few = let below : length (take i ls) < 256 = known.few in omega (arith, ap length new, length-put mount table, c.loop-line.invariant.counted);
+      behind =
+          subst (λ so_far. IsTableBehind so_far c.insert.new.self.items) (ap (λ l. take i ls ++ l ∷ []) c.line-item.is ∙ sym (take_more ls i x c.loop-line-test.true))
+          (subst (IsTableBehind (take i ls ++ x ∷ [])) (sym new) (next_behind (take i ls) x table mount c.loop-line.invariant.behind good));
     }
 
 pub returns-clause-read : goal.returns-clause-read
@@ -73,3 +70,9 @@ returns-clause-read c =
     ap (λ lines. spec.in_order (lines_table spec.line_answer lines)) (sym text)
     ∙ ap spec.in_order (whole spec.line_answer ls (ap (faults_on spec.line_answer) (sym all) ∙ c.loop-line.invariant.sound))
     ∙ ap Ok (ap (λ lines. spec.put_all [] (rows_on spec.line_answer lines)) (sym all) ∙ sym c.loop-line.invariant.read)
+
+pub returns-clause-ascending : goal.returns-clause-ascending
+returns-clause-ascending c = c.loop-line.invariant.behind.ascending
+
+pub returns-clause-few : goal.returns-clause-few
+returns-clause-few c = c.loop-line.invariant.behind.few

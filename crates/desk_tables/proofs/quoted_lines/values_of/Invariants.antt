@@ -1,6 +1,6 @@
 use Rattle.std.proofs.Common.{◌≡◌, map, take}
-use Rattle.desk_text.specs.Shown.{word_of}
-use Rattle.desk_text.specs.Words.{word_value}
+use Rattle.desk_text.specs.Views.{word_of}
+use Rattle.desk_text.specs.Word.{word_value}
 use Rattle.desk_tables.proofs.quoted_lines.values_of.Given as goal
 
 abbrev pub invariant-loop-word : goal.invariant-loop-word
