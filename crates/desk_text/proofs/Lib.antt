@@ -21,4 +21,5 @@ pub mod AtomLaws
 pub mod LineLaws
 pub mod WordLaws
 pub mod PathLaws
+pub mod AddrLaws
 pub mod AtomsAreUnique

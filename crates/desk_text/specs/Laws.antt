@@ -1,11 +1,12 @@
 -- Laws of networks, paths, logical lines and words: what their definitions come to.
-use Rattle.std.specs.Prelude.{◌≡◌, ◌↔◌, ℕ, ◌+◌, ◌<◌, ◌≤◌, ◌==◌, Bool, true, false, IsTrue, Some, List, [], ◌∷◌, ◌++◌, length, take, drop, map, Ok}
-use Rattle.std.specs.List.{AllByRecursion, flat_map}
+use Rattle.std.specs.Prelude.{All, ◌≡◌, ◌↔◌, ℕ, ◌+◌, ◌-◌, ◌<◌, ◌≤◌, ◌^◌, ◌==◌, Bool, true, false, IsTrue, Some, List, [], ◌∷◌, ◌++◌, length, take, drop, map, Ok}
+use Rattle.std.specs.List.{AllByRecursion, flat_map, list_any}
 use Rattle.std.specs.List.Sorted.{IsStrictlyIncreasing}
 use Rattle.std.specs.Str.Lines.{lines}
+use Rattle.desk_text.specs.Address.{addr_text, read_addr}
 use Rattle.desk_text.specs.AddrSet.{is_among, sorted_set}
 use Rattle.desk_text.specs.Network.{Block, IsBlock, covers, last_of, mask_of, prefix_of_mask}
-use Rattle.desk_text.specs.Path.{path_text, read_path}
+use Rattle.desk_text.specs.Path.{IsPath, is_dot_component, longest_path, path_text, read_path}
 use Rattle.desk_text.specs.Lines.{AreNumberedUp, PhysicalLine, LogicalLine, groups, is_continued, physical_lines, logical_lines}
 use Rattle.desk_text.specs.Word.{Character, Bare, Escaped, Lone, Atom, Single, Quoted, Unclosed, RawWord, atoms, atom_text, is_quote, is_separator, line_words, raw_word, words_at}
 
@@ -39,6 +40,10 @@ GroupsAreUnique = (lines : List PhysicalLine) (grouping : List (List PhysicalLin
 abbrev pub LinesAscend : Type 0
 LinesAscend = (text : List ℕ) → AreNumberedUp (logical_lines text)
 
+-- The physical lines of a logical line are those of the text from its number on.
+abbrev pub LinesAreNumbered : Type 0
+LinesAreNumbered = (text : List ℕ) → All (λ line. take (length line.parts) (drop (line.number - 1) (physical_lines text)) ≡ line.parts) (logical_lines text)
+
 -- a part of a text: its place, and its bytes
 pub record Slice : Type 0 where
   pub start : ℕ
@@ -71,10 +76,6 @@ PartsAreSlices =
 -- The raw words of the logical lines are slices of the text, in ascending order.
 abbrev pub WordsAreSlices : Type 0
 WordsAreSlices = (text : List ℕ) → AreSlices text 0 (length text) (map raw_slice (flat_map line_words (logical_lines text)))
-
--- The atoms of a text write it back.
-abbrev pub AtomsWriteText : Type 0
-AtomsWriteText = (text : List ℕ) → flat_map atom_text (atoms text) ≡ text
 
 -- The characters of a quoted run, of which none is a bare quote of its kind. A bare character is no backslash, and a
 -- backslash with nothing after it stands only at the end of a run that does not close.
@@ -131,14 +132,26 @@ pub record FallsInto (text : List ℕ) (runs : List Run) : Type 0 where
   pub blank : AllByRecursion (λ atom. is_separator atom ≡ true) blanks
   pub whole : atoms text ≡ atoms_in runs blanks
 
--- The words of a text are its maximal runs of atoms without a blank.
+-- The words of a text are its maximal runs of atoms without a blank, and the atoms of a word, which give its value, are those
+-- of its run.
 abbrev pub WordsAreMaximalRuns : Type 0
-WordsAreMaximalRuns = (start : ℕ) (text : List ℕ) → (runs : List Run) × FallsInto text runs × (words_at start text ≡ words_in start runs)
+WordsAreMaximalRuns =
+    (start : ℕ) (text : List ℕ) → (runs : List Run) × FallsInto text runs × (words_at start text ≡ words_in start runs)
+    × AllByRecursion (λ run. atoms (written run.atoms) ≡ run.atoms) runs
 
--- Paths that texts write and that are printed alike have the same components.
+-- Paths that are printed alike have the same components.
 abbrev pub PrintedPathsDiffer : Type 0
-PrintedPathsDiffer =
-    (text other : List ℕ) (path path' : List (List ℕ)) → read_path text ≡ Ok path → read_path other ≡ Ok path' → path_text path ≡ path_text path' → path ≡ path'
+PrintedPathsDiffer = (path other : List (List ℕ)) → IsPath path → IsPath other → path_text path ≡ path_text other → path ≡ other
+
+-- A printed path reads as that path, unless it has a component `.` or `..`, is too long or has a NUL.
+abbrev pub PathsReadBack : Type 0
+PathsReadBack =
+    (path : List (List ℕ)) → IsPath path → list_any is_dot_component path ≡ false → length (path_text path) ≤ longest_path → list_any (λ b. b == 0) (path_text path) ≡ false
+    → read_path (path_text path) ≡ Ok path
+
+-- A printed address reads as that address.
+abbrev pub AddrsReadBack : Type 0
+AddrsReadBack = (address : ℕ) → address < 2 ^ 32 → read_addr (addr_text address) ≡ Ok address
 
 -- these ascend, each once, and a number is among them exactly if it is one of the given numbers
 pub record IsSetOf (numbers set : List ℕ) : Type 0 where
