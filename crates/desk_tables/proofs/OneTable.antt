@@ -10,7 +10,7 @@ use Rattle.std.proofs.lemmas.List.{get_or-map, length-map}
 use Rattle.std.proofs.lemmas.List.Elements.{All-contains}
 use Rattle.std.proofs.lemmas.List.Folds.{Any-from_list_any}
 use Rattle.std.proofs.lemmas.Slice.Eq.{bytes_eq-Decides}
-use Rattle.desk_text.specs.Path.{path_text, same_path}
+use Rattle.desk_text.specs.Path.{path_text, are_printed_alike}
 use Rattle.desk_tables.specs.declared.filesystems.Mount.{Mount}
 use Rattle.desk_tables.specs.FileSystems.{AreAscending, IsTableOf, OneTable, mount_points}
 
@@ -100,9 +100,9 @@ within given first second h k t (n, inside, is) =
     let long : length (printed first) ≡ length (mount_points first) = length-map (mount_points first) path_text in
     let at : n < length (mount_points first) = omega arith in
     let path : List (List ℕ) = get_or (mount_points first) n [] in
-    let listed : list_any (same_path path) (mount_points second) ≡ true =
-    All-contains (λ path. list_any (same_path path) (mount_points second) ≡ true) given path k.listed (h.only n [] at) in
-    let found = Any-from_list_any (same_path path) (mount_points second) listed in
+    let listed : list_any (are_printed_alike path) (mount_points second) ≡ true =
+    All-contains (λ path. list_any (are_printed_alike path) (mount_points second) ≡ true) given path k.listed (h.only n [] at) in
+    let found = Any-from_list_any (are_printed_alike path) (mount_points second) listed in
     let other : List (List ℕ) = found.1 in
     let alike : path_text path ≡ path_text other = (bytes_eq-Decides (path_text path) (path_text other)).0 found.4 in
     subst (Contains (printed second)) (sym alike ∙ sym (get_or-map path_text (mount_points first) n [] t at) ∙ is)
