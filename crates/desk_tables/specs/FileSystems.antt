@@ -33,11 +33,6 @@ pub record TooMany (given : List (List (List ℕ))) : Type 0 where
   pub is_table : IsTableOf given table
   pub many : 256 < length table
 
--- Two tables of the same mount points given have the same mount points, as printed: so they are as long, and mount
--- points given that are too many have no table of at most 256.
-abbrev pub OneTable : Type 0
-OneTable = (given : List (List (List ℕ))) (first second : List Mount) → IsTableOf given first → IsTableOf given second → map path_text (mount_points first) ≡ map path_text (mount_points second)
-
 -- a mount point that nobody keeps and no line lists
 abbrev pub unkept : List (List ℕ) → Mount
 unkept path = record { path = path; custodians = []; line = 0 }
