@@ -5,6 +5,8 @@ pub mod FileSystemLemmas
 pub mod TableLemmas
 pub mod TableIsUnique
 pub mod FirstFault
+pub mod GoodLines
+pub mod DigestBytes
 pub mod SpacedLineLemmas
 pub mod HostLawLemmas
 pub mod NetworkLemmas

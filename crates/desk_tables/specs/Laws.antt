@@ -1,7 +1,8 @@
 -- What the definitions of the tables come to.
-use Rattle.std.specs.Prelude.{◌≡◌, ◌≤◌, ◌↔◌, ◌⊎◌, ℕ, Bool, List, [], ◌∷◌, ◌++◌, None, Ok, Err, All, codes, length, map, IsOk}
+use Rattle.std.specs.Prelude.{◌≡◌, ◌≤◌, ◌↔◌, ◌⊎◌, ℕ, Bool, List, [], ◌∷◌, ◌++◌, None, Ok, Err, All, codes, find, length, map, IsOk, IsSome}
 use Rattle.std.specs.List.{AllPass, count_by, filter_map}
-use Rattle.hex.specs.Hex.{decode_sized, is_hex_digit}
+use Rattle.std.specs.Str.{str_to_ascii_lowercase}
+use Rattle.hex.specs.Hex.{decode_sized, encode_lower, is_hex_digit}
 use Rattle.desk_text.specs.Lines.{logical_lines}
 use Rattle.desk_text.specs.Path.{IsPath}
 use Rattle.desk_text.specs.Reading.{AnsweredLine, fault_of}
@@ -63,6 +64,15 @@ pub record FirstFaultIsReported : Type 0 where
   pub of_custodians : (text : List ℕ) (fault : TableFault) → custodians.read_custodians text ≡ Err fault
       → IsFirstFault (answers custodians.line_answer [] (logical_lines text)) fault ⊎ LacksSite text fault
 
+-- A line that breaks no rule has its row.
+pub record GoodLinesHaveRows : Type 0 where
+  pub of_hosts : (address : List ℕ) (names : List (List ℕ)) → find (hosts.breaks address names) hosts.rules ≡ None → IsSome (hosts.row_of address names)
+  pub of_networks : (name : List ℕ) (fields : List (List ℕ)) → find (networks.breaks name fields) networks.rules ≡ None → IsSome (networks.row_of name fields)
+  pub of_users : (line : List ℕ) → find (users.breaks line) users.rules ≡ None → IsSome (users.row_of line)
+  pub of_groups : (line : List ℕ) → find (groups.breaks line) groups.rules ≡ None → IsSome (groups.row_of line)
+  pub of_filesystems : (number count : ℕ) (before : List (List (List ℕ))) (words : List (List ℕ)) → find (filesystems.breaks count before words) filesystems.rules ≡ None → IsSome (filesystems.row_of number words)
+  pub of_custodians : (before words : List (List ℕ)) → find (custodians.breaks before words) custodians.rules ≡ None → IsSome (custodians.row_of words)
+
 -- The rules of each table's lines, and the faults of a credential, are checked in the order of their numbers.
 pub record RulesAscend : Type 0 where
   pub of_hosts : map rule_number hosts.rules ≡ 1 ∷ 2 ∷ 3 ∷ []
@@ -73,6 +83,8 @@ pub record RulesAscend : Type 0 where
   pub of_custodians : map rule_number custodians.rules ≡ 1 ∷ 3 ∷ 4 ∷ 7 ∷ []
   pub of_credentials : map cred_fault_number cred_faults ≡ 1 ∷ 2 ∷ 3 ∷ 4 ∷ 5 ∷ []
 
--- A text writes a digest of 32 bytes exactly if it is 64 hexadecimal digits, of either case.
-abbrev pub DigestsAreHexadecimal : Type 0
-DigestsAreHexadecimal = (text : List ℕ) → IsOk (decode_sized text 32) ↔ ((length text ≡ 64) × AllPass is_hex_digit text)
+-- A text writes a digest of 32 bytes exactly if it is 64 hexadecimal digits, of either case; and the digits of these bytes
+-- are the text in small letters.
+pub record DigestsAreHexadecimal : Type 0 where
+  pub read : (text : List ℕ) → IsOk (decode_sized text 32) ↔ ((length text ≡ 64) × AllPass is_hex_digit text)
+  pub write_back : (text bytes : List ℕ) → decode_sized text 32 ≡ Ok bytes → encode_lower bytes ≡ str_to_ascii_lowercase text

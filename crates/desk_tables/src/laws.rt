@@ -2,7 +2,7 @@
 //! these say what they come to.
 
 ghost use Rattle.desk_tables.specs.Hosts.{AddressesAreUnique};
-ghost use Rattle.desk_tables.specs.Laws.{DigestsAreHexadecimal, FirstFaultIsReported, OrderKeepsMounts, RulesAscend, TableIsUnique, TablesAreInOrder};
+ghost use Rattle.desk_tables.specs.Laws.{DigestsAreHexadecimal, FirstFaultIsReported, GoodLinesHaveRows, OrderKeepsMounts, RulesAscend, TableIsUnique, TablesAreInOrder};
 
 use desk_text::laws::{printed_paths_differ, sorted_sets_are_unique};
 
@@ -30,7 +30,7 @@ pub fn tables_are_in_order()
     ensures { TablesAreInOrder }
 {}
 
-/// A digest is written by 64 hexadecimal digits and by nothing else.
+/// A digest is written by 64 hexadecimal digits and by nothing else, and they are its bytes' digits.
 pub fn digests_are_hexadecimal()
     ensures { DigestsAreHexadecimal }
 {}
@@ -43,4 +43,9 @@ pub fn first_fault_is_reported()
 /// The rules of a line, and the faults of a credential, are checked in the order of their numbers.
 pub fn rules_ascend()
     ensures { RulesAscend }
+{}
+
+/// A line that breaks no rule has its row.
+pub fn good_lines_have_rows()
+    ensures { GoodLinesHaveRows }
 {}
