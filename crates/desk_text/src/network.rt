@@ -1,9 +1,9 @@
 //! Networks of IPv4 addresses, their prefixes and masks. (networks(5), inet(3))
 
-ghost use Rattle.std.specs.Prelude.{◌≡◌, ◌≤◌, true, nat_le, if◌then◌else◌};
+ghost use Rattle.std.specs.Prelude.{◌≡◌, ◌≤◌, nat_le, if◌then◌else◌};
 ghost use Rattle.std.specs.Result.{result_map_both};
 ghost use Rattle.desk_text.specs.Address.{number_of, read_short};
-ghost use Rattle.desk_text.specs.Network.{IsBlock, block_of, covers, last_of, mask_of, prefix_of_mask, read_net_text, read_prefix, with_prefix};
+ghost use Rattle.desk_text.specs.Network.{IsBlock, block_of, covers, last_of, mask_of, prefix_of_mask, prefixed, read_net_text, read_prefix, with_addr};
 ghost use Rattle.desk_text.specs.Views.{written_net};
 
 use crate::address::{Addr, AddrFault};
@@ -161,14 +161,14 @@ impl NetText {
                 let addr = Addr::read_short(text)?;
                 Ok(NetText { addr, prefix: None })
             }
-            Some((address, prefix)) => with_prefix(address, prefix),
+            Some((address, prefix)) => read_prefixed(address, prefix),
         }
     }
 }
 
 /// Reads an address, and the prefix behind it. The faults of the address come first.
-fn with_prefix(address: &str, prefix: &str) -> Result<NetText, AddrFault>
-    ensures { result_map_both written_net (λ fault. fault) result ≡ with_prefix true prefix.now (read_short address.now) }
+fn read_prefixed(address: &str, prefix: &str) -> Result<NetText, AddrFault>
+    ensures { result_map_both written_net (λ fault. fault) result ≡ with_addr (read_short address.now) (λ addr. prefixed addr (read_prefix prefix.now)) }
 {
     let addr = Addr::read_short(address)?;
     match Prefix::read(prefix) {

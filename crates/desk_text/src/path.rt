@@ -1,7 +1,7 @@
 //! Paths of directories.
 
 ghost use Rattle.std.specs.Prelude.{◌≡◌, ℕ, ◌++◌, ◌∷◌, IfOk, IfErr, List, length};
-ghost use Rattle.std.specs.List.{list_any, list_all, slice_split};
+ghost use Rattle.std.specs.List.{list_any, slice_split};
 ghost use Rattle.std.specs.String.{string_bytes};
 ghost use Rattle.std.specs.Bool.{◌==◌};
 ghost use Rattle.desk_text.specs.Path.{IsPath, components, is_absolute, is_dot_component, is_under, path_fault_number, path_text, read_path, same_path};
@@ -179,14 +179,7 @@ fn ends_component(text: &str) -> bool
 fn is_dot_component(part: &str) -> bool
     ensures { result ≡ is_dot_component part.now }
 {
-    let bytes = part.as_bytes();
-    0 < bytes.len() && bytes.len() <= 2 && only_dots(bytes)
-}
-
-fn only_dots(bytes: &[u8]) -> bool
-    ensures { result ≡ list_all (λ b. b == 46) bytes.now }
-{
-    bytes.iter().all(|b| *b == b'.')
+    part == "." || part == ".."
 }
 
 fn has_dots(text: &str) -> bool
