@@ -45,7 +45,7 @@ last_of block = block.first + (block_size block.prefix - 1)
 abbrev pub read_prefix : List ℕ → Option ℕ
 read_prefix text = read_decimal 32 text
 
--- a network as a text writes it: an address, host bits and all, and the prefix where one is written
+-- a network as a text writes it: an address, host bits and all, and the prefix if one is written
 pub record WrittenNet : Type 0 where
   pub addr : ℕ
   pub prefix : Option ℕ
