@@ -1,12 +1,15 @@
-//! IPv4 addresses.
+//! IPv4 addresses, in a strict form: inet(3) also reads octal and hexadecimal numbers and fewer than four of them, so that
+//! one text can be two addresses to two programs. None of these is accepted here.
 
 ghost use Rattle.std.specs.Prelude.{◌≡◌, ℕ, ◌<◌, ◌≤◌, ◌^◌, ◌*◌, ◌-◌, min, Some, IsTrue, IfOk, length};
 ghost use Rattle.std.specs.Char.{digit_value};
 ghost use Rattle.std.specs.List.{list_all, list_any};
 ghost use Rattle.std.specs.Result.{result_map_both};
 ghost use Rattle.std.specs.Str.Parse.{digits_value};
-ghost use Rattle.desk_text.specs.Addr.{addr_text, dotted_parts, has_leading_zero, is_byte, is_digits, is_dotted, number_of, parts_value, read_addr, read_parts, read_short};
+ghost use Rattle.desk_text.specs.Bytes.{has_leading_zero, is_digits};
+ghost use Rattle.desk_text.specs.Address.{addr_fault_number, addr_text, dotted_parts, is_byte, is_dotted, number_of, parts_value, read_addr, read_parts, read_short};
 
+use crate::bytes::{has_leading_zero, is_digits};
 use std::fmt;
 use thiserror::Error;
 
@@ -16,37 +19,46 @@ pub struct Addr {
     number: u32,
 }
 
-/// Why a text is no address, or no network. Of several faults the first in this order is told.
+/// Why a text is not an address, or not a network. Of several faults the first in this order is reported.
 #[derive(Clone, Copy, Debug, PartialEq, Eq, Error)]
 pub enum AddrFault {
-    #[error("an address has four parts with dots between them")]
+    #[error("an address is four numbers separated by dots")]
     Parts,
-    #[error("a part is empty or has something other than digits")]
+    #[error("an octet is empty or has a character that is not a digit")]
     Digits,
-    #[error("a part is over 255")]
+    #[error("an octet is greater than 255")]
     Range,
-    #[error("a part begins with a 0 that says nothing")]
+    #[error("an octet has a leading zero")]
     LeadingZero,
-    #[error("the prefix is no decimal of 0 to 32")]
+    #[error("the prefix is not a number from 0 to 32")]
     Prefix,
 }
 
+impl AddrFault {
+    /// Returns the number of the fault, from 1.
+    pub fn number(self) -> u32
+        ensures { result ≡ addr_fault_number self }
+    {
+        self as u32 + 1
+    }
+}
+
 impl Addr {
-    /// The address with this number, the first part the highest.
+    /// Makes the address with this number, of which the first octet is the highest byte.
     pub fn from_number(number: u32) -> Addr
         ensures { number_of result ≡ number }
     {
         Addr { number }
     }
 
-    /// The number of the address, the first part the highest.
+    /// Returns the number of the address, of which the first octet is the highest byte.
     pub fn number(self) -> u32
         ensures { result ≡ number_of self }
     {
         self.number
     }
 
-    /// Reads four decimal parts of 0 to 255 with dots between them.
+    /// Reads four decimals of 0 to 255 with dots between them. Each fault is asked of all four before the next one.
     pub fn read(text: &str) -> Result<Addr, AddrFault>
         ensures { result_map_both number_of (λ fault. fault) result ≡ read_addr text.now }
     {
@@ -57,8 +69,8 @@ impl Addr {
         Ok(Addr { number })
     }
 
-    /// Reads one to four decimal parts of 0 to 255 with dots between them; the parts left out at the
-    /// end are 0. Here `Parts` means more than four. (networks(5))
+    /// Reads one to four decimals of 0 to 255 with dots between them; those left out at the end are 0. Here `Parts` means
+    /// more than four. (networks(5))
     pub fn read_short(text: &str) -> Result<Addr, AddrFault>
         ensures { result_map_both number_of (λ fault. fault) result ≡ read_short text.now }
     {
@@ -71,7 +83,7 @@ impl Addr {
     }
 }
 
-/// The number of an address of which the first parts write a number and the others are 0.
+/// Returns the number of an address whose first parts write this number and whose others are 0.
 fn filled(number: u32, count: usize) -> u32
     requires some { 0 < count }
     requires few { count ≤ 4 }
@@ -142,14 +154,8 @@ fn parts_value(text: &str) -> u32
     number
 }
 
-pub(crate) fn is_digits(part: &str) -> bool
-    ensures { result ≡ is_digits part.now }
-{
-    !part.is_empty() && part.as_bytes().iter().all(|b| b.is_ascii_digit())
-}
-
-/// The number that the digits write, and 256 for each number above 255.
-pub(crate) fn capped_value(part: &str) -> u32
+/// Returns the number that the digits write, or 256 if it is greater than 255.
+fn capped_value(part: &str) -> u32
     ensures { result ≡ min 256 (digits_value 10 part.now) }
 {
     let bytes = part.as_bytes();
@@ -160,14 +166,14 @@ pub(crate) fn capped_value(part: &str) -> u32
     value
 }
 
-/// The value of a digit, and more than any digit's for another byte.
+/// Returns the value of a digit; another byte has one that is greater than any digit's.
 fn digit_value(byte: u8) -> u32
     ensures { result ≡ digit_value byte }
 {
     char::from(byte).to_digit(36).unwrap_or(36)
 }
 
-/// Whether a text is of digits and dots alone.
+/// Tests whether a text has only digits and dots. The empty text has, too.
 pub fn is_dotted(text: &str) -> bool
     ensures { result ≡ is_dotted text.now }
 {
@@ -176,15 +182,9 @@ pub fn is_dotted(text: &str) -> bool
         .all(|b| b.is_ascii_digit() || *b == b'.')
 }
 
-pub(crate) fn has_leading_zero(part: &str) -> bool
-    ensures { result ≡ has_leading_zero part.now }
-{
-    part.len() > 1 && part.as_bytes()[0] == b'0'
-}
-
 impl fmt::Display for Addr {
     ghost use Rattle.std.specs.Prelude.{Some};
-    ghost use Rattle.desk_text.specs.Addr.{addr_text, number_of};
+    ghost use Rattle.desk_text.specs.Address.{addr_text, number_of};
 
     ghost output = { λ a. Some (addr_text (number_of a)) };
 

@@ -1,12 +1,12 @@
-//! Paths of directories.
+//! Paths of directories. A path is the list of its components, however many slashes its text has between them.
 
 ghost use Rattle.std.specs.Prelude.{◌≡◌, ℕ, ◌++◌, ◌∷◌, IfOk, IfErr, List, length};
-ghost use Rattle.std.specs.List.{list_any, list_all, slice_split};
+ghost use Rattle.std.specs.List.{list_any, slice_split};
 ghost use Rattle.std.specs.String.{string_bytes};
 ghost use Rattle.std.specs.Bool.{◌==◌};
-ghost use Rattle.desk_text.specs.Path.{components, is_absolute, is_dot_component, is_under, path_text, read_path};
+ghost use Rattle.desk_text.specs.Path.{IsPath, components, is_absolute, is_dot_component, is_under, path_fault_number, path_text, read_path, same_path};
 ghost use Rattle.desk_text.specs.Reading.{Reads};
-ghost use Rattle.desk_text.specs.Scan.{ends_component, goes_below};
+ghost use Rattle.desk_text.specs.PrivatePath.{ends_component, goes_below};
 
 use crate::reading::ReadError;
 use std::alloc::{AllocError, Global};
@@ -14,7 +14,7 @@ use std::cmp::Ordering;
 use std::marker::Model;
 use thiserror::Error;
 
-/// The most bytes that the text of a path may have.
+/// The most bytes that the text of a path may have, slashes counted.
 pub const LONGEST_PATH: usize = 1024;
 
 /// An absolute path, seen as its components.
@@ -26,7 +26,7 @@ pub struct Path {
 impl Model for Path {
     ghost use Rattle.std.specs.Prelude.{◌≡◌, ℕ, List};
     ghost use Rattle.std.specs.String.{string_bytes};
-    ghost use Rattle.desk_text.specs.Path.{components, path_text};
+    ghost use Rattle.desk_text.specs.Path.{IsPath, components, path_text};
 
     ghost Value = { List (List ℕ) };
 
@@ -41,13 +41,16 @@ impl PartialEq for Path {
     ghost use Rattle.std.specs.Cmp.Rules.{comparing};
     ghost use Rattle.std.specs.Cmp.Lexicographic.{pointwise};
     ghost use Rattle.std.specs.Ordering.{on};
-    ghost use Rattle.desk_text.specs.Path.{path_text};
+    ghost use Rattle.desk_text.specs.Path.{path_text, same_path};
 
     ghost eq = { on path_text (pointwise ◌==◌) };
 
     ghost laws = { Prim.search (comparing, rules) };
 
-    fn eq(&self, other: &Path) -> bool {
+    fn eq(&self, other: &Path) -> bool
+        ensures printed { result ≡ on path_text (pointwise ◌==◌) self.now other.now }
+        ensures same { result ≡ same_path self.now other.now }
+    {
         self.text == other.text
     }
 }
@@ -59,7 +62,7 @@ impl Eq for Path {
     ghost laws = { Prim.search (comparing, rules) };
 }
 
-/// Paths are in byte order of their printed forms.
+/// Paths are in byte order of their printed forms, so that their order is that of a sorted listing.
 impl Ord for Path {
     ghost use Rattle.std.proofs.Common.{rules};
     ghost use Rattle.std.specs.Cmp.Rules.{comparing};
@@ -97,20 +100,31 @@ impl PartialOrd for Path {
     }
 }
 
-/// Why a text is no path. Of several faults the first in this order is told.
+/// Why a text is not a path. Of several faults the first in this order is reported.
 #[derive(Clone, Copy, Debug, PartialEq, Eq, Error)]
 pub enum PathFault {
-    #[error("it does not begin with a slash")]
+    #[error("a path begins with a slash")]
     NotAbsolute,
-    #[error("a component is `.` or `..`")]
+    #[error("a component of a path is `.` or `..`")]
     DotComponent,
-    #[error("it is over 1024 bytes long")]
+    #[error("a path is longer than 1024 bytes")]
     TooLong,
-    #[error("it has a NUL byte")]
+    #[error("a path has a NUL byte")]
     NulByte,
 }
 
+impl PathFault {
+    /// Returns the number of the fault, from 1.
+    pub fn number(self) -> u32
+        ensures { result ≡ path_fault_number self }
+    {
+        self as u32 + 1
+    }
+}
+
 impl Path {
+    /// Reads an absolute path. Slashes in a row count as one, and one at the end counts for nothing. The length is that of
+    /// the text as given, and only absolute paths without `.` and `..` are read, so that no path is another one in disguise.
     pub fn read(alloc: Global, text: &str) -> Result<Path, ReadError<PathFault>>
         ensures { Reads result (read_path text.now) }
     {
@@ -131,7 +145,7 @@ impl Path {
         Ok(Path { text })
     }
 
-    /// Whether the path is the other one or lies below it.
+    /// Tests whether the path is the other one or lies below it: `/a/b` is under `/a`, and `/ab` is not.
     pub fn is_under(&self, above: &Path) -> bool
         ensures { result ≡ is_under self.now above.now }
     {
@@ -139,15 +153,16 @@ impl Path {
         above == "/" || goes_below(path, above)
     }
 
-    /// The path as it is printed.
+    /// Returns the path as it is printed.
     pub fn text(&self) -> &str
-        ensures { result.now ≡ path_text self.now }
+        ensures printed { result.now ≡ path_text self.now }
+        ensures path { IsPath self.now }
     {
         self.text.as_str()
     }
 }
 
-/// Whether a printed path is another one, or goes on behind it with a slash.
+/// Tests whether a printed path is another one, or goes on behind it with a slash.
 fn goes_below(path: &str, above: &str) -> bool
     ensures { result ≡ goes_below path.now above.now }
 {
@@ -166,14 +181,7 @@ fn ends_component(text: &str) -> bool
 fn is_dot_component(part: &str) -> bool
     ensures { result ≡ is_dot_component part.now }
 {
-    let bytes = part.as_bytes();
-    0 < bytes.len() && bytes.len() <= 2 && only_dots(bytes)
-}
-
-fn only_dots(bytes: &[u8]) -> bool
-    ensures { result ≡ list_all (λ b. b == 46) bytes.now }
-{
-    bytes.iter().all(|b| *b == b'.')
+    part == "." || part == ".."
 }
 
 fn has_dots(text: &str) -> bool
@@ -182,7 +190,7 @@ fn has_dots(text: &str) -> bool
     text.split('/').any(|part| is_dot_component(part))
 }
 
-/// The components with a slash before each, or one slash where there is none.
+/// Writes the components with a slash before each, or one slash if there are none.
 fn printed(alloc: Global, text: &str) -> Result<String, AllocError>
     ensures { IfOk result (λ s. string_bytes s ≡ path_text (components text.now)) }
 {
