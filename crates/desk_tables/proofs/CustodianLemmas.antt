@@ -7,18 +7,17 @@ use Rattle.std.proofs.lemmas.Bool.{cases_Bool}
 use Rattle.std.proofs.lemmas.Slice.Eq.{bytes_eq-Decides}
 use Rattle.std.specs.Cmp.Lexicographic.{on_texts_equal}
 use Rattle.std.specs.Option.{is_some, option_map, option_or}
-use Rattle.std.specs.Result.{is_err}
+use Rattle.std.specs.Result.{is_err, result_ok}
 use Rattle.std.specs.Str.{bytes_eq}
 use Rattle.hex.specs.Hex.{decode_sized}
 use Rattle.desk_text.specs.Lines.{LogicalLine}
-use Rattle.desk_text.specs.declared.quoting.OpenQuote.{OpenQuote}
-use Rattle.desk_tables.proofs.WordTables.{unless_ok}
-use Rattle.desk_tables.specs.Tables.{unless_rule}
-use Rattle.desk_tables.specs.WordLines.{line_values}
-use Rattle.desk_tables.specs.Custodians.{breaks, custodian_of, digest_of, digest_word, is_custodian_name, name_in, name_word, names_on, rules, values_answer}
+use Rattle.desk_tables.proofs.QuotedLineLemmas.{unless_ok}
+use Rattle.desk_tables.specs.Rules.{unless_rule}
+use Rattle.desk_tables.specs.QuotedLines.{line_values}
+use Rattle.desk_tables.specs.Custodians.{breaks, digest_of, digest_word, is_custodian_name, name_in, name_word, names_on, row_of, rules, values_answer}
 use Rattle.desk_tables.specs.declared.custodians.Custodian.{Custodian}
-use Rattle.desk_tables.specs.declared.faults.TableRule.{TableRule}
-use Rattle.desk_tables.specs.declared.faults.TableRule.TheVariants as rule
+use Rattle.desk_tables.specs.declared.rules.TableRule.{TableRule}
+use Rattle.desk_tables.specs.declared.rules.TableRule.TheVariants as rule
 
 -- the names of custodians
 abbrev pub names : List Custodian → List (List ℕ)
@@ -84,18 +83,18 @@ module _ (f : List ℕ → Option (List ℕ)) (name : List ℕ) (d : List ℕ) w
       ]
 
 -- the answer by the four tests
-abbrev by_tests : Bool → Bool → Bool → Bool → Custodian → Result (Option Custodian) TableRule
+abbrev by_tests : Bool → Bool → Bool → Bool → Option Custodian → Result (Option Custodian) TableRule
 by_tests fields name duplicate digest row =
     unless_rule (cond fields (Some rule.Fields) (cond name (Some rule.Name) (cond duplicate (Some rule.Duplicate) (cond digest (Some rule.Digest) None)))) row
 
 module _ (before : List (List ℕ)) (words : List (List ℕ)) where
   answer : (fields name duplicate digest : Bool) → not (length words == 2) ≡ fields → not (is_custodian_name (name_word words)) ≡ name → list_any (bytes_eq (name_word words)) before ≡ duplicate → is_err (decode_sized (digest_word words) 32) ≡ digest
-      → values_answer before (Ok words) ≡ by_tests fields name duplicate digest (custodian_of words)
+      → values_answer before (Ok words) ≡ by_tests fields name duplicate digest (row_of words)
   answer fields name duplicate digest f n u d =
-      ap (λ b. by_tests b (not (is_custodian_name (name_word words))) (list_any (bytes_eq (name_word words)) before) (is_err (decode_sized (digest_word words) 32)) (custodian_of words)) f
-      ∙ ap (λ b. by_tests fields b (list_any (bytes_eq (name_word words)) before) (is_err (decode_sized (digest_word words) 32)) (custodian_of words)) n
-      ∙ ap (λ b. by_tests fields name b (is_err (decode_sized (digest_word words) 32)) (custodian_of words)) u
-      ∙ ap (λ b. by_tests fields name duplicate b (custodian_of words)) d
+      ap (λ b. by_tests b (not (is_custodian_name (name_word words))) (list_any (bytes_eq (name_word words)) before) (is_err (decode_sized (digest_word words) 32)) (row_of words)) f
+      ∙ ap (λ b. by_tests fields b (list_any (bytes_eq (name_word words)) before) (is_err (decode_sized (digest_word words) 32)) (row_of words)) n
+      ∙ ap (λ b. by_tests fields name b (is_err (decode_sized (digest_word words) 32)) (row_of words)) u
+      ∙ ap (λ b. by_tests fields name duplicate b (row_of words)) d
 
   pub is_duplicate : length words ≡ 2 → is_custodian_name (name_word words) ≡ true → list_any (bytes_eq (name_word words)) before ≡ true → values_answer before (Ok words) ≡ Err rule.Duplicate
   is_duplicate two n u = answer false false true (is_err (decode_sized (digest_word words) 32)) (ap (λ k. not (k == 2)) two) (ap not n) u refl
@@ -103,7 +102,7 @@ module _ (before : List (List ℕ)) (words : List (List ℕ)) where
   pub is_bad_digest : length words ≡ 2 → is_custodian_name (name_word words) ≡ true → list_any (bytes_eq (name_word words)) before ≡ false → is_err (decode_sized (digest_word words) 32) ≡ true → values_answer before (Ok words) ≡ Err rule.Digest
   is_bad_digest two n u d = answer false false false true (ap (λ k. not (k == 2)) two) (ap not n) u d
 
-  pub is_custodian : length words ≡ 2 → is_custodian_name (name_word words) ≡ true → list_any (bytes_eq (name_word words)) before ≡ false → is_err (decode_sized (digest_word words) 32) ≡ false → values_answer before (Ok words) ≡ Ok (Some (custodian_of words))
+  pub is_custodian : length words ≡ 2 → is_custodian_name (name_word words) ≡ true → list_any (bytes_eq (name_word words)) before ≡ false → is_err (decode_sized (digest_word words) 32) ≡ false → values_answer before (Ok words) ≡ Ok (row_of words)
   is_custodian two n u d = answer false false false false (ap (λ k. not (k == 2)) two) (ap not n) u d
 
 -- the words of a line of two
@@ -116,10 +115,14 @@ second_word [] x two h = absurd (omega arith)
 second_word (word ∷ []) x two h = absurd (omega arith)
 second_word (word ∷ next ∷ words) x two h = h
 
+name_of_row : (words : List (List ℕ)) (digest : Option (List ℕ)) (row : Custodian) → option_map (λ d. record { name = name_word words; digest = d }) digest ≡ Some row → name_word words ≡ row.name
+name_of_row words None row h = absurd (cc)
+name_of_row words (Some d) row h = let same : record { name = name_word words; digest = d } ≡ row = cc in ap (λ (k : Custodian). k.name) same
+
 -- a row's name is the name that its line lists
-named_on : (before : List (List ℕ)) (words : Result (List (List ℕ)) OpenQuote) (row : Custodian) → values_answer before words ≡ Ok (Some row) → name_in words ≡ Some row.name
-named_on before (Ok words) row h = ap (λ (k : Custodian). Some k.name) (unless_ok (find (breaks before words) rules) (custodian_of words) row h)
-named_on before (Err quote) row h = absurd (cc)
+named_on : (before : List (List ℕ)) (words : Result (List (List ℕ)) TableRule) (row : Custodian) → values_answer before words ≡ Ok (Some row) → name_in words ≡ Some row.name
+named_on before (Ok words) row h = ap Some (name_of_row words (result_ok (decode_sized (digest_word words) 32)) row (unless_ok (find (breaks before words) rules) (row_of words) row h))
+named_on before (Err rule) row h = absurd (cc)
 
 names-append : (rows : List Custodian) (row : Custodian) → names (rows ++ row ∷ []) ≡ names rows ++ row.name ∷ []
 names-append [] row = refl

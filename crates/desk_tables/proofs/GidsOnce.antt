@@ -8,9 +8,10 @@ use Rattle.std.proofs.lemmas.List.Elements.{filter-append}
 use Rattle.std.specs.List.{flat_map, list_any}
 use Rattle.std.specs.Str.{bytes_eq}
 use Rattle.std.proofs.lemmas.List.Folds.{list_any-append}
-use Rattle.desk_tables.specs.Gids.{AddsOnce, is_among}
-use Rattle.desk_tables.specs.Index.{gids_under, under}
-use Rattle.desk_tables.specs.Groups.{at_most_16, each_once, gids_of, has_member}
+use Rattle.desk_tables.specs.PrivateCredentials.{AddsOnce, is_among}
+use Rattle.desk_tables.specs.PrivateIndex.{gids_under, under}
+use Rattle.desk_tables.specs.Credentials.{at_most_16}
+use Rattle.desk_tables.specs.Groups.{each_once, gids_of, has_member}
 use Rattle.desk_tables.specs.declared.groups.Group.{Group}
 use Rattle.desk_tables.specs.declared.users.User.{User}
 

@@ -1,18 +1,17 @@
-mod CredRows
+mod CredentialExamples
 pub mod GidLemmas
 pub mod GidsOnce
-pub mod MountLemmas
+pub mod FileSystemLemmas
 pub mod TableLemmas
 pub mod OneTable
-pub mod WordLemmas
-pub mod AscendingLemmas
+pub mod SpacedLineLemmas
 pub mod HostLawLemmas
 pub mod NetworkLemmas
 pub mod HostLemmas
-pub mod ElementLemmas
-pub mod FieldLemmas
+pub mod CredentialTextLemmas
+pub mod ColonLineLemmas
 pub mod RowLemmas
 pub mod IndexLemmas
 pub mod CustodianLemmas
-pub mod WordTables
-pub mod MountLineLemmas
+pub mod QuotedLineLemmas
+pub mod FileSystemsTextLemmas

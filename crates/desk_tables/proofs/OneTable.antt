@@ -12,7 +12,7 @@ use Rattle.std.proofs.lemmas.List.Folds.{Any-from_list_any}
 use Rattle.std.proofs.lemmas.Slice.Eq.{bytes_eq-Decides}
 use Rattle.desk_text.specs.Path.{path_text, same_path}
 use Rattle.desk_tables.specs.declared.filesystems.Mount.{Mount}
-use Rattle.desk_tables.specs.Mounts.{AreAscending, IsTableOf, OneTable, mount_points}
+use Rattle.desk_tables.specs.FileSystems.{AreAscending, IsTableOf, OneTable, mount_points}
 
 abbrev is_less : List ℕ → List ℕ → Bool
 is_less text later = is_lt (slice_cmp nat_cmp text later)
@@ -88,7 +88,7 @@ printed_at table i d m inside =
 
 rising_printed : (table : List Mount) → AreAscending table → AreRising (printed table)
 rising_printed table up = λ i j d before inside.
-    let m : Mount = record { path = []; custodians = [] } in
+    let m : Mount = record { path = []; custodians = []; line = 0 } in
     let points : length (mount_points table) ≡ length table = length-map table (λ m. m.path) in
     let long : length (printed table) ≡ length (mount_points table) = length-map (mount_points table) path_text in
     ap (λ t. is_less t (get_or (printed table) j d)) (printed_at table i d m (omega arith))

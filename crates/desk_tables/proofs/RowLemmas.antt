@@ -9,10 +9,11 @@ use Rattle.std.specs.Str.Lines.{lines}
 use Rattle.desk_text.specs.Reading.{Reads}
 use Rattle.desk_text.specs.declared.reading.ReadError.{ReadError}
 use Rattle.desk_text.specs.declared.reading.ReadError.TheVariants.{Fault, Memory}
-use Rattle.desk_tables.specs.Rows.{PushesRow}
-use Rattle.desk_tables.specs.Tables.{Answered, answered_line, answered_lines, fault_of, row_in, table_of, unless_fault}
-use Rattle.desk_tables.specs.declared.faults.TableFault.{TableFault}
-use Rattle.desk_tables.specs.declared.faults.TableRule.{TableRule}
+use Rattle.desk_tables.specs.PrivateRows.{PushesRow}
+use Rattle.desk_text.specs.Reading.{AnsweredLine, fault_of, read_lines, unless_fault, value_of}
+use Rattle.desk_tables.specs.Rows.{answered_line, answered_lines}
+use Rattle.desk_tables.specs.Rules.{TableFault}
+use Rattle.desk_tables.specs.declared.rules.TableRule.{TableRule}
 
 module _ {Row : Type 0} (answer : List ℕ → Result (Option Row) TableRule) (text : List ℕ) where
   -- the line with its number is the one at its place
@@ -32,7 +33,7 @@ module _ {Row : Type 0} (answer : List ℕ → Result (Option Row) TableRule) (t
   pub all_lines : length (answered_lines answer text) ≡ length (lines text)
   all_lines = length-map (enumerate_from 1 (lines text)) (answered_line answer) ∙ length-enumerate_from 1 (lines text)
 
-module _ {Row : Type 0} (ls : List (Answered Row)) (i : ℕ) (x : Answered Row) (at : (i < length ls) × (x ≡ get_or ls i x)) where
+module _ {Row : Type 0} (ls : List (AnsweredLine Row TableRule)) (i : ℕ) (x : AnsweredLine Row TableRule) (at : (i < length ls) × (x ≡ get_or ls i x)) where
   taken : take (i + 1) ls ≡ take i ls ++ x ∷ []
   taken = take_more ls i x at.0 ∙ ap (λ l. take i ls ++ l ∷ []) (sym at.1)
 
@@ -40,21 +41,21 @@ module _ {Row : Type 0} (ls : List (Answered Row)) (i : ℕ) (x : Answered Row) 
   pub faults_more : filter_map fault_of (take (i + 1) ls) ≡ filter_map fault_of (take i ls) ++ cons_option (fault_of x) []
   faults_more = ap (filter_map fault_of) taken ∙ filter_map-append fault_of (take i ls) (x ∷ [])
 
-  pub rows_more : filter_map (λ line. row_in line.answer) (take (i + 1) ls) ≡ filter_map (λ line. row_in line.answer) (take i ls) ++ cons_option (row_in x.answer) []
-  rows_more = ap (filter_map (λ line. row_in line.answer)) taken ∙ filter_map-append (λ line. row_in line.answer) (take i ls) (x ∷ [])
+  pub rows_more : filter_map value_of (take (i + 1) ls) ≡ filter_map value_of (take i ls) ++ cons_option (value_of x) []
+  rows_more = ap (filter_map value_of) taken ∙ filter_map-append value_of (take i ls) (x ∷ [])
 
   -- the first line with a fault is the answer
-  first_fault : (f : TableFault) → filter_map fault_of (take i ls) ≡ [] → fault_of x ≡ Some f → table_of ls ≡ Err f
+  first_fault : (f : TableFault) → filter_map fault_of (take i ls) ≡ [] → fault_of x ≡ Some f → read_lines ls ≡ Err f
   first_fault f none found =
       let here : List TableFault = filter_map fault_of (drop (suc i) ls) in
       let all : filter_map fault_of ls ≡ filter_map fault_of (take i ls) ++ filter_map fault_of (drop i ls) =
       ap (filter_map fault_of) (sym (take-append-drop i ls)) ∙ filter_map-append fault_of (take i ls) (drop i ls) in
       let rest : filter_map fault_of (drop i ls) ≡ f ∷ here =
-      ap (filter_map fault_of) (drop-cons ls i x at.0) ∙ ap (λ (l : Answered Row). cons_option (fault_of l) here) (sym at.1) ∙ ap (λ o. cons_option o here) found in
-      ap (λ fs. unless_fault fs (filter_map (λ line. row_in line.answer) ls)) (all ∙ ap (λ fs. fs ++ filter_map fault_of (drop i ls)) none ∙ rest)
+      ap (filter_map fault_of) (drop-cons ls i x at.0) ∙ ap (λ (l : AnsweredLine Row TableRule). cons_option (fault_of l) here) (sym at.1) ∙ ap (λ o. cons_option o here) found in
+      ap (λ fs. unless_fault fs (filter_map value_of ls)) (all ∙ ap (λ fs. fs ++ filter_map fault_of (drop i ls)) none ∙ rest)
 
   -- what the exit at a line returns
-  pub exit : (e : ReadError TableFault) (old new : List Row) → filter_map fault_of (take i ls) ≡ [] → PushesRow (Err e) old new x → Reads (Err e) (table_of ls)
+  pub exit : (e : ReadError TableFault) (old new : List Row) → filter_map fault_of (take i ls) ≡ [] → PushesRow (Err e) old new x → Reads (Err e) (read_lines ls)
   exit Memory old new none pushed = tt
   exit (Fault f) old new none pushed = first_fault f none pushed
 
@@ -63,10 +64,10 @@ module _ {Row : Type 0} (ls : List (Answered Row)) (i : ℕ) (x : Answered Row) 
   sound_more done old new none pushed =
       faults_more ∙ ap (λ o. filter_map fault_of (take i ls) ++ cons_option o []) pushed.0 ∙ ap (λ fs. fs ++ []) none
 
-  pub read_more : (done : Unit {0}) (old new : List Row) → old ≡ filter_map (λ line. row_in line.answer) (take i ls) → PushesRow (Ok done) old new x → new ≡ filter_map (λ line. row_in line.answer) (take (i + 1) ls)
+  pub read_more : (done : Unit {0}) (old new : List Row) → old ≡ filter_map value_of (take i ls) → PushesRow (Ok done) old new x → new ≡ filter_map value_of (take (i + 1) ls)
   read_more done old new read pushed =
-      pushed.1 ∙ ap (λ rows. rows ++ cons_option (row_in x.answer) []) read ∙ sym rows_more
+      pushed.1 ∙ ap (λ rows. rows ++ cons_option (value_of x) []) read ∙ sym rows_more
 
 -- a table without a fault is its rows
-pub all_read : {Row : Type 0} (ls : List (Answered Row)) (rows : List Row) → filter_map fault_of ls ≡ [] → rows ≡ filter_map (λ line. row_in line.answer) ls → table_of ls ≡ Ok rows
-all_read ls rows sound read = ap (λ fs. unless_fault fs (filter_map (λ line. row_in line.answer) ls)) sound ∙ ap Ok (sym read)
+pub all_read : {Row : Type 0} (ls : List (AnsweredLine Row TableRule)) (rows : List Row) → filter_map fault_of ls ≡ [] → rows ≡ filter_map value_of ls → read_lines ls ≡ Ok rows
+all_read ls rows sound read = ap (λ fs. unless_fault fs (filter_map value_of ls)) sound ∙ ap Ok (sym read)

@@ -14,7 +14,7 @@ use Rattle.std.proofs.lemmas.List.Kept.{AllPairs-cons, Any-dedup, Contains-from_
 use Rattle.std.proofs.lemmas.List.Sorted.{Contains-permutation, IsPermutation-sym}
 use Rattle.desk_text.specs.Path.{path_text, same_path}
 use Rattle.desk_tables.specs.declared.filesystems.Mount.{Mount}
-use Rattle.desk_tables.specs.Mounts.{AreAscending, IsTableOf, is_before, mount_points, unkept}
+use Rattle.desk_tables.specs.FileSystems.{AreAscending, IsTableOf, is_before, mount_points, unkept}
 
 abbrev Paths : Type 0
 Paths = List (List (List ℕ))
@@ -29,6 +29,9 @@ points_of_unkept (path ∷ paths) = ap (λ ps. path ∷ ps) (points_of_unkept pa
 
 kept_by_nobody : (paths : Paths) → All (λ mount. mount.custodians ≡ []) (map unkept paths)
 kept_by_nobody paths = All-map (λ mount. mount.custodians ≡ []) unkept paths (λ k d inside. refl)
+
+on_no_line : (paths : Paths) → All (λ mount. mount.line ≡ 0) (map unkept paths)
+on_no_line paths = All-map (λ mount. mount.line ≡ 0) unkept paths (λ k d inside. refl)
 
 ascend : (paths : Paths) → IsStrictlySortedBy printed_cmp paths → AreAscending (map unkept paths)
 unfolding IsStrictlySortedBy
@@ -61,4 +64,5 @@ module _ (given sorted kept : Paths) (moved : IsPermutation given sorted) (up : 
     only = subst (λ ps. All (Contains given) ps) (sym (points_of_unkept kept)) (λ k d inside. only_given _ (All-contains_itself kept k d inside));
     ascending = ascend kept (subst (IsStrictlySortedBy printed_cmp) (sym once) (IsStrictlySortedBy-dedup (on_texts path_text) (λ x y. texts_ties (path_text x) (path_text y)) sorted up));
     unkept = kept_by_nobody kept;
+    unwritten = on_no_line kept;
   }

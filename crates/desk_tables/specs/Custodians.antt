@@ -2,17 +2,16 @@
 use Rattle.std.specs.Prelude.{ℕ, Bool, false, not, ◌==◌, ◌&&◌, ◌||◌, nat_le, List, [], ◌∷◌, Option, Some, None, Result, Ok, Err, find, length, is_err, codes, slice_index_or}
 use Rattle.std.specs.List.{filter_map, list_all, list_any}
 use Rattle.std.specs.Option.{option_map}
-use Rattle.std.specs.Result.{result_unwrap_or}
+use Rattle.std.specs.Result.{result_ok}
 use Rattle.std.specs.Str.{bytes_eq}
 use Rattle.hex.specs.Hex.{decode_sized}
 use Rattle.desk_text.specs.Lines.{LogicalLine, logical_lines}
-use Rattle.desk_text.specs.declared.quoting.OpenQuote.{OpenQuote}
-use Rattle.desk_tables.specs.Tables.{unless_rule}
-use Rattle.desk_tables.specs.WordLines.{line_values, lines_table}
+use Rattle.desk_tables.specs.Rules.{unless_rule}
+use Rattle.desk_tables.specs.QuotedLines.{line_values, lines_table}
 use Rattle.desk_tables.specs.declared.custodians.Custodian.{Custodian}
-use Rattle.desk_tables.specs.declared.faults.TableFault.{TableFault}
-use Rattle.desk_tables.specs.declared.faults.TableRule.{TableRule}
-use Rattle.desk_tables.specs.declared.faults.TableRule.TheVariants as rule
+use Rattle.desk_tables.specs.Rules.{TableFault}
+use Rattle.desk_tables.specs.declared.rules.TableRule.{TableRule}
+use Rattle.desk_tables.specs.declared.rules.TableRule.TheVariants as rule
 
 -- the most bytes that a custodian's name may have
 abbrev pub longest_name : ℕ
@@ -34,35 +33,32 @@ name_word words = slice_index_or words 0 []
 abbrev pub digest_word : List (List ℕ) → List ℕ
 digest_word words = slice_index_or words 1 []
 
--- Whether a rule holds of a line of these words, where these names are listed before: it has not two words; the first is
--- no name; it is listed before; the second is not 64 hexadecimal digits.
+-- Whether a line of these words breaks a rule, if these names are listed before: it does not have two words; the first is
+-- not a custodian's name; it is listed before; the second is not 64 hexadecimal digits. It breaks no other rule.
 abbrev pub breaks : List (List ℕ) → List (List ℕ) → TableRule → Bool
 breaks before words rule.Fields = not (length words == 2)
-breaks before words rule.Number = false
 breaks before words rule.Name = not (is_custodian_name (name_word words))
 breaks before words rule.Duplicate = list_any (bytes_eq (name_word words)) before
-breaks before words rule.BadPath = false
-breaks before words rule.Custodian = false
 breaks before words rule.Digest = is_err (decode_sized (digest_word words) 32)
-breaks before words rule.TooMany = false
+breaks before words _ = false
 
--- the order in which a rule of a line is named
+-- the rules of a line, in the order in which they are checked
 abbrev pub rules : List TableRule
 rules = rule.Fields ∷ rule.Name ∷ rule.Duplicate ∷ rule.Digest ∷ []
 
--- the custodian that words name, with the 32 bytes that the digits write
-abbrev pub custodian_of : List (List ℕ) → Custodian
-custodian_of words = record { name = name_word words; digest = result_unwrap_or (decode_sized (digest_word words) 32) [] }
+-- the custodian of a line of these words, with the 32 bytes that the digits write; there is none if they cannot be read
+abbrev pub row_of : List (List ℕ) → Option Custodian
+row_of words = option_map (λ digest. record { name = name_word words; digest = digest }) (result_ok (decode_sized (digest_word words) 32))
 
--- what a line of these words answers, where these names are listed before; an open quote breaks the rule on fields
-abbrev pub values_answer : List (List ℕ) → Result (List (List ℕ)) OpenQuote → Result (Option Custodian) TableRule
-values_answer before (Ok words) = unless_rule (find (breaks before words) rules) (custodian_of words)
-values_answer before (Err quote) = Err rule.Fields
+-- what a line of these words answers, if these names are listed before
+abbrev pub values_answer : List (List ℕ) → Result (List (List ℕ)) TableRule → Result (Option Custodian) TableRule
+values_answer before (Ok words) = unless_rule (find (breaks before words) rules) (row_of words)
+values_answer before (Err rule) = Err rule
 
--- the name that a line lists, where each quote closes
-abbrev pub name_in : Result (List (List ℕ)) OpenQuote → Option (List ℕ)
+-- the name that a line lists, if each quote closes
+abbrev pub name_in : Result (List (List ℕ)) TableRule → Option (List ℕ)
 name_in (Ok words) = Some (name_word words)
-name_in (Err quote) = None
+name_in (Err rule) = None
 
 -- the names that lines list
 abbrev pub names_on : List LogicalLine → List (List ℕ)
@@ -80,7 +76,7 @@ custodian_named table name = find (λ custodian. bytes_eq custodian.name name) t
 abbrev pub digest_of : List Custodian → List ℕ → Option (List ℕ)
 digest_of table name = option_map (λ custodian. custodian.digest) (custodian_named table name)
 
--- the custodians where `site` is among them, else a fault of the table as a whole
+-- the custodians if `site` is among them, else a fault of the table as a whole
 abbrev pub with_site : List Custodian → Result (List Custodian) TableFault
 with_site table = unless_missing (custodian_named table (codes "site"))
   where
@@ -88,11 +84,11 @@ with_site table = unless_missing (custodian_named table (codes "site"))
     unless_missing (Some site) = Ok table
     unless_missing None = Err (record { line = 0; rule = rule.Custodian })
 
--- where the lines have no fault, `site` has to be among the custodians
+-- if no line has a fault, `site` must be among the custodians
 abbrev pub checked : Result (List Custodian) TableFault → Result (List Custodian) TableFault
 checked (Ok table) = with_site table
 checked (Err fault) = Err fault
 
--- what a text of custodians answers: its custodians in order, or its fault
+-- what a text of custodians answers: its custodians in order, or its first fault
 abbrev pub read_custodians : List ℕ → Result (List Custodian) TableFault
 read_custodians text = checked (lines_table line_answer (logical_lines text))

@@ -3,18 +3,19 @@
 use Rattle.std.specs.Prelude.{ℕ, ◌==◌, Bool, false, List, [], ◌∷◌, Option, None, Result, Ok, drop, find, is_err, length, slice_index_or}
 use Rattle.std.specs.List.{list_any}
 use Rattle.std.specs.Option.{option_map}
-use Rattle.std.specs.Result.{result_unwrap_or}
+use Rattle.std.specs.Result.{result_ok}
 use Rattle.std.specs.Str.{bytes_eq}
-use Rattle.desk_text.specs.Addr.{read_short}
+use Rattle.desk_text.specs.Address.{read_short}
 use Rattle.desk_text.specs.declared.address.Addr.{Addr}
-use Rattle.desk_tables.specs.PlainLines.{is_long_name, words_before_comment}
-use Rattle.desk_tables.specs.Tables.{text_table, unless_rule}
-use Rattle.desk_tables.specs.declared.faults.TableFault.{TableFault}
-use Rattle.desk_tables.specs.declared.faults.TableRule.{TableRule}
-use Rattle.desk_tables.specs.declared.faults.TableRule.TheVariants.{Fields, Number, Name}
+use Rattle.desk_tables.specs.SpacedLines.{is_long_name, words_before_comment}
+use Rattle.desk_tables.specs.Rows.{text_table}
+use Rattle.desk_tables.specs.Rules.{unless_rule}
+use Rattle.desk_tables.specs.Rules.{TableFault}
+use Rattle.desk_tables.specs.declared.rules.TableRule.{TableRule}
+use Rattle.desk_tables.specs.declared.rules.TableRule.TheVariants.{Fields, Number, Name}
 use Rattle.desk_tables.specs.declared.networks.NetworkName.{NetworkName}
 
--- the number of a network stands first behind its name (where nothing does, the empty text, which is no number)
+-- the number of a network comes behind its name; if nothing does, it is the empty text, which is not a number
 abbrev pub number_text : List (List ℕ) → List ℕ
 number_text fields = slice_index_or fields 0 []
 
@@ -22,33 +23,34 @@ number_text fields = slice_index_or fields 0 []
 abbrev pub names_with : List ℕ → List (List ℕ) → List (List ℕ)
 names_with name fields = name ∷ drop 1 fields
 
--- whether a line with this name and these words behind it breaks a rule
+-- Whether a line with this name and these words behind it breaks a rule: it has no number; its number cannot be read; a
+-- name is over 255 bytes. It breaks no other rule.
 abbrev pub breaks : List ℕ → List (List ℕ) → TableRule → Bool
 breaks name fields Fields = length fields == 0
 breaks name fields Number = is_err (read_short (number_text fields))
 breaks name fields Name = list_any is_long_name (names_with name fields)
 breaks name fields _ = false
 
--- the rules of a line, in the order in which they are named
+-- the rules of a line, in the order in which they are checked
 abbrev pub rules : List TableRule
 rules = Fields ∷ Number ∷ Name ∷ []
 
--- the row with this name and these words behind it
-abbrev pub row_with : List ℕ → List (List ℕ) → NetworkName
-row_with name fields = record { number = record { number = result_unwrap_or (read_short (number_text fields)) 0 }; names = names_with name fields }
+-- the row of a line with this name and these words behind it; there is none if the number cannot be read
+abbrev pub row_of : List ℕ → List (List ℕ) → Option NetworkName
+row_of name fields = option_map (λ number. record { number = record { number = number }; names = names_with name fields }) (result_ok (read_short (number_text fields)))
 
--- what the words of a line answer: nothing where there is none, else its row, or the rule that is named
-abbrev pub network_answer : List (List ℕ) → Result (Option NetworkName) TableRule
-network_answer [] = Ok None
-network_answer (name ∷ fields) = unless_rule (find (breaks name fields) rules) (row_with name fields)
+-- what the words of a line answer: nothing if there are none, else its row, or the first rule that it breaks
+abbrev pub words_answer : List (List ℕ) → Result (Option NetworkName) TableRule
+words_answer [] = Ok None
+words_answer (name ∷ fields) = unless_rule (find (breaks name fields) rules) (row_of name fields)
 
 -- what a line answers
-abbrev pub network_line_answer : List ℕ → Result (Option NetworkName) TableRule
-network_line_answer line = network_answer (words_before_comment line)
+abbrev pub line_answer : List ℕ → Result (Option NetworkName) TableRule
+line_answer line = words_answer (words_before_comment line)
 
--- the rows of a networks file, or its least faulty line with its first rule
+-- the rows of a networks file, or its first faulty line with the first rule that it breaks
 abbrev pub read_networks : List ℕ → Result (List NetworkName) TableFault
-read_networks text = text_table network_line_answer text
+read_networks text = text_table line_answer text
 
 -- the row has the name, or has it as an alias, byte by byte
 abbrev pub is_network : List ℕ → NetworkName → Bool

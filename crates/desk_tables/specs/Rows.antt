@@ -1,20 +1,19 @@
--- What the contracts of the reader from line to line cite.
-use Rattle.std.specs.Prelude.{◌≡◌, ◌++◌, ℕ, List, [], Some, None, Option, Result, Ok, Err}
-use Rattle.std.specs.Borrow.{Bor}
-use Rattle.std.specs.List.{cons_option}
-use Rattle.desk_text.specs.Reading.{Reads}
-use Rattle.desk_text.specs.declared.reading.ReadError.{ReadError}
-use Rattle.desk_text.specs.declared.reading.ReadError.TheVariants.{Fault, Memory}
-use Rattle.desk_tables.specs.Tables.{Answered, fault_of, row_in}
-use Rattle.desk_tables.specs.declared.faults.TableFault.{TableFault}
-use Rattle.desk_tables.specs.declared.faults.TableRule.{TableRule}
+-- How a table is read of which each line is read by itself. (this project's own)
+use Rattle.std.specs.Prelude.{ℕ, List, Option, Result, map}
+use Rattle.std.specs.List.{enumerate_from}
+use Rattle.std.specs.Str.Lines.{lines}
+use Rattle.desk_text.specs.Reading.{AnsweredLine, read_lines}
+use Rattle.desk_tables.specs.Rules.{TableFault}
+use Rattle.desk_tables.specs.declared.rules.TableRule.{TableRule}
 
--- Each call of a reader of lines answers what the line spells; `returned` relates its arguments and its result.
-abbrev pub ReadsEachLine : {Alloc Row : Type 0} → (Alloc → Bor (List ℕ) → Result (Option Row) (ReadError TableRule) → Type 0) → (List ℕ → Result (Option Row) TableRule) → Type 0
-ReadsEachLine {Alloc = Alloc} {Row = Row} returned answer = (alloc : Alloc) (line : Bor (List ℕ)) (read : Result (Option Row) (ReadError TableRule)) → returned alloc line read → Reads read (answer line.now)
+-- a line with its number, and what it answers
+abbrev pub answered_line : {Row : Type 0} → (List ℕ → Result (Option Row) TableRule) → ℕ × List ℕ → AnsweredLine Row TableRule
+answered_line answer line = record { number = line.0; answer = answer line.1 }
 
--- The row of a line is added to those before it, or its fault is returned; want of memory says nothing.
-abbrev pub PushesRow : {Row : Type 0} → Result (Unit {0}) (ReadError TableFault) → List Row → List Row → Answered Row → Type 0
-PushesRow (Ok done) old new line = (fault_of line ≡ None) × (new ≡ old ++ cons_option (row_in line.answer) [])
-PushesRow (Err Memory) old new line = Unit {0}
-PushesRow (Err (Fault fault)) old new line = fault_of line ≡ Some fault
+-- each line of a text with its number, from 1, and what it answers
+abbrev pub answered_lines : {Row : Type 0} → (List ℕ → Result (Option Row) TableRule) → List ℕ → List (AnsweredLine Row TableRule)
+answered_lines answer text = map (answered_line answer) (enumerate_from 1 (lines text))
+
+-- what a table answers of which each line is read by itself: the rows of its lines, or its first faulty line
+abbrev pub text_table : {Row : Type 0} → (List ℕ → Result (Option Row) TableRule) → List ℕ → Result (List Row) TableFault
+text_table answer text = read_lines (answered_lines answer text)

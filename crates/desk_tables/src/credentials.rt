@@ -1,7 +1,9 @@
 //! Credentials: as whom a client acts. (exports(5))
 
 ghost use Rattle.std.specs.Prelude.{◌≡◌, ◌<◌, ◌≤◌, ◌++◌, [], ◌∷◌, length};
-ghost use Rattle.desk_tables.specs.Gids.{AddsOnce};
+ghost use Rattle.std.specs.Option.{option_map};
+ghost use Rattle.desk_tables.specs.Credentials.{at_most_16};
+ghost use Rattle.desk_tables.specs.PrivateCredentials.{AddsOnce};
 
 use arrayvec::ArrayVec;
 use std::fmt;
@@ -14,19 +16,36 @@ pub struct GroupIds {
 }
 
 impl Model for GroupIds {
-    ghost use Rattle.std.specs.Prelude.{List, ℕ};
+    ghost use Rattle.std.specs.Prelude.{◌≤◌, List, ℕ, length};
 
     ghost Value = { List ℕ };
 
     ghost view = { λ g. g.items.items };
+
+    ghost invariant = { λ g. length g.items.items ≤ 16 };
 }
 
 impl GroupIds {
-    /// The group numbers.
+    /// The group numbers, of which there are at most sixteen.
     pub fn as_slice(&self) -> &[u32]
-        ensures { result.now ≡ self.now }
+        ensures value { result.now ≡ self.now }
+        ensures few { length result.now ≤ 16 }
     {
         self.items.as_slice()
+    }
+
+    /// Makes the list of these numbers; there is none of more than sixteen.
+    pub fn from_slice(gids: &[u32]) -> Option<GroupIds>
+        ensures { result ≡ at_most_16 gids.now }
+    {
+        if gids.len() > 16 {
+            return None;
+        }
+        let mut items = GroupIds::none();
+        for gid in gids {
+            items.push(*gid);
+        }
+        Some(items)
     }
 
     /// One group number.
@@ -81,6 +100,14 @@ pub struct Cred {
 }
 
 impl Cred {
+    /// Makes the credential of these numbers; there is none with more than sixteen groups.
+    pub fn of_numbers(uid: u32, gids: &[u32]) -> Option<Cred>
+        ensures { result ≡ option_map (λ ids. record { uid = uid; gids = ids }) (at_most_16 gids.now) }
+    {
+        let gids = GroupIds::from_slice(gids)?;
+        Some(Cred { uid, gids })
+    }
+
     /// A user with one group.
     pub fn with_group(uid: u32, gid: u32) -> Cred
         ensures { result ≡ record { uid = uid; gids = gid ∷ [] } }

@@ -8,11 +8,11 @@ ghost use Rattle.std.specs.Str.{bytes_eq};
 ghost use Rattle.desk_text.specs.Reading.{Reads, ReadsAs};
 ghost use Rattle.desk_text.specs.Lines.{logical_lines};
 ghost use Rattle.desk_tables.specs.Custodians as spec;
-ghost use Rattle.desk_tables.specs.WordLines.{line_values, lines_table};
+ghost use Rattle.desk_tables.specs.QuotedLines.{line_values, lines_table};
 
-use crate::faults::{TableFault, TableRule};
-use crate::word_lines::{at_line, line_values};
-use desk_text::{Line, ReadError, Sequence, Text, logical_lines};
+use crate::quoted_lines::{at_line, line_values};
+use crate::rules::{TableFault, TableRule};
+use desk_text::{Line, LineFault, ReadError, Sequence, Text, logical_lines};
 use hex::FromHex;
 use std::alloc::{AllocError, Global};
 use std::collections::BTreeMap;
@@ -22,14 +22,14 @@ use std::marker::Model;
 const LONGEST_NAME: usize = 32;
 
 /// A custodian: a name, and the SHA-256 digest of a key.
-#[derive(Clone, Debug, Drop)]
+#[derive(Drop)]
 pub struct Custodian {
     pub name: Text,
     pub digest: [u8; 32],
 }
 
 /// The custodians of a site, in the order of their lines, and beside them the digest of each name.
-#[derive(Debug, Drop)]
+#[derive(Drop)]
 pub struct Custodians {
     rows: Sequence<Custodian>,
     digests: BTreeMap<String, [u8; 32]>,
@@ -58,7 +58,7 @@ impl Custodians {
     {
         let table = read_rows(alloc, text)?;
         if table.digest_of("site").is_none() {
-            return Err(ReadError::Fault(TableFault {
+            return Err(ReadError::Fault(LineFault {
                 line: 0,
                 rule: TableRule::Custodian,
             }));
@@ -150,11 +150,8 @@ fn read_line(
     ensures { ReadsAs (λ row. Some row) result
         (spec.values_answer (map (λ row. row.name) before.now) (line_values line.now)) }
 {
-    match line_values(alloc, line) {
-        Ok(words) => read_words(alloc, words.as_slice(), before),
-        Err(ReadError::Fault(_)) => Err(ReadError::Fault(TableRule::Fields)),
-        Err(ReadError::Memory) => Err(ReadError::Memory),
-    }
+    let words = line_values(alloc, line)?;
+    read_words(alloc, words.as_slice(), before)
 }
 
 /// The custodian that words name, or the rule that is named, where these custodians are listed
@@ -202,6 +199,3 @@ fn is_name_byte(byte: u8) -> bool
 {
     (b'a' <= byte && byte <= b'z') || (b'0' <= byte && byte <= b'9') || byte == b'-' || byte == b'_'
 }
-
-#[cfg(test)]
-mod tests;

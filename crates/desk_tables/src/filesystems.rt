@@ -6,12 +6,12 @@ ghost use Rattle.desk_text.specs.Path.{is_under};
 ghost use Rattle.std.specs.List.{list_any};
 ghost use Rattle.std.specs.Str.{bytes_eq};
 ghost use Rattle.desk_text.specs.Reading.{Reads};
-ghost use Rattle.desk_tables.specs.MountLines.{keeps, read_filesystems};
-ghost use Rattle.desk_tables.specs.Mounts.{IsTableOf, TooMany, fs_of, unkept};
-ghost use Rattle.desk_tables.specs.Scan.{IsLastAbove};
+ghost use Rattle.desk_tables.specs.FileSystemsText.{keeps, read_filesystems};
+ghost use Rattle.desk_tables.specs.FileSystems.{AreAscending, IsTableOf, TooMany, fs_of, unkept};
+ghost use Rattle.desk_tables.specs.PrivateFileSystems.{IsLastAbove};
 
-use crate::faults::TableFault;
-use crate::mount_lines::read_mounts;
+use crate::filesystems_text::read_mounts;
+use crate::rules::TableFault;
 use desk_text::{Path, ReadError, Sequence, Text};
 use std::alloc::{AllocError, Global};
 use std::marker::Model;
@@ -23,11 +23,13 @@ pub(crate) const MOST_MOUNT_POINTS: usize = 256;
 #[derive(Clone, Copy, Debug, PartialEq, Eq, PartialOrd, Ord)]
 pub struct FsId(pub u32);
 
-/// A listed mount point, and the custodians who keep its exports file.
+/// A listed mount point, the custodians who keep its exports file, and the number of the line that lists it (0 if no line
+/// does).
 #[derive(Clone, Debug, Drop)]
 pub struct Mount {
     pub path: Path,
     pub custodians: Sequence<Text>,
+    pub line: u32,
 }
 
 /// The listed mount points, at most 256, in byte order of their printed forms.
@@ -39,7 +41,7 @@ pub struct FileSystems {
 impl Model for FileSystems {
     ghost use Rattle.std.specs.Prelude.{◌≤◌, List, length};
     ghost use Rattle.desk_tables.specs.declared.filesystems.Mount.{Mount};
-    ghost use Rattle.desk_tables.specs.Mounts.{AreAscending};
+    ghost use Rattle.desk_tables.specs.FileSystems.{AreAscending};
 
     ghost Value = { List Mount };
 
@@ -73,10 +75,11 @@ impl FileSystems {
     /// listed themselves is not asked: it needs their file.
     pub fn read(alloc: Global, text: &str) -> Result<FileSystems, ReadError<TableFault>>
         requires { length text.now ≤ 4294967294 }
-        ensures { Reads result (read_filesystems text.now) }
+        ensures read { Reads result (read_filesystems text.now) }
+        ensures ascending { IfOk result (λ table. AreAscending table) }
+        ensures few { IfOk result (λ table. length table ≤ 256) }
     {
-        let table = read_mounts(alloc, text)?;
-        let mounts = sequence_of(alloc, table)?;
+        let mounts = Sequence::from_vec(read_mounts(alloc, text)?);
         Ok(FileSystems { mounts })
     }
 
@@ -98,6 +101,20 @@ impl FileSystems {
             .map(|mount| &mount.path)
     }
 
+    /// How many mount points are listed.
+    pub fn len(&self) -> usize
+        ensures { result ≡ length self.now }
+    {
+        self.mounts.as_slice().len()
+    }
+
+    /// The mount points with their custodians, in byte order.
+    pub fn as_slice(&self) -> &[Mount]
+        ensures { result.now ≡ self.now }
+    {
+        self.mounts.as_slice()
+    }
+
     /// Whether a custodian keeps the exports file of a file system: it is one of those listed for
     /// its mount point. Nobody keeps one that the table does not have.
     pub fn keeps(&self, custodian: &str, id: FsId) -> bool
@@ -115,17 +132,6 @@ fn is_among(names: &[Text], name: &str) -> bool
     ensures { result ≡ list_any (bytes_eq name.now) names.now }
 {
     names.iter().any(|other| name == other.as_str())
-}
-
-/// The mount points in a row.
-fn sequence_of(alloc: Global, table: Vec<Mount>) -> Result<Sequence<Mount>, AllocError>
-    ensures { IfOk result (λ mounts. mounts ≡ table.items) }
-{
-    let mut mounts = Sequence::new(alloc);
-    for mount in table {
-        mounts.push(mount)?;
-    }
-    Ok(mounts)
 }
 
 /// The place of the last mount point that the path is under.
@@ -158,6 +164,7 @@ fn unkept_mounts(alloc: Global, mount_points: Vec<Path>) -> Result<Sequence<Moun
         mounts.push(Mount {
             path,
             custodians: Sequence::new(alloc),
+            line: 0,
         })?;
     }
     Ok(mounts)

@@ -3,14 +3,15 @@
 ghost use Rattle.std.specs.Prelude.{◌≡◌, ◌≤◌, [], IfOk, OnOk, length};
 ghost use Rattle.std.specs.Option.{option_copied};
 ghost use Rattle.desk_text.specs.Reading.{Reads};
-ghost use Rattle.desk_tables.specs.Groups.{at_most_16, gids_of, group_answer, group_of_name, has_member, members_in, read_groups};
-ghost use Rattle.desk_tables.specs.Index.{AddsUnderEach, HasGroupNames, HasMembers, listed};
+ghost use Rattle.desk_tables.specs.Credentials.{at_most_16};
+ghost use Rattle.desk_tables.specs.Groups as spec;
+ghost use Rattle.desk_tables.specs.PrivateIndex.{AddsUnderEach, HasGroupNames, HasMembers, listed};
 
+use crate::colon_lines::{field, field_count, is_skipped, read_number};
 use crate::credentials::GroupIds;
-use crate::faults::{TableFault, TableRule};
-use crate::fields::{field, field_count, is_skipped, read_number};
 use crate::index::{add_first, add_under, row_at};
 use crate::rows::read_rows;
+use crate::rules::{TableFault, TableRule};
 use crate::users::User;
 use desk_text::{ReadError, Sequence, Text};
 use std::alloc::{AllocError, Global};
@@ -18,7 +19,7 @@ use std::collections::BTreeMap;
 use std::marker::Model;
 
 /// A row of the groups: a name, its number, and the names of its members in the order written.
-#[derive(Clone, Debug, Drop)]
+#[derive(Drop)]
 pub struct Group {
     pub name: Text,
     pub gid: u32,
@@ -27,7 +28,7 @@ pub struct Group {
 
 /// The groups of a text, in its order, with the place of the first group of each name, and the gids of the groups that
 /// list each member.
-#[derive(Debug, Drop)]
+#[derive(Drop)]
 pub struct Groups {
     rows: Sequence<Group>,
     by_name: BTreeMap<String, usize>,
@@ -36,7 +37,7 @@ pub struct Groups {
 
 impl Model for Groups {
     ghost use Rattle.std.specs.Prelude.{List};
-    ghost use Rattle.desk_tables.specs.Index.{HasGroupNames, HasMembers};
+    ghost use Rattle.desk_tables.specs.PrivateIndex.{HasGroupNames, HasMembers};
     ghost use Rattle.desk_tables.specs.declared.groups.Group.{Group};
 
     ghost Value = { List Group };
@@ -63,7 +64,7 @@ impl Groups {
     /// decimal up to 4294967295) and Name (it is empty).
     pub fn read(alloc: Global, text: &str) -> Result<Groups, ReadError<TableFault>>
         requires { length text.now ≤ 4294967294 }
-        ensures { Reads result (read_groups text.now) }
+        ensures { Reads result (spec.read_groups text.now) }
     {
         let rows = read_rows(alloc, text, read_group)?;
         let by_name = places_by_name(alloc, rows.as_slice())?;
@@ -77,7 +78,7 @@ impl Groups {
 
     /// The group of a name, byte for byte: the first row that has it.
     pub fn by_name(&self, name: &str) -> Option<&Group>
-        ensures { option_copied result ≡ group_of_name self.now name.now }
+        ensures { option_copied result ≡ spec.group_of_name self.now name.now }
     {
         row_at(self.rows.as_slice(), self.by_name.get(name))
     }
@@ -85,7 +86,7 @@ impl Groups {
     /// The gids of a user: its own, then those of the groups that list its name, in the order of the table, each once.
     /// None where they are more than sixteen.
     pub fn gids_of(&self, user: &User) -> Option<GroupIds>
-        ensures { result ≡ at_most_16 (gids_of self.now user.now) }
+        ensures { result ≡ at_most_16 (spec.gids_of self.now user.now) }
     {
         let mut gids = GroupIds::of(user.gid);
         for gid in listed_gids(&self.by_member, user.name.as_str()) {
@@ -100,7 +101,7 @@ impl Groups {
 impl Group {
     /// Whether a name, byte for byte, is listed as a member.
     pub fn has_member(&self, name: &str) -> bool
-        ensures { result ≡ has_member name.now self.now }
+        ensures { result ≡ spec.has_member name.now self.now }
     {
         self.members
             .as_slice()
@@ -158,7 +159,7 @@ fn add_members(
 
 /// The group of a line, or the rule that is named.
 fn read_group(alloc: Global, line: &str) -> Result<Option<Group>, ReadError<TableRule>>
-    ensures { Reads result (group_answer line.now) }
+    ensures { Reads result (spec.line_answer line.now) }
 {
     if is_skipped(line) {
         return Ok(None);
@@ -180,7 +181,7 @@ fn read_group(alloc: Global, line: &str) -> Result<Option<Group>, ReadError<Tabl
 
 /// The members that a text names, between its commas, without the empty ones.
 fn read_members(alloc: Global, text: &str) -> Result<Sequence<Text>, AllocError>
-    ensures { IfOk result (λ members. members ≡ members_in text.now) }
+    ensures { IfOk result (λ members. members ≡ spec.members_in text.now) }
 {
     let mut members = Sequence::new(alloc);
     for member in text.split(',') {

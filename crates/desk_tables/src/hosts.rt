@@ -2,22 +2,22 @@
 
 ghost use Rattle.std.specs.Prelude.{◌≡◌, ◌≤◌, ◌∷◌, [], IfOk, OnOk, length, map};
 ghost use Rattle.std.specs.Str.{str_to_ascii_lowercase};
-ghost use Rattle.desk_text.specs.Addr.{number_of};
+ghost use Rattle.desk_text.specs.Address.{number_of};
 ghost use Rattle.desk_text.specs.Reading.{Reads};
-ghost use Rattle.desk_tables.specs.Hosts.{addresses_of_host, host_answer, host_line_answer, is_ipv6, read_hosts};
-ghost use Rattle.desk_tables.specs.Index.{AddsUnderEach, HasAddresses, listed};
+ghost use Rattle.desk_tables.specs.Hosts as spec;
+ghost use Rattle.desk_tables.specs.PrivateIndex.{AddsUnderEach, HasAddresses, listed};
 
-use crate::faults::{TableFault, TableRule};
 use crate::index::add_under;
 use crate::rows::read_rows;
-use crate::words::{has_long_name, push_copies, words_before_comment};
-use desk_text::{Addr, ReadError, Sequence, Text};
+use crate::rules::{TableFault, TableRule};
+use crate::spaced_lines::{has_long_name, push_copies, words_before_comment};
+use desk_text::{Addr, AddrSet, ReadError, Sequence, Text, is_ipv6};
 use std::alloc::{AllocError, Global};
 use std::collections::BTreeMap;
 use std::marker::Model;
 
 /// A row of the hosts file: an address, and the name of the host with its aliases.
-#[derive(Clone, Debug, Drop)]
+#[derive(Drop)]
 pub struct HostRow {
     pub addr: Addr,
     pub names: Sequence<Text>,
@@ -25,7 +25,7 @@ pub struct HostRow {
 
 /// The rows of a hosts file, in the order of its lines, with the addresses of each name in small
 /// letters.
-#[derive(Debug, Drop)]
+#[derive(Drop)]
 pub struct Hosts {
     rows: Sequence<HostRow>,
     index: BTreeMap<String, Vec<Addr>>,
@@ -33,7 +33,7 @@ pub struct Hosts {
 
 impl Model for Hosts {
     ghost use Rattle.std.specs.Prelude.{List};
-    ghost use Rattle.desk_tables.specs.Index.{HasAddresses};
+    ghost use Rattle.desk_tables.specs.PrivateIndex.{HasAddresses};
     ghost use Rattle.desk_tables.specs.declared.hosts.HostRow.{HostRow};
 
     ghost Value = { List HostRow };
@@ -60,7 +60,7 @@ impl Hosts {
     /// Name (a name is over 255 bytes). (hosts(5))
     pub fn read(alloc: Global, text: &str) -> Result<Hosts, ReadError<TableFault>>
         requires { length text.now ≤ 4294967294 }
-        ensures { Reads result (read_hosts text.now) }
+        ensures { Reads result (spec.read_hosts text.now) }
     {
         let rows = read_rows(alloc, text, read_line)?;
         let index = addresses_by_name(alloc, rows.as_slice())?;
@@ -70,12 +70,10 @@ impl Hosts {
     /// The addresses of all rows that have the name, as their name or as an alias, without ASCII case:
     /// ascending, each once. (hosts(5))
     pub fn addresses(&self, alloc: Global, name: &str) -> Result<Vec<Addr>, AllocError>
-        ensures { IfOk result (λ v. map number_of v.items ≡ addresses_of_host self.now name.now) }
+        ensures { IfOk result (λ v. map number_of v.items ≡ spec.addresses_of_host self.now name.now) }
     {
-        let mut addresses = listed_addresses(alloc, &self.index, name)?;
-        addresses.sort_unstable();
-        addresses.dedup();
-        Ok(addresses)
+        let addresses = listed_addresses(alloc, &self.index, name)?;
+        Ok(AddrSet::from_vec(addresses).into_vec())
     }
 }
 
@@ -125,7 +123,7 @@ fn add_hosts(
 
 /// The row of a line, or the rule that is named.
 fn read_line(alloc: Global, line: &str) -> Result<Option<HostRow>, ReadError<TableRule>>
-    ensures { Reads result (host_line_answer line.now) }
+    ensures { Reads result (spec.line_answer line.now) }
 {
     let words = words_before_comment(alloc, line)?;
     match words.as_slice().split_first() {
@@ -140,7 +138,7 @@ fn read_row(
     address: &str,
     names: &[&str],
 ) -> Result<Option<HostRow>, ReadError<TableRule>>
-    ensures { Reads result (host_answer (address.now ∷ map (λ x. x.now) names.now)) }
+    ensures { Reads result (spec.words_answer (address.now ∷ map (λ x. x.now) names.now)) }
 {
     if is_ipv6(address) {
         return Ok(None);
@@ -161,13 +159,3 @@ fn read_row(
         names: copies,
     }))
 }
-
-/// Whether an address is one of IPv6.
-fn is_ipv6(address: &str) -> bool
-    ensures { result ≡ is_ipv6 address.now }
-{
-    address.as_bytes().contains(&b':')
-}
-
-#[cfg(test)]
-mod tests;

@@ -3,7 +3,7 @@
 ghost use Rattle.std.specs.Prelude.{◌≡◌, OnOk, option_and_then, slice_get};
 ghost use Rattle.std.specs.Option.{option_copied};
 ghost use Rattle.std.specs.String.{string_bytes};
-ghost use Rattle.desk_tables.specs.Index.{AddsFirst, AddsFirstNumber, AddsUnder};
+ghost use Rattle.desk_tables.specs.PrivateIndex.{AddsFirst, AddsFirstNumber, AddsUnder};
 
 use std::alloc::{AllocError, Global};
 use std::collections::BTreeMap;

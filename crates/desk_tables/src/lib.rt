@@ -1,35 +1,29 @@
 //! The tables of a site: hosts, networks, users, groups, file systems, custodians; and credential texts. (exports(5))
 #![tactic(auto)]
 
+mod colon_lines;
+pub mod credential_text;
 pub mod credentials;
 pub mod custodians;
-pub mod elements;
-pub mod faults;
-mod fields;
 pub mod filesystems;
+mod filesystems_text;
 pub mod groups;
-pub mod host_laws;
 pub mod hosts;
 mod index;
 pub mod laws;
 pub mod networks;
+mod quoted_lines;
 mod rows;
+pub mod rules;
+mod spaced_lines;
 pub mod users;
-mod words;
 
+pub use credential_text::{CredFault, credential, has_fault};
 pub use credentials::{Cred, GroupIds};
-pub use elements::{CredFault, credential, has_fault};
-
-mod mount_lines;
-mod word_lines;
-
 pub use custodians::{Custodian, Custodians};
-pub use faults::{TableFault, TableRule};
 pub use filesystems::{FileSystems, FsId, Mount};
 pub use groups::{Group, Groups};
 pub use hosts::{HostRow, Hosts};
 pub use networks::{NetworkName, Networks};
+pub use rules::{TableFault, TableRule};
 pub use users::{User, Users};
-
-#[cfg(test)]
-mod tests;

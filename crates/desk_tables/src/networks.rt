@@ -2,27 +2,27 @@
 
 ghost use Rattle.std.specs.Prelude.{◌≡◌, ◌≤◌, ◌∷◌, [], IfOk, OnOk, length, map};
 ghost use Rattle.desk_text.specs.Reading.{Reads};
-ghost use Rattle.desk_tables.specs.Networks.{network_answer, network_line_answer, network_number, read_networks};
-ghost use Rattle.desk_tables.specs.Index.{AddsFirsts, HasNumbers};
+ghost use Rattle.desk_tables.specs.Networks as spec;
+ghost use Rattle.desk_tables.specs.PrivateIndex.{AddsFirsts, HasNumbers};
 
-use crate::faults::{TableFault, TableRule};
 use crate::index::add_first;
 use crate::rows::read_rows;
-use crate::words::{has_long_name, push_copies, words_before_comment};
+use crate::rules::{TableFault, TableRule};
+use crate::spaced_lines::{has_long_name, push_copies, words_before_comment};
 use desk_text::{Addr, ReadError, Sequence, Text};
 use std::alloc::{AllocError, Global};
 use std::collections::BTreeMap;
 use std::marker::Model;
 
 /// A row of the networks file: the number of a network, and its name with its aliases.
-#[derive(Clone, Debug, Drop)]
+#[derive(Drop)]
 pub struct NetworkName {
     pub number: Addr,
     pub names: Sequence<Text>,
 }
 
 /// The rows of a networks file, in the order of its lines, with the number of each name.
-#[derive(Debug, Drop)]
+#[derive(Drop)]
 pub struct Networks {
     rows: Sequence<NetworkName>,
     numbers: BTreeMap<String, Addr>,
@@ -30,7 +30,7 @@ pub struct Networks {
 
 impl Model for Networks {
     ghost use Rattle.std.specs.Prelude.{List};
-    ghost use Rattle.desk_tables.specs.Index.{HasNumbers};
+    ghost use Rattle.desk_tables.specs.PrivateIndex.{HasNumbers};
     ghost use Rattle.desk_tables.specs.declared.networks.NetworkName.{NetworkName};
 
     ghost Value = { List NetworkName };
@@ -57,7 +57,7 @@ impl Networks {
     /// over 255 bytes). (networks(5))
     pub fn read(alloc: Global, text: &str) -> Result<Networks, ReadError<TableFault>>
         requires { length text.now ≤ 4294967294 }
-        ensures { Reads result (read_networks text.now) }
+        ensures { Reads result (spec.read_networks text.now) }
     {
         let rows = read_rows(alloc, text, read_line)?;
         let numbers = numbers_by_name(alloc, rows.as_slice())?;
@@ -66,7 +66,7 @@ impl Networks {
 
     /// The number of the first row that has the name, as its name or as an alias. (networks(5))
     pub fn find(&self, name: &str) -> Option<Addr>
-        ensures { result ≡ network_number self.now name.now }
+        ensures { result ≡ spec.network_number self.now name.now }
     {
         self.numbers.get(name).copied()
     }
@@ -103,7 +103,7 @@ fn add_names(
 
 /// The row of a line, or the rule that is named.
 fn read_line(alloc: Global, line: &str) -> Result<Option<NetworkName>, ReadError<TableRule>>
-    ensures { Reads result (network_line_answer line.now) }
+    ensures { Reads result (spec.line_answer line.now) }
 {
     let words = words_before_comment(alloc, line)?;
     match words.as_slice().split_first() {
@@ -118,7 +118,7 @@ fn read_row(
     name: &str,
     fields: &[&str],
 ) -> Result<Option<NetworkName>, ReadError<TableRule>>
-    ensures { Reads result (network_answer (name.now ∷ map (λ x. x.now) fields.now)) }
+    ensures { Reads result (spec.words_answer (name.now ∷ map (λ x. x.now) fields.now)) }
 {
     let Some((number, aliases)) = fields.split_first() else {
         return Err(ReadError::Fault(TableRule::Fields));
@@ -134,6 +134,3 @@ fn read_row(
     push_copies(alloc, &mut names, aliases)?;
     Ok(Some(NetworkName { number, names }))
 }
-
-#[cfg(test)]
-mod tests;

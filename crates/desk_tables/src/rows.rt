@@ -1,17 +1,18 @@
-//! Tables of one line a row.
+//! Tables of which each line is read by itself: hosts, networks, passwd and group.
+//!
+//! A line gives a row, or nothing if it is skipped; the first faulty line ends the reading.
 
 ghost use Rattle.std.specs.Prelude.{◌≡◌, ◌≤◌, ℕ, List, Option, Result, length};
 ghost use Rattle.desk_text.specs.Reading.{Reads};
-ghost use Rattle.desk_tables.specs.Rows.{PushesRow, ReadsEachLine};
-ghost use Rattle.desk_tables.specs.Tables.{text_table};
-ghost use Rattle.desk_tables.specs.declared.faults.TableRule.{TableRule};
+ghost use Rattle.desk_tables.specs.PrivateRows.{PushesRow, ReadsEachLine};
+ghost use Rattle.desk_tables.specs.Rows.{text_table};
+ghost use Rattle.desk_tables.specs.declared.rules.TableRule.{TableRule};
 
-use crate::faults::{TableFault, TableRule};
-use desk_text::{ReadError, Sequence};
+use crate::rules::{TableFault, TableRule};
+use desk_text::{LineFault, ReadError, Sequence};
 use std::alloc::Global;
 
-/// The rows of the lines of a text, each line read by itself; or its least faulty line with the rule that is named
-/// there.
+/// Reads the rows of the lines of a text, each line by itself, or the first faulty line with the first rule that it breaks.
 pub fn read_rows<Row: Drop, F: Fn(Global, &str) -> Result<Option<Row>, ReadError<TableRule>>>(
     alloc: Global,
     text: &str,
@@ -47,6 +48,6 @@ fn push_row<Row: Drop>(
         }
         Ok(None) => Ok(()),
         Err(ReadError::Memory) => Err(ReadError::Memory),
-        Err(ReadError::Fault(rule)) => Err(ReadError::Fault(TableFault { line: number, rule })),
+        Err(ReadError::Fault(rule)) => Err(ReadError::Fault(LineFault { line: number, rule })),
     }
 }

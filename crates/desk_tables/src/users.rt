@@ -3,20 +3,20 @@
 ghost use Rattle.std.specs.Prelude.{◌≡◌, ◌≤◌, [], IfOk, length};
 ghost use Rattle.std.specs.Option.{option_copied};
 ghost use Rattle.desk_text.specs.Reading.{Reads};
-ghost use Rattle.desk_tables.specs.Index.{HasUserNames, HasUserNumbers};
-ghost use Rattle.desk_tables.specs.Users.{read_users, user_answer, user_of_name, user_of_uid};
+ghost use Rattle.desk_tables.specs.PrivateIndex.{HasUserNames, HasUserNumbers};
+ghost use Rattle.desk_tables.specs.Users as spec;
 
-use crate::faults::{TableFault, TableRule};
-use crate::fields::{field, field_count, is_skipped, read_number};
+use crate::colon_lines::{field, field_count, is_skipped, read_number};
 use crate::index::{add_first, add_first_number, row_at};
 use crate::rows::read_rows;
+use crate::rules::{TableFault, TableRule};
 use desk_text::{ReadError, Sequence, Text};
 use std::alloc::{AllocError, Global};
 use std::collections::BTreeMap;
 use std::marker::Model;
 
 /// A row of the users: a name, its number, and the number of its own group.
-#[derive(Clone, Debug, Drop)]
+#[derive(Drop)]
 pub struct User {
     pub name: Text,
     pub uid: u32,
@@ -24,7 +24,7 @@ pub struct User {
 }
 
 /// The users of a text, in its order, with the places of the first user of each name and of each number.
-#[derive(Debug, Drop)]
+#[derive(Drop)]
 pub struct Users {
     rows: Sequence<User>,
     by_name: BTreeMap<String, usize>,
@@ -33,7 +33,7 @@ pub struct Users {
 
 impl Model for Users {
     ghost use Rattle.std.specs.Prelude.{List};
-    ghost use Rattle.desk_tables.specs.Index.{HasUserNames, HasUserNumbers};
+    ghost use Rattle.desk_tables.specs.PrivateIndex.{HasUserNames, HasUserNumbers};
     ghost use Rattle.desk_tables.specs.declared.users.User.{User};
 
     ghost Value = { List User };
@@ -60,7 +60,7 @@ impl Users {
     /// 4294967295) and Name (it is empty).
     pub fn read(alloc: Global, text: &str) -> Result<Users, ReadError<TableFault>>
         requires { length text.now ≤ 4294967294 }
-        ensures { Reads result (read_users text.now) }
+        ensures { Reads result (spec.read_users text.now) }
     {
         let rows = read_rows(alloc, text, read_user)?;
         let by_name = places_by_name(alloc, rows.as_slice())?;
@@ -74,14 +74,14 @@ impl Users {
 
     /// The user of a name, byte for byte: the first row that has it.
     pub fn by_name(&self, name: &str) -> Option<&User>
-        ensures { option_copied result ≡ user_of_name self.now name.now }
+        ensures { option_copied result ≡ spec.user_of_name self.now name.now }
     {
         row_at(self.rows.as_slice(), self.by_name.get(name))
     }
 
     /// The user of a number: the first row that has it, whatever its name.
     pub fn by_uid(&self, uid: u32) -> Option<&User>
-        ensures { option_copied result ≡ user_of_uid self.now uid }
+        ensures { option_copied result ≡ spec.user_of_uid self.now uid }
     {
         row_at(self.rows.as_slice(), self.by_uid.get(&uid))
     }
@@ -111,7 +111,7 @@ fn places_by_uid(alloc: Global, rows: &[User]) -> Result<BTreeMap<u32, usize>, A
 
 /// The user of a line, or the rule that is named.
 fn read_user(alloc: Global, line: &str) -> Result<Option<User>, ReadError<TableRule>>
-    ensures { Reads result (user_answer line.now) }
+    ensures { Reads result (spec.line_answer line.now) }
 {
     if is_skipped(line) {
         return Ok(None);

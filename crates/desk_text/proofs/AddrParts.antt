@@ -5,7 +5,7 @@ use Rattle.std.proofs.lemmas.Bool.{leb-true}
 use Rattle.std.proofs.lemmas.List.Sums.{fold_more}
 use Rattle.std.proofs.lemmas.List.Recursion.{and_at}
 use Rattle.std.specs.Str.Parse.{digits_value}
-use Rattle.desk_text.specs.Addr.{parts_value, is_byte}
+use Rattle.desk_text.specs.Address.{parts_value, is_byte}
 
 -- four parts fit 32 bits
 below_four : (k n v : ℕ) → k < 4 → n < 256 ^ k → v < 256 → (n * 256 + v < 2 ^ 32) × (n * 256 + v < 256 ^ (k + 1))

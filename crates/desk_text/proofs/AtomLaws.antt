@@ -4,8 +4,7 @@ use Rattle.std.specs.List.{flat_map}
 use Rattle.std.proofs.lemmas.Bool.{cond_both, eqb-true}
 use Rattle.std.proofs.lemmas.List.{append-nil}
 use Rattle.std.proofs.lemmas.List.Concat.{flat_map-append}
-use Rattle.desk_text.specs.Words.{Character, Bare, Escaped, Lone, Single, Quoted, characters, atoms_of, quoted, is_quote, is_bare, character_text, atom_text}
-use Rattle.desk_text.specs.Laws.{AtomsWriteText}
+use Rattle.desk_text.specs.Word.{Character, Bare, Escaped, Lone, Single, Quoted, characters, atoms, atoms_of, quoted, is_quote, is_bare, character_text, atom_text}
 
 characters_write : (text : List ℕ) → flat_map character_text (characters text) ≡ text
 characters_write [] = refl
@@ -54,5 +53,5 @@ atoms_write (Bare c ∷ cs) =
 atoms_write (Escaped c ∷ cs) = let h = atoms_write cs in (ap (λ t. 92 ∷ c ∷ t) h.0, within (Escaped c) cs h)
 atoms_write (Lone ∷ cs) = let h = atoms_write cs in (ap (λ t. 92 ∷ t) h.0, within Lone cs h)
 
-pub atoms_write_text : AtomsWriteText
+pub atoms_write_text : (text : List ℕ) → flat_map atom_text (atoms text) ≡ text
 atoms_write_text text = (atoms_write (characters text)).0 ∙ characters_write text

@@ -4,7 +4,7 @@ use Rattle.std.specs.List.{flat_map, AllByRecursion}
 use Rattle.std.specs.Str.{bytes_eq}
 use Rattle.std.proofs.lemmas.Bool.{cases_Bool, eqb-true, eqb-false, ne_eqb, true≢false}
 use Rattle.desk_text.specs.Path.{components, path_text, is_under}
-use Rattle.desk_text.specs.Scan.{ends_component, goes_below}
+use Rattle.desk_text.specs.PrivatePath.{ends_component, goes_below}
 use Rattle.desk_text.proofs.Slashes.{IsComponent, NoSlash, are_components, slashes}
 
 abbrev slashed : List (List ℕ) → List ℕ

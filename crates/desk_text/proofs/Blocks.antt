@@ -4,7 +4,7 @@ use Rattle.std.proofs.lemmas.Bool.{eqb-true, eq-eqb}
 use Rattle.std.proofs.lemmas.Nat.{pow-add, pow_pos}
 use Rattle.std.proofs.Math.Nat.{div-eq_of_lt-le, div-mul-le_self, lt-div-mul-add, mul-le-mul_right, lt_of_mul-lt-mul_right}
 use Rattle.desk_text.specs.Laws.{CoversBetweenFirstAndLast}
-use Rattle.desk_text.specs.Networks.{Block, IsBlock, block_size, last_of}
+use Rattle.desk_text.specs.Network.{Block, IsBlock, block_size, last_of}
 
 -- the networks of a prefix fill the addresses
 filled : (prefix : ℕ) → prefix ≤ 32 → 2 ^ prefix * block_size prefix ≡ 2 ^ 32

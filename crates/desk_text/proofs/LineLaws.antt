@@ -5,12 +5,12 @@ use Rattle.std.specs.Str.Lines.{lines_of_parts, strip_carriage_return}
 use Rattle.std.proofs.lemmas.Bool.{cond_both, cases_lt}
 use Rattle.std.proofs.lemmas.List.{append-nil, take-take, take_all, take-append-le, length-take, length-take-le}
 use Rattle.std.proofs.Math.Seq.{drop-append_seam, take-length}
-use Rattle.std.proofs.lemmas.List.Elements.{All-cons}
+use Rattle.std.proofs.lemmas.List.Elements.{All-cons, All-filter}
 use Rattle.std.proofs.lemmas.List.Kept.{AllPairs-cons, AllPairs-filter}
 use Rattle.std.proofs.lemmas.List.Splits.{join_with_byte-slice_split}
 use Rattle.desk_text.specs.Lines.{PhysicalLine, physical_line, physical_lines_from, physical_lines, LogicalLine, is_continued, trimmed, groups, numbered, kept, is_skipped, logical_lines}
-use Rattle.desk_text.specs.Laws.{Slice, AreSlices, whole_slice, text_slice, parts_of, PhysicalLinesAreLines, LinesAscend, PartsAreSlices}
-use Rattle.desk_text.proofs.OneGrouping.{all_lines}
+use Rattle.desk_text.specs.Laws.{Slice, AreSlices, whole_slice, text_slice, parts_of, PhysicalLinesAreLines, LinesAreNumbered, LinesAscend, PartsAreSlices}
+use Rattle.desk_text.proofs.GroupsAreUnique.{all_lines}
 
 wholes : (start : ℕ) (parts : List (List ℕ)) → map (λ (part : PhysicalLine). part.whole) (physical_lines_from start parts) ≡ lines_of_parts parts
 wholes start [] = refl
@@ -52,6 +52,28 @@ pub lines_ascend : LinesAscend
 lines_ascend text =
     AllPairs-filter (λ (line later : LogicalLine). line.number < later.number) (λ line. not (is_skipped line)) (numbered 1 (groups (physical_lines text)))
     (ascend 1 (groups (physical_lines text)) (groups_filled (physical_lines text)))
+
+-- the physical lines of a line that stand from its number on
+abbrev StandsAt : List PhysicalLine → LogicalLine → Type 0
+StandsAt all line = take (length line.parts) (drop (line.number - 1) all) ≡ line.parts
+
+stand_from : (front : List PhysicalLine) (number : ℕ) (gs : List (List PhysicalLine)) → number ≡ length front + 1
+    → All (StandsAt (front ++ flat_map (λ g. g) gs)) (numbered number gs)
+stand_from front number [] at = λ i d l. absurd (omega arith)
+stand_from front number (g ∷ gs) at =
+    let rest : List PhysicalLine = flat_map (λ g. g) gs in
+    let before : number - 1 ≡ length front = omega arith in
+    let own : StandsAt (front ++ (g ++ rest)) (record { number = number; parts = g }) =
+    ap (λ k. take (length g) (drop k (front ++ (g ++ rest)))) before ∙ ap (take (length g)) (drop-append_seam front (g ++ rest))
+    ∙ take-append-le (length g) g rest (omega arith) ∙ take-length g in
+    let behind : number + length g ≡ length (front ++ g) + 1 = omega (arith, length-append front g) in
+    All-cons (StandsAt (front ++ (g ++ rest))) (record { number = number; parts = g }) (numbered (number + length g) gs) own
+    (subst (λ all. All (StandsAt all) (numbered (number + length g) gs)) (append_assoc front g rest) (stand_from (front ++ g) (number + length g) gs behind))
+
+pub lines_are_numbered : LinesAreNumbered
+lines_are_numbered text =
+    All-filter (λ line. not (is_skipped line)) (StandsAt (physical_lines text)) (numbered 1 (groups (physical_lines text)))
+    (subst (λ all. All (StandsAt all) (numbered 1 (groups (physical_lines text)))) (all_lines (physical_lines text)) (stand_from [] 1 (groups (physical_lines text)) refl))
 
 -- slices may begin later than they must
 pub AreSlices-weaken : (text : List ℕ) (low low' high : ℕ) (ss : List Slice) → low ≤ low' → AreSlices text low' high ss → AreSlices text low high ss

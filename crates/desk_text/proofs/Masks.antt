@@ -7,10 +7,10 @@ use Rattle.std.proofs.lemmas.Nat.{leading_le}
 use Rattle.std.proofs.lemmas.List.FromFn.{get_or-range_with_len, length-range_with_len}
 use Rattle.std.proofs.lemmas.List.Recursion.{and_at}
 use Rattle.desk_text.specs.Laws.{MasksReadBack}
-use Rattle.desk_text.specs.Networks.{mask_of, prefix_of_mask}
+use Rattle.desk_text.specs.Network.{mask_of, prefix_of_mask}
 
 -- a test that all numbers below n pass
-passes_below : (test : ℕ → Bool) (n : ℕ) → list_all test (range_with_len 0 n) ≡ true → (k : ℕ) → k < n → test k ≡ true
+pub passes_below : (test : ℕ → Bool) (n : ℕ) → list_all test (range_with_len 0 n) ≡ true → (k : ℕ) → k < n → test k ≡ true
 passes_below test n all k below =
     let at : test (get_or (range_with_len 0 n) k 0) ≡ true =
     and_at (list_all test) test refl (λ _ _. refl) (range_with_len 0 n) k 0 (omega (arith, length-range_with_len 0 n)) all in

@@ -4,8 +4,8 @@ use Rattle.std.specs.List.{after_first, before_first, list_any, position_or_len}
 use Rattle.std.proofs.Math.Seq.{take-length}
 use Rattle.std.proofs.lemmas.Bool.{cases_Bool}
 use Rattle.std.proofs.lemmas.Bool.Decides.{nat_tests}
-use Rattle.desk_text.specs.Addr.{read_short}
-use Rattle.desk_text.specs.Networks.{read_net_text, with_prefix}
+use Rattle.desk_text.specs.Address.{read_short}
+use Rattle.desk_text.specs.Network.{read_net_text, with_prefix}
 
 -- where the first element that passes stands behind the list, there is none
 none_passes : (p : ℕ → Bool) (xs : List ℕ) → position_or_len p xs ≡ length xs → list_any p xs ≡ false

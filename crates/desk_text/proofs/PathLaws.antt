@@ -1,33 +1,82 @@
--- Paths that are printed alike.
-use Rattle.std.proofs.Common.{◌≡◌, ℕ, Bool, true, false, not, cond, eqb, List, length, Result, Ok, Err, refl, sym, ap, ◌∙◌}
-use Rattle.std.specs.List.{list_any, slice_split}
+-- Printed paths: for the laws `printed_paths_differ` and `paths_read_back`, and for `path::Path::text`.
+use Rattle.std.proofs.Common.{◌≡◌, ℕ, ◌≤◌, Bool, true, false, not, ◌&&◌, ◌||◌, cond, eqb, List, [], ◌∷◌, length, Result, Ok, Err, refl, sym, ap, ◌∙◌, arith}
+use Rattle.std.specs.List.{AllByRecursion, join_with_byte, list_all, list_any, slice_split}
 use Rattle.std.specs.Prelude.{nat_lt}
-use Rattle.desk_text.specs.declared.path.PathFault.{PathFault}
-use Rattle.desk_text.specs.declared.path.PathFault.TheVariants.{NotAbsolute, DotComponent, TooLong, NulByte}
-use Rattle.desk_text.specs.Path.{components, is_absolute, is_dot_component, longest_path, path_text, read_path}
-use Rattle.desk_text.specs.Laws.{PrintedPathsDiffer}
-use Rattle.desk_text.proofs.Slashes.{components-path_text}
+use Rattle.std.specs.Cmp.Lexicographic.{pointwise}
+use Rattle.std.proofs.lemmas.Bool.{cond-false, le-ltb}
+use Rattle.std.proofs.lemmas.Bool.Decides.{Decides-eqb, same_from_decides}
+use Rattle.std.proofs.lemmas.List.Elements.{All-from_recursion}
+use Rattle.std.proofs.lemmas.List.Splits.{slice_split_at, slice_split_none}
+use Rattle.std.proofs.lemmas.Slice.Eq.{bytes_eq-Decides, slice_eq-Decides}
+use Rattle.desk_text.specs.Path.{IsPath, components, is_component, is_dot_component, longest_path, path_text, read_path, same_path}
+use Rattle.desk_text.specs.Laws.{PathsReadBack, PrintedPathsDiffer}
+use Rattle.desk_text.proofs.Slashes.{IsComponent, NoSlash, are_components, joined_components}
 
-unless : {X : Type 0} (b : Bool) (fault : PathFault) (rest : Result X PathFault) (x : X) → cond b (Err fault) rest ≡ Ok x → rest ≡ Ok x
-unless true fault rest x e = absurd (cc)
-unless false fault rest x e = e
+both : (b c : Bool) → (b && c) ≡ true → (b ≡ true) × (c ≡ true)
+both true c e = (refl, e)
+both false c e = absurd (cc)
 
-value_is : (p path : List (List ℕ)) (r : Result (List (List ℕ)) PathFault) → r ≡ Ok p → r ≡ Ok path → p ≡ path
-value_is p path r same e = cc
+not_passed : (b : Bool) → not b ≡ true → b ≡ false
+not_passed true e = sym e
+not_passed false e = refl
 
-path_is : (text : List ℕ) (path : List (List ℕ)) → read_path text ≡ Ok path → components text ≡ path
-path_is text path e =
-    let nul : Result (List (List ℕ)) PathFault = cond (list_any (λ b. eqb b 0) text) (Err NulByte) (Ok (components text)) in
-    let long : Result (List (List ℕ)) PathFault = cond (nat_lt longest_path (length text)) (Err TooLong) nul in
-    let dots : Result (List (List ℕ)) PathFault = cond (list_any is_dot_component (slice_split (λ b. eqb b 47) text)) (Err DotComponent) long in
-    value_is (components text) path (Ok (components text)) refl
-    (unless (list_any (λ b. eqb b 0) text) NulByte (Ok (components text)) path
-    (unless (nat_lt longest_path (length text)) TooLong nul path
-    (unless (list_any is_dot_component (slice_split (λ b. eqb b 47) text)) DotComponent long path
-    (unless (not (is_absolute text)) NotAbsolute dots path e))))
+-- the tests of components, and what they say
+no_slash_from : (part : List ℕ) → list_all (λ b. not (eqb b 47)) part ≡ true → NoSlash part
+no_slash_from [] h = tt
+no_slash_from (b ∷ part) h =
+    let each = both (not (eqb b 47)) (list_all (λ b. not (eqb b 47)) part) h in
+    (not_passed (eqb b 47) each.0, no_slash_from part each.1)
+
+passes_no_slash : (part : List ℕ) → NoSlash part → list_all (λ b. not (eqb b 47)) part ≡ true
+passes_no_slash [] h = refl
+passes_no_slash (b ∷ part) h = ap (λ e. not e && list_all (λ b. not (eqb b 47)) part) h.0 ∙ passes_no_slash part h.1
+
+components_from : (path : List (List ℕ)) → list_all is_component path ≡ true → AllByRecursion IsComponent path
+components_from [] h = tt
+components_from (part ∷ path) h =
+    let each = both (is_component part) (list_all is_component path) h in
+    let own = both (not (eqb (length part) 0)) (list_all (λ b. not (eqb b 47)) part) each.0 in
+    ((own.0, no_slash_from part own.1), components_from path each.1)
+
+components_pass : (path : List (List ℕ)) → AllByRecursion IsComponent path → list_all is_component path ≡ true
+components_pass [] h = refl
+components_pass (part ∷ path) h =
+    ap (λ e. (e && list_all (λ b. not (eqb b 47)) part) && list_all is_component path) h.0.0
+    ∙ ap (λ e. e && list_all is_component path) (passes_no_slash part h.0.1) ∙ components_pass path h.1
+
+-- the components of a text are those of a path
+pub components_are_path : (text : List ℕ) → IsPath (components text)
+components_are_path text = components_pass (components text) (are_components text)
 
 pub printed_paths_differ : PrintedPathsDiffer
-printed_paths_differ text other path path' e f same =
-    let p : components text ≡ path = path_is text path e in
-    let q : components other ≡ path' = path_is other path' f in
-    sym p ∙ sym (components-path_text text) ∙ ap components (ap path_text p ∙ same ∙ sym (ap path_text q)) ∙ components-path_text other ∙ q
+printed_paths_differ path other p q same =
+    sym (joined_components path (components_from path p)) ∙ ap components same ∙ joined_components other (components_from other q)
+
+-- the same texts are those of the same paths
+pub same_texts : (text other : List ℕ) (r : Bool) → path_text (components text) ≡ text → path_text (components other) ≡ other → r ≡ pointwise eqb text other
+    → r ≡ same_path (components text) (components other)
+same_texts text other r own own' is =
+    let texts = slice_eq-Decides Decides-eqb text other r is in
+    same_from_decides r (same_path (components text) (components other))
+    (λ e. ap components (texts.0 e), λ same. texts.1 (sym own ∙ ap path_text same ∙ own'))
+    (slice_eq-Decides bytes_eq-Decides (components text) (components other) _ refl)
+
+-- the parts of a printed path
+parts_of_joined : (part : List ℕ) (path : List (List ℕ)) → AllByRecursion IsComponent (part ∷ path) → slice_split (λ b. eqb b 47) (join_with_byte 47 (part ∷ path)) ≡ part ∷ path
+parts_of_joined part [] h = slice_split_none (λ b. eqb b 47) part (All-from_recursion (λ b. eqb b 47 ≡ false) part h.0.1)
+parts_of_joined part (next ∷ path) h =
+    slice_split_at (λ b. eqb b 47) part 47 (join_with_byte 47 (next ∷ path)) (All-from_recursion (λ b. eqb b 47 ≡ false) part h.0.1) refl
+    ∙ ap (λ ps. part ∷ ps) (parts_of_joined next path h.1)
+
+-- the first part of a printed path, before its slash, is empty
+no_dots : (path : List (List ℕ)) → AllByRecursion IsComponent path → list_any is_dot_component path ≡ false → list_any is_dot_component (slice_split (λ b. eqb b 47) (path_text path)) ≡ false
+no_dots [] h none = refl
+no_dots (part ∷ path) h none = ap (list_any is_dot_component) (parts_of_joined part path h) ∙ none
+
+pub paths_read_back : PathsReadBack
+paths_read_back path p dots short nul =
+    let each = components_from path p in
+    cond-false _ _ _ (no_dots path each dots)
+    ∙ cond-false _ _ _ (le-ltb longest_path (length (path_text path)) short)
+    ∙ cond-false _ _ _ nul
+    ∙ ap Ok (joined_components path each)

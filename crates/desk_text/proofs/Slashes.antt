@@ -39,7 +39,7 @@ kept_components ((b ∷ part) ∷ parts) h =
 pub are_components : (text : List ℕ) → AllByRecursion IsComponent (components text)
 are_components text = kept_components (slice_split (λ b. eqb b 47) text) (parts_no_slash text)
 
-joined_components : (path : List (List ℕ)) → AllByRecursion IsComponent path → components (join_with_byte 47 path) ≡ path
+pub joined_components : (path : List (List ℕ)) → AllByRecursion IsComponent path → components (join_with_byte 47 path) ≡ path
 joined_components [] h = refl
 joined_components (c ∷ []) h =
     ap (filter (λ part. not (eqb (length part) 0))) (slice_split_none (λ b. eqb b 47) c (All-from_recursion (λ b. eqb b 47 ≡ false) c h.0.1))

@@ -8,9 +8,10 @@ use Rattle.std.proofs.lemmas.List.Concat.{flat_map-append}
 use Rattle.std.proofs.lemmas.List.Elements.{All-from_recursion}
 use Rattle.std.proofs.lemmas.List.Splits.{slice_split_at, slice_split_none, slice_split-cons_yes}
 use Rattle.desk_text.specs.Lines.{PhysicalLine, LogicalLine, logical_lines}
-use Rattle.desk_text.specs.Words.{Bare, Escaped, Lone, Atom, Single, Quoted, Unclosed, atoms, atom_text, is_separator, raw_word, words_from, words_at, line_words}
-use Rattle.desk_text.specs.Laws.{Slice, AreSlices, text_slice, raw_slice, parts_of, WordsAreSlices, Run, AreMaximal, atoms_in, written, words_in, WordsAreMaximalRuns}
+use Rattle.desk_text.specs.Word.{Bare, Escaped, Lone, Atom, Single, Quoted, Unclosed, atoms, atom_text, is_separator, raw_word, words_from, words_at, line_words}
+use Rattle.desk_text.specs.Laws.{Slice, AreSlices, text_slice, raw_slice, parts_of, WordsAreSlices, Run, AreAtoms, AreMaximal, atoms_in, written, words_in, WordsAreMaximalRuns}
 use Rattle.desk_text.proofs.AtomLaws.{atoms_write_text}
+use Rattle.desk_text.proofs.AtomsAreUnique.{atoms_are_unique}
 use Rattle.desk_text.proofs.LineLaws.{AreSlices-weaken, parts_are_slices}
 
 abbrev AreJoined : List Atom → Type 0
@@ -228,11 +229,47 @@ divide (a ∷ atms) (b ∷ run) blanks behind start h k apart =
           (divide atms ((b ∷ run) ++ a ∷ []) blanks behind start h (joined-push (b ∷ run) a k joined) apart)
     ]
 
+-- atoms among others that may be written may be written
+atoms-tail : (a : Atom) (more : List Atom) → AreAtoms (a ∷ more) → AreAtoms more
+atoms-tail (Single (Bare c)) more h = h.2
+atoms-tail (Single (Escaped c)) more h = h
+atoms-tail (Single Lone) more h = subst AreAtoms (sym h) tt
+atoms-tail (Quoted q inner) more h = h.2
+atoms-tail (Unclosed q inner) more h = subst AreAtoms (sym h.2) tt
+
+atoms-behind : (front more : List Atom) → AreAtoms (front ++ more) → AreAtoms more
+atoms-behind [] more h = h
+atoms-behind (a ∷ front) more h = atoms-behind front more (atoms-tail a (front ++ more) h)
+
+nothing-front : (front more : List Atom) → front ++ more ≡ [] → front ≡ []
+nothing-front [] more e = refl
+nothing-front (a ∷ front) more e = absurd (cc)
+
+atoms-front : (front more : List Atom) → AreAtoms (front ++ more) → AreAtoms front
+atoms-front [] more h = tt
+atoms-front (Single (Bare c) ∷ front) more h = (h.0, h.1, atoms-front front more h.2)
+atoms-front (Single (Escaped c) ∷ front) more h = atoms-front front more h
+atoms-front (Single Lone ∷ front) more h = nothing-front front more h
+atoms-front (Quoted q inner ∷ front) more h = (h.0, h.1, atoms-front front more h.2)
+atoms-front (Unclosed q inner ∷ front) more h = (h.0, h.1, nothing-front front more h.2)
+
+-- each run is what its text reads as
+runs_read_back : (runs : List Run) (blanks : List Atom) → AreAtoms (atoms_in runs blanks) → AllByRecursion (λ run. atoms (written run.atoms) ≡ run.atoms) runs
+runs_read_back [] blanks h = tt
+runs_read_back (run ∷ runs) blanks h =
+    let own : List Atom = run.blanks ++ run.atoms in
+    let rest : List Atom = flat_map (λ (r : Run). r.blanks ++ r.atoms) runs in
+    let all : AreAtoms (own ++ (rest ++ blanks)) = subst AreAtoms (append_assoc own rest blanks) h in
+    let of_run : AreAtoms run.atoms = atoms-behind run.blanks run.atoms (atoms-front own (rest ++ blanks) all) in
+    (sym ((atoms_are_unique (written run.atoms) run.atoms).0 (of_run, refl)), runs_read_back runs blanks (atoms-behind own (rest ++ blanks) all))
+
 pub words_are_maximal_runs : WordsAreMaximalRuns
 words_are_maximal_runs start text =
     let d : Division false start [] (atoms text) = divide (atoms text) [] [] false start tt tt (λ e. absurd (cc)) in
-    let none : start ≡ start + 0 = omega arith in (
+    let none : start ≡ start + 0 = omega arith in
+    let proper : AreAtoms (atoms text) = ((atoms_are_unique text (atoms text)).1 refl).0 in (
       d.runs,
       record { maximal = d.maximal; blanks = d.rest; blank = d.blank; whole = d.whole },
       ap (λ k. words_from k (slice_split is_separator (atoms text))) none ∙ d.words,
+      runs_read_back d.runs d.rest (subst AreAtoms d.whole proper),
     )

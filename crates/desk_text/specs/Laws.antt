@@ -1,19 +1,48 @@
 -- Laws of networks, paths, logical lines and words: what their definitions come to.
-use Rattle.std.specs.Prelude.{◌≡◌, ◌↔◌, ℕ, ◌+◌, ◌<◌, ◌≤◌, ◌==◌, Bool, true, false, IsTrue, Some, List, [], ◌∷◌, ◌++◌, length, take, drop, map, Ok}
-use Rattle.std.specs.List.{AllByRecursion, flat_map}
+use Rattle.std.specs.Prelude.{All, ◌≡◌, ◌↔◌, ℕ, ◌+◌, ◌-◌, ◌<◌, ◌≤◌, ◌^◌, ◌==◌, Bool, true, false, IsTrue, Some, List, [], ◌∷◌, ◌++◌, length, take, drop, map, Ok}
+use Rattle.std.specs.List.{AllByRecursion, flat_map, list_any}
+use Rattle.std.specs.List.Sorted.{IsStrictlyIncreasing}
 use Rattle.std.specs.Str.Lines.{lines}
-use Rattle.desk_text.specs.Networks.{Block, IsBlock, covers, last_of, mask_of, prefix_of_mask}
-use Rattle.desk_text.specs.Path.{path_text, read_path}
-use Rattle.desk_text.specs.Lines.{AreNumberedUp, PhysicalLine, LogicalLine, physical_lines, logical_lines}
-use Rattle.desk_text.specs.Words.{Character, Bare, Escaped, Lone, Atom, Single, Quoted, Unclosed, RawWord, atoms, atom_text, is_quote, is_separator, line_words, raw_word, words_at}
+use Rattle.desk_text.specs.Address.{addr_text, read_addr}
+use Rattle.desk_text.specs.AddrSet.{is_among, sorted_set}
+use Rattle.desk_text.specs.Network.{Block, IsBlock, covers, last_of, mask_of, prefix_of_mask}
+use Rattle.desk_text.specs.Path.{IsPath, is_dot_component, longest_path, path_text, read_path}
+use Rattle.desk_text.specs.Lines.{AreNumberedUp, PhysicalLine, LogicalLine, groups, is_continued, physical_lines, logical_lines}
+use Rattle.desk_text.specs.Word.{Character, Bare, Escaped, Lone, Atom, Single, Quoted, Unclosed, RawWord, atoms, atom_text, is_quote, is_separator, line_words, raw_word, words_at}
 
 -- The physical lines are the lines of the text as std has them, with their places.
 abbrev pub PhysicalLinesAreLines : Type 0
 PhysicalLinesAreLines = (text : List ℕ) → map (λ part. part.whole) (physical_lines text) ≡ lines text
 
+-- each line of a group but the last is continued, and the last is not
+abbrev pub IsClosed : List PhysicalLine → Type 0
+IsClosed [] = ⊥
+IsClosed (line ∷ []) = is_continued line.whole ≡ false
+IsClosed (line ∷ next ∷ lines) = (is_continued line.whole ≡ true) × IsClosed (next ∷ lines)
+
+-- each line of a group but the last is continued
+abbrev pub IsGroup : List PhysicalLine → Type 0
+IsGroup [] = ⊥
+IsGroup (line ∷ []) = Unit {0}
+IsGroup (line ∷ next ∷ lines) = (is_continued line.whole ≡ true) × IsGroup (next ∷ lines)
+
+-- each group but the last is closed; the last may end with the text
+abbrev pub AreGroups : List (List PhysicalLine) → Type 0
+AreGroups [] = Unit {0}
+AreGroups (group ∷ []) = IsGroup group
+AreGroups (group ∷ next ∷ more) = IsClosed group × AreGroups (next ∷ more)
+
+-- the lines fall into groups in one way, and these are the groups
+abbrev pub GroupsAreUnique : Type 0
+GroupsAreUnique = (lines : List PhysicalLine) (grouping : List (List PhysicalLine)) → (AreGroups grouping × (flat_map (λ group. group) grouping ≡ lines)) ↔ (grouping ≡ groups lines)
+
 -- The logical lines ascend by their numbers.
 abbrev pub LinesAscend : Type 0
 LinesAscend = (text : List ℕ) → AreNumberedUp (logical_lines text)
+
+-- The physical lines of a logical line are those of the text from its number on.
+abbrev pub LinesAreNumbered : Type 0
+LinesAreNumbered = (text : List ℕ) → All (λ line. take (length line.parts) (drop (line.number - 1) (physical_lines text)) ≡ line.parts) (logical_lines text)
 
 -- a part of a text: its place, and its bytes
 pub record Slice : Type 0 where
@@ -48,10 +77,6 @@ PartsAreSlices =
 abbrev pub WordsAreSlices : Type 0
 WordsAreSlices = (text : List ℕ) → AreSlices text 0 (length text) (map raw_slice (flat_map line_words (logical_lines text)))
 
--- The atoms of a text write it back.
-abbrev pub AtomsWriteText : Type 0
-AtomsWriteText = (text : List ℕ) → flat_map atom_text (atoms text) ≡ text
-
 -- The characters of a quoted run, of which none is a bare quote of its kind. A bare character is no backslash, and a
 -- backslash with nothing after it stands only at the end of a run that does not close.
 abbrev pub AreInner : ℕ → Bool → List Character → Type 0
@@ -71,8 +96,8 @@ AreAtoms (Quoted q inner ∷ more) = (is_quote q ≡ true) × AreInner q true in
 AreAtoms (Unclosed q inner ∷ more) = (is_quote q ≡ true) × AreInner q false inner × (more ≡ [])
 
 -- A text is written by one list of such atoms, and these are its atoms.
-abbrev pub OneReading : Type 0
-OneReading = (text : List ℕ) (read : List Atom) → (AreAtoms read × (flat_map atom_text read ≡ text)) ↔ (read ≡ atoms text)
+abbrev pub AtomsAreUnique : Type 0
+AtomsAreUnique = (text : List ℕ) (read : List Atom) → (AreAtoms read × (flat_map atom_text read ≡ text)) ↔ (read ≡ atoms text)
 
 -- blanks, and a run of atoms without a blank behind them
 pub record Run : Type 0 where
@@ -107,14 +132,35 @@ pub record FallsInto (text : List ℕ) (runs : List Run) : Type 0 where
   pub blank : AllByRecursion (λ atom. is_separator atom ≡ true) blanks
   pub whole : atoms text ≡ atoms_in runs blanks
 
--- The words of a text are its maximal runs of atoms without a blank.
+-- The words of a text are its maximal runs of atoms without a blank, and the atoms of a word, which give its value, are those
+-- of its run.
 abbrev pub WordsAreMaximalRuns : Type 0
-WordsAreMaximalRuns = (start : ℕ) (text : List ℕ) → (runs : List Run) × FallsInto text runs × (words_at start text ≡ words_in start runs)
+WordsAreMaximalRuns =
+    (start : ℕ) (text : List ℕ) → (runs : List Run) × FallsInto text runs × (words_at start text ≡ words_in start runs)
+    × AllByRecursion (λ run. atoms (written run.atoms) ≡ run.atoms) runs
 
--- Paths that texts write and that are printed alike have the same components.
+-- Paths that are printed alike have the same components.
 abbrev pub PrintedPathsDiffer : Type 0
-PrintedPathsDiffer =
-    (text other : List ℕ) (path path' : List (List ℕ)) → read_path text ≡ Ok path → read_path other ≡ Ok path' → path_text path ≡ path_text path' → path ≡ path'
+PrintedPathsDiffer = (path other : List (List ℕ)) → IsPath path → IsPath other → path_text path ≡ path_text other → path ≡ other
+
+-- A printed path reads as that path, unless it has a component `.` or `..`, is too long or has a NUL.
+abbrev pub PathsReadBack : Type 0
+PathsReadBack =
+    (path : List (List ℕ)) → IsPath path → list_any is_dot_component path ≡ false → length (path_text path) ≤ longest_path → list_any (λ b. b == 0) (path_text path) ≡ false
+    → read_path (path_text path) ≡ Ok path
+
+-- A printed address reads as that address.
+abbrev pub AddrsReadBack : Type 0
+AddrsReadBack = (address : ℕ) → address < 2 ^ 32 → read_addr (addr_text address) ≡ Ok address
+
+-- these ascend, each once, and a number is among them exactly if it is one of the given numbers
+pub record IsSetOf (numbers set : List ℕ) : Type 0 where
+  pub ascend : IsStrictlyIncreasing set
+  pub each : (number : ℕ) → is_among number set ≡ is_among number numbers
+
+-- Numbers have one such list, and it is their sorted set.
+abbrev pub SortedSetsAreUnique : Type 0
+SortedSetsAreUnique = (numbers set : List ℕ) → IsSetOf numbers set ↔ (set ≡ sorted_set numbers)
 
 -- The mask of a prefix reads as that prefix.
 abbrev pub MasksReadBack : Type 0

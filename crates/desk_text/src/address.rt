@@ -5,8 +5,10 @@ ghost use Rattle.std.specs.Char.{digit_value};
 ghost use Rattle.std.specs.List.{list_all, list_any};
 ghost use Rattle.std.specs.Result.{result_map_both};
 ghost use Rattle.std.specs.Str.Parse.{digits_value};
-ghost use Rattle.desk_text.specs.Addr.{addr_text, dotted_parts, has_leading_zero, is_byte, is_digits, is_dotted, number_of, parts_value, read_addr, read_parts, read_short};
+ghost use Rattle.desk_text.specs.Bytes.{has_leading_zero, is_digits};
+ghost use Rattle.desk_text.specs.Address.{addr_fault_number, addr_text, dotted_parts, is_byte, is_dotted, number_of, parts_value, read_addr, read_parts, read_short};
 
+use crate::bytes::{has_leading_zero, is_digits};
 use std::fmt;
 use thiserror::Error;
 
@@ -16,19 +18,28 @@ pub struct Addr {
     number: u32,
 }
 
-/// Why a text is no address, or no network. Of several faults the first in this order is told.
+/// Why a text is not an address, or not a network. Of several faults the first in this order is reported.
 #[derive(Clone, Copy, Debug, PartialEq, Eq, Error)]
 pub enum AddrFault {
-    #[error("an address has four parts with dots between them")]
+    #[error("an address is four numbers separated by dots")]
     Parts,
-    #[error("a part is empty or has something other than digits")]
+    #[error("an octet is empty or has a character that is not a digit")]
     Digits,
-    #[error("a part is over 255")]
+    #[error("an octet is greater than 255")]
     Range,
-    #[error("a part begins with a 0 that says nothing")]
+    #[error("an octet has a leading zero")]
     LeadingZero,
-    #[error("the prefix is no decimal of 0 to 32")]
+    #[error("the prefix is not a number from 0 to 32")]
     Prefix,
+}
+
+impl AddrFault {
+    /// Returns the number of the fault, from 1.
+    pub fn number(self) -> u32
+        ensures { result ≡ addr_fault_number self }
+    {
+        self as u32 + 1
+    }
 }
 
 impl Addr {
@@ -142,14 +153,8 @@ fn parts_value(text: &str) -> u32
     number
 }
 
-pub(crate) fn is_digits(part: &str) -> bool
-    ensures { result ≡ is_digits part.now }
-{
-    !part.is_empty() && part.as_bytes().iter().all(|b| b.is_ascii_digit())
-}
-
 /// The number that the digits write, and 256 for each number above 255.
-pub(crate) fn capped_value(part: &str) -> u32
+fn capped_value(part: &str) -> u32
     ensures { result ≡ min 256 (digits_value 10 part.now) }
 {
     let bytes = part.as_bytes();
@@ -176,15 +181,9 @@ pub fn is_dotted(text: &str) -> bool
         .all(|b| b.is_ascii_digit() || *b == b'.')
 }
 
-pub(crate) fn has_leading_zero(part: &str) -> bool
-    ensures { result ≡ has_leading_zero part.now }
-{
-    part.len() > 1 && part.as_bytes()[0] == b'0'
-}
-
 impl fmt::Display for Addr {
     ghost use Rattle.std.specs.Prelude.{Some};
-    ghost use Rattle.desk_text.specs.Addr.{addr_text, number_of};
+    ghost use Rattle.desk_text.specs.Address.{addr_text, number_of};
 
     ghost output = { λ a. Some (addr_text (number_of a)) };
 

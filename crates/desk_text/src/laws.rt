@@ -1,12 +1,11 @@
-//! Laws of networks, paths, logical lines and words. Each is proved as the contract of a function that does
+//! Laws of addresses, networks, paths, logical lines and words. Each is proved as the contract of a function that does
 //! nothing: the definitions walk over a text, and these say what they come to.
 
-ghost use Rattle.desk_text.specs.Laws.{AtomsWriteText, CoversBetweenFirstAndLast, LinesAscend, MasksReadBack, OneReading, PartsAreSlices, PhysicalLinesAreLines, PrintedPathsDiffer, WordsAreMaximalRuns, WordsAreSlices};
-ghost use Rattle.desk_text.specs.Lines.{OneGrouping};
+ghost use Rattle.desk_text.specs.Laws.{AddrsReadBack, AtomsAreUnique, CoversBetweenFirstAndLast, GroupsAreUnique, LinesAreNumbered, LinesAscend, MasksReadBack, PartsAreSlices, PathsReadBack, PhysicalLinesAreLines, PrintedPathsDiffer, SortedSetsAreUnique, WordsAreMaximalRuns, WordsAreSlices};
 
 /// The physical lines of a text fall into groups in one way.
-pub fn one_grouping()
-    ensures { OneGrouping }
+pub fn groups_are_unique()
+    ensures { GroupsAreUnique }
 {}
 
 /// The physical lines are std's lines of the text.
@@ -19,6 +18,11 @@ pub fn lines_ascend()
     ensures { LinesAscend }
 {}
 
+/// The physical lines of a logical line are those of the text from its number on.
+pub fn lines_are_numbered()
+    ensures { LinesAreNumbered }
+{}
+
 /// The physical lines of the logical lines are slices of the text, in ascending order.
 pub fn parts_are_slices()
     ensures { PartsAreSlices }
@@ -29,24 +33,34 @@ pub fn words_are_slices()
     ensures { WordsAreSlices }
 {}
 
-/// The atoms of a text write it back.
-pub fn atoms_write_text()
-    ensures { AtomsWriteText }
-{}
-
 /// A text is written by one list of atoms.
-pub fn one_reading()
-    ensures { OneReading }
+pub fn atoms_are_unique()
+    ensures { AtomsAreUnique }
 {}
 
-/// The words of a text are its maximal runs of atoms without a blank.
+/// The words of a text are its maximal runs of atoms without a blank, and the atoms of a word are those of its run.
 pub fn words_are_maximal_runs()
     ensures { WordsAreMaximalRuns }
 {}
 
-/// Paths that texts write and that are printed alike have the same components.
+/// Paths that are printed alike have the same components.
 pub fn printed_paths_differ()
     ensures { PrintedPathsDiffer }
+{}
+
+/// A printed path reads as that path.
+pub fn paths_read_back()
+    ensures { PathsReadBack }
+{}
+
+/// A printed address reads as that address.
+pub fn addrs_read_back()
+    ensures { AddrsReadBack }
+{}
+
+/// Numbers have one list that ascends, each once, and has just them: their sorted set.
+pub fn sorted_sets_are_unique()
+    ensures { SortedSetsAreUnique }
 {}
 
 /// The mask of a prefix reads as that prefix.

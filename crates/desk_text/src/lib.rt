@@ -1,24 +1,25 @@
 //! The texts of an export policy: addresses, paths, logical lines and words. (exports(5))
 #![tactic(auto)]
 
+pub mod addr_set;
 pub mod address;
+pub mod bytes;
 pub mod laws;
 pub mod lines;
 pub mod network;
 pub mod path;
-pub mod quoting;
 pub mod reading;
 pub mod sequence;
 pub mod text;
+pub mod word;
 
+pub use addr_set::AddrSet;
 pub use address::{Addr, AddrFault, is_dotted};
+pub use bytes::{first_non_blank, has_leading_zero, is_blank, is_digits, is_ipv6, read_decimal};
 pub use lines::{Line, Part, logical_lines};
 pub use network::{Net, NetText, Prefix};
 pub use path::{Path, PathFault};
-pub use quoting::{OpenQuote, Word, unquote, words};
-pub use reading::ReadError;
+pub use reading::{LineFault, ReadError};
 pub use sequence::Sequence;
 pub use text::{Text, split_at};
-
-#[cfg(test)]
-mod tests;
+pub use word::{OpenQuote, Word, unquote, words};

@@ -2,11 +2,12 @@
 
 ghost use Rattle.std.specs.Prelude.{◌≡◌, ◌≤◌, true, nat_le, if◌then◌else◌};
 ghost use Rattle.std.specs.Result.{result_map_both};
-ghost use Rattle.desk_text.specs.Addr.{number_of, read_short};
-ghost use Rattle.desk_text.specs.Networks.{IsBlock, block_of, covers, last_of, mask_of, prefix_of_mask, read_net_text, read_prefix, with_prefix};
-ghost use Rattle.desk_text.specs.Shown.{written_net};
+ghost use Rattle.desk_text.specs.Address.{number_of, read_short};
+ghost use Rattle.desk_text.specs.Network.{IsBlock, block_of, covers, last_of, mask_of, prefix_of_mask, read_net_text, read_prefix, with_prefix};
+ghost use Rattle.desk_text.specs.Views.{written_net};
 
-use crate::address::{Addr, AddrFault, capped_value, has_leading_zero, is_digits};
+use crate::address::{Addr, AddrFault};
+use crate::bytes::read_decimal;
 use std::marker::Model;
 
 /// How many first bits the addresses of a network have in common: 0 to 32. The bits behind them are
@@ -43,14 +44,8 @@ impl Prefix {
     pub fn read(text: &str) -> Option<Prefix>
         ensures { result ≡ read_prefix text.now }
     {
-        if !is_digits(text) || has_leading_zero(text) {
-            return None;
-        }
-        let value = capped_value(text);
-        if value > 32 {
-            return None;
-        }
-        Some(Prefix { bits: value as u8 })
+        let bits = read_decimal(text, 32)?;
+        Some(Prefix { bits: bits as u8 })
     }
 
     /// The prefix of which this is the mask: its first bits are set, and the others are not.
@@ -90,8 +85,8 @@ pub struct Net {
 }
 
 impl Model for Net {
-    ghost use Rattle.desk_text.specs.Addr.{number_of};
-    ghost use Rattle.desk_text.specs.Networks.{Block, IsBlock};
+    ghost use Rattle.desk_text.specs.Address.{number_of};
+    ghost use Rattle.desk_text.specs.Network.{Block, IsBlock};
 
     ghost Value = { Block };
 

@@ -4,9 +4,9 @@ ghost use Rattle.std.specs.Prelude.{◌≡◌, ℕ, ◌++◌, ◌∷◌, IfOk, I
 ghost use Rattle.std.specs.List.{list_any, list_all, slice_split};
 ghost use Rattle.std.specs.String.{string_bytes};
 ghost use Rattle.std.specs.Bool.{◌==◌};
-ghost use Rattle.desk_text.specs.Path.{components, is_absolute, is_dot_component, is_under, path_text, read_path};
+ghost use Rattle.desk_text.specs.Path.{IsPath, components, is_absolute, is_dot_component, is_under, path_fault_number, path_text, read_path, same_path};
 ghost use Rattle.desk_text.specs.Reading.{Reads};
-ghost use Rattle.desk_text.specs.Scan.{ends_component, goes_below};
+ghost use Rattle.desk_text.specs.PrivatePath.{ends_component, goes_below};
 
 use crate::reading::ReadError;
 use std::alloc::{AllocError, Global};
@@ -26,7 +26,7 @@ pub struct Path {
 impl Model for Path {
     ghost use Rattle.std.specs.Prelude.{◌≡◌, ℕ, List};
     ghost use Rattle.std.specs.String.{string_bytes};
-    ghost use Rattle.desk_text.specs.Path.{components, path_text};
+    ghost use Rattle.desk_text.specs.Path.{IsPath, components, path_text};
 
     ghost Value = { List (List ℕ) };
 
@@ -41,13 +41,16 @@ impl PartialEq for Path {
     ghost use Rattle.std.specs.Cmp.Rules.{comparing};
     ghost use Rattle.std.specs.Cmp.Lexicographic.{pointwise};
     ghost use Rattle.std.specs.Ordering.{on};
-    ghost use Rattle.desk_text.specs.Path.{path_text};
+    ghost use Rattle.desk_text.specs.Path.{path_text, same_path};
 
     ghost eq = { on path_text (pointwise ◌==◌) };
 
     ghost laws = { Prim.search (comparing, rules) };
 
-    fn eq(&self, other: &Path) -> bool {
+    fn eq(&self, other: &Path) -> bool
+        ensures printed { result ≡ on path_text (pointwise ◌==◌) self.now other.now }
+        ensures same { result ≡ same_path self.now other.now }
+    {
         self.text == other.text
     }
 }
@@ -97,17 +100,26 @@ impl PartialOrd for Path {
     }
 }
 
-/// Why a text is no path. Of several faults the first in this order is told.
+/// Why a text is not a path. Of several faults the first in this order is reported.
 #[derive(Clone, Copy, Debug, PartialEq, Eq, Error)]
 pub enum PathFault {
-    #[error("it does not begin with a slash")]
+    #[error("a path begins with a slash")]
     NotAbsolute,
-    #[error("a component is `.` or `..`")]
+    #[error("a component of a path is `.` or `..`")]
     DotComponent,
-    #[error("it is over 1024 bytes long")]
+    #[error("a path is longer than 1024 bytes")]
     TooLong,
-    #[error("it has a NUL byte")]
+    #[error("a path has a NUL byte")]
     NulByte,
+}
+
+impl PathFault {
+    /// Returns the number of the fault, from 1.
+    pub fn number(self) -> u32
+        ensures { result ≡ path_fault_number self }
+    {
+        self as u32 + 1
+    }
 }
 
 impl Path {
@@ -139,9 +151,10 @@ impl Path {
         above == "/" || goes_below(path, above)
     }
 
-    /// The path as it is printed.
+    /// Returns the path as it is printed.
     pub fn text(&self) -> &str
-        ensures { result.now ≡ path_text self.now }
+        ensures printed { result.now ≡ path_text self.now }
+        ensures path { IsPath self.now }
     {
         self.text.as_str()
     }

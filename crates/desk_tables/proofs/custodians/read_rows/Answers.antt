@@ -5,11 +5,12 @@ use Rattle.desk_text.specs.Lines.{LogicalLine, logical_lines}
 use Rattle.desk_text.specs.Reading.{Reads, ReadsAs}
 use Rattle.desk_text.specs.declared.reading.ReadError.{ReadError}
 use Rattle.desk_tables.specs.Custodians as spec
-use Rattle.desk_tables.specs.WordLines.{at_line, line_values, lines_table}
+use Rattle.desk_tables.specs.QuotedLines.{line_values, lines_table}
+use Rattle.desk_tables.specs.PrivateQuotedLines.{at_line}
 use Rattle.desk_tables.specs.declared.custodians.Custodian.{Custodian}
-use Rattle.desk_tables.specs.declared.faults.TableFault.{TableFault}
+use Rattle.desk_tables.specs.Rules.{TableFault}
 use Rattle.desk_tables.proofs.CustodianLemmas.{names, next_names}
-use Rattle.desk_tables.proofs.WordTables.{exit, faults_on, next_faults, next_rows, row_at, rows_on, whole}
+use Rattle.desk_tables.proofs.QuotedLineLemmas.{exit, faults_on, next_faults, next_rows, row_at, rows_on, whole}
 use Rattle.desk_tables.proofs.custodians.read_rows.Goals as goal
 
 pub returns-in_err-row : goal.returns-in_err-row

@@ -1,6 +1,6 @@
 use Rattle.std.proofs.Common.{◌≡◌, [], map, take}
 use Rattle.desk_tables.specs.Custodians as spec
-use Rattle.desk_tables.proofs.WordTables.{faults_on, rows_on}
+use Rattle.desk_tables.proofs.QuotedLineLemmas.{faults_on, rows_on}
 use Rattle.desk_tables.proofs.custodians.read_rows.Given as goal
 
 -- no line so far has a fault, and the custodians are theirs

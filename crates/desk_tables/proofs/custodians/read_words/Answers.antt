@@ -1,10 +1,10 @@
 use Rattle.std.proofs.Common.{◌≡◌, ◌∙◌, ap, sym, true, false, length, List, ℕ, arith, Ok, Some, []}
 use Rattle.std.specs.List.{list_any}
 use Rattle.std.specs.Str.{bytes_eq}
-use Rattle.std.specs.Result.{is_err, result_unwrap_or}
+use Rattle.std.specs.Option.{option_map}
+use Rattle.std.specs.Result.{is_err, result_ok}
 use Rattle.hex.specs.Hex.{decode_sized}
 use Rattle.desk_tables.specs.Custodians as spec
-use Rattle.desk_tables.specs.declared.custodians.Custodian.{Custodian}
 use Rattle.desk_tables.proofs.CustodianLemmas.{names, is_duplicate, is_bad_digest, is_custodian, first_word, second_word}
 use Rattle.desk_tables.proofs.custodians.read_words.Goals as goal
 
@@ -42,6 +42,8 @@ returns c =
     ap (λ n. list_any (bytes_eq n) (names c.args.before.now)) (sym (c.as_str-2.ensures ∙ name)) ∙ sym c.if-lists.ensures in
     let decoded : c.from_hex.result ≡ decode_sized (spec.digest_word words) 32 = c.from_hex.ensures ∙ ap (λ t. decode_sized t 32) (c.as_str-3.ensures ∙ digits) in
     let right : is_err (decode_sized (spec.digest_word words) 32) ≡ false = ap is_err (sym decoded ∙ c.in-Ok.is) in
-    let bytes : result_unwrap_or (decode_sized (spec.digest_word words) 32) [] ≡ c.in-Ok.digest = ap (λ r. result_unwrap_or r []) (sym decoded ∙ c.in-Ok.is) in
+    let bytes : result_ok (decode_sized (spec.digest_word words) 32) ≡ Some c.in-Ok.digest = ap result_ok (sym decoded ∙ c.in-Ok.is) in
     let copied : c.in_ok-name.name ≡ spec.name_word words = c.in_ok-name.ensures ∙ c.as_str-4.ensures ∙ name in
-    is_custodian (names c.args.before.now) words two good listed right ∙ ap (λ (row : Custodian). Ok (Some row)) (ap (λ d. record { name = spec.name_word words; digest = d }) bytes ∙ ap (λ n. record { name = n; digest = c.in-Ok.digest }) (sym copied))
+    is_custodian (names c.args.before.now) words two good listed right
+    ∙ ap (λ digest. Ok (option_map (λ (d : List ℕ). record { name = spec.name_word words; digest = d }) digest)) bytes
+    ∙ ap (λ n. Ok (Some (record { name = n; digest = c.in-Ok.digest }))) (sym copied)

@@ -2,7 +2,7 @@ use Rattle.std.proofs.Common.{◌++◌, ◌∙◌, List, ℕ, ap, take}
 use Rattle.std.specs.List.{flat_map}
 use Rattle.std.proofs.lemmas.List.{append_assoc}
 use Rattle.std.specs.String.{string_bytes}
-use Rattle.desk_tables.specs.Index.{listed, under}
+use Rattle.desk_tables.specs.PrivateIndex.{listed, under}
 use Rattle.desk_tables.proofs.IndexLemmas.{more}
 use Rattle.desk_tables.proofs.groups.add_members.Goals as goal
 

@@ -1,6 +1,6 @@
 -- The members so far are added.
 use Rattle.std.proofs.Common.{take}
-use Rattle.desk_tables.specs.Index.{AddsUnderEach}
+use Rattle.desk_tables.specs.PrivateIndex.{AddsUnderEach}
 use Rattle.desk_tables.proofs.groups.add_members.Given as goal
 
 abbrev pub invariant-loop-member : goal.invariant-loop-member

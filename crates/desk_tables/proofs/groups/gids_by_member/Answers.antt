@@ -1,6 +1,6 @@
 use Rattle.std.proofs.Common.{◌++◌, ◌∙◌, List, ℕ, ap, take}
 use Rattle.std.specs.List.{flat_map}
-use Rattle.desk_tables.specs.Index.{gids_under, under}
+use Rattle.desk_tables.specs.PrivateIndex.{gids_under, under}
 use Rattle.desk_tables.specs.declared.groups.Group.{Group}
 use Rattle.desk_tables.proofs.IndexLemmas.{more}
 use Rattle.desk_tables.proofs.groups.gids_by_member.Goals as goal

@@ -1,6 +1,6 @@
 -- The index has the members of the groups so far.
 use Rattle.std.proofs.Common.{take}
-use Rattle.desk_tables.specs.Index.{HasMembers}
+use Rattle.desk_tables.specs.PrivateIndex.{HasMembers}
 use Rattle.desk_tables.proofs.groups.gids_by_member.Given as goal
 
 abbrev pub invariant-loop-group : goal.invariant-loop-group

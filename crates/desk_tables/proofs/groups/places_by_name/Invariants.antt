@@ -1,6 +1,6 @@
 -- The index has the names of the groups so far.
 use Rattle.std.proofs.Common.{take}
-use Rattle.desk_tables.specs.Index.{HasGroupNames}
+use Rattle.desk_tables.specs.PrivateIndex.{HasGroupNames}
 use Rattle.desk_tables.proofs.groups.places_by_name.Given as goal
 
 abbrev pub invariant-loop-place : goal.invariant-loop-place

@@ -4,7 +4,7 @@ use Rattle.std.specs.Str.{str_to_ascii_lowercase}
 use Rattle.std.proofs.lemmas.List.{append_assoc}
 use Rattle.std.specs.String.{string_bytes}
 use Rattle.desk_text.specs.declared.address.Addr.{Addr}
-use Rattle.desk_tables.specs.Index.{listed, under}
+use Rattle.desk_tables.specs.PrivateIndex.{listed, under}
 use Rattle.desk_tables.proofs.IndexLemmas.{more}
 use Rattle.desk_tables.proofs.hosts.add_hosts.Goals as goal
 

@@ -2,7 +2,7 @@ use Rattle.std.proofs.Common.{◌++◌, ◌∙◌, List, ℕ, ap, take}
 use Rattle.std.specs.List.{flat_map}
 use Rattle.std.specs.Str.{str_to_ascii_lowercase}
 use Rattle.desk_text.specs.declared.address.Addr.{Addr}
-use Rattle.desk_tables.specs.Index.{addresses_under, under}
+use Rattle.desk_tables.specs.PrivateIndex.{addresses_under, under}
 use Rattle.desk_tables.specs.declared.hosts.HostRow.{HostRow}
 use Rattle.desk_tables.proofs.IndexLemmas.{more}
 use Rattle.desk_tables.proofs.hosts.addresses_by_name.Goals as goal

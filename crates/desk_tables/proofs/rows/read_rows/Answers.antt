@@ -6,7 +6,8 @@ use Rattle.std.proofs.lemmas.Result.{err_from_is_err_and}
 use Rattle.std.specs.List.{filter_map}
 use Rattle.std.specs.Str.Iter.{lines_rest}
 use Rattle.std.specs.Str.Lines.{lines}
-use Rattle.desk_tables.specs.Tables.{answered_lines, fault_of, row_in}
+use Rattle.desk_text.specs.Reading.{fault_of, value_of}
+use Rattle.desk_tables.specs.Rows.{answered_lines}
 use Rattle.desk_tables.proofs.RowLemmas.{all_lines, all_read, exit, line_is, read_more, sound_more}
 use Rattle.desk_tables.proofs.rows.read_rows.Goals as goal
 
@@ -49,4 +50,4 @@ returns g c = λ answer reads.
     let ended = YieldsList-end (YieldsList-from_lines {s = c.into_iter-line-iterator.result} text (ap lines_rest same ∙ c.lines-line-items.ensures.rest)) c.loop-line.yielded _ c.loop-line.yielded_by _ _ c.in-None.is c.next.ensures.steps in
     let whole : take k ls ≡ ls = take_all k ls (omega (arith, all_lines answer text, ended.1)) in
     let so_far = c.loop-line.invariant.read answer reads in
-    all_read ls c.loop-line.rows (ap (filter_map fault_of) (sym whole) ∙ so_far.0) (so_far.1 ∙ ap (filter_map (λ line. row_in line.answer)) whole)
+    all_read ls c.loop-line.rows (ap (filter_map fault_of) (sym whole) ∙ so_far.0) (so_far.1 ∙ ap (filter_map value_of) whole)

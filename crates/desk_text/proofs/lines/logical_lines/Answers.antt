@@ -1,6 +1,6 @@
 use Rattle.std.proofs.Common.{◌≡◌, sym, subst, ap, ◌∙◌, map}
 use Rattle.desk_text.specs.Lines.{AreNumberedUp, logical_lines, groups, numbered, kept}
-use Rattle.desk_text.specs.Shown.{line_of_part}
+use Rattle.desk_text.specs.Views.{line_of_part}
 use Rattle.desk_text.proofs.LineLaws.{lines_ascend}
 use Rattle.desk_text.proofs.lines.logical_lines.Goals as goal
 

@@ -1,5 +1,5 @@
 use Rattle.std.proofs.Common.{◌≡◌, ◌++◌, sym, ap, ◌∙◌}
-use Rattle.desk_text.specs.Scan.{goes_below}
+use Rattle.desk_text.specs.PrivatePath.{goes_below}
 use Rattle.desk_text.proofs.Below.{goes_below-front, goes_below-none}
 use Rattle.desk_text.proofs.path.goes_below.Goals as goal
 

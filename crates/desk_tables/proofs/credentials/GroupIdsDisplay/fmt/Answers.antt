@@ -13,5 +13,5 @@ returns-clause-writes g c = λ plain. λ ok.
     ap (flat_map behind_colon) (take_all c.loop-gid.gid-index c.in-Some.others.now c.loop-gid-test.false) in
     has_written_of_eq _ _ _ _ _
     (ap (λ t. decimal c.in-Some.first.now ++ t) all ∙ with_colons c.in-Some.first.now c.in-Some.others.now
-    ∙ ap gids_text (sym c.in-Some.ensures.cases.0 ∙ c.as_slice.ensures))
+    ∙ ap gids_text (sym c.in-Some.ensures.cases.0 ∙ c.as_slice.ensures.value))
     (has_written_append _ _ _ _ _ _ first (c.loop-gid.invariant first.plain))

@@ -14,4 +14,4 @@ invariant_of-result c = λ q.
     ∙ ap (λ n. option_or (get_by_text c.self.inside.digests q) (cond (bytes_eq n q) (Some row.digest) None)) c.as_str.ensures
     ∙ ap (λ o. option_or o (cond (bytes_eq row.name q) (Some row.digest) None)) (c.self.invariant q)
     ∙ sym (digest_push c.self.inside.rows row q)
-    ∙ ap (λ (rows : List Custodian). spec.digest_of rows q) (sym c.in_ok-push.ensures)
+    ∙ ap (λ (rows : List Custodian). spec.digest_of rows q) (sym c.in_ok-push.ensures.added)

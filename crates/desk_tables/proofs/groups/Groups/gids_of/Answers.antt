@@ -1,8 +1,9 @@
 use Rattle.std.proofs.Common.{◌≡◌, ◌∷◌, ◌∙◌, ℕ, List, false, Some, None, ap, sym, length, take_all, arith}
 use Rattle.std.specs.Prelude.{nat_lt, if◌then◌else◌}
 use Rattle.std.proofs.lemmas.Bool.Decides.{nat_tests}
-use Rattle.desk_tables.specs.Groups.{at_most_16, each_once, gids_of}
-use Rattle.desk_tables.specs.Index.{gids_under, listed}
+use Rattle.desk_tables.specs.Credentials.{at_most_16}
+use Rattle.desk_tables.specs.Groups.{each_once, gids_of}
+use Rattle.desk_tables.specs.PrivateIndex.{gids_under, listed}
 use Rattle.desk_tables.specs.declared.groups.Group.{Group}
 use Rattle.desk_tables.proofs.GidsOnce.{gid_added, gid_refused, gids_listed}
 use Rattle.desk_tables.proofs.groups.Groups.gids_of.Goals as goal

@@ -1,6 +1,6 @@
 use Rattle.std.proofs.Common.{◌≡◌, ◌+◌, ◌==◌, length, count_by, arith}
 use Rattle.std.proofs.lemmas.List.Splits.{length-slice_split}
-use Rattle.desk_text.specs.Addr.{dotted_parts}
+use Rattle.desk_text.specs.Address.{dotted_parts}
 use Rattle.desk_text.proofs.address.Addr.read_short.Goals as goal
 
 pub filled-number-requires-clause-some : goal.filled-number-requires-clause-some

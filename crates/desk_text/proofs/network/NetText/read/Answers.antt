@@ -1,7 +1,7 @@
 use Rattle.std.proofs.Common.{◌==◌, None, false, sym, ap, ◌∙◌, lit<}
 use Rattle.std.specs.List.{after_first}
 use Rattle.std.proofs.lemmas.Str.Pattern.{split_once_first}
-use Rattle.desk_text.specs.Networks.{with_prefix}
+use Rattle.desk_text.specs.Network.{with_prefix}
 use Rattle.desk_text.proofs.NetTexts.{no_prefix}
 use Rattle.desk_text.proofs.network.NetText.read.Goals as goal
 

@@ -2,7 +2,7 @@ use Rattle.std.proofs.Common.{◌≢◌, ◌∷◌, [], ap, ◌∙◌}
 use Rattle.std.specs.Cmp.Lexicographic.{other_text}
 use Rattle.std.specs.String.{string_bytes}
 use Rattle.desk_text.specs.Path.{components, is_under}
-use Rattle.desk_text.specs.Scan.{goes_below}
+use Rattle.desk_text.specs.PrivatePath.{goes_below}
 use Rattle.desk_text.proofs.Below.{under_printed}
 use Rattle.desk_text.proofs.path.Path.is_under.Goals as goal
 

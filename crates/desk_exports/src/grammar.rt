@@ -1,0 +1,249 @@
+//! The words of a line by what they are: directories, options with their values, and names. (exports(5))
+
+ghost use Rattle.std.specs.Prelude.{◌≡◌, ◌≤◌, ◌++◌, ◌==◌, IfOk, None, OnOk, drop, false, length, map, slice_index};
+ghost use Rattle.std.specs.List.{list_any, prefix_len};
+ghost use Rattle.std.specs.Option.{option_copied};
+ghost use Rattle.desk_text.specs.Path.{is_absolute, read_path};
+ghost use Rattle.desk_text.specs.Views.{word_of};
+ghost use Rattle.desk_exports.specs.Grammar as spec;
+
+use crate::options::{Setting, wants_value};
+use desk_text::{Path, PathFault, ReadError, Sequence, Text, Word, split_at, unquote};
+use std::alloc::{AllocError, Global};
+
+/// A word: whether its first raw character is `-`, whether that is `#`, and its value, in which quotes
+/// and escapes are resolved.
+#[derive(Clone, Debug, Drop)]
+pub struct GrammarWord {
+    pub dashed: bool,
+    pub begins_with_hash: bool,
+    pub value: Text,
+}
+
+impl GrammarWord {
+    /// Reads a raw word.
+    pub fn read(alloc: Global, word: &Word) -> Result<GrammarWord, AllocError>
+        ensures { IfOk result (λ w. w ≡ spec.grammar_word (word_of word.now)) }
+    {
+        Ok(GrammarWord {
+            dashed: word.dashed,
+            begins_with_hash: begins_with_hash(word.raw),
+            value: Text::from_string(unquote(alloc, word)?),
+        })
+    }
+}
+
+fn begins_with_hash(raw: &str) -> bool
+    ensures { result ≡ (slice_index raw.now 0 == 35) }
+{
+    let bytes = raw.as_bytes();
+    !bytes.is_empty() && bytes[0] == b'#'
+}
+
+/// Reads raw words, in order.
+pub fn grammar_words(alloc: Global, words: &[Word]) -> Result<Vec<GrammarWord>, AllocError>
+    ensures { IfOk result (λ v. v.items ≡ map spec.grammar_word (map word_of words.now)) }
+{
+    let mut read = Vec::new(alloc);
+    for word in words {
+        read.push(GrammarWord::read(alloc, word)?)?;
+    }
+    Ok(read)
+}
+
+/// The words of a line by what they are.
+#[derive(Debug, Drop)]
+pub struct GrammarLine {
+    /// Whether the first word is `V4:`, so that the line takes no part.
+    pub is_v4: bool,
+    /// Whether a word after the first begins with a raw `#`.
+    pub has_stray_comment: bool,
+    /// The leading words that begin with a slash, each with its path or that path's fault.
+    pub directories: Sequence<Result<Path, PathFault>>,
+    /// The options of the dashed words, with their values.
+    pub settings: Sequence<Setting>,
+    /// The words that are neither directories, dashed nor values.
+    pub names: Sequence<Text>,
+}
+
+impl GrammarLine {
+    /// The parts of the line that words make.
+    pub fn read(alloc: Global, words: &[GrammarWord]) -> Result<GrammarLine, AllocError>
+        ensures { IfOk result (λ line. line ≡ spec.grammar_line words.now) }
+    {
+        let count = count_absolute(words);
+        let directories = paths(alloc, &words[..count])?;
+        let settings = settings(alloc, &words[count..])?;
+        let names = names(alloc, &words[count..])?;
+        Ok(GrammarLine {
+            is_v4: is_v4(words),
+            has_stray_comment: has_stray_comment(words),
+            directories,
+            settings,
+            names,
+        })
+    }
+}
+
+/// Whether the first word is `V4:`.
+fn is_v4(words: &[GrammarWord]) -> bool
+    ensures { result ≡ spec.is_v4 words.now }
+{
+    match words.first() {
+        Some(word) => word.value.as_str() == "V4:",
+        None => false,
+    }
+}
+
+fn count_absolute(words: &[GrammarWord]) -> usize
+    ensures count { result ≡ prefix_len (λ w. is_absolute w.value) words.now }
+    ensures fits { result ≤ length words.now }
+{
+    words
+        .iter()
+        .take_while(|word| is_absolute(word.value.as_str()))
+        .count()
+}
+
+/// Whether a text begins with a slash.
+pub(crate) fn is_absolute(text: &str) -> bool
+    ensures { result ≡ is_absolute text.now }
+{
+    let bytes = text.as_bytes();
+    !bytes.is_empty() && bytes[0] == b'/'
+}
+
+fn has_stray_comment(words: &[GrammarWord]) -> bool
+    ensures { result ≡ list_any (λ w. w.begins_with_hash) (drop 1 words.now) }
+{
+    words.iter().skip(1).any(|word| word.begins_with_hash)
+}
+
+fn paths(
+    alloc: Global,
+    words: &[GrammarWord],
+) -> Result<Sequence<Result<Path, PathFault>>, AllocError>
+    ensures { IfOk result (λ paths. paths ≡ map (λ w. read_path w.value) words.now) }
+{
+    let mut paths = Sequence::new(alloc);
+    for word in words {
+        paths.push(read_path(alloc, word.value.as_str())?)?;
+    }
+    Ok(paths)
+}
+
+/// The path that a text writes, or its fault.
+fn read_path(alloc: Global, text: &str) -> Result<Result<Path, PathFault>, AllocError>
+    ensures { IfOk result (λ path. path ≡ read_path text.now) }
+{
+    ReadError::split(Path::read(alloc, text))
+}
+
+fn settings(alloc: Global, words: &[GrammarWord]) -> Result<Sequence<Setting>, AllocError>
+    ensures { IfOk result (λ settings. settings ≡ spec.settings words.now) }
+{
+    let mut settings = Sequence::new(alloc);
+    for (index, word) in words.iter().enumerate() {
+        push_word(alloc, &mut settings, word, &words[index + 1..])?;
+    }
+    Ok(settings)
+}
+
+/// Adds the options of a word, behind which the others stand.
+fn push_word(
+    alloc: Global,
+    settings: &mut Sequence<Setting>,
+    word: &GrammarWord,
+    others: &[GrammarWord],
+) -> Result<(), AllocError>
+    ensures { OnOk result (settings.new ≡ settings.old ++ spec.settings_at word.now others.now) }
+{
+    if word.dashed {
+        let pieces = split_at(alloc, after_dash(word.value.as_str()), ',')?;
+        push_pieces(alloc, settings, offered(others), pieces.as_slice())?;
+    }
+    Ok(())
+}
+
+/// The next word, if there is one and it is not dashed.
+fn offered(words: &[GrammarWord]) -> Option<&str>
+    ensures { option_copied result ≡ spec.offered words.now }
+{
+    match words {
+        [word, ..] if !word.dashed => Some(word.value.as_str()),
+        _ => None,
+    }
+}
+
+/// Adds the option of each piece; the last one alone is offered a value.
+fn push_pieces(
+    alloc: Global,
+    settings: &mut Sequence<Setting>,
+    offer: Option<&str>,
+    pieces: &[&str],
+) -> Result<(), AllocError>
+    ensures { OnOk result
+        (settings.new ≡ settings.old ++ spec.settings_of (option_copied offer.entry) (map (λ piece. piece.now) pieces.now)) }
+{
+    if let Some((last, others)) = pieces.split_last() {
+        push_without_offer(alloc, settings, others)?;
+        settings.push(Setting::read(alloc, offer, last)?)?;
+    }
+    Ok(())
+}
+
+/// Adds the option of each piece.
+fn push_without_offer(
+    alloc: Global,
+    settings: &mut Sequence<Setting>,
+    pieces: &[&str],
+) -> Result<(), AllocError>
+    ensures { OnOk result
+        (settings.new ≡ settings.old ++ map (λ piece. spec.setting None piece.now) pieces.now) }
+{
+    for piece in pieces {
+        settings.push(Setting::read(alloc, None, piece)?)?;
+    }
+    Ok(())
+}
+
+/// A text behind the dash that it begins with.
+fn after_dash(text: &str) -> &str
+    ensures { result.now ≡ spec.after_dash text.now }
+{
+    text.strip_prefix('-').unwrap_or(text)
+}
+
+fn names(alloc: Global, words: &[GrammarWord]) -> Result<Sequence<Text>, AllocError>
+    ensures { IfOk result (λ names. names ≡ spec.names false words.now) }
+{
+    let mut names = Sequence::new(alloc);
+    let mut taken = false;
+    for word in words {
+        if !word.dashed && !taken {
+            names.push(Text::copy(alloc, word.value.as_str())?)?;
+        }
+        taken = takes_next(alloc, word)?;
+    }
+    Ok(names)
+}
+
+/// Whether a word takes the next one, where that is not dashed, as a value.
+fn takes_next(alloc: Global, word: &GrammarWord) -> Result<bool, AllocError>
+    ensures { IfOk result (λ takes. takes ≡ spec.takes_next word.now) }
+{
+    if !word.dashed {
+        return Ok(false);
+    }
+    let pieces = split_at(alloc, after_dash(word.value.as_str()), ',')?;
+    Ok(last_wants(pieces.as_slice()))
+}
+
+fn last_wants(pieces: &[&str]) -> bool
+    ensures { result ≡ spec.last_wants (map (λ piece. piece.now) pieces.now) }
+{
+    match pieces.split_last() {
+        Some((last, _)) => wants_value(last),
+        None => false,
+    }
+}

@@ -1,0 +1,103 @@
+//! The rules on options and their values: unknown options, missing and repeated values, flavours and
+//! credentials. (exports(5))
+
+ghost use Rattle.std.specs.Prelude.{◌≡◌};
+ghost use Rattle.std.specs.List.{list_any};
+ghost use Rattle.desk_tables.specs.Elements.{cred_breaks, elements};
+ghost use Rattle.desk_exports.specs.Flavours.{has_bad_flavour};
+ghost use Rattle.desk_exports.specs.Tables.{table_rows};
+ghost use Rattle.desk_exports.specs.Options.{of_value};
+ghost use Rattle.desk_exports.specs.Rules as spec;
+ghost use Rattle.desk_exports.specs.declared.options.Keyword.TheVariants as keyword;
+
+use crate::flavours::has_bad_flavour;
+use crate::options::{Keyword, Setting, value_of};
+use crate::tables::Tables;
+use desk_tables::{CredFault, has_fault};
+
+/// Whether an option is unknown, or has a value and takes none.
+pub(crate) fn has_unknown_option(settings: &[Setting]) -> bool
+    ensures { result ≡ list_any spec.is_unknown settings.now }
+{
+    settings.iter().any(is_unknown)
+}
+
+fn is_unknown(setting: &Setting) -> bool
+    ensures { result ≡ spec.is_unknown setting.now }
+{
+    setting.keyword == Keyword::Unknown
+        || (setting.keyword.takes_no_value() && setting.value.is_some())
+}
+
+/// Whether an option that takes a value has none, or an empty one.
+pub(crate) fn has_option_without_value(settings: &[Setting]) -> bool
+    ensures { result ≡ list_any spec.lacks_value settings.now }
+{
+    settings.iter().any(lacks_value)
+}
+
+fn lacks_value(setting: &Setting) -> bool
+    ensures { result ≡ spec.lacks_value setting.now }
+{
+    if !setting.keyword.takes_value() {
+        return false;
+    }
+    match &setting.value {
+        Some(text) => text.as_str().is_empty(),
+        None => true,
+    }
+}
+
+/// Whether an option that takes a value is given twice.
+pub(crate) fn has_repeated_option(settings: &[Setting]) -> bool
+    ensures { result ≡ list_any (spec.stands_twice settings.now) spec.options_once }
+{
+    stands_twice(settings, Keyword::MapRoot)
+        || stands_twice(settings, Keyword::MapAll)
+        || stands_twice(settings, Keyword::Sec)
+        || stands_twice(settings, Keyword::Network)
+        || stands_twice(settings, Keyword::Mask)
+}
+
+fn stands_twice(settings: &[Setting], keyword: Keyword) -> bool
+    ensures { result ≡ spec.stands_twice settings.now keyword }
+{
+    settings
+        .iter()
+        .filter(|setting| setting.keyword == keyword)
+        .count()
+        > 1
+}
+
+/// Whether a flavour is empty or unknown.
+pub(crate) fn has_unknown_flavour(settings: &[Setting]) -> bool
+    ensures { result ≡ of_value keyword.Sec has_bad_flavour settings.now }
+{
+    match value_of(settings, Keyword::Sec) {
+        Some(value) => has_bad_flavour(value),
+        None => false,
+    }
+}
+
+/// Whether a credential of the line has this fault, whatever other faults it has.
+pub(crate) fn has_cred_fault(tables: &Tables, settings: &[Setting], fault: CredFault) -> bool
+    ensures { result ≡ spec.cred_has (table_rows tables.now) fault settings.now }
+{
+    breaks_credential(tables, settings, Keyword::MapRoot, fault)
+        || breaks_credential(tables, settings, Keyword::MapAll, fault)
+}
+
+fn breaks_credential(
+    tables: &Tables,
+    settings: &[Setting],
+    keyword: Keyword,
+    fault: CredFault,
+) -> bool
+    ensures { let rows = table_rows tables.now in
+        result ≡ of_value keyword (λ text. cred_breaks rows.users rows.groups (elements text) fault) settings.now }
+{
+    match value_of(settings, keyword) {
+        Some(text) => has_fault(tables.users, tables.groups, text, fault),
+        None => false,
+    }
+}

@@ -1,7 +1,0 @@
-use Rattle.std.proofs.Common.{◌≡◌, map, take}
-use Rattle.desk_text.specs.Shown.{word_of}
-use Rattle.desk_text.specs.Words.{word_value}
-use Rattle.desk_tables.proofs.word_lines.values_of.Given as goal
-
-abbrev pub invariant-loop-word : goal.invariant-loop-word
-invariant-loop-word l = l.values.items ≡ map (λ w. word_value w.raw) (map word_of (take l.word-index l.words))

@@ -1,7 +1,0 @@
-use Rattle.std.proofs.Common.{◌∙◌}
-use Rattle.desk_tables.specs.PlainLines.{is_long_name}
-use Rattle.desk_tables.proofs.WordLemmas.{any_now}
-use Rattle.desk_tables.proofs.words.has_long_name.Goals as goal
-
-pub returns : goal.returns
-returns c = c.any_is_long.ensures ∙ any_now is_long_name c.args.names.now

@@ -1,0 +1,37 @@
+//! Lines of fields with colons between them. (passwd(5), group(5))
+
+ghost use Rattle.std.specs.Prelude.{◌≡◌, length};
+ghost use Rattle.desk_tables.specs.ColonLines.{field, fields, number_in, skips_line};
+
+use desk_text::{first_non_blank, read_decimal};
+
+/// Counts the fields of a line.
+pub(crate) fn field_count(line: &str) -> usize
+    ensures { result ≡ length (fields line.now) }
+{
+    line.split(':').count()
+}
+
+/// Finds the field at a place, from 0; a line that has none there has the empty one.
+pub(crate) fn field(line: &str, place: usize) -> &str
+    ensures { result.now ≡ field place line.now }
+{
+    line.split(':').nth(place).unwrap_or("")
+}
+
+/// Tests whether a line is a comment, or has only blanks.
+pub(crate) fn is_skipped(line: &str) -> bool
+    ensures { result ≡ skips_line line.now }
+{
+    match first_non_blank(line) {
+        Some(b) => b == b'#',
+        None => true,
+    }
+}
+
+/// Reads a decimal up to 4294967295.
+pub(crate) fn read_number(text: &str) -> Option<u32>
+    ensures { result ≡ number_in text.now }
+{
+    read_decimal(text, u32::MAX)
+}

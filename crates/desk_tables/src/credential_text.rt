@@ -1,0 +1,308 @@
+//! What a credential text stands for. (exports(5))
+
+ghost use Rattle.std.specs.Prelude.{◌≡◌, ◌==◌, ◌≤◌, ◌&&◌, List, Some, [], find, is_none, length};
+ghost use Rattle.std.specs.List.{filter_map, list_any};
+ghost use Rattle.std.specs.Option.{option_copied};
+ghost use Rattle.desk_tables.specs.CredentialText.{alone_breaks, cred_breaks, cred_fault_number, cred_faults, elements, gid_of, is_name, is_out_of_range, read_credential, uid_of, user_named, written_breaks};
+ghost use Rattle.desk_tables.specs.PrivateCredentialText.{alone_answer, written_answer};
+ghost use Rattle.desk_tables.specs.Groups.{group_of_name};
+ghost use Rattle.desk_tables.specs.Users.{user_of_name};
+ghost use Rattle.desk_tables.specs.declared.credential_text.CredFault.TheVariants.{TooManyGroups};
+ghost use Rattle.desk_tables.specs.declared.groups.Group.{Group};
+
+use crate::colon_lines::read_number;
+use crate::credentials::{Cred, GroupIds};
+use crate::groups::Groups;
+use crate::users::{User, Users};
+use desk_text::is_digits;
+use thiserror::Error;
+
+/// Why a credential text stands for no credential. Of several faults the first in this order is named.
+#[derive(Clone, Copy, Debug, PartialEq, Eq, Error)]
+pub enum CredFault {
+    #[error("no user has this name or number")]
+    UnknownUser,
+    #[error("no group has this name")]
+    UnknownGroup,
+    #[error("there are more than sixteen groups")]
+    TooManyGroups,
+    #[error("a name or a number is empty")]
+    EmptyElement,
+    #[error("a number is no decimal up to 4294967295")]
+    Range,
+}
+
+impl CredFault {
+    /// The number of the fault, from 1.
+    pub fn number(self) -> u32
+        ensures { result ≡ cred_fault_number self }
+    {
+        self as u32 + 1
+    }
+}
+
+/// The most groups that a credential has.
+const MOST_GROUPS: usize = 16;
+
+/// The order in which a fault is named.
+const CRED_FAULTS: [CredFault; 5] = [
+    CredFault::UnknownUser,
+    CredFault::UnknownGroup,
+    CredFault::TooManyGroups,
+    CredFault::EmptyElement,
+    CredFault::Range,
+];
+
+/// The credential that a text stands for: a user alone, with its own gid and those of the groups that list it; or a user
+/// and groups with colons between them, as they are written. Users and groups are names or numbers; `user:` has no
+/// groups.
+pub fn credential(users: &Users, groups: &Groups, text: &str) -> Result<Cred, CredFault>
+    ensures { Some result ≡ read_credential users.now groups.now text.now }
+{
+    match text.split_once(':') {
+        None => alone(users, groups, text),
+        Some((user, others)) => {
+            if others.is_empty() {
+                without_groups(users, groups, user)
+            } else {
+                with_groups(users, groups, user, others)
+            }
+        }
+    }
+}
+
+/// The credential of a user alone.
+fn alone(users: &Users, groups: &Groups, user: &str) -> Result<Cred, CredFault>
+    ensures { Some result ≡ alone_answer users.now groups.now user.now }
+{
+    if user.is_empty() {
+        return Err(CredFault::EmptyElement);
+    }
+    if is_out_of_range(user) {
+        return Err(CredFault::Range);
+    }
+    let Some(user) = user_named(users, user) else {
+        return Err(CredFault::UnknownUser);
+    };
+    match groups.gids_of(user) {
+        Some(gids) => Ok(Cred {
+            uid: user.uid,
+            gids,
+        }),
+        None => Err(CredFault::TooManyGroups),
+    }
+}
+
+/// The user that an element alone stands for.
+fn user_named<'a>(users: &'a Users, element: &str) -> Option<&'a User>
+    ensures { option_copied result ≡ user_named users.now element.now }
+{
+    if is_digits(element) {
+        let uid = read_number(element)?;
+        return users.by_uid(uid);
+    }
+    if element.is_empty() {
+        return None;
+    }
+    users.by_name(element)
+}
+
+/// The credential of a user with no groups.
+fn without_groups(users: &Users, groups: &Groups, user: &str) -> Result<Cred, CredFault>
+    ensures { Some result ≡ written_answer users.now groups.now user.now [] }
+{
+    if user.is_empty() {
+        return Err(CredFault::EmptyElement);
+    }
+    if is_out_of_range(user) {
+        return Err(CredFault::Range);
+    }
+    match uid_of(users, user) {
+        Some(uid) => Ok(Cred {
+            uid,
+            gids: GroupIds::none(),
+        }),
+        None => Err(CredFault::UnknownUser),
+    }
+}
+
+/// The credential of a user and the groups that others names.
+fn with_groups(users: &Users, groups: &Groups, user: &str, others: &str) -> Result<Cred, CredFault>
+    ensures { Some result ≡ written_answer users.now groups.now user.now (elements others.now) }
+{
+    if let Some(fault) = written_fault(users, groups, user, others) {
+        return Err(fault);
+    }
+    match uid_of(users, user) {
+        Some(uid) => Ok(Cred {
+            uid,
+            gids: gids_in(groups, others),
+        }),
+        None => Err(CredFault::UnknownUser),
+    }
+}
+
+/// The least fault of a user and the groups that others names.
+fn written_fault(users: &Users, groups: &Groups, user: &str, others: &str) -> Option<CredFault>
+    ensures { result ≡ find (written_breaks users.now groups.now user.now (elements others.now)) cred_faults }
+{
+    CRED_FAULTS.iter().copied().find(|fault| written_breaks(users, groups, user, others, *fault))
+}
+
+/// Whether a fault holds of a text, whatever other faults do.
+pub fn has_fault(users: &Users, groups: &Groups, text: &str, fault: CredFault) -> bool
+    ensures { result ≡ cred_breaks users.now groups.now (elements text.now) fault }
+{
+    match text.split_once(':') {
+        None => alone_breaks(users, groups, text, fault),
+        Some((user, others)) => {
+            if others.is_empty() {
+                without_groups_breaks(users, user, fault)
+            } else {
+                written_breaks(users, groups, user, others, fault)
+            }
+        }
+    }
+}
+
+/// Whether a fault holds of a user alone.
+fn alone_breaks(users: &Users, groups: &Groups, user: &str, fault: CredFault) -> bool
+    ensures { result ≡ alone_breaks users.now groups.now user.now fault }
+{
+    match fault {
+        CredFault::UnknownUser => {
+            !user.is_empty() && !is_out_of_range(user) && user_named(users, user).is_none()
+        }
+        CredFault::UnknownGroup => false,
+        CredFault::TooManyGroups => has_many_groups(users, groups, user),
+        CredFault::EmptyElement => user.is_empty(),
+        CredFault::Range => is_out_of_range(user),
+    }
+}
+
+/// Whether a user alone has more than sixteen groups.
+fn has_many_groups(users: &Users, groups: &Groups, user: &str) -> bool
+    ensures { result ≡ alone_breaks users.now groups.now user.now TooManyGroups }
+{
+    match user_named(users, user) {
+        Some(user) => groups.gids_of(user).is_none(),
+        None => false,
+    }
+}
+
+/// Whether a fault holds of a user with no groups.
+fn without_groups_breaks(users: &Users, user: &str, fault: CredFault) -> bool
+    ensures { (groups : List Group) → result ≡ written_breaks users.now groups user.now [] fault }
+{
+    match fault {
+        CredFault::UnknownUser => is_unknown_user(users, user),
+        CredFault::UnknownGroup | CredFault::TooManyGroups => false,
+        CredFault::EmptyElement => user.is_empty(),
+        CredFault::Range => is_out_of_range(user),
+    }
+}
+
+/// Whether a fault holds of a user and the groups that others names.
+fn written_breaks(
+    users: &Users,
+    groups: &Groups,
+    user: &str,
+    others: &str,
+    fault: CredFault,
+) -> bool
+    ensures { result ≡ written_breaks users.now groups.now user.now (elements others.now) fault }
+{
+    match fault {
+        CredFault::UnknownUser => is_unknown_user(users, user),
+        CredFault::UnknownGroup => any_unknown_group(groups, others),
+        CredFault::TooManyGroups => element_count(others) > MOST_GROUPS,
+        CredFault::EmptyElement => user.is_empty() || any_empty(others),
+        CredFault::Range => is_out_of_range(user) || any_out_of_range(others),
+    }
+}
+
+fn is_unknown_user(users: &Users, user: &str) -> bool
+    ensures { result ≡ (is_name user.now && is_none (user_of_name users.now user.now)) }
+{
+    is_name(user) && users.by_name(user).is_none()
+}
+
+fn element_count(text: &str) -> usize
+    ensures { result ≡ length (elements text.now) }
+{
+    text.split(':').count()
+}
+
+fn any_unknown_group(groups: &Groups, others: &str) -> bool
+    ensures { result ≡ list_any (λ e. is_name e && is_none (group_of_name groups.now e)) (elements others.now) }
+{
+    others
+        .split(':')
+        .any(|element| is_unknown_group(groups, element))
+}
+
+fn is_unknown_group(groups: &Groups, element: &str) -> bool
+    ensures { result ≡ (is_name element.now && is_none (group_of_name groups.now element.now)) }
+{
+    is_name(element) && groups.by_name(element).is_none()
+}
+
+fn any_empty(others: &str) -> bool
+    ensures { result ≡ list_any (λ e. length e == 0) (elements others.now) }
+{
+    others.split(':').any(|element| element.is_empty())
+}
+
+fn any_out_of_range(others: &str) -> bool
+    ensures { result ≡ list_any is_out_of_range (elements others.now) }
+{
+    others.split(':').any(|element| is_out_of_range(element))
+}
+
+/// Whether an element is of digits alone and no number.
+fn is_out_of_range(element: &str) -> bool
+    ensures { result ≡ is_out_of_range element.now }
+{
+    is_digits(element) && read_number(element).is_none()
+}
+
+/// Whether an element is neither empty nor of digits alone.
+fn is_name(element: &str) -> bool
+    ensures { result ≡ is_name element.now }
+{
+    !is_digits(element) && !element.is_empty()
+}
+
+/// The number of a user, which is written or that of its name.
+fn uid_of(users: &Users, element: &str) -> Option<u32>
+    ensures { result ≡ uid_of users.now element.now }
+{
+    if is_digits(element) {
+        return read_number(element);
+    }
+    users.by_name(element).map(|user| user.uid)
+}
+
+/// The number of a group, which is written or that of its name.
+fn gid_of(groups: &Groups, element: &str) -> Option<u32>
+    ensures { result ≡ gid_of groups.now element.now }
+{
+    if is_digits(element) {
+        return read_number(element);
+    }
+    groups.by_name(element).map(|group| group.gid)
+}
+
+/// The numbers of the groups that a text names, of which there are at most sixteen.
+fn gids_in(groups: &Groups, others: &str) -> GroupIds
+    requires { length (elements others.now) ≤ 16 }
+    ensures { result ≡ filter_map (gid_of groups.now) (elements others.now) }
+{
+    let mut gids = GroupIds::none();
+    for element in others.split(':') {
+        if let Some(gid) = gid_of(groups, element) {
+            gids.push(gid);
+        }
+    }
+    gids
+}

@@ -1,0 +1,98 @@
+//! The text of the file systems: mount points, each with its custodians. (this project's own)
+
+ghost use Rattle.std.specs.Prelude.{◌≡◌, ◌≤◌, IfOk, Ok, Some, length};
+ghost use Rattle.std.specs.List.{list_any, prefix_len};
+ghost use Rattle.std.specs.Result.{result_map_both};
+ghost use Rattle.desk_text.specs.Path.{read_path, same_path};
+ghost use Rattle.desk_text.specs.Reading.{Reads, ReadsAs};
+ghost use Rattle.desk_tables.specs.FileSystemsText as spec;
+ghost use Rattle.desk_tables.specs.FileSystems.{AreAscending, is_before, mount_points};
+ghost use Rattle.desk_tables.specs.QuotedLines.{line_values};
+
+use crate::filesystems::{MOST_MOUNT_POINTS, Mount};
+use crate::quoted_lines::{at_line, line_values};
+use crate::rules::{TableFault, TableRule};
+use desk_text::{Line, Path, ReadError, Sequence, Text, logical_lines};
+use std::alloc::{AllocError, Global};
+
+/// The mount points that a text lists, in byte order of their printed forms, or its first fault.
+pub fn read_mounts(alloc: Global, text: &str) -> Result<Vec<Mount>, ReadError<TableFault>>
+    requires { length text.now ≤ 4294967294 }
+    ensures read { ReadsAs (λ v. v.items) result (spec.read_filesystems text.now) }
+    ensures ascending { IfOk result (λ v. AreAscending v.items) }
+    ensures few { IfOk result (λ v. length v.items ≤ 256) }
+{
+    let lines = logical_lines(alloc, text)?;
+    let mut table = Vec::new(alloc);
+    for line in &lines {
+        let mount = at_line(line.number(), read_line(alloc, line, table.as_slice()))?;
+        let place = place_of(table.as_slice(), &mount.path);
+        table.insert(place, mount)?;
+    }
+    Ok(table)
+}
+
+/// The mount point that a line lists, or the rule that is named, where these are listed before.
+fn read_line(alloc: Global, line: &Line, before: &[Mount]) -> Result<Mount, ReadError<TableRule>>
+    ensures { ReadsAs (λ row. Some row) result
+        (spec.values_answer line.now.number (length before.now) (mount_points before.now) (line_values line.now)) }
+{
+    let words = line_values(alloc, line)?;
+    read_words(alloc, line.number(), words, before)
+}
+
+/// The mount point that words list, or the rule that is named, where these are listed before.
+fn read_words(
+    alloc: Global,
+    line: u32,
+    words: Vec<Text>,
+    before: &[Mount],
+) -> Result<Mount, ReadError<TableRule>>
+    ensures { ReadsAs (λ row. Some row) result
+        (spec.values_answer line (length before.now) (mount_points before.now) (Ok words.items)) }
+{
+    if words.len() < 2 {
+        return Err(ReadError::Fault(TableRule::Fields));
+    }
+    let path = read_mount_point(alloc, words[0].as_str())?;
+    if is_listed(before, &path) {
+        return Err(ReadError::Fault(TableRule::Duplicate));
+    }
+    if before.len() >= MOST_MOUNT_POINTS {
+        return Err(ReadError::Fault(TableRule::TooMany));
+    }
+    let mut custodians = words;
+    let _ = custodians.remove(0);
+    Ok(Mount {
+        path,
+        custodians: Sequence::from_vec(custodians),
+        line,
+    })
+}
+
+/// The path that a text writes.
+fn read_mount_point(alloc: Global, text: &str) -> Result<Path, ReadError<TableRule>>
+    ensures { Reads result
+        (result_map_both (λ path. path) (λ fault. TableRule.BadPath) (read_path text.now)) }
+{
+    match Path::read(alloc, text) {
+        Ok(path) => Ok(path),
+        Err(ReadError::Fault(_)) => Err(ReadError::Fault(TableRule::BadPath)),
+        Err(ReadError::Memory) => Err(ReadError::Memory),
+    }
+}
+
+/// Whether a path is listed, in any spelling.
+fn is_listed(table: &[Mount], path: &Path) -> bool
+    ensures { result ≡ list_any (λ mount. same_path path.now mount.path) table.now }
+{
+    table.iter().any(|mount| *path == mount.path)
+}
+
+/// How many of the mount points of a table stand before a path.
+fn place_of(table: &[Mount], path: &Path) -> usize
+    ensures count { result ≡ prefix_len (λ mount. is_before mount.path path.now) table.now }
+    ensures fits { result ≤ length table.now }
+{
+    table.iter().take_while(|mount| mount.path < *path).count()
+}

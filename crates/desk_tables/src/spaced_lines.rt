@@ -1,0 +1,83 @@
+//! The words of a line of the hosts and networks files. (hosts(5), networks(5))
+
+ghost use Rattle.std.specs.Prelude.{◌≡◌, ◌==◌, ◌++◌, IfOk, OnOk, map};
+ghost use Rattle.std.specs.List.{before_first, list_any};
+ghost use Rattle.desk_tables.specs.SpacedLines.{is_long_name, words_before_comment, words_of};
+ghost use Rattle.desk_tables.specs.PrivateSpacedLines.{words_between_tabs};
+
+use desk_text::{Sequence, Text};
+use std::alloc::{AllocError, Global};
+
+/// The words of a line up to its comment.
+pub fn words_before_comment(alloc: Global, line: &str) -> Result<Vec<&str>, AllocError>
+    ensures { IfOk result (λ v. map (λ x. x.now) v.items ≡ words_before_comment line.now) }
+{
+    words(alloc, before_comment(line))
+}
+
+/// The line up to `#`.
+fn before_comment(line: &str) -> &str
+    ensures { result.now ≡ before_first (λ b. b == 35) line.now }
+{
+    match line.split_once('#') {
+        Some((before, _)) => before,
+        None => line,
+    }
+}
+
+/// The words between spaces and tabs.
+fn words(alloc: Global, text: &str) -> Result<Vec<&str>, AllocError>
+    ensures { IfOk result (λ v. map (λ x. x.now) v.items ≡ words_of text.now) }
+{
+    let mut words = Vec::new(alloc);
+    for run in text.split(' ') {
+        push_words(&mut words, run)?;
+    }
+    Ok(words)
+}
+
+/// Adds the words of a text without spaces.
+fn push_words<'a>(words: &mut Vec<&'a str>, run: &'a str) -> Result<(), AllocError>
+    ensures { OnOk result (map (λ x. x.now) words.new.items
+        ≡ map (λ x. x.now) words.old.items ++ words_between_tabs run.now) }
+{
+    for word in run.split('\t') {
+        if !word.is_empty() {
+            words.push(word)?;
+        }
+    }
+    Ok(())
+}
+
+/// Whether a name is over 255 bytes.
+pub fn has_long_name(names: &[&str]) -> bool
+    ensures { result ≡ list_any is_long_name (map (λ x. x.now) names.now) }
+{
+    any_is_long(names)
+}
+
+fn any_is_long(names: &[&str]) -> bool
+    ensures { result ≡ list_any (λ name. is_long_name name.now) names.now }
+{
+    names.iter().any(|name| is_long_name(name))
+}
+
+fn is_long_name(name: &str) -> bool
+    ensures { result ≡ is_long_name name.now }
+{
+    name.len() > 255
+}
+
+/// Adds a copy of each name.
+pub fn push_copies(
+    alloc: Global,
+    copies: &mut Sequence<Text>,
+    names: &[&str],
+) -> Result<(), AllocError>
+    ensures { OnOk result (copies.new ≡ copies.old ++ map (λ x. x.now) names.now) }
+{
+    for name in names {
+        copies.push(Text::copy(alloc, name)?)?;
+    }
+    Ok(())
+}

@@ -1,0 +1,162 @@
+//! The words of a logical line.
+
+ghost use Rattle.std.specs.Prelude.{◌≡◌, ℕ, ◌+◌, ◌<◌, ◌≤◌, ◌^◌, ◌++◌, IsTrue, IfOk, OnOk, IfSome, IfNone, map, not, length, List, true, false, slice_index};
+ghost use Rattle.std.specs.String.{string_bytes};
+ghost use Rattle.desk_text.specs.Bytes.{is_blank};
+ghost use Rattle.desk_text.specs.Word.{read_words, word_value, words_at, has_open_quote, is_quote};
+ghost use Rattle.desk_text.specs.Views.{line_of_part, word_of};
+ghost use Rattle.desk_text.specs.Reading.{ReadsAs};
+ghost use Rattle.desk_text.specs.PrivateWord.{IsAtomLen, IsWordLen, is_mark};
+
+use crate::bytes::is_blank;
+use crate::lines::Line;
+use crate::reading::ReadError;
+use std::alloc::{AllocError, Global};
+use thiserror::Error;
+
+/// A word as it is written: its raw text with quotes and escapes, its place in the text in bytes,
+/// and whether its first raw character is `-`.
+#[derive(Clone, Copy, Debug)]
+pub struct Word<'a> {
+    pub raw: &'a str,
+    pub start: usize,
+    pub dashed: bool,
+}
+
+/// A quote that does not close in its physical line.
+#[derive(Clone, Copy, Debug, PartialEq, Eq, Error)]
+#[error("a quote does not close in its line")]
+pub struct OpenQuote;
+
+/// The words of a line, in order.
+pub fn words<'a>(alloc: Global, line: &Line<'a>) -> Result<Vec<Word<'a>>, ReadError<OpenQuote>>
+    ensures { ReadsAs (λ v. map word_of v.items) result (read_words line.now) }
+{
+    let mut words = Vec::new(alloc);
+    for part in line.parts() {
+        if !push_words(&mut words, part.start, part.text)? {
+            return Err(ReadError::Fault(OpenQuote));
+        }
+    }
+    Ok(words)
+}
+
+/// What the word stands for, without its quotes and escapes.
+pub fn unquote(alloc: Global, word: &Word) -> Result<String, AllocError>
+    ensures { IfOk result (λ s. string_bytes s ≡ word_value word.now.raw.now) }
+{
+    let mut value = String::new(alloc);
+    let mut quote = None;
+    let mut escaped = false;
+    for c in word.raw.chars() {
+        if escaped {
+            escaped = false;
+            value.push(c)?;
+        } else if c == '\\' {
+            escaped = true;
+        } else if !is_mark(quote, c) {
+            value.push(c)?;
+        } else if quote.is_some() {
+            quote = None;
+        } else {
+            quote = Some(c);
+        }
+    }
+    Ok(value)
+}
+
+/// Whether a character ends the quote that is open, or opens one.
+fn is_mark(quote: Option<char>, c: char) -> bool
+    ensures { result ≡ is_mark quote c }
+{
+    match quote {
+        Some(open) => c == open,
+        None => c == '"' || c == '\'',
+    }
+}
+
+/// Adds the words of a text that stands at `start`, and tells whether each quote closes.
+fn push_words<'a>(
+    words: &mut Vec<Word<'a>>,
+    start: usize,
+    text: &'a str,
+) -> Result<bool, AllocError>
+    requires { start + length text.now < 2 ^ 64 }
+    ensures closed { IfOk result (λ closed. has_open_quote text.now ≡ not closed) }
+    ensures found { IfOk result (λ closed. IsTrue closed → map word_of words.new.items ≡ map word_of words.old.items ++ words_at start text.now) }
+{
+    let bytes = text.as_bytes();
+    let mut at = 0;
+    while at < bytes.len() {
+        if is_blank(bytes[at]) {
+            at += 1;
+        } else {
+            let Some(len) = word_len(&bytes[at..]) else {
+                return Ok(false);
+            };
+            let raw = &text[at..at + len];
+            words.push(Word {
+                raw,
+                start: start + at,
+                dashed: bytes[at] == b'-',
+            })?;
+            at += len;
+        }
+    }
+    Ok(true)
+}
+
+fn is_quote(b: u8) -> bool
+    ensures { result ≡ is_quote b }
+{
+    b == b'"' || b == b'\''
+}
+
+/// How long the quoted run is that the text begins with, if it ends.
+fn quoted_len(text: &[u8]) -> Option<usize>
+    requires some { 0 < length text.now }
+    requires quote { IsTrue (is_quote (slice_index text.now 0)) }
+    ensures len { IfSome result (IsAtomLen text.now) }
+    ensures open { IfNone result (has_open_quote text.now ≡ true) }
+{
+    let quote = text[0];
+    let mut n = 1;
+    while n < text.len() {
+        let b = text[n];
+        if b == quote {
+            return Some(n + 1);
+        }
+        n += if b == b'\\' { 2 } else { 1 };
+    }
+    None
+}
+
+/// How long the atom is that the text begins with.
+fn atom_len(text: &[u8]) -> Option<usize>
+    requires { 0 < length text.now }
+    ensures len { IfSome result (IsAtomLen text.now) }
+    ensures open { IfNone result (has_open_quote text.now ≡ true) }
+{
+    let b = text[0];
+    if b == b'\\' {
+        Some(text.len().min(2))
+    } else if is_quote(b) {
+        quoted_len(text)
+    } else {
+        Some(1)
+    }
+}
+
+/// How long the word is that the text begins with.
+fn word_len(text: &[u8]) -> Option<usize>
+    requires some { 0 < length text.now }
+    requires word { is_blank (slice_index text.now 0) ≡ false }
+    ensures len { IfSome result (IsWordLen text.now) }
+    ensures open { IfNone result (has_open_quote text.now ≡ true) }
+{
+    let mut n = 0;
+    while n < text.len() && !is_blank(text[n]) {
+        n += atom_len(&text[n..])?;
+    }
+    Some(n)
+}
