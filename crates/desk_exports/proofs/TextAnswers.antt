@@ -7,7 +7,7 @@ use Rattle.desk_text.specs.Lines.{LogicalLine, logical_lines}
 use Rattle.desk_text.specs.Reading.{answered_value, fault_at, read_lines, unless_fault}
 use Rattle.desk_text.specs.declared.reading.LineFault.{LineFault}
 use Rattle.desk_text.specs.declared.word.OpenQuote.{OpenQuote}
-use Rattle.desk_tables.specs.Mounts.{fs_of}
+use Rattle.desk_tables.specs.FileSystems.{fs_of}
 use Rattle.desk_tables.specs.declared.filesystems.FsId.{FsId}
 use Rattle.desk_exports.specs.Clients.{clients_of}
 use Rattle.desk_exports.specs.Entry.{entry_of, mapping_of, terms_of}

@@ -3,7 +3,7 @@ use Rattle.std.specs.Prelude.{ℕ, Bool, List, [], ◌∷◌, Option, option_and
 use Rattle.std.specs.List.{filter_map}
 use Rattle.std.specs.Option.{option_map, option_zip}
 use Rattle.std.specs.Result.{result_ok}
-use Rattle.desk_tables.specs.Elements.{read_credential}
+use Rattle.desk_tables.specs.CredentialText.{read_credential}
 use Rattle.desk_tables.specs.declared.credentials.Cred.{Cred}
 use Rattle.desk_exports.specs.Clients.{clients_of}
 use Rattle.desk_exports.specs.Flavours.{flavours_of}

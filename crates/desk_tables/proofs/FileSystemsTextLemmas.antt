@@ -15,7 +15,7 @@ use Rattle.std.proofs.lemmas.List.Elements.{filter_map-append}
 use Rattle.std.proofs.lemmas.List.Kept.{AllPairs-cons}
 use Rattle.std.proofs.lemmas.List.Sums.{sum_by-cons}
 use Rattle.desk_text.specs.Lines.{LogicalLine, logical_lines}
-use Rattle.desk_text.specs.Path.{path_text, read_path, same_path}
+use Rattle.desk_text.specs.Path.{path_text, read_path, are_printed_alike}
 use Rattle.desk_text.specs.Reading.{Reads, answered_value, fault_at, fault_of, unless_fault, value_of}
 use Rattle.desk_text.specs.declared.path.PathFault.{PathFault}
 use Rattle.desk_text.specs.declared.reading.ReadError.{ReadError}
@@ -92,7 +92,7 @@ less_is Less e = refl
 less_is Equal e = absurd (cc)
 less_is Greater e = absurd (cc)
 
-is_after : (p q : List (List ℕ)) → is_before q p ≡ false → same_path p q ≡ false → is_before p q ≡ true
+is_after : (p q : List (List ℕ)) → is_before q p ≡ false → are_printed_alike p q ≡ false → is_before p q ≡ true
 is_after p q b s =
     behind (slice_cmp nat_cmp (path_text p) (path_text q)) (slice_cmp nat_cmp (path_text q) (path_text p))
     ((on_texts path_text).antisymm q p) b (sym (texts_ties (path_text p) (path_text q)) ∙ s)
@@ -128,10 +128,10 @@ neither true b h = absurd (cc)
 neither false b h = (refl, h)
 
 -- a mount point that is not listed, in its place
-pub put-ascends : (m : Mount) (table : List Mount) → AreAscending table → list_any (same_path m.path) (mount_points table) ≡ false → AreAscending (put m table)
+pub put-ascends : (m : Mount) (table : List Mount) → AreAscending table → list_any (are_printed_alike m.path) (mount_points table) ≡ false → AreAscending (put m table)
 put-ascends m [] up new = λ i j d less inside. absurd (omega arith)
 put-ascends m (next ∷ table) up new =
-    let fresh = neither (same_path m.path next.path) (list_any (same_path m.path) (mount_points table)) new in
+    let fresh = neither (are_printed_alike m.path next.path) (list_any (are_printed_alike m.path) (mount_points table)) new in
     choose AreAscending (is_before next.path m.path) (next ∷ put m table) (m ∷ next ∷ table)
     (λ e. AllPairs-cons (λ (mount : Mount) (later : Mount). is_before mount.path later.path ≡ true) next (put m table)
     (stands_put next.path m table e (first_stands next table up))
@@ -164,20 +164,20 @@ module _ (number count : ℕ) (before : List (List (List ℕ))) (words : List (L
       ∙ ap (λ t. by_tests fields duplicate bad t (row_of number words)) m
 
   module _ (path : List (List ℕ)) (two : 2 ≤ length words) (reads : path_word words ≡ Ok path) where
-    pub is_duplicate : list_any (same_path path) before ≡ true → values_answer number count before (Ok words) ≡ Err rule.Duplicate
+    pub is_duplicate : list_any (are_printed_alike path) before ≡ true → values_answer number count before (Ok words) ≡ Err rule.Duplicate
     is_duplicate u = answer false true false (nat_le 256 count) (at_least 2 (length words) two) (ap (is_listed before) reads ∙ u) (ap is_err reads) refl
 
-    pub is_late : list_any (same_path path) before ≡ false → 256 ≤ count → values_answer number count before (Ok words) ≡ Err rule.TooMany
+    pub is_late : list_any (are_printed_alike path) before ≡ false → 256 ≤ count → values_answer number count before (Ok words) ≡ Err rule.TooMany
     is_late u many = answer false false false true (at_least 2 (length words) two) (ap (is_listed before) reads ∙ u) (ap is_err reads) (le-leb 256 count many)
 
-    pub is_mount : list_any (same_path path) before ≡ false → count < 256 → values_answer number count before (Ok words) ≡ Ok (Some (record { path = path; custodians = drop 1 words; line = number }))
+    pub is_mount : list_any (are_printed_alike path) before ≡ false → count < 256 → values_answer number count before (Ok words) ≡ Ok (Some (record { path = path; custodians = drop 1 words; line = number }))
     is_mount u few =
         answer false false false false (at_least 2 (length words) two) (ap (is_listed before) reads ∙ u) (ap is_err reads) (too_few 256 count few)
         ∙ ap (λ (r : Result (List (List ℕ)) PathFault). Ok (option_map (λ p. record { path = p; custodians = drop 1 words; line = number }) (result_ok r))) reads
 
 -- what is known of a line without a fault
 pub record IsGood (count : ℕ) (before : List (List (List ℕ))) (words : Result (List (List ℕ)) TableRule) (row : Mount) : Type 0 where
-  pub fresh : list_any (same_path row.path) before ≡ false
+  pub fresh : list_any (are_printed_alike row.path) before ≡ false
   pub few : count < 256
   pub listed : path_in words ≡ Some row.path
 
@@ -190,11 +190,11 @@ good_by false false false false spelled row h = (refl, refl, refl)
 
 -- the mount point that a line lists is the path of its row
 path_is : (number : ℕ) (before : List (List (List ℕ))) (others : List (List ℕ)) (r : Result (List (List ℕ)) PathFault) (row : Mount) → is_listed before r ≡ false
-    → option_map (λ path. record { path = path; custodians = others; line = number }) (result_ok r) ≡ Some row → (list_any (same_path row.path) before ≡ false) × (result_ok r ≡ Some row.path)
+    → option_map (λ path. record { path = path; custodians = others; line = number }) (result_ok r) ≡ Some row → (list_any (are_printed_alike row.path) before ≡ false) × (result_ok r ≡ Some row.path)
 path_is number before others (Ok path) row u h =
     let same : record { path = path; custodians = others; line = number } ≡ row = cc in
     let as_path : path ≡ row.path = ap (λ (m : Mount). m.path) same in (
-      ap (λ p. list_any (same_path p) before) (sym as_path) ∙ u,
+      ap (λ p. list_any (are_printed_alike p) before) (sym as_path) ∙ u,
       ap Some as_path,
     )
 path_is number before others (Err fault) row u h = absurd (cc)
@@ -211,7 +211,7 @@ good_line number count before (Ok words) row h =
     }
 
 -- only what is listed counts, in any order
-pub same_answer : (number count : ℕ) (before other : List (List (List ℕ))) (words : Result (List (List ℕ)) TableRule) → ((path : List (List ℕ)) → list_any (same_path path) before ≡ list_any (same_path path) other) → values_answer number count before words ≡ values_answer number count other words
+pub same_answer : (number count : ℕ) (before other : List (List (List ℕ))) (words : Result (List (List ℕ)) TableRule) → ((path : List (List ℕ)) → list_any (are_printed_alike path) before ≡ list_any (are_printed_alike path) other) → values_answer number count before words ≡ values_answer number count other words
 same_answer number count before other (Err rule) agree = refl
 same_answer number count before other (Ok words) agree =
     let listed : (r : Result (List (List ℕ)) PathFault) → is_listed before r ≡ is_listed other r = λ r. elim r as (λ q. is_listed before q ≡ is_listed other q) [ Ok path ↦ agree path | Err fault ↦ refl ] in
@@ -219,7 +219,7 @@ same_answer number count before other (Ok words) agree =
 
 -- the table of good lines: it lists just their mount points, each before the later ones, and at most 256
 pub record IsTableBehind (before : List LogicalLine) (table : List Mount) : Type 0 where
-  pub listed : (path : List (List ℕ)) → list_any (same_path path) (mount_points table) ≡ list_any (same_path path) (paths_on before)
+  pub listed : (path : List (List ℕ)) → list_any (are_printed_alike path) (mount_points table) ≡ list_any (are_printed_alike path) (paths_on before)
   pub counted : length table ≡ length before
   pub ascending : AreAscending table
   pub few : length table ≤ 256
@@ -238,10 +238,10 @@ module _ (before : List LogicalLine) (line : LogicalLine) (table : List Mount) (
   pub next_behind : IsTableBehind (before ++ line ∷ []) (put row table)
   next_behind = record {
     listed = λ path.
-        points_put (same_path path) row table
-        ∙ ap (λ b. same_path path row.path || b) (behind.listed path)
-        ∙ sym (any_push (same_path path) (paths_on before) row.path)
-        ∙ ap (list_any (same_path path)) (sym paths_push);
+        points_put (are_printed_alike path) row table
+        ∙ ap (λ b. are_printed_alike path row.path || b) (behind.listed path)
+        ∙ sym (any_push (are_printed_alike path) (paths_on before) row.path)
+        ∙ ap (list_any (are_printed_alike path)) (sym paths_push);
     counted = omega (arith, length-put row table, length_push before line, behind.counted);
     ascending = put-ascends row table behind.ascending (behind.listed row.path ∙ known.fresh);
     few = let below : length before < 256 = known.few in omega (arith, length-put row table, behind.counted);

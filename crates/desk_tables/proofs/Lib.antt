@@ -3,7 +3,10 @@ pub mod GidLemmas
 pub mod GidsOnce
 pub mod FileSystemLemmas
 pub mod TableLemmas
-pub mod OneTable
+pub mod TableIsUnique
+pub mod FirstFault
+pub mod GoodLines
+pub mod DigestBytes
 pub mod SpacedLineLemmas
 pub mod HostLawLemmas
 pub mod NetworkLemmas

@@ -12,7 +12,7 @@ use Rattle.std.proofs.lemmas.List.Filters.{dedup_is}
 use Rattle.std.proofs.lemmas.List.Folds.{list_any-from_Any}
 use Rattle.std.proofs.lemmas.List.Kept.{AllPairs-cons, Any-dedup, Contains-from_dedup, IsStrictlySortedBy-dedup}
 use Rattle.std.proofs.lemmas.List.Sorted.{Contains-permutation, IsPermutation-sym}
-use Rattle.desk_text.specs.Path.{path_text, same_path}
+use Rattle.desk_text.specs.Path.{path_text, are_printed_alike}
 use Rattle.desk_tables.specs.declared.filesystems.Mount.{Mount}
 use Rattle.desk_tables.specs.FileSystems.{AreAscending, IsTableOf, is_before, mount_points, unkept}
 
@@ -47,11 +47,11 @@ module _ (given sorted kept : Paths) (moved : IsPermutation given sorted) (up : 
   once : kept ≡ dedup (on path_text (pointwise nat_eq)) sorted
   once = dedup_is (on path_text (pointwise nat_eq)) sorted kept filtered
 
-  listed_once : (path : List (List ℕ)) → Contains given path → list_any (same_path path) kept ≡ true
+  listed_once : (path : List (List ℕ)) → Contains given path → list_any (are_printed_alike path) kept ≡ true
   listed_once path inside =
       let found : Any (λ other. on path_text (pointwise nat_eq) path other ≡ true) (dedup (on path_text (pointwise nat_eq)) sorted) =
       Any-dedup (on_texts_equal path_text) sorted path (Contains-permutation given sorted path moved inside) in
-      list_any-from_Any (same_path path) kept (subst (λ ps. Any (λ other. same_path path other ≡ true) ps) (sym once) found)
+      list_any-from_Any (are_printed_alike path) kept (subst (λ ps. Any (λ other. are_printed_alike path other ≡ true) ps) (sym once) found)
 
   only_given : (path : List (List ℕ)) → Contains kept path → Contains given path
   only_given path inside =
@@ -60,7 +60,7 @@ module _ (given sorted kept : Paths) (moved : IsPermutation given sorted) (up : 
 
   pub table_of_kept : IsTableOf given (map unkept kept)
   table_of_kept = record {
-    listed = subst (λ ps. All (λ path. list_any (same_path path) ps ≡ true) given) (sym (points_of_unkept kept)) (λ k d inside. listed_once _ (All-contains_itself given k d inside));
+    listed = subst (λ ps. All (λ path. list_any (are_printed_alike path) ps ≡ true) given) (sym (points_of_unkept kept)) (λ k d inside. listed_once _ (All-contains_itself given k d inside));
     only = subst (λ ps. All (Contains given) ps) (sym (points_of_unkept kept)) (λ k d inside. only_given _ (All-contains_itself kept k d inside));
     ascending = ascend kept (subst (IsStrictlySortedBy printed_cmp) (sym once) (IsStrictlySortedBy-dedup (on_texts path_text) (λ x y. texts_ties (path_text x) (path_text y)) sorted up));
     unkept = kept_by_nobody kept;

@@ -76,19 +76,16 @@ custodian_named table name = find (λ custodian. bytes_eq custodian.name name) t
 abbrev pub digest_of : List Custodian → List ℕ → Option (List ℕ)
 digest_of table name = option_map (λ custodian. custodian.digest) (custodian_named table name)
 
--- the custodians if `site` is among them, else a fault of the table as a whole
-abbrev pub with_site : List Custodian → Result (List Custodian) TableFault
-with_site table = unless_missing (custodian_named table (codes "site"))
-  where
-    unless_missing : Option Custodian → Result (List Custodian) TableFault
-    unless_missing (Some site) = Ok table
-    unless_missing None = Err (record { line = 0; rule = rule.Custodian })
+-- the custodians, unless `site` is missing: then the table as a whole has a fault
+abbrev pub unless_missing : List Custodian → Option Custodian → Result (List Custodian) TableFault
+unless_missing table (Some site) = Ok table
+unless_missing table None = Err (record { line = 0; rule = rule.Custodian })
 
 -- if no line has a fault, `site` must be among the custodians
-abbrev pub checked : Result (List Custodian) TableFault → Result (List Custodian) TableFault
-checked (Ok table) = with_site table
-checked (Err fault) = Err fault
+abbrev pub with_site : Result (List Custodian) TableFault → Result (List Custodian) TableFault
+with_site (Ok table) = unless_missing table (custodian_named table (codes "site"))
+with_site (Err fault) = Err fault
 
 -- what a text of custodians answers: its custodians in order, or its first fault
 abbrev pub read_custodians : List ℕ → Result (List Custodian) TableFault
-read_custodians text = checked (lines_table line_answer (logical_lines text))
+read_custodians text = with_site (lines_table line_answer (logical_lines text))

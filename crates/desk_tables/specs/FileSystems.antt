@@ -3,7 +3,7 @@ use Rattle.std.specs.Prelude.{ℕ, Bool, not, ◌&&◌, ◌||◌, ◌≡◌, ◌
 use Rattle.std.specs.List.{AllPairs, list_all, list_any}
 use Rattle.std.specs.Ordering.{is_lt, nat_cmp}
 use Rattle.std.specs.Cmp.Lexicographic.{slice_cmp}
-use Rattle.desk_text.specs.Path.{is_under, path_text, same_path}
+use Rattle.desk_text.specs.Path.{is_under, path_text, are_printed_alike}
 use Rattle.desk_tables.specs.declared.filesystems.Mount.{Mount}
 
 -- a path comes before another if its printed form is less, byte by byte
@@ -21,7 +21,7 @@ AreAscending table = AllPairs (λ mount later. is_before mount.path later.path �
 -- The table of the mount points given: each given one is listed, compared as printed; only given ones are; each comes
 -- before the later ones; nobody keeps any; and no line lists them.
 pub record IsTableOf (given : List (List (List ℕ))) (table : List Mount) : Type 0 where
-  pub listed : All (λ path. list_any (same_path path) (mount_points table) ≡ true) given
+  pub listed : All (λ path. list_any (are_printed_alike path) (mount_points table) ≡ true) given
   pub only : All (Contains given) (mount_points table)
   pub ascending : AreAscending table
   pub unkept : All (λ mount. mount.custodians ≡ []) table
@@ -32,11 +32,6 @@ pub record TooMany (given : List (List (List ℕ))) : Type 0 where
   pub table : List Mount
   pub is_table : IsTableOf given table
   pub many : 256 < length table
-
--- Two tables of the same mount points given have the same mount points, as printed: so they are as long, and mount
--- points given that are too many have no table of at most 256.
-abbrev pub OneTable : Type 0
-OneTable = (given : List (List (List ℕ))) (first second : List Mount) → IsTableOf given first → IsTableOf given second → map path_text (mount_points first) ≡ map path_text (mount_points second)
 
 -- a mount point that nobody keeps and no line lists
 abbrev pub unkept : List (List ℕ) → Mount

@@ -5,7 +5,7 @@ use Rattle.std.specs.Option.{option_map, option_map_or}
 use Rattle.std.specs.Result.{result_ok}
 use Rattle.std.specs.Str.{bytes_eq}
 use Rattle.desk_text.specs.Lines.{LogicalLine, logical_lines}
-use Rattle.desk_text.specs.Path.{read_path, same_path}
+use Rattle.desk_text.specs.Path.{read_path, are_printed_alike}
 use Rattle.desk_text.specs.declared.path.PathFault.{PathFault}
 use Rattle.desk_tables.specs.FileSystems.{is_before}
 use Rattle.desk_tables.specs.Rules.{unless_rule}
@@ -25,7 +25,7 @@ path_word words = read_path (slice_index_or words 0 [])
 
 -- a path that is listed before, as printed
 abbrev pub is_listed : List (List (List ℕ)) → Result (List (List ℕ)) PathFault → Bool
-is_listed before (Ok path) = list_any (same_path path) before
+is_listed before (Ok path) = list_any (are_printed_alike path) before
 is_listed before (Err fault) = false
 
 -- Whether a line of these words breaks a rule, if it comes behind so many lines that list these mount points: it has no

@@ -3,7 +3,7 @@
 ghost use Rattle.std.specs.Prelude.{◌≡◌, ◌≤◌, IfOk, Ok, Some, length};
 ghost use Rattle.std.specs.List.{list_any, prefix_len};
 ghost use Rattle.std.specs.Result.{result_map_both};
-ghost use Rattle.desk_text.specs.Path.{read_path, same_path};
+ghost use Rattle.desk_text.specs.Path.{read_path, are_printed_alike};
 ghost use Rattle.desk_text.specs.Reading.{Reads, ReadsAs};
 ghost use Rattle.desk_tables.specs.FileSystemsText as spec;
 ghost use Rattle.desk_tables.specs.FileSystems.{AreAscending, is_before, mount_points};
@@ -84,7 +84,7 @@ fn read_mount_point(alloc: Global, text: &str) -> Result<Path, ReadError<TableRu
 
 /// Whether a path is listed, in any spelling.
 fn is_listed(table: &[Mount], path: &Path) -> bool
-    ensures { result ≡ list_any (λ mount. same_path path.now mount.path) table.now }
+    ensures { result ≡ list_any (λ mount. are_printed_alike path.now mount.path) table.now }
 {
     table.iter().any(|mount| *path == mount.path)
 }

@@ -1,15 +1,17 @@
-//! What holds of the definitions.
+//! Laws of the tables. Each is proved as the contract of a function that does nothing: the definitions walk over a text, and
+//! these say what they come to.
 
-ghost use Rattle.desk_tables.specs.FileSystems.{OneTable};
 ghost use Rattle.desk_tables.specs.Hosts.{AddressesAreUnique};
-ghost use Rattle.desk_tables.specs.Laws.{DigestsAreHexadecimal, OrderKeepsMounts, TablesAreInOrder};
+ghost use Rattle.desk_tables.specs.Laws.{DigestsAreHexadecimal, FirstFaultIsReported, GoodLinesHaveRows, OrderKeepsMounts, RulesAscend, TableIsUnique, TablesAreInOrder};
 
-use desk_text::laws::sorted_sets_are_unique;
+use desk_text::laws::{printed_paths_differ, sorted_sets_are_unique};
 
 /// Mount points that are given have one table.
-pub fn one_table()
-    ensures { OneTable }
-{}
+pub fn table_is_unique()
+    ensures { TableIsUnique }
+{
+    printed_paths_differ()
+}
 
 /// A name has one list of addresses that ascend, each once, and are those of some row with the name.
 pub fn addresses_are_unique()
@@ -28,7 +30,22 @@ pub fn tables_are_in_order()
     ensures { TablesAreInOrder }
 {}
 
-/// A digest is written by 64 hexadecimal digits and by nothing else.
+/// A digest is written by 64 hexadecimal digits and by nothing else, and they are its bytes' digits.
 pub fn digests_are_hexadecimal()
     ensures { DigestsAreHexadecimal }
+{}
+
+/// A table that is refused reports its first faulty line, with the first rule that the line breaks.
+pub fn first_fault_is_reported()
+    ensures { FirstFaultIsReported }
+{}
+
+/// The rules of a line, and the faults of a credential, are checked in the order of their numbers.
+pub fn rules_ascend()
+    ensures { RulesAscend }
+{}
+
+/// A line that breaks no rule has its row.
+pub fn good_lines_have_rows()
+    ensures { GoodLinesHaveRows }
 {}

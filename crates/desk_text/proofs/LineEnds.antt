@@ -1,37 +1,36 @@
 -- The end of a line: blanks, a backslash, a carriage return.
-use Rattle.std.proofs.Common.{◌≡◌, ◌≢◌, ℕ, ◌+◌, ◌-◌, ◌<◌, ◌≤◌, List, [], ◌∷◌, ◌++◌, length, get_or, take, eqb, true, false, arith, refl, sym, ap, ◌∙◌, ◌⊎◌, inl, inr, eq-eqb}
-use Rattle.std.specs.List.{suffix_len}
+use Rattle.std.proofs.Common.{◌≡◌, ◌≢◌, ℕ, ◌+◌, ◌-◌, ◌<◌, ◌≤◌, List, [], ◌∷◌, ◌++◌, length, get_or, take, eqb, true, false, arith, refl, sym, ap, ◌∙◌, ◌⊎◌, inl, inr, eq-eqb, not, reverse, suc, Some}
+use Rattle.std.specs.List.{prefix_len, suffix_len}
 use Rattle.std.specs.Str.Lines.{strip_carriage_return}
-use Rattle.std.proofs.lemmas.Bool.{cases_lt, cases_Bool, eqb-true, false≢true, cond-true, cond-false}
-use Rattle.std.proofs.lemmas.List.{nil_from_length, get_or-take, length-take-le, take_at, get_or_push, length_push, take_more, take_all}
-use Rattle.desk_text.specs.Bytes.{is_blank}
-use Rattle.desk_text.specs.Lines.{trimmed, is_continued}
+use Rattle.std.proofs.lemmas.Bool.{cases_Bool, eqb-true, false≢true, cond-true, cond-false}
+use Rattle.std.proofs.lemmas.List.{get_or-reverse, length-reverse, take_at, get_or_push, length_push, take_more, take_all}
+use Rattle.desk_text.specs.Bytes.{first_non_blank, is_blank}
+use Rattle.desk_text.specs.Lines.{is_backslash, is_continued}
 
-pub length-trimmed : (line : List ℕ) → length (trimmed line) ≡ length line - suffix_len is_blank line
-length-trimmed line = length-take-le (length line - suffix_len is_blank line) line (omega arith)
+-- the byte that is found is the one behind the blanks
+found_at : (bytes : List ℕ) → is_backslash (first_non_blank bytes) ≡ true → (prefix_len is_blank bytes < length bytes) × (get_or bytes (prefix_len is_blank bytes) 0 ≡ 92)
+found_at [] h = absurd (false≢true h)
+found_at (b ∷ bytes) h =
+    elim (cases_Bool (is_blank b)) [
+      | inl e ↦
+          let rest = found_at bytes (sym (ap is_backslash (cond-false (not (is_blank b)) (Some b) (first_non_blank bytes) (ap not e))) ∙ h) in
+          let len : prefix_len is_blank (b ∷ bytes) ≡ 1 + prefix_len is_blank bytes = cond-true _ _ _ e in
+          let next : prefix_len is_blank (b ∷ bytes) ≡ suc (prefix_len is_blank bytes) = omega (arith, len) in
+          (omega (arith, rest.0, len), ap (λ k. get_or (b ∷ bytes) k 0) next ∙ rest.1)
+      | inr e ↦
+          let is : eqb b 92 ≡ true = sym (ap is_backslash (cond-true (not (is_blank b)) (Some b) (first_non_blank bytes) (ap not e))) ∙ h in
+          let len : prefix_len is_blank (b ∷ bytes) ≡ 0 = cond-false _ _ _ e in
+          (omega (arith, len), ap (λ k. get_or (b ∷ bytes) k 0) len ∙ eqb-true b 92 is)
+    ]
 
-pub not_continued-empty : (line : List ℕ) → length (trimmed line) ≡ 0 → is_continued line ≡ false
-not_continued-empty line e =
-    let nil = nil_from_length (trimmed line) e in
-    ap (λ kept. eqb (get_or kept (length kept - 1) 0) 92) nil
-
-pub continued_at : (line : List ℕ) (n : ℕ) → n ≡ length (trimmed line) → 0 < n → is_continued line ≡ eqb (get_or line (n - 1) 0) 92
-continued_at line n e pos =
-    let same = length-trimmed line in
-    let lt : n - 1 < length line - suffix_len is_blank line = omega arith in
-    let at = get_or-take (length line - suffix_len is_blank line) line (n - 1) 0 lt in
-    ap (λ k. eqb (get_or (trimmed line) (k - 1) 0) 92) (sym e) ∙ ap (λ x. eqb x 92) at
-
-pub continued_len : (line : List ℕ) → is_continued line ≡ true → 0 < length (trimmed line)
-continued_len line h =
-    let cases : (0 < length (trimmed line)) ⊎ (length (trimmed line) ≤ 0) = cases_lt 0 (length (trimmed line)) in
-    elim cases [ inl p ↦ p | inr z ↦ absurd (false≢true (sym (not_continued-empty line (omega arith)) ∙ h)) ]
-
--- the backslash of a line that goes on
-pub continued_byte : (line : List ℕ) (n : ℕ) → n ≡ length (trimmed line) → is_continued line ≡ true → get_or line (n - 1) 0 ≡ 92
-continued_byte line n e h =
-    let p = continued_len line h in
-    eqb-true _ _ (sym (continued_at line n e (omega arith)) ∙ h)
+-- where the backslash of a continued line stands
+pub continued_end : (line : List ℕ) → is_continued line ≡ true → (suffix_len is_blank line < length line) × (get_or line (length line - suffix_len is_blank line - 1) 0 ≡ 92)
+continued_end line h =
+    let at = found_at (reverse line) h in
+    let long : length (reverse line) ≡ length line = length-reverse line in
+    let within : suffix_len is_blank line < length line = omega (arith, at.0) in
+    let place : length line - 1 - suffix_len is_blank line ≡ length line - suffix_len is_blank line - 1 = omega arith in
+    (within, ap (λ k. get_or line k 0) (sym place) ∙ sym (get_or-reverse line (suffix_len is_blank line) 0 within) ∙ at.1)
 
 pub strip-some : (bs front : List ℕ) → bs ≡ front ++ 13 ∷ [] → strip_carriage_return bs ≡ front
 strip-some bs front e =

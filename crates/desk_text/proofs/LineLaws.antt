@@ -1,6 +1,6 @@
 -- Laws of physical and logical lines.
 use Rattle.std.proofs.Common.{◌≡◌, inl, inr, cond, min, ℕ, suc, ◌+◌, ◌-◌, ◌<◌, ◌≤◌, Bool, true, false, not, eqb, List, [], ◌∷◌, ◌++◌, length, take, drop, map, get_or, refl, sym, ap, subst, ◌∙◌, append_assoc, length-append, arith}
-use Rattle.std.specs.List.{AllByRecursion, AllPairs, All, flat_map, slice_split, join_with_byte, onto_first}
+use Rattle.std.specs.List.{AllByRecursion, AllPairs, All, flat_map, slice_split, join_with_byte, onto_first, suffix_len}
 use Rattle.std.specs.Str.Lines.{lines_of_parts, strip_carriage_return}
 use Rattle.std.proofs.lemmas.Bool.{cond_both, cases_lt}
 use Rattle.std.proofs.lemmas.List.{append-nil, take-take, take_all, take-append-le, length-take, length-take-le}
@@ -8,7 +8,8 @@ use Rattle.std.proofs.Math.Seq.{drop-append_seam, take-length}
 use Rattle.std.proofs.lemmas.List.Elements.{All-cons, All-filter}
 use Rattle.std.proofs.lemmas.List.Kept.{AllPairs-cons, AllPairs-filter}
 use Rattle.std.proofs.lemmas.List.Splits.{join_with_byte-slice_split}
-use Rattle.desk_text.specs.Lines.{PhysicalLine, physical_line, physical_lines_from, physical_lines, LogicalLine, is_continued, trimmed, groups, numbered, kept, is_skipped, logical_lines}
+use Rattle.desk_text.specs.Bytes.{is_blank}
+use Rattle.desk_text.specs.Lines.{PhysicalLine, physical_line, physical_lines_from, physical_lines, LogicalLine, is_continued, groups, numbered, kept, is_skipped, logical_lines}
 use Rattle.desk_text.specs.Laws.{Slice, AreSlices, whole_slice, text_slice, parts_of, PhysicalLinesAreLines, LinesAreNumbered, LinesAscend, PartsAreSlices}
 use Rattle.desk_text.proofs.GroupsAreUnique.{all_lines}
 
@@ -108,8 +109,8 @@ whole_front = record { start = λ s line. refl; size = length; bytes = λ s line
 text_front : IsFront text_slice
 text_front = record {
   start = λ s line. refl;
-  size = λ line. cond (is_continued line) (length (trimmed line) - 1) (length line);
-  bytes = λ s line. by_cases (is_continued line) (length (trimmed line) - 1) line;
+  size = λ line. cond (is_continued line) (length line - suffix_len is_blank line - 1) (length line);
+  bytes = λ s line. by_cases (is_continued line) (length line - suffix_len is_blank line - 1) line;
 }
   where
     by_cases : (b : Bool) (n : ℕ) (line : List ℕ) → cond b (take n line) line ≡ take (cond b n (length line)) line

@@ -1,10 +1,12 @@
 -- Where the parts of a line lie.
 use Rattle.std.proofs.Common.{◌≡◌, ℕ, ◌+◌, ◌-◌, ◌<◌, ◌≤◌, ◌^◌, List, [], ◌∷◌, ◌++◌, length, get_or, take, map, refl, sym, ap, subst, ◌∙◌, arith}
+use Rattle.std.specs.List.{suffix_len}
+use Rattle.desk_text.specs.Bytes.{is_blank}
 use Rattle.std.proofs.lemmas.Bool.{cond_both}
 use Rattle.std.proofs.lemmas.List.{get_or-map, map_push, length-map, length-take}
 use Rattle.std.proofs.lemmas.List.Elements.{All-push}
 use Rattle.desk_text.specs.declared.lines.Part.{Part}
-use Rattle.desk_text.specs.Lines.{PhysicalLine, physical_line, ArePlaced, is_continued, trimmed, without_continuation}
+use Rattle.desk_text.specs.Lines.{PhysicalLine, physical_line, ArePlaced, is_continued, without_continuation}
 use Rattle.desk_text.specs.Views.{line_of_part}
 
 abbrev IsPlaced : PhysicalLine → Type 0
@@ -12,8 +14,8 @@ IsPlaced part = part.start + length part.text < 2 ^ 32
 
 length-without_continuation : (line : List ℕ) → length (without_continuation line) ≤ length line
 length-without_continuation line =
-    cond_both (is_continued line) (take (length (trimmed line) - 1) line) line (λ t. length t ≤ length line)
-    (λ _. omega (arith, length-take (length (trimmed line) - 1) line)) (λ _. omega arith)
+    cond_both (is_continued line) (take (length line - suffix_len is_blank line - 1) line) line (λ t. length t ≤ length line)
+    (λ _. omega (arith, length-take (length line - suffix_len is_blank line - 1) line)) (λ _. omega arith)
 
 placed-push : (old new : List Part) (part : Part) (p : PhysicalLine) → new ≡ old ++ part ∷ [] → line_of_part part ≡ p → IsPlaced p → ArePlaced (map line_of_part old) → ArePlaced (map line_of_part new)
 placed-push old new part p e same at h =

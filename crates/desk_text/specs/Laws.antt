@@ -77,7 +77,7 @@ PartsAreSlices =
 abbrev pub WordsAreSlices : Type 0
 WordsAreSlices = (text : List ℕ) → AreSlices text 0 (length text) (map raw_slice (flat_map line_words (logical_lines text)))
 
--- The characters of a quoted run, of which none is a bare quote of its kind. A bare character is no backslash, and a
+-- The characters of a quoted run, of which none is a bare quote of its kind. A bare character is not a backslash, and a
 -- backslash with nothing after it stands only at the end of a run that does not close.
 abbrev pub AreInner : ℕ → Bool → List Character → Type 0
 AreInner q closes [] = Unit {0}
@@ -85,7 +85,7 @@ AreInner q closes (Bare c ∷ inner) = ((c == q) ≡ false) × ((c == 92) ≡ fa
 AreInner q closes (Escaped c ∷ inner) = AreInner q closes inner
 AreInner q closes (Lone ∷ inner) = (closes ≡ false) × (inner ≡ [])
 
--- Atoms as they may be written: a bare character is no backslash and no quote, a run begins with a quote, and a backslash
+-- Atoms as they may be written: a bare character is neither a backslash nor a quote, a run begins with a quote, and a backslash
 -- with nothing after it, or a quote with no end, stands only last.
 abbrev pub AreAtoms : List Atom → Type 0
 AreAtoms [] = Unit {0}

@@ -1,5 +1,5 @@
 -- Networks of addresses: prefixes, masks, and the texts that write a network. (networks(5), exports(5), inet(3))
-use Rattle.std.specs.Prelude.{◌≡◌, ℕ, ◌+◌, ◌-◌, ◌*◌, ◌/◌, ◌^◌, ◌<◌, ◌≤◌, ◌==◌, Bool, true, false, Option, Some, None, Result, Ok, Err, List}
+use Rattle.std.specs.Prelude.{◌≡◌, ℕ, ◌+◌, ◌-◌, ◌*◌, ◌/◌, ◌^◌, ◌<◌, ◌≤◌, ◌==◌, Bool, Option, Some, None, Result, Ok, Err, List, if◌then◌else◌}
 use Rattle.std.specs.List.{find, list_any, range_with_len, before_first, after_first}
 use Rattle.desk_text.specs.Address.{read_short}
 use Rattle.desk_text.specs.Bytes.{read_decimal}
@@ -45,7 +45,7 @@ last_of block = block.first + (block_size block.prefix - 1)
 abbrev pub read_prefix : List ℕ → Option ℕ
 read_prefix text = read_decimal 32 text
 
--- a network as a text writes it: an address, host bits and all, and the prefix where one is written
+-- a network as a text writes it: an address, host bits and all, and the prefix if one is written
 pub record WrittenNet : Type 0 where
   pub addr : ℕ
   pub prefix : Option ℕ
@@ -55,15 +55,15 @@ abbrev pub prefixed : ℕ → Option ℕ → Result WrittenNet AddrFault
 prefixed addr (Some prefix) = Ok (record { addr = addr; prefix = Some prefix })
 prefixed addr None = Err BadPrefix
 
--- an address that reads, or not, and the text behind its `/`, where it has one
-abbrev pub with_prefix : Bool → List ℕ → Result ℕ AddrFault → Result WrittenNet AddrFault
-with_prefix true text (Ok addr) = prefixed addr (read_prefix text)
-with_prefix false text (Ok addr) = Ok (record { addr = addr; prefix = None })
-with_prefix true text (Err fault) = Err fault
-with_prefix false text (Err fault) = Err fault
+-- what is made of an address that was read, or its fault
+abbrev pub with_addr : Result ℕ AddrFault → (ℕ → Result WrittenNet AddrFault) → Result WrittenNet AddrFault
+with_addr (Ok addr) made = made addr
+with_addr (Err fault) made = Err fault
 
 -- a network of one to four parts, the ones left out at the end being 0, and a prefix of 0 to 32 behind a `/`; or its
 -- first fault, of the address before the prefix
 abbrev pub read_net_text : List ℕ → Result WrittenNet AddrFault
 read_net_text text =
-    with_prefix (list_any (λ b. b == 47) text) (after_first (λ b. b == 47) text) (read_short (before_first (λ b. b == 47) text))
+    if list_any (λ b. b == 47) text
+    then with_addr (read_short (before_first (λ b. b == 47) text)) (λ addr. prefixed addr (read_prefix (after_first (λ b. b == 47) text)))
+    else with_addr (read_short text) (λ addr. Ok (record { addr = addr; prefix = None }))

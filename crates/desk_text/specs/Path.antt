@@ -1,5 +1,5 @@
 -- Paths as lists of components.
-use Rattle.std.specs.Prelude.{ℕ, ◌==◌, nat_lt, nat_le, Bool, true, false, not, ◌&&◌, IsTrue, List, [], ◌∷◌, length, slice_index, filter, Result, Ok, Err, if◌then◌else◌}
+use Rattle.std.specs.Prelude.{ℕ, ◌==◌, nat_lt, Bool, true, false, not, ◌&&◌, ◌||◌, IsTrue, codes, List, [], ◌∷◌, length, slice_index, filter, Result, Ok, Err, if◌then◌else◌}
 use Rattle.std.specs.List.{slice_split, list_any, list_all, join_with_byte}
 use Rattle.std.specs.Cmp.Lexicographic.{pointwise}
 use Rattle.std.specs.Str.{bytes_eq}
@@ -13,11 +13,11 @@ path_fault_number DotComponent = 2
 path_fault_number TooLong = 3
 path_fault_number NulByte = 4
 
--- a text that begins with a slash
+-- a text that begins with a slash (of the empty text `slice_index` gives 0, which is not a slash)
 abbrev pub is_absolute : List ℕ → Bool
 is_absolute text = slice_index text 0 == 47
 
--- the components of a text: what stands between slashes, where it is not empty
+-- the components of a text: what stands between its slashes, unless it is empty
 abbrev pub components : List ℕ → List (List ℕ)
 components text = filter (λ part. not (length part == 0)) (slice_split (λ b. b == 47) text)
 
@@ -35,7 +35,7 @@ IsPath path = IsTrue (list_all is_component path)
 
 -- a component that is `.` or `..`
 abbrev pub is_dot_component : List ℕ → Bool
-is_dot_component part = nat_lt 0 (length part) && (nat_le (length part) 2 && list_all (λ b. b == 46) part)
+is_dot_component part = bytes_eq part (codes ".") || bytes_eq part (codes "..")
 
 -- a path is under another whose components are a prefix of its own
 abbrev pub is_under : List (List ℕ) → List (List ℕ) → Bool

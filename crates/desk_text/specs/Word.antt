@@ -96,7 +96,7 @@ pub record RawWord : Type 0 where
 abbrev pub raw_word : ℕ → List ℕ → RawWord
 raw_word start raw = record { raw = raw; start = start; dashed = slice_index raw 0 == 45 }
 
--- the words among the runs of atoms between single blanks, the first of which stands at start: an empty run is no word
+-- the words among the runs of atoms between single blanks, the first of which stands at start: an empty run is not a word
 abbrev pub words_from : ℕ → List (List Atom) → List RawWord
 words_from start [] = []
 words_from start ([] ∷ runs) = words_from (start + 1) runs
@@ -118,7 +118,7 @@ line_words line = flat_map (λ part. words_at part.start part.text) line.parts
 abbrev pub line_has_open_quote : LogicalLine → Bool
 line_has_open_quote line = list_any (λ part. has_open_quote part.text) line.parts
 
--- the words of a logical line, where each quote closes in its physical line; else an open quote
+-- the words of a logical line if each quote closes in its physical line; else an open quote
 abbrev pub read_words : LogicalLine → Result (List RawWord) OpenQuote
 read_words line = if line_has_open_quote line then Err (record {}) else Ok (line_words line)
 

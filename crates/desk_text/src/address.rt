@@ -1,4 +1,5 @@
-//! IPv4 addresses.
+//! IPv4 addresses, in a strict form: inet(3) also reads octal and hexadecimal numbers and fewer than four of them, so that
+//! one text can be two addresses to two programs. None of these is accepted here.
 
 ghost use Rattle.std.specs.Prelude.{◌≡◌, ℕ, ◌<◌, ◌≤◌, ◌^◌, ◌*◌, ◌-◌, min, Some, IsTrue, IfOk, length};
 ghost use Rattle.std.specs.Char.{digit_value};
@@ -43,21 +44,21 @@ impl AddrFault {
 }
 
 impl Addr {
-    /// The address with this number, the first part the highest.
+    /// Makes the address with this number, of which the first octet is the highest byte.
     pub fn from_number(number: u32) -> Addr
         ensures { number_of result ≡ number }
     {
         Addr { number }
     }
 
-    /// The number of the address, the first part the highest.
+    /// Returns the number of the address, of which the first octet is the highest byte.
     pub fn number(self) -> u32
         ensures { result ≡ number_of self }
     {
         self.number
     }
 
-    /// Reads four decimal parts of 0 to 255 with dots between them.
+    /// Reads four decimals of 0 to 255 with dots between them. Each fault is asked of all four before the next one.
     pub fn read(text: &str) -> Result<Addr, AddrFault>
         ensures { result_map_both number_of (λ fault. fault) result ≡ read_addr text.now }
     {
@@ -68,8 +69,8 @@ impl Addr {
         Ok(Addr { number })
     }
 
-    /// Reads one to four decimal parts of 0 to 255 with dots between them; the parts left out at the
-    /// end are 0. Here `Parts` means more than four. (networks(5))
+    /// Reads one to four decimals of 0 to 255 with dots between them; those left out at the end are 0. Here `Parts` means
+    /// more than four. (networks(5))
     pub fn read_short(text: &str) -> Result<Addr, AddrFault>
         ensures { result_map_both number_of (λ fault. fault) result ≡ read_short text.now }
     {
@@ -82,7 +83,7 @@ impl Addr {
     }
 }
 
-/// The number of an address of which the first parts write a number and the others are 0.
+/// Returns the number of an address whose first parts write this number and whose others are 0.
 fn filled(number: u32, count: usize) -> u32
     requires some { 0 < count }
     requires few { count ≤ 4 }
@@ -153,7 +154,7 @@ fn parts_value(text: &str) -> u32
     number
 }
 
-/// The number that the digits write, and 256 for each number above 255.
+/// Returns the number that the digits write, or 256 if it is greater than 255.
 fn capped_value(part: &str) -> u32
     ensures { result ≡ min 256 (digits_value 10 part.now) }
 {
@@ -165,14 +166,14 @@ fn capped_value(part: &str) -> u32
     value
 }
 
-/// The value of a digit, and more than any digit's for another byte.
+/// Returns the value of a digit; another byte has one that is greater than any digit's.
 fn digit_value(byte: u8) -> u32
     ensures { result ≡ digit_value byte }
 {
     char::from(byte).to_digit(36).unwrap_or(36)
 }
 
-/// Whether a text is of digits and dots alone.
+/// Tests whether a text has only digits and dots. The empty text has, too.
 pub fn is_dotted(text: &str) -> bool
     ensures { result ≡ is_dotted text.now }
 {

@@ -8,7 +8,7 @@ pub fn groups_are_unique()
     ensures { GroupsAreUnique }
 {}
 
-/// The physical lines are std's lines of the text.
+/// The physical lines are the lines of the text as std has them.
 pub fn physical_lines_are_lines()
     ensures { PhysicalLinesAreLines }
 {}
@@ -68,7 +68,7 @@ pub fn masks_read_back()
     ensures { MasksReadBack }
 {}
 
-/// A network covers the addresses from its first to its last, and no other.
+/// A network covers the addresses from its first to its last one, and no other.
 pub fn covers_between_first_and_last()
     ensures { CoversBetweenFirstAndLast }
 {}

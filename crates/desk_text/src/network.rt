@@ -1,17 +1,16 @@
 //! Networks of IPv4 addresses, their prefixes and masks. (networks(5), inet(3))
 
-ghost use Rattle.std.specs.Prelude.{◌≡◌, ◌≤◌, true, nat_le, if◌then◌else◌};
+ghost use Rattle.std.specs.Prelude.{◌≡◌, ◌≤◌, nat_le, if◌then◌else◌};
 ghost use Rattle.std.specs.Result.{result_map_both};
 ghost use Rattle.desk_text.specs.Address.{number_of, read_short};
-ghost use Rattle.desk_text.specs.Network.{IsBlock, block_of, covers, last_of, mask_of, prefix_of_mask, read_net_text, read_prefix, with_prefix};
+ghost use Rattle.desk_text.specs.Network.{IsBlock, block_of, covers, last_of, mask_of, prefix_of_mask, prefixed, read_net_text, read_prefix, with_addr};
 ghost use Rattle.desk_text.specs.Views.{written_net};
 
 use crate::address::{Addr, AddrFault};
 use crate::bytes::read_decimal;
 use std::marker::Model;
 
-/// How many first bits the addresses of a network have in common: 0 to 32. The bits behind them are
-/// the host bits.
+/// How many first bits the addresses of a network have in common: 0 to 32. The bits behind them are the host bits.
 #[derive(Clone, Copy, Debug, PartialEq, Eq, PartialOrd, Ord, Hash)]
 pub struct Prefix {
     bits: u8,
@@ -30,7 +29,7 @@ impl Model for Prefix {
 }
 
 impl Prefix {
-    /// The prefix of this many bits; none, if an address has fewer.
+    /// Makes the prefix of this many bits, if there are at most 32.
     pub fn new(bits: u8) -> Option<Prefix>
         ensures { result ≡ (if nat_le bits 32 then Some bits else None) }
     {
@@ -40,7 +39,7 @@ impl Prefix {
         Some(Prefix { bits })
     }
 
-    /// Reads a decimal of 0 to 32.
+    /// Reads a decimal of 0 to 32, without a leading zero.
     pub fn read(text: &str) -> Option<Prefix>
         ensures { result ≡ read_prefix text.now }
     {
@@ -48,7 +47,7 @@ impl Prefix {
         Some(Prefix { bits: bits as u8 })
     }
 
-    /// The prefix of which this is the mask: its first bits are set, and the others are not.
+    /// Finds the prefix of which this is the mask. A mask whose set bits are not the first ones has none.
     #[tactic(auto, using(crate::proofs::Masks::prefix_is_ones, crate::proofs::Masks::prefix_is_none))]
     pub fn from_mask(mask: Addr) -> Option<Prefix>
         ensures { result ≡ prefix_of_mask (number_of mask) }
@@ -60,7 +59,7 @@ impl Prefix {
         Some(Prefix { bits })
     }
 
-    /// How many bits.
+    /// Returns the number of bits.
     pub fn get(self) -> u8
         ensures value { result ≡ self }
         ensures small { result ≤ 32 }
@@ -69,7 +68,7 @@ impl Prefix {
     }
 }
 
-/// The mask of a prefix of this many bits.
+/// Returns the mask of a prefix of this many bits.
 fn mask_of(bits: u8) -> u32
     requires { bits ≤ 32 }
     ensures { result ≡ mask_of bits }
@@ -77,7 +76,7 @@ fn mask_of(bits: u8) -> u32
     ((1u64 << 32) - (1u64 << (32 - bits))) as u32
 }
 
-/// A network: the addresses that have their first bits in common.
+/// A network: all addresses with the same first bits.
 #[derive(Clone, Copy, Debug, PartialEq, Eq, PartialOrd, Ord, Hash)]
 pub struct Net {
     start: Addr,
@@ -98,7 +97,7 @@ impl Model for Net {
 }
 
 impl Net {
-    /// The network of this prefix that the address is in: its host bits are masked off.
+    /// Makes the network of this prefix that the address is in: its host bits are masked off.
     pub fn new(addr: Addr, prefix: Prefix) -> Net
         ensures { result ≡ block_of (number_of addr) prefix }
     {
@@ -110,7 +109,7 @@ impl Net {
         }
     }
 
-    /// Whether the address has the first bits of the network.
+    /// Tests whether the address has the first bits of the network.
     pub fn covers(self, addr: Addr) -> bool
         ensures { result ≡ covers self (number_of addr) }
     {
@@ -118,7 +117,7 @@ impl Net {
         u64::from(addr.number()) >> host_bits == u64::from(self.start.number()) >> host_bits
     }
 
-    /// The first address, which has no host bits.
+    /// Returns the first address, in which no host bit is set.
     pub fn first(self) -> Addr
         ensures value { number_of result ≡ self.first }
         ensures network { IsBlock self }
@@ -126,7 +125,7 @@ impl Net {
         self.start
     }
 
-    /// The last address, of which all host bits are set.
+    /// Returns the last address, in which every host bit is set.
     pub fn last(self) -> Addr
         ensures { number_of result ≡ last_of self }
     {
@@ -135,7 +134,7 @@ impl Net {
         Addr::from_number(last as u32)
     }
 
-    /// How many first bits the addresses have in common.
+    /// Returns how many first bits the addresses have in common.
     pub fn prefix(self) -> Prefix
         ensures { result ≡ self.prefix }
     {
@@ -143,7 +142,7 @@ impl Net {
     }
 }
 
-/// A network as a text writes it: an address, with its host bits, and the prefix where one is written.
+/// A network as a text writes it: an address, with its host bits, and the prefix if one is written.
 #[derive(Clone, Copy, Debug, PartialEq, Eq)]
 pub struct NetText {
     pub addr: Addr,
@@ -151,8 +150,8 @@ pub struct NetText {
 }
 
 impl NetText {
-    /// Reads one to four decimal parts of 0 to 255 with dots between them, those left out at the end
-    /// being 0, and then, if there is a `/`, a prefix of 0 to 32. `Parts` means more than four.
+    /// Reads one to four decimals of 0 to 255 with dots between them, those left out at the end being 0, and then, if
+    /// there is a `/`, a prefix of 0 to 32. `Parts` means more than four. (networks(5))
     pub fn read(text: &str) -> Result<NetText, AddrFault>
         ensures { result_map_both written_net (λ fault. fault) result ≡ read_net_text text.now }
     {
@@ -161,14 +160,14 @@ impl NetText {
                 let addr = Addr::read_short(text)?;
                 Ok(NetText { addr, prefix: None })
             }
-            Some((address, prefix)) => with_prefix(address, prefix),
+            Some((address, prefix)) => read_prefixed(address, prefix),
         }
     }
 }
 
 /// Reads an address, and the prefix behind it. The faults of the address come first.
-fn with_prefix(address: &str, prefix: &str) -> Result<NetText, AddrFault>
-    ensures { result_map_both written_net (λ fault. fault) result ≡ with_prefix true prefix.now (read_short address.now) }
+fn read_prefixed(address: &str, prefix: &str) -> Result<NetText, AddrFault>
+    ensures { result_map_both written_net (λ fault. fault) result ≡ with_addr (read_short address.now) (λ addr. prefixed addr (read_prefix prefix.now)) }
 {
     let addr = Addr::read_short(address)?;
     match Prefix::read(prefix) {

@@ -1,7 +1,7 @@
-//! Paths of directories.
+//! Paths of directories. A path is the list of its components, however many slashes its text has between them.
 
 ghost use Rattle.std.specs.Prelude.{◌≡◌, ℕ, ◌++◌, ◌∷◌, IfOk, IfErr, List, length};
-ghost use Rattle.std.specs.List.{list_any, list_all, slice_split};
+ghost use Rattle.std.specs.List.{list_any, slice_split};
 ghost use Rattle.std.specs.String.{string_bytes};
 ghost use Rattle.std.specs.Bool.{◌==◌};
 ghost use Rattle.desk_text.specs.Path.{IsPath, components, is_absolute, is_dot_component, is_under, path_fault_number, path_text, read_path, same_path};
@@ -14,7 +14,7 @@ use std::cmp::Ordering;
 use std::marker::Model;
 use thiserror::Error;
 
-/// The most bytes that the text of a path may have.
+/// The most bytes that the text of a path may have, slashes counted.
 pub const LONGEST_PATH: usize = 1024;
 
 /// An absolute path, seen as its components.
@@ -62,7 +62,7 @@ impl Eq for Path {
     ghost laws = { Prim.search (comparing, rules) };
 }
 
-/// Paths are in byte order of their printed forms.
+/// Paths are in byte order of their printed forms, so that their order is that of a sorted listing.
 impl Ord for Path {
     ghost use Rattle.std.proofs.Common.{rules};
     ghost use Rattle.std.specs.Cmp.Rules.{comparing};
@@ -123,6 +123,8 @@ impl PathFault {
 }
 
 impl Path {
+    /// Reads an absolute path. Slashes in a row count as one, and one at the end counts for nothing. The length is that of
+    /// the text as given, and only absolute paths without `.` and `..` are read, so that no path is another one in disguise.
     pub fn read(alloc: Global, text: &str) -> Result<Path, ReadError<PathFault>>
         ensures { Reads result (read_path text.now) }
     {
@@ -143,7 +145,7 @@ impl Path {
         Ok(Path { text })
     }
 
-    /// Whether the path is the other one or lies below it.
+    /// Tests whether the path is the other one or lies below it: `/a/b` is under `/a`, and `/ab` is not.
     pub fn is_under(&self, above: &Path) -> bool
         ensures { result ≡ is_under self.now above.now }
     {
@@ -160,7 +162,7 @@ impl Path {
     }
 }
 
-/// Whether a printed path is another one, or goes on behind it with a slash.
+/// Tests whether a printed path is another one, or goes on behind it with a slash.
 fn goes_below(path: &str, above: &str) -> bool
     ensures { result ≡ goes_below path.now above.now }
 {
@@ -179,14 +181,7 @@ fn ends_component(text: &str) -> bool
 fn is_dot_component(part: &str) -> bool
     ensures { result ≡ is_dot_component part.now }
 {
-    let bytes = part.as_bytes();
-    0 < bytes.len() && bytes.len() <= 2 && only_dots(bytes)
-}
-
-fn only_dots(bytes: &[u8]) -> bool
-    ensures { result ≡ list_all (λ b. b == 46) bytes.now }
-{
-    bytes.iter().all(|b| *b == b'.')
+    part == "." || part == ".."
 }
 
 fn has_dots(text: &str) -> bool
@@ -195,7 +190,7 @@ fn has_dots(text: &str) -> bool
     text.split('/').any(|part| is_dot_component(part))
 }
 
-/// The components with a slash before each, or one slash where there is none.
+/// Writes the components with a slash before each, or one slash if there are none.
 fn printed(alloc: Global, text: &str) -> Result<String, AllocError>
     ensures { IfOk result (λ s. string_bytes s ≡ path_text (components text.now)) }
 {

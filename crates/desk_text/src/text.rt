@@ -1,4 +1,4 @@
-//! A text that contracts see as its bytes.
+//! Texts in the fields of records, and cutting a text at a character.
 #![tactic(auto)]
 
 ghost use Rattle.std.specs.Prelude.{◌≡◌, ◌==◌, ◌<◌, ℕ, List, IfOk, map, string_bytes};
@@ -7,7 +7,7 @@ ghost use Rattle.std.specs.List.{slice_split};
 use std::alloc::{AllocError, Global};
 use std::marker::Model;
 
-/// A text of its own.
+/// A text that owns its bytes, which are what contracts see of it.
 #[derive(Clone, Debug, Drop)]
 pub struct Text {
     inner: String,
@@ -22,7 +22,7 @@ impl Model for Text {
 }
 
 impl Text {
-    /// A copy of a text.
+    /// Copies a text.
     pub fn copy(alloc: Global, text: &str) -> Result<Text, AllocError>
         ensures { IfOk result (λ t. t ≡ text.now) }
     {
@@ -30,14 +30,14 @@ impl Text {
         Ok(Text { inner })
     }
 
-    /// A text that takes the string over.
+    /// Takes a string over as it is.
     pub fn from_string(inner: String) -> Text
         ensures { result ≡ string_bytes inner }
     {
         Text { inner }
     }
 
-    /// The text.
+    /// Lends the text.
     pub fn as_str(&self) -> &str
         ensures { result.now ≡ self.now }
     {
@@ -45,7 +45,7 @@ impl Text {
     }
 }
 
-/// The parts of a text round an ASCII character.
+/// Cuts a text at each place where an ASCII character stands. There is one part more than such places.
 pub fn split_at(alloc: Global, text: &str, at: char) -> Result<Vec<&str>, AllocError>
     requires { at < 128 }
     ensures { IfOk result (λ v. map (λ x. x.now) v.items ≡ slice_split (λ b. b == at) text.now) }

@@ -1,4 +1,7 @@
-//! The words of a logical line.
+//! The words of a logical line, with quotes and escapes.
+//!
+//! A quote has to close in its own physical line, even if that line is continued: a forgotten quote is then found where it
+//! stands, and does not swallow the lines behind it.
 
 ghost use Rattle.std.specs.Prelude.{◌≡◌, ℕ, ◌+◌, ◌<◌, ◌≤◌, ◌^◌, ◌++◌, IsTrue, IfOk, OnOk, IfSome, IfNone, map, not, length, List, true, false, slice_index};
 ghost use Rattle.std.specs.String.{string_bytes};
@@ -23,12 +26,13 @@ pub struct Word<'a> {
     pub dashed: bool,
 }
 
-/// A quote that does not close in its physical line.
+/// The fault of a line: a quote does not close in its physical line.
 #[derive(Clone, Copy, Debug, PartialEq, Eq, Error)]
-#[error("a quote does not close in its line")]
+#[error("a quote does not close on its line")]
 pub struct OpenQuote;
 
-/// The words of a line, in order.
+/// Cuts a line into its words, in order. What separates them are spaces and tabs outside quotes and not behind a
+/// backslash.
 pub fn words<'a>(alloc: Global, line: &Line<'a>) -> Result<Vec<Word<'a>>, ReadError<OpenQuote>>
     ensures { ReadsAs (λ v. map word_of v.items) result (read_words line.now) }
 {
@@ -41,7 +45,7 @@ pub fn words<'a>(alloc: Global, line: &Line<'a>) -> Result<Vec<Word<'a>>, ReadEr
     Ok(words)
 }
 
-/// What the word stands for, without its quotes and escapes.
+/// Returns what a word stands for: its text without its quotes and escapes.
 pub fn unquote(alloc: Global, word: &Word) -> Result<String, AllocError>
     ensures { IfOk result (λ s. string_bytes s ≡ word_value word.now.raw.now) }
 {
@@ -65,7 +69,7 @@ pub fn unquote(alloc: Global, word: &Word) -> Result<String, AllocError>
     Ok(value)
 }
 
-/// Whether a character ends the quote that is open, or opens one.
+/// Tests whether a character ends the quote that is open, or opens one.
 fn is_mark(quote: Option<char>, c: char) -> bool
     ensures { result ≡ is_mark quote c }
 {
@@ -75,7 +79,7 @@ fn is_mark(quote: Option<char>, c: char) -> bool
     }
 }
 
-/// Adds the words of a text that stands at `start`, and tells whether each quote closes.
+/// Adds the words of a text that stands at `start`, and returns whether each quote closes.
 fn push_words<'a>(
     words: &mut Vec<Word<'a>>,
     start: usize,
@@ -112,7 +116,7 @@ fn is_quote(b: u8) -> bool
     b == b'"' || b == b'\''
 }
 
-/// How long the quoted run is that the text begins with, if it ends.
+/// Returns how long the quoted run is with which the text begins, if it ends.
 fn quoted_len(text: &[u8]) -> Option<usize>
     requires some { 0 < length text.now }
     requires quote { IsTrue (is_quote (slice_index text.now 0)) }
@@ -131,7 +135,7 @@ fn quoted_len(text: &[u8]) -> Option<usize>
     None
 }
 
-/// How long the atom is that the text begins with.
+/// Returns how long the atom is with which the text begins: a character, an escaped one, or a quoted run.
 fn atom_len(text: &[u8]) -> Option<usize>
     requires { 0 < length text.now }
     ensures len { IfSome result (IsAtomLen text.now) }
@@ -147,7 +151,7 @@ fn atom_len(text: &[u8]) -> Option<usize>
     }
 }
 
-/// How long the word is that the text begins with.
+/// Returns how long the word is with which the text begins.
 fn word_len(text: &[u8]) -> Option<usize>
     requires some { 0 < length text.now }
     requires word { is_blank (slice_index text.now 0) ≡ false }

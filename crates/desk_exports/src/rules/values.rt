@@ -3,7 +3,7 @@
 
 ghost use Rattle.std.specs.Prelude.{◌≡◌};
 ghost use Rattle.std.specs.List.{list_any};
-ghost use Rattle.desk_tables.specs.Elements.{cred_breaks, elements};
+ghost use Rattle.desk_tables.specs.CredentialText.{cred_breaks, elements};
 ghost use Rattle.desk_exports.specs.Flavours.{has_bad_flavour};
 ghost use Rattle.desk_exports.specs.Tables.{table_rows};
 ghost use Rattle.desk_exports.specs.Options.{of_value};

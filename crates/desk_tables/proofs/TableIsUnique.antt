@@ -1,6 +1,7 @@
--- Two tables of the same mount points have the same printed mount points: lists that ascend and have the same elements are one.
+-- For the law `table_is_unique`: two tables of the same mount points have the same printed mount points, since lists that
+-- ascend and have the same elements are one; and paths that are printed alike are the same.
 use Rattle.std.proofs.Common.{ℕ, ◌≡◌, ◌<◌, ◌⊎◌, inl, inr, Bool, true, false, List, [], ◌∷◌, length, map, get_or, refl, ap, sym, subst, ◌∙◌, suc, zero, nat_cmp, arith}
-use Rattle.std.specs.List.{Contains, AllPairs, list_any}
+use Rattle.std.specs.List.{All, Contains, AllPairs, list_any}
 use Rattle.std.specs.Ordering.{is_lt, ordering_reverse}
 use Rattle.std.specs.declared.cmp.Ordering.{Ordering}
 use Rattle.std.specs.declared.cmp.Ordering.TheVariants.{Less, Equal, Greater}
@@ -10,9 +11,11 @@ use Rattle.std.proofs.lemmas.List.{get_or-map, length-map}
 use Rattle.std.proofs.lemmas.List.Elements.{All-contains}
 use Rattle.std.proofs.lemmas.List.Folds.{Any-from_list_any}
 use Rattle.std.proofs.lemmas.Slice.Eq.{bytes_eq-Decides}
-use Rattle.desk_text.specs.Path.{path_text, same_path}
+use Rattle.desk_text.specs.Path.{IsPath, are_printed_alike, path_text}
 use Rattle.desk_tables.specs.declared.filesystems.Mount.{Mount}
-use Rattle.desk_tables.specs.FileSystems.{AreAscending, IsTableOf, OneTable, mount_points}
+use Rattle.desk_text.specs.Laws.{PrintedPathsDiffer}
+use Rattle.desk_tables.specs.FileSystems.{AreAscending, IsTableOf, mount_points}
+use Rattle.desk_tables.specs.Laws.{TableIsUnique}
 
 abbrev is_less : List ℕ → List ℕ → Bool
 is_less text later = is_lt (slice_cmp nat_cmp text later)
@@ -100,14 +103,54 @@ within given first second h k t (n, inside, is) =
     let long : length (printed first) ≡ length (mount_points first) = length-map (mount_points first) path_text in
     let at : n < length (mount_points first) = omega arith in
     let path : List (List ℕ) = get_or (mount_points first) n [] in
-    let listed : list_any (same_path path) (mount_points second) ≡ true =
-    All-contains (λ path. list_any (same_path path) (mount_points second) ≡ true) given path k.listed (h.only n [] at) in
-    let found = Any-from_list_any (same_path path) (mount_points second) listed in
+    let listed : list_any (are_printed_alike path) (mount_points second) ≡ true =
+    All-contains (λ path. list_any (are_printed_alike path) (mount_points second) ≡ true) given path k.listed (h.only n [] at) in
+    let found = Any-from_list_any (are_printed_alike path) (mount_points second) listed in
     let other : List (List ℕ) = found.1 in
     let alike : path_text path ≡ path_text other = (bytes_eq-Decides (path_text path) (path_text other)).0 found.4 in
     subst (Contains (printed second)) (sym alike ∙ sym (get_or-map path_text (mount_points first) n [] t at) ∙ is)
     (contains_printed (mount_points second) other (found.0, found.2, found.3))
 
-pub one_table : OneTable
-one_table given first second h k =
+-- two tables of the same mount points are printed alike
+printed_alike : (given : List (List (List ℕ))) (first second : List Mount) → IsTableOf given first → IsTableOf given second → printed first ≡ printed second
+printed_alike given first second h k =
     one_rising (printed first) (printed second) (rising_printed first h.ascending) (rising_printed second k.ascending) (within given first second h k) (within given second first k h)
+
+-- paths that are printed alike are the same
+same_paths : PrintedPathsDiffer → (paths others : List (List (List ℕ))) → All IsPath paths → All IsPath others → map path_text paths ≡ map path_text others → paths ≡ others
+same_paths differ [] [] up vp h = refl
+same_paths differ [] (other ∷ others) up vp h = absurd (cc)
+same_paths differ (path ∷ paths) [] up vp h = absurd (cc)
+same_paths differ (path ∷ paths) (other ∷ others) up vp h =
+    let alike : path_text path ≡ path_text other = cc in
+    let rest : map path_text paths ≡ map path_text others = cc in
+    let first : path ≡ other = differ path other (up 0 path (omega arith)) (vp 0 other (omega arith)) alike in
+    let more : paths ≡ others = same_paths differ paths others (λ k d inside. up (suc k) d (omega arith)) (λ k d inside. vp (suc k) d (omega arith)) rest in
+    cc
+
+-- mounts that nobody keeps and no line lists are their paths
+same_mounts : (first second : List Mount) → All (λ mount. mount.custodians ≡ []) first → All (λ mount. mount.custodians ≡ []) second → All (λ mount. mount.line ≡ 0) first → All (λ mount. mount.line ≡ 0) second
+    → mount_points first ≡ mount_points second → first ≡ second
+same_mounts [] [] uk vk ul vl h = refl
+same_mounts [] (n ∷ second) uk vk ul vl h = absurd (cc)
+same_mounts (m ∷ first) [] uk vk ul vl h = absurd (cc)
+same_mounts (m ∷ first) (n ∷ second) uk vk ul vl h =
+    let path : m.path ≡ n.path = cc in
+    let rest : mount_points first ≡ mount_points second = cc in
+    let kept : m.custodians ≡ n.custodians = uk 0 m (omega arith) ∙ sym (vk 0 n (omega arith)) in
+    let line : m.line ≡ n.line = ul 0 m (omega arith) ∙ sym (vl 0 n (omega arith)) in
+    let mount : m ≡ n =
+    ap (λ p. record { path = p; custodians = m.custodians; line = m.line }) path
+    ∙ ap (λ c. record { path = n.path; custodians = c; line = m.line }) kept
+    ∙ ap (λ l. record { path = n.path; custodians = n.custodians; line = l }) line in
+    let more : first ≡ second =
+    same_mounts first second (λ k d inside. uk (suc k) d (omega arith)) (λ k d inside. vk (suc k) d (omega arith)) (λ k d inside. ul (suc k) d (omega arith)) (λ k d inside. vl (suc k) d (omega arith)) rest in
+    cc
+
+listed_paths : (given : List (List (List ℕ))) (table : List Mount) → All IsPath given → IsTableOf given table → All IsPath (mount_points table)
+listed_paths given table paths h = λ k d inside. All-contains IsPath given (get_or (mount_points table) k d) paths (h.only k d inside)
+
+pub table_is_unique : PrintedPathsDiffer → TableIsUnique
+table_is_unique differ given first second paths h k =
+    same_mounts first second h.unkept k.unkept h.unwritten k.unwritten
+    (same_paths differ (mount_points first) (mount_points second) (listed_paths given first paths h) (listed_paths given second paths k) (printed_alike given first second h k))
