@@ -1,7 +1,7 @@
-mod WorkedRows
+mod VerdictExamples
 pub mod Ascending
-pub mod Placing
-pub mod Scanning
-pub mod Naming
+pub mod EntriesByFileSystem
+pub mod GreatestWeight
+pub mod VerdictLines
 pub mod LeastLines
 pub mod AscendingRows

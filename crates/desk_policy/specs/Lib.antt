@@ -1,8 +1,8 @@
-pub mod Names
-pub mod Content
-pub mod Selection
-pub mod Verdicts
-pub mod Scan
+pub mod Row
+pub mod Policy
+pub mod Weights
+pub mod Verdict
 pub mod Prints
-pub mod Steps
 pub mod Acting
+pub mod PrivatePolicy
+pub mod PrivateWeights

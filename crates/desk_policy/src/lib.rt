@@ -1,23 +1,32 @@
 //! The policy of a site: the lines in force, which of them are selected for a client, and who may mount what.
 //! (exports(5))
+//!
+//! Its promise: [`decide`] grants a mount exactly if, among the lines of the path's file system that match the
+//! client's address with the greatest weight, one lists the path. It names the first such line, or else says why not.
+//!
+//! ```text
+//! let policy = Policy::of_entries(alloc, filesystems, entries)?;
+//! let verdict = decide(&policy, address, &path);
+//! verdict_text(alloc, &policy, &verdict)?     // "granted line 2 ro sec=sys root=65534:65533"
+//! ```
 #![tactic(auto)]
 
 pub mod acting;
 pub mod addresses;
 pub mod laws;
-pub mod policies;
+pub mod policy;
 pub mod prints;
-pub mod rows;
-mod selections;
-pub mod verdicts;
+pub mod row;
+pub mod verdict;
+mod weights;
 
 pub use acting::act_as;
 pub use addresses::AddrList;
-pub use laws::{each_has_its_lines, one_list_of_addresses};
-pub use policies::Policy;
+pub use laws::{
+    addresses_are_unique, ascending_entries_ascend_in_each_file, each_has_its_lines,
+    least_lines_are_named,
+};
+pub use policy::Policy;
 pub use prints::verdict_text;
-pub use rows::Row;
-pub use verdicts::{Denial, Verdict, decide};
-
-#[cfg(test)]
-mod tests;
+pub use row::Row;
+pub use verdict::{Denial, Verdict, decide};

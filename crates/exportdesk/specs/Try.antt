@@ -8,9 +8,9 @@ use Rattle.desk_exports.specs.Lent.{only_filesystems}
 use Rattle.desk_exports.specs.Rules.{rule_name, rule_number}
 use Rattle.desk_exports.specs.declared.entry.Entry.{Entry}
 use Rattle.desk_exports.specs.declared.files.LineFault.{LineFault}
-use Rattle.desk_policy.specs.Content.{Content, content_of}
+use Rattle.desk_policy.specs.Policy.{Content, content_of}
 use Rattle.desk_policy.specs.Prints.{verdict_line}
-use Rattle.desk_policy.specs.Verdicts.{verdict_of}
+use Rattle.desk_policy.specs.Verdict.{verdict_of}
 
 -- the printed verdict of a policy for an address and a path
 abbrev pub printed_verdict : Content → ℕ → List (List ℕ) → List ℕ

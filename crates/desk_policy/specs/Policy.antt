@@ -1,0 +1,47 @@
+-- What a policy has in force: the table of file systems, and the lines of each.
+use Rattle.std.specs.Prelude.{◌≡◌, ℕ, ◌<◌, ◌==◌, List, [], nat_lt, length, map, filter, slice_index_or, if◌then◌else◌}
+use Rattle.std.specs.List.{All, AllPairs, range_with_len}
+use Rattle.desk_tables.specs.declared.filesystems.FsId.{FsId}
+use Rattle.desk_tables.specs.declared.filesystems.Mount.{Mount}
+use Rattle.desk_exports.specs.Files.{EntriesAscend}
+use Rattle.desk_exports.specs.declared.entry.Entry.{Entry}
+use Rattle.desk_policy.specs.declared.row.Row.{Row}
+use Rattle.desk_policy.specs.Row.{row_of}
+
+-- the table of file systems, and the lines of each file system
+pub record Content : Type 0 where
+  pub table : List Mount
+  pub rows : List (List Row)
+
+-- lines in the order of their numbers, each number once
+abbrev pub AreAscending : List Row → Type 0
+AreAscending rows = AllPairs (λ row later. row.entry.line < later.entry.line) rows
+
+-- lines for each file system, in order
+pub record IsContent (content : Content) : Type 0 where
+  pub each : length content.rows ≡ length content.table
+  pub ascending : All AreAscending content.rows
+
+-- the lines of a file system, none where there is no such file system
+abbrev pub rows_of : Content → ℕ → List Row
+rows_of content fs = slice_index_or content.rows fs []
+
+-- the lines in force of the entries that are placed in this file system, in their order
+abbrev pub rows_placed : List (FsId × Entry) → ℕ → List Row
+rows_placed placed fs = map (λ pair. row_of pair.1) (filter (λ pair. pair.0.0 == fs) placed)
+
+-- of two entries in one file system the later one has the greater line number; each file system may count its own lines
+abbrev pub EachFileAscends : List (FsId × Entry) → Type 0
+EachFileAscends placed = AllPairs (λ pair later. pair.0.0 ≡ later.0.0 → pair.1.line < later.1.line) placed
+
+-- so it is with the entries of one text, whose lines ascend as a whole
+abbrev pub AscendingEntriesAscendInEachFile : Type 0
+AscendingEntriesAscendInEachFile = (placed : List (FsId × Entry)) → EntriesAscend placed → EachFileAscends placed
+
+-- each file system has the lines of the entries that are placed in it
+unfoldable pub content_of : List Mount → List (FsId × Entry) → Content
+content_of table placed = record { table = table; rows = map (rows_placed placed) (range_with_len 0 (length table)) }
+
+-- the lines in force of a file system of the table are those placed in it, and there are none beyond the table
+abbrev pub EachHasItsLines : Type 0
+EachHasItsLines = (table : List Mount) (placed : List (FsId × Entry)) (fs : ℕ) → rows_of (content_of table placed) fs ≡ (if nat_lt fs (length table) then rows_placed placed fs else [])

@@ -1,0 +1,91 @@
+//! A policy: the table of file systems, and the lines in force of each.
+
+ghost use Rattle.std.specs.Prelude.{◌≡◌, ◌≤◌, List, [], IfOk, OnOk, length, replicate};
+ghost use Rattle.desk_policy.specs.Policy.{EachFileAscends, content_of, rows_of};
+ghost use Rattle.desk_policy.specs.PrivatePolicy.{with_row};
+
+use crate::row::Row;
+use desk_exports::Entry;
+use desk_tables::{FileSystems, FsId};
+use desk_text::Sequence;
+use std::alloc::{AllocError, Global};
+use std::marker::Model;
+
+/// The table of file systems, and the lines of each, in the order of their entries.
+#[derive(Debug, Drop)]
+pub struct Policy {
+    filesystems: FileSystems,
+    rows: Vec<Sequence<Row>>,
+}
+
+impl Model for Policy {
+    ghost use Rattle.desk_policy.specs.Policy.{Content, IsContent};
+
+    ghost Value = { Content };
+
+    ghost view = { λ p. record { table = p.filesystems; rows = p.rows.items } };
+
+    ghost invariant = { λ p. IsContent (record { table = p.filesystems; rows = p.rows.items }) };
+}
+
+impl Policy {
+    /// Makes the policy with these file systems and the lines of these entries, each in the file system that is given
+    /// with it. The lines of each file system come in the order of their numbers; file systems may each number their own
+    /// lines from 1, or share the numbers of one text. An entry of a file system that is not in the table is in none.
+    pub fn of_entries(
+        alloc: Global,
+        filesystems: FileSystems,
+        entries: Sequence<(FsId, Entry)>,
+    ) -> Result<Policy, AllocError>
+        requires { EachFileAscends entries }
+        ensures { IfOk result (λ policy. policy ≡ content_of filesystems entries) }
+    {
+        let mut rows = empty_lists(alloc, &filesystems)?;
+        for (fs, entry) in entries.into_vec() {
+            let row = Row::of_entry(alloc, entry)?;
+            add_row(&mut rows, fs, row)?;
+        }
+        Ok(Policy { filesystems, rows })
+    }
+
+    /// Lends the lines of a file system, none if there is no such file system.
+    pub fn rows(&self, fs: FsId) -> &[Row]
+        ensures { result.now ≡ rows_of self.now fs.0 }
+    {
+        match self.rows.get(fs.0 as usize) {
+            Some(list) => list.as_slice(),
+            None => &[],
+        }
+    }
+
+    /// Lends the table of file systems.
+    pub fn filesystems(&self) -> &FileSystems
+        ensures { result.now ≡ self.now.table }
+    {
+        &self.filesystems
+    }
+}
+
+/// Adds a line to the list of its file system, if there is one.
+fn add_row(lists: &mut Vec<Sequence<Row>>, fs: FsId, row: Row) -> Result<(), AllocError>
+    ensures { OnOk result (lists.new.items ≡ with_row lists.old.items fs.0 row) }
+{
+    if let Some(list) = lists.get_mut(fs.0 as usize) {
+        list.push(row)?;
+    }
+    Ok(())
+}
+
+/// Makes a list without lines for each file system.
+fn empty_lists(alloc: Global, filesystems: &FileSystems) -> Result<Vec<Sequence<Row>>, AllocError>
+    requires { length filesystems.now ≤ 256 }
+    ensures { IfOk result (λ lists. lists.items ≡ replicate (length filesystems.now) []) }
+{
+    let mut lists = Vec::new(alloc);
+    let mut count = 0;
+    while filesystems.mount(FsId(count)).is_some() {
+        lists.push(Sequence::new(alloc))?;
+        count += 1;
+    }
+    Ok(lists)
+}
