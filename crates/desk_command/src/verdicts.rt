@@ -8,7 +8,7 @@ ghost use Rattle.desk_text.specs.Addr.{number_of};
 ghost use Rattle.desk_text.specs.Reading.{Reads, ReadsAs};
 ghost use Rattle.desk_exports.specs.Files.{EntriesAscend, whole_answer};
 ghost use Rattle.desk_exports.specs.Lent.{only_filesystems};
-ghost use Rattle.exportdesk.specs.Try.{fault_line, try_answer};
+ghost use Rattle.desk_command.specs.Try.{fault_line, try_answer};
 
 use desk_exports::{Entry, LineFault, Tables, read_whole};
 use desk_policy::{Policy, decide, verdict_text};
