@@ -14,34 +14,42 @@ pub fn report_of(alloc: Global, text: &str) -> Result<Report, AllocError> {
     let mut report = Report::new(alloc);
     for (index, line) in text.lines().enumerate() {
         if !line.is_empty() && !line.starts_with('#') {
-            match difference(alloc, &mut site, line)? {
-                Some(difference) => {
-                    let number = index.saturating_add(1);
-                    let difference = format!(in alloc; "line {number}: {difference}")?;
-                    report.add_difference(difference.as_str())?;
-                }
-                None => report.add_right(),
-            }
+            add_case(alloc, &mut site, &mut report, index.saturating_add(1), line)?;
         }
     }
     Ok(report)
 }
 
-/// How the answer to a case differs from the one that it wants.
-fn difference(alloc: Global, site: &mut Site, line: &str) -> Result<Option<String>, AllocError> {
+/// Tries the case on the line with this number.
+fn add_case(
+    alloc: Global,
+    site: &mut Site,
+    report: &mut Report,
+    number: usize,
+    line: &str,
+) -> Result<(), AllocError> {
     let Some((asked, wanted)) = line.split_once(" = ") else {
-        return Ok(Some(format!(in alloc; "this is not a case: {line}")?));
+        return report.add_difference(alloc, number, "this is not a case: ", line);
     };
     let (question, text) = asked.split_once(' ').unwrap_or((asked, ""));
-    let (Some(text), Some(wanted)) = (escapes::text(alloc, text)?, escapes::text(alloc, wanted)?)
-    else {
-        return Ok(Some(format!(in alloc; "this has a wrong escape: {line}")?));
+    let Some(text) = escapes::text(alloc, text)? else {
+        return report.add_difference(alloc, number, "this has a wrong escape: ", line);
     };
-    match answer(alloc, site, question, text.as_str())? {
-        Some(found) if found == wanted => Ok(None),
-        Some(found) => Ok(Some(format!(in alloc; "{asked} = {found:?}, and not {wanted:?}")?)),
-        None => Ok(Some(format!(in alloc;
-            "there is no such question, or it cannot be asked of this: {asked}"
-        )?)),
+    let Some(found) = answer(alloc, site, question, text.as_str())? else {
+        return report.add_difference(
+            alloc,
+            number,
+            "there is no such question, or not of this: ",
+            line,
+        );
+    };
+    match escapes::text(alloc, wanted)? {
+        Some(wanted) if found == wanted => report.add_right(),
+        Some(_) => {
+            let found = format!(in alloc; ", but the answer is {found:?}")?;
+            report.add_difference(alloc, number, line, found.as_str())?;
+        }
+        None => report.add_difference(alloc, number, "this has a wrong escape: ", line)?,
     }
+    Ok(())
 }

@@ -9,7 +9,8 @@
 //! ```
 //!
 //! A block is a command (`terminal`), its standard input up to a line `END` if its line ends in ` <<END`, what it prints
-//! on standard output, what it prints on standard error with `! ` before each line, and in brackets its exit status.
+//! on standard output, what it prints on standard error with `!` and a blank before each line (`!` alone before an empty
+//! one), and in brackets its exit status.
 //! Between blocks empty lines and those that begin with `#` are skipped.
 
 use crate::report::Report;
@@ -62,10 +63,14 @@ pub fn report_of(rt: &HostRuntime, text: &str) -> Result<Report, AllocError> {
         }
     }
     let Blocks {
-        place, mut report, ..
+        place,
+        number,
+        command,
+        mut report,
+        ..
     } = blocks;
     if place != Place::Between {
-        report.add_difference("the last command has no status")?;
+        report.add_difference(alloc, number, command, " has no status")?;
     }
     Ok(report)
 }
@@ -97,8 +102,9 @@ fn begin<'a>(
         return Ok(());
     }
     if !line.starts_with("$ ") {
-        let difference = format!(in alloc; "line {number}: this is in no block: {line}")?;
-        return blocks.report.add_difference(difference.as_str());
+        return blocks
+            .report
+            .add_difference(alloc, number, "this is in no block: ", line);
     }
     blocks.number = number;
     blocks.command = line;
@@ -121,7 +127,8 @@ fn end(rt: &HostRuntime, blocks: &mut Blocks) -> Result<(), AllocError> {
         return Ok(());
     }
     let (number, command) = (blocks.number, blocks.command);
-    let found = found.replace(rt.alloc(), "\n", "\n    ")?;
-    let difference = format!(in rt.alloc(); "line {number}: {command}\n    {found}")?;
-    blocks.report.add_difference(difference.as_str())
+    let found = format!(in rt.alloc(); "\n{found}")?.replace(rt.alloc(), "\n", "\n    ")?;
+    blocks
+        .report
+        .add_difference(rt.alloc(), number, command, found.as_str())
 }

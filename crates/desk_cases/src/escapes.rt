@@ -47,7 +47,7 @@ fn push_repetition(alloc: Global, out: &mut Vec<u8>, text: &str) -> Result<bool,
     Ok(is_good && push_plain(out, behind)?)
 }
 
-/// Adds a text so many times.
+/// Adds a text so many times; many times at once, since there may be millions.
 fn push_times(
     alloc: Global,
     out: &mut Vec<u8>,
@@ -56,10 +56,18 @@ fn push_times(
 ) -> Result<bool, AllocError> {
     let mut piece = Vec::new(alloc);
     let is_good = push_plain(&mut piece, text)?;
-    for _ in 0..count {
-        out.extend_from_slice(piece.as_slice())?;
-    }
+    let mut block = Vec::new(alloc);
+    push_copies(&mut block, 1024, piece.as_slice())?;
+    push_copies(out, count / 1024, block.as_slice())?;
+    push_copies(out, count % 1024, piece.as_slice())?;
     Ok(is_good)
+}
+
+fn push_copies(out: &mut Vec<u8>, count: u32, piece: &[u8]) -> Result<(), AllocError> {
+    for _ in 0..count {
+        out.extend_from_slice(piece)?;
+    }
+    Ok(())
 }
 
 /// Adds a text so many times, each time with the number of the repetition for `\#`.

@@ -8,13 +8,13 @@ use desk_tables::{FileSystems, FsId};
 use desk_text::{Path, PathFault, ReadError};
 use std::alloc::Global;
 
-/// `filesystems TEXT`: `read`, or the fault.
+/// `filesystems TEXT`: `read`, or the fault. The table that is set is a copy.
 pub fn read(alloc: Global, site: &mut Site, text: &str) -> Answer
     requires { length text.now ≤ 4294967294 }
 {
     match FileSystems::read(alloc, text) {
         Ok(table) => {
-            site.filesystems = Some(table);
+            site.filesystems = Some(table.clone()?);
             answers::text(alloc, "read")
         }
         Err(error) => site::fault(alloc, error),

@@ -98,18 +98,21 @@ fn split_at_commas(alloc: Global, asked: &str) -> Answer {
     list_or_none(out)
 }
 
-/// `sequence WORD WORD ..`: the list of these words, how many it has when it is lent, and how many when it is given away.
+/// `sequence WORD WORD ..`: the list of these words, and how many it has when it is given away.
 fn sequence(alloc: Global, asked: &str) -> Answer {
-    let mut texts = Sequence::new(alloc);
-    for word in asked.split_whitespace() {
-        texts.push(Text::copy(alloc, word)?)?;
-    }
-    let copy = texts.clone()?;
+    let texts = texts(alloc, asked)?;
     let mut out = String::new(alloc);
-    for text in copy.as_slice() {
+    for text in texts.as_slice() {
         push_word(&mut out, text.as_str())?;
     }
-    push_word(&mut out, copy.as_slice().len().to_string(alloc)?.as_str())?;
     push_word(&mut out, texts.into_vec().len().to_string(alloc)?.as_str())?;
     Ok(Some(out))
+}
+
+fn texts(alloc: Global, words: &str) -> Result<Sequence<Text>, AllocError> {
+    let mut texts = Sequence::new(alloc);
+    for word in words.split_whitespace() {
+        texts.push(Text::copy(alloc, word)?)?;
+    }
+    Ok(texts)
 }

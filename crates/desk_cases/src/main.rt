@@ -1,10 +1,11 @@
-//! Tries the worked cases of the libraries. Each file of `data/` whose name ends in `.cases` holds cases; the others are
-//! files that commands read.
+//! Tries the worked cases of the libraries. Each file of `data/` whose name ends in `.cases` or `.commands` holds cases;
+//! the others are files that the commands read.
 #![tactic(auto)]
 
 mod addresses;
 mod answers;
 mod cases;
+mod commands;
 mod credentials;
 mod custodians;
 mod entries;
@@ -12,7 +13,6 @@ mod escapes;
 mod exports;
 mod filesystems;
 mod hosts;
-mod line_parts;
 mod lines;
 mod nets;
 mod networks;
@@ -22,6 +22,7 @@ mod questions;
 mod report;
 mod site;
 mod tables;
+mod terminal;
 mod texts;
 
 use crate::report::Report;
@@ -30,7 +31,7 @@ use std::process::ExitCode;
 use std::{fs, io};
 
 /// Prints for each file of cases how many there are and each that differs. The exit status is 0 if every case of every
-/// file has its answer.
+/// file has its answer, and no file is without cases.
 fn main(rt: HostRuntime) -> io::Result<ExitCode> {
     let names = file_names(&rt)?;
     let mut is_right = !names.is_empty();
@@ -55,7 +56,7 @@ fn file_names(rt: &HostRuntime) -> io::Result<Vec<String>> {
     for entry in fs::read_dir(rt, ".")? {
         let entry = entry?;
         let name = entry.file_name();
-        if name.ends_with(".cases") {
+        if name.ends_with(".cases") || name.ends_with(".commands") {
             names.push(String::from_str(rt.alloc(), name)?)?;
         }
     }
@@ -66,6 +67,7 @@ fn file_names(rt: &HostRuntime) -> io::Result<Vec<String>> {
 /// What came of the file with this name.
 fn report_of(rt: &HostRuntime, name: &str) -> Result<Report, AllocError> {
     match fs::read_to_string(rt, name) {
+        Ok(text) if name.ends_with(".commands") => commands::report_of(rt, text.as_str()),
         Ok(text) => cases::report_of(rt.alloc(), text.as_str()),
         Err(error) => Report::unread(rt.alloc(), &error),
     }

@@ -16,7 +16,7 @@ pub fn answer(alloc: Global, question: &str, text: &str) -> Answer {
 /// `path TEXT`: the path as it is printed, or the fault by its name: `fault TooLong`.
 fn path(alloc: Global, text: &str) -> Answer {
     match Path::read(alloc, text) {
-        Ok(path) => answers::text(alloc, path.clone()?.text()),
+        Ok(path) => answers::text(alloc, path.text()),
         Err(ReadError::Fault(fault)) => Ok(Some(format!(in alloc; "fault {fault:?}")?)),
         Err(ReadError::Memory) => Err(AllocError),
     }

@@ -4,7 +4,7 @@ ghost use Rattle.std.specs.Prelude.{◌≤◌, length};
 
 use crate::answers::Answer;
 use crate::site::Site;
-use crate::{exports, line_parts, policies, tables, texts};
+use crate::{exports, policies, tables, texts};
 use std::alloc::Global;
 
 /// The answer to a question. What each asks stands at the function that answers it.
@@ -16,7 +16,6 @@ pub fn answer(alloc: Global, site: &mut Site, question: &str, text: &str) -> Ans
         "policy" => policies::read(alloc, site, text),
         "policy_with" => policies::read_with(alloc, site, text),
         "entries" | "rule" | "file" => exports::answer(alloc, site, question, text),
-        "line_parts" => line_parts::answer(alloc, text),
         _ => of_texts(alloc, site, question, text),
     }
 }

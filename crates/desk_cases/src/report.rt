@@ -24,7 +24,8 @@ impl Report {
     /// The report of a file that cannot be read.
     pub fn unread(alloc: Global, error: &io::Error) -> Result<Report, AllocError> {
         let mut report = Report::new(alloc);
-        report.add_difference(format!(in alloc; "it cannot be read: {error}")?.as_str())?;
+        let error = error.to_string(alloc)?;
+        report.add_difference(alloc, 0, "it cannot be read: ", error.as_str())?;
         Ok(report)
     }
 
@@ -33,12 +34,18 @@ impl Report {
         self.cases = self.cases.saturating_add(1);
     }
 
-    /// Counts a case that differs, and tells how.
-    pub fn add_difference(&mut self, difference: &str) -> Result<(), AllocError> {
+    /// Counts a case that differs, and tells how, at a line of the file.
+    pub fn add_difference(
+        &mut self,
+        alloc: Global,
+        line: usize,
+        what: &str,
+        text: &str,
+    ) -> Result<(), AllocError> {
         self.cases = self.cases.saturating_add(1);
         self.differing = self.differing.saturating_add(1);
-        self.differences.push_str("\n  ")?;
-        self.differences.push_str(difference)
+        let difference = format!(in alloc; "\n  line {line}: {what}{text}")?;
+        self.differences.push_str(difference.as_str())
     }
 
     /// Whether there are cases, and none differs.
@@ -47,14 +54,11 @@ impl Report {
     }
 }
 
-/// `3 cases, 1 differs`, and then the differences.
+/// `3 cases, 1 differ`, and then the differences.
 impl fmt::Display for Report {
     fn fmt<W: fmt::Write>(&self, f: &mut fmt::Formatter<W>) -> fmt::Result {
-        let Report {
-            cases,
-            differing,
-            differences,
-        } = self;
+        let (cases, differing) = (self.cases, self.differing);
+        let differences = self.differences.as_str();
         write!(f, "{cases} cases, {differing} differ{differences}")
     }
 }

@@ -25,12 +25,17 @@ pub fn printed(rt: &HostRuntime, line: &str, here: &str) -> Result<String, Alloc
     let Some(input) = input else {
         return String::from_str(alloc, "this standard input cannot be given\n");
     };
-    let Some(words) = words.strip_prefix("exportdesk") else {
-        return String::from_str(alloc, "this is not a command of exportdesk\n");
-    };
-    match escapes::text(alloc, words)? {
+    match words_of(alloc, words)? {
         Some(words) => done(rt, words.as_str(), input.as_slice()),
-        None => String::from_str(alloc, "these words have a wrong escape\n"),
+        None => String::from_str(alloc, "these are not words of exportdesk\n"),
+    }
+}
+
+/// The words behind the name of the program, if that is `exportdesk`, and their escapes are right.
+fn words_of(alloc: Global, command: &str) -> Result<Option<String>, AllocError> {
+    match command.strip_prefix("exportdesk") {
+        Some(words) if words.is_empty() || words.starts_with(' ') => escapes::text(alloc, words),
+        _ => Ok(None),
     }
 }
 
@@ -91,7 +96,7 @@ fn done(rt: &HostRuntime, text: &str, input: &[u8]) -> Result<String, AllocError
 fn shown(alloc: Global, out: &str, err: &str, status: u8) -> Result<String, AllocError> {
     let mut shown = String::new(alloc);
     push_lines(&mut shown, "", out)?;
-    push_lines(&mut shown, "! ", err)?;
+    push_lines(&mut shown, "!", err)?;
     shown.push_str(format!(in alloc; "[{status}]\n")?.as_str())?;
     Ok(shown)
 }
@@ -103,6 +108,9 @@ fn push_lines(out: &mut String, mark: &str, text: &str) -> Result<(), AllocError
     }
     for line in text.strip_suffix('\n').unwrap_or(text).split('\n') {
         out.push_str(mark)?;
+        if !mark.is_empty() && !line.is_empty() {
+            out.push(' ')?;
+        }
         out.push_str(line)?;
         out.push('\n')?;
     }
