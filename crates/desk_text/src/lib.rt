@@ -19,6 +19,3 @@ pub use quoting::{OpenQuote, Word, unquote, words};
 pub use reading::ReadError;
 pub use sequence::Sequence;
 pub use text::{Text, split_at};
-
-#[cfg(test)]
-mod tests;
