@@ -202,6 +202,3 @@ fn is_name_byte(byte: u8) -> bool
 {
     (b'a' <= byte && byte <= b'z') || (b'0' <= byte && byte <= b'9') || byte == b'-' || byte == b'_'
 }
-
-#[cfg(test)]
-mod tests;

@@ -304,6 +304,3 @@ fn gids_in(groups: &Groups, others: &str) -> GroupIds
     }
     gids
 }
-
-#[cfg(test)]
-mod tests;

@@ -168,6 +168,3 @@ fn is_ipv6(address: &str) -> bool
 {
     address.as_bytes().contains(&b':')
 }
-
-#[cfg(test)]
-mod tests;

@@ -30,6 +30,3 @@ pub use groups::{Group, Groups};
 pub use hosts::{HostRow, Hosts};
 pub use networks::{NetworkName, Networks};
 pub use users::{User, Users};
-
-#[cfg(test)]
-mod tests;

@@ -104,6 +104,3 @@ fn copies(alloc: Global, texts: &[Text]) -> Result<Sequence<Text>, AllocError>
     }
     Ok(copies)
 }
-
-#[cfg(test)]
-mod tests;

@@ -134,6 +134,3 @@ fn read_row(
     push_copies(alloc, &mut names, aliases)?;
     Ok(Some(NetworkName { number, names }))
 }
-
-#[cfg(test)]
-mod tests;
