@@ -24,6 +24,3 @@ pub use parts::LineParts;
 pub use rules::{Rule, first_rule};
 pub use tables::Tables;
 pub use words::GrammarWord;
-
-#[cfg(test)]
-mod tests;
