@@ -18,6 +18,3 @@ pub use policies::Policy;
 pub use prints::verdict_text;
 pub use rows::Row;
 pub use verdicts::{Denial, Verdict, decide};
-
-#[cfg(test)]
-mod tests;
