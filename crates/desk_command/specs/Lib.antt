@@ -1,1 +1,6 @@
-pub mod Try
+pub mod Arguments
+pub mod Commands
+pub mod Input
+pub mod Output
+pub mod TryCommand
+pub mod TryText

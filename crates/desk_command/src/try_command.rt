@@ -1,71 +1,79 @@
 //! The command `try`: one verdict over one exports text.
 
-use crate::input::{StandardInput, read_file};
-use crate::outcome::{Answer, Stop, refused, refused_word};
-use crate::verdicts::{fault_text, is_granted, try_text};
+ghost use Rattle.desk_command.specs.Input.{text_of};
+ghost use Rattle.desk_command.specs.TryCommand.{AnswersTry};
+
+use crate::arguments::{Request, read_request};
+use crate::failure::{Failure, ReadFailure};
+use crate::input::{read_bytes, text_of};
+use crate::output::Output;
+use crate::try_text::try_text;
 use clap::ArgMatches;
-use desk_tables::FileSystems;
-use desk_text::{Addr, Path, ReadError};
+use desk_text::ReadError;
 use std::alloc::Global;
+use std::fs;
 use std::io::BufRead;
 
-/// What `try` answers to its words. They are looked at from left to right, and then the file.
-pub fn answer<I: BufRead>(
+/// Runs `try` on its words. They are parsed from left to right, and then the file is read.
+pub fn run_try<I: BufRead>(
     rt: &HostRuntime,
     words: &ArgMatches<'_>,
-    input: &mut StandardInput<'_, I>,
-) -> Result<Answer, Stop> {
+    input: &mut I,
+) -> Result<Output, Failure> {
     let alloc = rt.alloc();
-    let address = read_host(alloc, words.get_str("HOST").unwrap_or(""))?;
-    let path = read_path(alloc, "DIR", words.get_str("DIR").unwrap_or(""))?;
-    let filesystems = read_mounts(alloc, words.get_strs("MOUNT").unwrap_or(&[]))?;
-    let text = read_file(rt, "FILE", words.get_str("FILE").unwrap_or(""), input)?;
-    match try_text(alloc, text.as_str(), &filesystems, address, &path) {
-        Ok(mut text) => {
-            let status = if is_granted(text.as_str()) { 0 } else { 1 };
-            text.push('\n')?;
-            Ok(Answer { text, status })
+    let file = required(words, "FILE")?;
+    let host = required(words, "HOST")?;
+    let dir = required(words, "DIR")?;
+    let mounts = words.get_strs("MOUNT").ok_or(Failure::Missing("MOUNT"))?;
+    let request = read_request(alloc, host, dir, mounts)?;
+    let bytes = read_file(rt, file, input)?;
+    answer_request(alloc, file, bytes.as_slice(), request)
+}
+
+/// The word of an argument that `clap` requires.
+fn required<'a>(words: &ArgMatches<'a>, name: &'static str) -> Result<&'a str, Failure> {
+    words.get_str(name).ok_or(Failure::Missing(name))
+}
+
+/// Reads the bytes of FILE; `-` is standard input.
+fn read_file<I: BufRead>(rt: &HostRuntime, file: &str, input: &mut I) -> Result<Vec<u8>, Failure> {
+    let alloc = rt.alloc();
+    let bytes = if file == "-" {
+        read_bytes(alloc, input)
+    } else {
+        match fs::open(rt, file) {
+            Ok(opened) => read_bytes(alloc, opened),
+            Err(error) => Err(error),
         }
-        Err(ReadError::Fault(fault)) => {
-            let mut text = fault_text(alloc, fault)?;
-            text.push('\n')?;
-            Ok(Answer { text, status: 3 })
-        }
-        Err(ReadError::Memory) => Err(Stop::Memory),
+    };
+    match bytes {
+        Ok(bytes) => Ok(bytes),
+        Err(error) => Err(Failure::of_file(alloc, file, ReadFailure::of_error(error)?)),
     }
 }
 
-/// The client's address.
-fn read_host(alloc: Global, word: &str) -> Result<Addr, Stop> {
-    match Addr::read(word) {
-        Ok(address) => Ok(address),
-        Err(fault) => {
-            let why = format!(in alloc; "{fault:?}: {fault}")?;
-            Err(refused_word(alloc, "HOST", word, why.as_str()))
-        }
-    }
-}
-
-/// The path that a word gives.
-fn read_path(alloc: Global, name: &str, word: &str) -> Result<Path, Stop> {
-    match Path::read(alloc, word) {
-        Ok(path) => Ok(path),
-        Err(ReadError::Fault(fault)) => {
-            let why = format!(in alloc; "{fault:?}: {fault}")?;
-            Err(refused_word(alloc, name, word, why.as_str()))
-        }
-        Err(ReadError::Memory) => Err(Stop::Memory),
-    }
-}
-
-/// The table of the mount points that the words give.
-fn read_mounts(alloc: Global, words: &[&str]) -> Result<FileSystems, Stop> {
-    let mut mount_points = Vec::new(alloc);
-    for word in words {
-        mount_points.push(read_path(alloc, "MOUNT", word)?)?;
-    }
-    match FileSystems::from_mounts(alloc, mount_points)? {
-        Some(filesystems) => Ok(filesystems),
-        None => Err(refused(alloc, "MOUNT", "over 256 different mount points")),
+/// The answer to a request, by the bytes of FILE.
+pub fn answer_request(
+    alloc: Global,
+    file: &str,
+    bytes: &[u8],
+    request: Request,
+) -> Result<Output, Failure>
+    ensures { AnswersTry file.now request (text_of bytes.now) result }
+{
+    let text = match text_of(bytes) {
+        Ok(text) => text,
+        Err(fault) => return Err(Failure::of_file(alloc, file, ReadFailure::Text(fault))),
+    };
+    match try_text(
+        alloc,
+        text,
+        request.filesystems,
+        request.address,
+        &request.path,
+    ) {
+        Ok(tried) => Ok(Output::Tried(tried)),
+        Err(ReadError::Fault(fault)) => Ok(Output::Faulty(fault)),
+        Err(ReadError::Memory) => Err(Failure::Memory),
     }
 }

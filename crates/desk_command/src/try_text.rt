@@ -1,37 +1,47 @@
-//! The verdict on one mount over an exports text, as it is printed.
+//! The verdict on one mount over an exports text.
 
-ghost use Rattle.std.specs.Prelude.{◌≡◌, ◌≤◌, ◌∷◌, ◌++◌, IfOk, codes, length, nat_eq};
+ghost use Rattle.std.specs.Prelude.{◌≡◌, ◌≤◌, ◌∷◌, ◌++◌, IfOk, codes, is_ok, length};
 ghost use Rattle.std.specs.Fmt.{decimal};
-ghost use Rattle.std.specs.List.{starts_with};
 ghost use Rattle.std.specs.String.{string_bytes};
 ghost use Rattle.desk_text.specs.Addr.{number_of};
 ghost use Rattle.desk_text.specs.Reading.{Reads, ReadsAs};
 ghost use Rattle.desk_exports.specs.Files.{EntriesAscend, whole_answer};
 ghost use Rattle.desk_exports.specs.Lent.{only_filesystems};
-ghost use Rattle.desk_command.specs.Try.{fault_line, try_answer};
+ghost use Rattle.desk_command.specs.TryText.{answer_of, fault_line, try_answer};
 
 use desk_exports::{Entry, LineFault, Tables, read_whole};
-use desk_policy::{Policy, decide, verdict_text};
+use desk_policy::{Policy, Verdict, decide, verdict_text};
 use desk_tables::{FileSystems, FsId, Groups, Networks, Users};
 use desk_text::{Addr, Path, ReadError, Sequence};
 use std::alloc::{AllocError, Global};
 
-/// The verdict for a client's address and a directory, over a whole exports text with these file
-/// systems: one line, without its line end. Else the fault of the least faulty line.
+/// The answer of `try` to a text without a fault.
+#[derive(Debug, Drop)]
+pub struct Tried {
+    /// Whether the mount is granted.
+    pub granted: bool,
+    /// The printed verdict, without a line end.
+    pub line: String,
+}
+
+/// Decides whether a client may mount a directory, by a whole exports text and these file systems; or returns
+/// the first fault of the text.
 pub fn try_text(
     alloc: Global,
     text: &str,
-    filesystems: &FileSystems,
+    filesystems: FileSystems,
     address: Addr,
     path: &Path,
-) -> Result<String, ReadError<LineFault>>
+) -> Result<Tried, ReadError<LineFault>>
     requires { length text.now ≤ 4294967294 }
-    ensures { ReadsAs string_bytes result (try_answer filesystems.now text.now (number_of address) path.now) }
+    ensures { ReadsAs answer_of result (try_answer filesystems text.now (number_of address) path.now) }
 {
-    let entries = read_with_mounts(alloc, text, filesystems)?;
-    let policy = Policy::of_entries(alloc, filesystems.clone()?, entries)?;
+    let entries = read_with_mounts(alloc, text, &filesystems)?;
+    let policy = Policy::of_entries(alloc, filesystems, entries)?;
     let verdict = decide(&policy, address, path);
-    Ok(verdict_text(alloc, &policy, &verdict)?)
+    let granted = matches!(verdict, Verdict::Granted { .. });
+    let line = verdict_text(alloc, &policy, &verdict)?;
+    Ok(Tried { granted, line })
 }
 
 /// The entries of a text, read with these file systems and no row of another table.
@@ -73,11 +83,4 @@ fn numbered_fault_text(
         ≡ codes "fault line " ++ decimal line ++ codes " rule " ++ decimal number ++ 32 ∷ name.now) }
 {
     format!(in alloc; "fault line {line} rule {number} {name}")
-}
-
-/// Whether a printed verdict grants the mount.
-pub fn is_granted(verdict: &str) -> bool
-    ensures { result ≡ starts_with nat_eq verdict.now (codes "granted ") }
-{
-    verdict.starts_with("granted ")
 }
