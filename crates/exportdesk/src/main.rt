@@ -2,49 +2,53 @@
 //! mount which directory, and on what terms. (exports(5), mountd(8))
 #![tactic(auto)]
 
-mod command_line;
-mod commands;
-mod input;
-mod outcome;
-#[cfg(test)]
-mod tests;
-mod try_command;
-mod verdicts;
-
-use crate::outcome::{Stop, report};
-use std::convert::AsStr;
-use std::env;
-use std::io::{BufRead, Lock, Write};
+use desk_command::{print_memory, run};
+use std::alloc::AllocError;
+use std::env::{Env, FillError};
+use std::io::{IsTerminal, Lock, Write};
 use std::process::ExitCode;
-pub use verdicts::try_text;
 
 fn main(rt: HostRuntime) -> ExitCode {
     let mut input = rt.stdin().lock();
     let mut out = rt.stdout();
     let mut err = rt.stderr();
-    match program_words(&rt) {
-        Ok(words) => ExitCode::from(run(&rt, words.as_slice(), &mut input, &mut out, &mut err)),
-        Err(stop) => ExitCode::from(report(Err(stop), &mut out, &mut err)),
+    let Ok(words) = program_words(&rt) else {
+        return ExitCode::from(print_memory(&mut out, &mut err));
+    };
+    if words.is_empty() && input.is_terminal() {
+        let _ = writeln!(
+            err,
+            "exportdesk: waiting for the words of a command on standard input"
+        );
     }
+    ExitCode::from(run(&rt, words.as_slice(), &mut input, &mut out, &mut err))
 }
 
-/// The words after the program's name.
-fn program_words(rt: &HostRuntime) -> Result<Vec<String>, Stop> {
-    match env::args(rt) {
-        Ok(words) => Ok(words.skip(1).collect(rt.alloc())?),
-        Err(error) => Err(outcome::unread(rt.alloc(), "a word of the command line", &error)),
+/// The words behind the program's name, as bytes.
+fn program_words(rt: &HostRuntime) -> Result<Vec<Vec<u8>>, AllocError> {
+    let mut words = Vec::new(rt.alloc());
+    for place in 1..usize::MAX {
+        match program_word(rt, place)? {
+            Some(word) => words.push(word)?,
+            None => break,
+        }
     }
+    Ok(words)
 }
 
-/// Does one command, and gives the exit status. Without words, the first line of the input gives them.
-/// What the command answers goes to `out`; a message on what was wrong with the words, or with a file
-/// that they name, goes to `err`.
-pub fn run<S, I, O, E>(rt: &HostRuntime, words: &[S], input: &mut I, out: &mut O, err: &mut E) -> u8
-where
-    S: AsStr,
-    I: BufRead,
-    O: Write,
-    E: Write,
-{
-    report(commands::answer(rt, words, input), out, err)
+/// The word at a place of the command line, if there is one. Place 0 has the program's name.
+fn program_word(rt: &HostRuntime, place: usize) -> Result<Option<Vec<u8>>, AllocError> {
+    let mut room = 256;
+    for _ in 0..usize::BITS {
+        let mut bytes = vec![in rt.alloc(); 0; room]?;
+        match rt.arg(place, bytes.as_mut_slice()) {
+            Ok(length) => {
+                bytes.truncate(length);
+                return Ok(Some(bytes));
+            }
+            Err(FillError::NotPresent) => return Ok(None),
+            Err(FillError::TooLong) => room = room.saturating_mul(2),
+        }
+    }
+    Err(AllocError)
 }

@@ -1,0 +1,154 @@
+//! The escapes of cases. `\n`, `\t`, `\r`, `\s`, `\0` and `\\` are a line feed, a tab, a carriage return, a blank, a zero
+//! byte and a backslash, and `\xff` is the byte of two hexadecimal digits. `\[3 ab\]` is `ababab`, and in it `\#` is
+//! the number of the repetition, from 0.
+
+use std::alloc::{AllocError, Global};
+
+/// The bytes for which a text with escapes stands; none if it has an unknown escape, or a repetition that is not one.
+pub fn bytes(alloc: Global, text: &str) -> Result<Option<Vec<u8>>, AllocError> {
+    let mut out = Vec::new(alloc);
+    let (first, repetitions) = match text.split_once("\\[") {
+        Some((first, repetitions)) => (first, Some(repetitions)),
+        None => (text, None),
+    };
+    let mut is_good = push_plain(&mut out, first)?;
+    if let Some(repetitions) = repetitions {
+        for repetition in repetitions.split("\\[") {
+            is_good = is_good && push_repetition(alloc, &mut out, repetition)?;
+        }
+    }
+    Ok(if is_good { Some(out) } else { None })
+}
+
+/// The text for which a text with escapes stands; none where `bytes` has none, or they are not UTF-8.
+pub fn text(alloc: Global, text: &str) -> Result<Option<String>, AllocError> {
+    match bytes(alloc, text)? {
+        Some(bytes) => Ok(String::from_utf8(bytes).ok()),
+        None => Ok(None),
+    }
+}
+
+/// Adds what a repetition stands for, and the text behind it. Tells whether it is one.
+fn push_repetition(alloc: Global, out: &mut Vec<u8>, text: &str) -> Result<bool, AllocError> {
+    let Some((repetition, behind)) = text.split_once("\\]") else {
+        return Ok(false);
+    };
+    let Some((count, piece)) = repetition.split_once(' ') else {
+        return Ok(false);
+    };
+    let Ok(count) = count.parse::<u32>() else {
+        return Ok(false);
+    };
+    let is_good = if piece.contains("\\#") {
+        push_numbered(alloc, out, count, piece)?
+    } else {
+        push_times(alloc, out, count, piece)?
+    };
+    Ok(is_good && push_plain(out, behind)?)
+}
+
+/// Adds a text so many times; many times at once, since there may be millions.
+fn push_times(
+    alloc: Global,
+    out: &mut Vec<u8>,
+    count: u32,
+    text: &str,
+) -> Result<bool, AllocError> {
+    let mut piece = Vec::new(alloc);
+    let is_good = push_plain(&mut piece, text)?;
+    let mut block = Vec::new(alloc);
+    push_copies(&mut block, 1024, piece.as_slice())?;
+    push_copies(out, count / 1024, block.as_slice())?;
+    push_copies(out, count % 1024, piece.as_slice())?;
+    Ok(is_good)
+}
+
+fn push_copies(out: &mut Vec<u8>, count: u32, piece: &[u8]) -> Result<(), AllocError> {
+    for _ in 0..count {
+        out.extend_from_slice(piece)?;
+    }
+    Ok(())
+}
+
+/// Adds a text so many times, each time with the number of the repetition for `\#`.
+fn push_numbered(
+    alloc: Global,
+    out: &mut Vec<u8>,
+    count: u32,
+    text: &str,
+) -> Result<bool, AllocError> {
+    let mut is_good = true;
+    for number in 0..count {
+        let number = number.to_string(alloc)?;
+        let piece = text.replace(alloc, "\\#", number.as_str())?;
+        is_good = is_good && push_plain(out, piece.as_str())?;
+    }
+    Ok(is_good)
+}
+
+/// Where in an escape a text is read.
+#[derive(Clone, Copy)]
+enum State {
+    Plain,
+    Backslash,
+    FirstDigit,
+    SecondDigit(u8),
+    Bad,
+}
+
+/// Adds what a text without repetitions stands for. Tells whether each escape is known.
+fn push_plain(out: &mut Vec<u8>, text: &str) -> Result<bool, AllocError> {
+    let mut state = State::Plain;
+    for byte in text.as_bytes() {
+        let (next, found) = step(state, *byte);
+        state = next;
+        if let Some(byte) = found {
+            out.push(byte)?;
+        }
+    }
+    Ok(matches!(state, State::Plain))
+}
+
+/// The next state, and the byte that is complete.
+fn step(state: State, byte: u8) -> (State, Option<u8>) {
+    match state {
+        State::Plain if byte == b'\\' => (State::Backslash, None),
+        State::Plain => (State::Plain, Some(byte)),
+        State::Backslash if byte == b'x' => (State::FirstDigit, None),
+        State::Backslash => complete(escaped(byte)),
+        State::FirstDigit => match digit(byte) {
+            Some(digit) => (State::SecondDigit(digit), None),
+            None => (State::Bad, None),
+        },
+        State::SecondDigit(first) => complete(digit(byte).map(|second| first << 4 | second)),
+        State::Bad => (State::Bad, None),
+    }
+}
+
+fn complete(byte: Option<u8>) -> (State, Option<u8>) {
+    match byte {
+        Some(byte) => (State::Plain, Some(byte)),
+        None => (State::Bad, None),
+    }
+}
+
+/// The byte for which a byte behind a backslash stands.
+fn escaped(byte: u8) -> Option<u8> {
+    match byte {
+        b'n' => Some(b'\n'),
+        b't' => Some(b'\t'),
+        b'r' => Some(b'\r'),
+        b's' => Some(b' '),
+        b'0' => Some(0),
+        b'\\' => Some(b'\\'),
+        _ => None,
+    }
+}
+
+fn digit(byte: u8) -> Option<u8> {
+    match byte {
+        b'0'..=b'9' => Some(byte - b'0'),
+        b'a'..=b'f' => Some(byte - b'a' + 10),
+        _ => None,
+    }
+}

@@ -1,0 +1,74 @@
+//! Tries the worked cases of the libraries. Each file of `data/` whose name ends in `.cases` or `.commands` holds cases;
+//! the others are files that the commands read.
+#![tactic(auto)]
+
+mod addresses;
+mod answers;
+mod cases;
+mod commands;
+mod credentials;
+mod custodians;
+mod entries;
+mod escapes;
+mod exports;
+mod filesystems;
+mod hosts;
+mod lines;
+mod nets;
+mod networks;
+mod paths;
+mod policies;
+mod questions;
+mod report;
+mod site;
+mod tables;
+mod terminal;
+mod texts;
+
+use crate::report::Report;
+use std::alloc::AllocError;
+use std::process::ExitCode;
+use std::{fs, io};
+
+/// Prints for each file of cases how many there are and each that differs. The exit status is 0 if every case of every
+/// file has its answer, and no file is without cases.
+fn main(rt: HostRuntime) -> io::Result<ExitCode> {
+    let names = file_names(&rt)?;
+    let mut is_right = !names.is_empty();
+    if names.is_empty() {
+        println!(rt; "no files of cases")?;
+    }
+    for name in &names {
+        let report = report_of(&rt, name.as_str())?;
+        is_right = is_right && report.is_right();
+        println!(rt; "{name}: {report}")?;
+    }
+    Ok(if is_right {
+        ExitCode::SUCCESS
+    } else {
+        ExitCode::FAILURE
+    })
+}
+
+/// The names of the files of cases where the program runs, in byte order.
+fn file_names(rt: &HostRuntime) -> io::Result<Vec<String>> {
+    let mut names = Vec::new(rt.alloc());
+    for entry in fs::read_dir(rt, ".")? {
+        let entry = entry?;
+        let name = entry.file_name();
+        if name.ends_with(".cases") || name.ends_with(".commands") {
+            names.push(String::from_str(rt.alloc(), name)?)?;
+        }
+    }
+    names.sort_unstable();
+    Ok(names)
+}
+
+/// What came of the file with this name.
+fn report_of(rt: &HostRuntime, name: &str) -> Result<Report, AllocError> {
+    match fs::read_to_string(rt, name) {
+        Ok(text) if name.ends_with(".commands") => commands::report_of(rt, text.as_str()),
+        Ok(text) => cases::report_of(rt.alloc(), text.as_str()),
+        Err(error) => Report::unread(rt.alloc(), &error),
+    }
+}

@@ -1,0 +1,4 @@
+pub mod FirstBad
+pub mod KnownBytes
+pub mod MountWords
+pub mod TextFaults

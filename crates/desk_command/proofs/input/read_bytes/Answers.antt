@@ -1,0 +1,8 @@
+-- A reader is read as far as the limit reaches.
+use Rattle.desk_command.proofs.KnownBytes.{read_front}
+use Rattle.desk_command.proofs.input.read_bytes.Goals as goal
+
+pub returns : goal.returns
+returns g c =
+    read_front (g.R.Read.remaining c.args.reader) 16777217 c.new-bytes.result.items _ c.new-bytes.ensures.items
+    (rw (c.take-reader.ensures.limit, c.take-reader.ensures.inner) at c.in_ok-read_to_end.ensures.bytes)

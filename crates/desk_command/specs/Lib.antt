@@ -1,0 +1,6 @@
+pub mod Arguments
+pub mod Commands
+pub mod Input
+pub mod Output
+pub mod TryCommand
+pub mod TryText

@@ -1,0 +1,22 @@
+-- What a command prints on standard output, and its exit status. (this project's own)
+use Rattle.std.specs.Prelude.{ℕ, ◌++◌, ◌∷◌, List, [], Result, Ok, Err, if◌then◌else◌}
+use Rattle.std.specs.String.{string_bytes}
+use Rattle.desk_command.specs.TryText.{fault_line}
+use Rattle.desk_command.specs.declared.failure.Failure.{Failure}
+use Rattle.desk_command.specs.declared.failure.Failure.TheVariants.{Memory}
+use Rattle.desk_command.specs.declared.output.Output.{Output}
+use Rattle.desk_command.specs.declared.output.Output.TheVariants.{Faulty, Help, Tried}
+
+-- the exit status of a command whose output is printed
+abbrev pub status_of : Result Output Failure → ℕ
+status_of (Ok (Help text)) = 0
+status_of (Ok (Tried tried)) = if tried.granted then 0 else 1
+status_of (Ok (Faulty fault)) = 3
+status_of (Err Memory) = 4
+status_of (Err failure) = 2
+
+-- what is printed of an output: help as it is, else one line
+abbrev pub printed : Output → List ℕ
+printed (Help text) = string_bytes text
+printed (Tried tried) = string_bytes tried.line ++ 10 ∷ []
+printed (Faulty fault) = fault_line fault ++ 10 ∷ []

@@ -1,0 +1,43 @@
+//! The command line, as `clap` parses it.
+
+use clap::{Arg, ArgAction, Command};
+use std::alloc::{AllocError, Global};
+
+/// Makes the program's command line: one subcommand.
+pub fn command<'a>(alloc: Global) -> Result<Command<'a>, AllocError> {
+    Command::new(alloc, "exportdesk")
+        .version("0.1.0")
+        .about("Decides who may mount what, by the exports files of mountd(8)")
+        .after_help(
+            "Without words, the first line of standard input gives them, and the file - is the rest.\n\n\
+             Status: 0 granted, or help was printed; 1 denied; 2 bad words, or a file that cannot be read;\n\
+             3 the exports text has a fault; 4 out of memory, or the output could not be written.\n\
+             docs/RULES.md explains each rule that an exports text can break.",
+        )
+        .disable_help_subcommand(true)
+        .subcommand_required(true)
+        .subcommand(try_command(alloc)?)
+}
+
+/// Makes the command line of `try FILE HOST DIR MOUNT...`
+fn try_command<'a>(alloc: Global) -> Result<Command<'a>, AllocError> {
+    let mounts = word(alloc, "MOUNT", "The mount points of the file systems").num_args(1..);
+    Command::new(alloc, "try")
+        .about("Decides one mount request by an exports file")
+        .after_help(
+            "It is given no tables: names of hosts stand for nothing, credentials are written in numbers\n\
+             with a colon (0:0), and names of networks are unknown.",
+        )
+        .arg(word(alloc, "FILE", "The exports text; - is standard input"))?
+        .arg(word(alloc, "HOST", "The IPv4 address of the client"))?
+        .arg(word(alloc, "DIR", "The directory that it asks for"))?
+        .arg(mounts)
+}
+
+/// Makes an argument that is required, and taken as it is.
+fn word<'a>(alloc: Global, name: &'a str, help: &'a str) -> Arg<'a> {
+    Arg::new(alloc, name)
+        .required(true)
+        .action(ArgAction::Set)
+        .help(help)
+}

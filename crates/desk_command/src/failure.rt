@@ -1,0 +1,131 @@
+//! Why a command has no answer.
+
+ghost use Rattle.desk_command.specs.TryCommand.{IsFileFailure};
+
+use crate::arguments::BadArgument;
+use crate::input::TextFault;
+use std::alloc::{AllocError, AllocFailed, Global};
+use std::io::ErrorKind;
+use std::{fmt, io};
+
+/// Where the words of a command come from.
+#[derive(Clone, Copy)]
+pub enum Origin {
+    Arguments,
+    /// The first line of standard input.
+    FirstLine,
+}
+
+/// Why a command has no answer.
+#[derive(Drop)]
+pub enum Failure {
+    /// The word at this place, from 1, is not UTF-8.
+    Word(usize),
+    /// The words are not a command: the message of `clap`.
+    Usage(String),
+    /// An argument that `clap` requires is missing.
+    Missing(&'static str),
+    /// An argument cannot be parsed.
+    Argument(BadArgument),
+    /// There are more than 256 different mount points.
+    TooManyMounts,
+    /// The first line of standard input cannot be read.
+    FirstLine(ReadFailure),
+    /// The file that this word names cannot be read.
+    File(String, ReadFailure),
+    Memory,
+}
+
+/// Why a text cannot be read.
+#[derive(Drop)]
+pub enum ReadFailure {
+    System(io::Error),
+    Text(TextFault),
+}
+
+impl From<AllocError> for Failure {
+    ghost use Rattle.std.specs.Prelude.{◌≡◌};
+    ghost use Rattle.desk_command.specs.declared.failure.Failure.TheVariants.{Memory};
+
+    ghost from_gives = { λ _ e. e ≡ Memory };
+
+    fn from(_error: AllocError) -> Failure {
+        Failure::Memory
+    }
+}
+
+impl<T: Drop> From<AllocFailed<T>> for Failure {
+    ghost use Rattle.std.specs.Prelude.{◌≡◌};
+    ghost use Rattle.desk_command.specs.declared.failure.Failure.TheVariants.{Memory};
+
+    ghost from_gives = { λ _ e. e ≡ Memory };
+
+    fn from(_error: AllocFailed<T>) -> Failure {
+        Failure::Memory
+    }
+}
+
+impl Failure {
+    /// The failure to read the file that a word names.
+    pub fn of_file(alloc: Global, file: &str, failure: ReadFailure) -> Failure
+        ensures { IsFileFailure file.now failure result }
+    {
+        match String::from_str(alloc, file) {
+            Ok(file) => Failure::File(file, failure),
+            Err(_) => Failure::Memory,
+        }
+    }
+}
+
+impl ReadFailure {
+    /// Why the system could not read; or that memory ran out.
+    pub fn of_error(error: io::Error) -> Result<ReadFailure, Failure> {
+        match error.kind() {
+            ErrorKind::OutOfMemory => Err(Failure::Memory),
+            _ => Ok(ReadFailure::System(error)),
+        }
+    }
+}
+
+/// The message on a failure, in whole lines.
+pub fn message(alloc: Global, origin: Origin, failure: &Failure) -> Result<String, AllocError> {
+    match (origin, failure) {
+        (Origin::Arguments, Failure::Usage(text)) => text.clone(),
+        (Origin::FirstLine, Failure::Usage(text)) => {
+            format!(in alloc; "exportdesk: the first line of standard input: {text}")
+        }
+        (Origin::Arguments, _) | (_, Failure::File(..)) => {
+            format!(in alloc; "exportdesk: {failure}\n")
+        }
+        (Origin::FirstLine, _) => {
+            format!(in alloc; "exportdesk: the first line of standard input: {failure}\n")
+        }
+    }
+}
+
+impl fmt::Display for Failure {
+    fn fmt<W: fmt::Write>(&self, f: &mut fmt::Formatter<W>) -> fmt::Result {
+        match self {
+            Failure::Word(place) => write!(f, "word {place}: it is not UTF-8"),
+            Failure::Usage(text) => f.write_str(text.as_str()),
+            Failure::Missing(name) => write!(f, "{name}: it is missing"),
+            Failure::Argument(bad) => write!(f, "{bad}"),
+            Failure::TooManyMounts => write!(f, "MOUNT: over 256 different mount points"),
+            Failure::FirstLine(failure) => write!(f, "{failure}"),
+            Failure::File(word, failure) => write!(f, "FILE {word:?}: {failure}"),
+            Failure::Memory => write!(f, "out of memory"),
+        }
+    }
+}
+
+impl fmt::Display for ReadFailure {
+    fn fmt<W: fmt::Write>(&self, f: &mut fmt::Formatter<W>) -> fmt::Result {
+        match self {
+            ReadFailure::System(error) => write!(f, "{error}"),
+            ReadFailure::Text(TextFault::TooLong) => write!(f, "it is over 16777216 bytes"),
+            ReadFailure::Text(TextFault::NotUtf8 { line, column }) => {
+                write!(f, "line {line}, column {column}: it is not UTF-8")
+            }
+        }
+    }
+}

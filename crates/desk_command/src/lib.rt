@@ -1,0 +1,37 @@
+//! The commands of the program: from words and input to what is printed and an exit status.
+#![tactic(auto)]
+
+mod arguments;
+mod command_line;
+mod commands;
+mod failure;
+mod input;
+mod output;
+mod try_command;
+pub mod try_text;
+
+use crate::commands::{run_first_line, run_words};
+use crate::failure::Origin;
+use crate::output::report;
+pub use output::print_memory;
+use std::convert::AsSlice;
+use std::io::{BufRead, Write};
+
+/// Runs one command and returns the exit status. Without words, the first line of the input gives them,
+/// and the file `-` is the rest. What the command answers goes to `out`; what is wrong with the words,
+/// with a file that they name, or with a print, goes to `err`.
+pub fn run<S, I, O, E>(rt: &HostRuntime, words: &[S], input: &mut I, out: &mut O, err: &mut E) -> u8
+where
+    S: AsSlice<u8>,
+    I: BufRead,
+    O: Write,
+    E: Write,
+{
+    if words.is_empty() {
+        let answer = run_first_line(rt, input);
+        report(rt.alloc(), Origin::FirstLine, answer, out, err)
+    } else {
+        let answer = run_words(rt, words, input);
+        report(rt.alloc(), Origin::Arguments, answer, out, err)
+    }
+}

@@ -1,0 +1,106 @@
+//! How a command ends: what it prints, and its exit status.
+
+ghost use Rattle.std.specs.Prelude.{◌≡◌, ◌≢◌, ◌⊎◌, ◌++◌, ◌∷◌, IfOk, OnOk};
+ghost use Rattle.std.specs.Io.KnownBytes.{Appends};
+ghost use Rattle.std.specs.String.{string_bytes};
+ghost use Rattle.desk_command.specs.Output as spec;
+
+use crate::failure::{Failure, Origin, message};
+use crate::try_text::{Tried, fault_text};
+use desk_exports::LineFault;
+use std::alloc::{AllocError, Global};
+use std::io;
+use std::io::Write;
+
+/// What a command prints on standard output.
+#[derive(Drop)]
+pub enum Output {
+    /// Help or the version, as `clap` writes it.
+    Help(String),
+    /// The answer of `try` to a text without a fault.
+    Tried(Tried),
+    /// The first faulty line of the exports text.
+    Faulty(LineFault),
+}
+
+/// Prints what a command answers, or why it does not, and returns the exit status.
+pub fn report<O: Write, E: Write>(
+    alloc: Global,
+    origin: Origin,
+    answer: Result<Output, Failure>,
+    out: &mut O,
+    err: &mut E,
+) -> u8
+    ensures status { (result ≡ spec.status_of answer) ⊎ (result ≡ 4) }
+    ensures printed { IfOk answer (λ output. result ≢ 4 → Appends (O.contents out.old) (O.contents out.new) (spec.printed output)) }
+{
+    let status = status_of(&answer);
+    match answer {
+        Ok(output) => match output_text(alloc, output) {
+            Ok(text) => print(text.as_str(), status, out, err),
+            Err(_) => print_memory(out, err),
+        },
+        Err(Failure::Memory) => print_memory(out, err),
+        Err(failure) => match message(alloc, origin, &failure) {
+            Ok(text) => {
+                let _ = err.write_all(text.as_bytes());
+                status
+            }
+            Err(_) => print_memory(out, err),
+        },
+    }
+}
+
+/// The exit status of an answer, if it can be printed.
+fn status_of(answer: &Result<Output, Failure>) -> u8
+    ensures { result ≡ spec.status_of answer.now }
+{
+    match answer {
+        Ok(Output::Help(_)) => 0,
+        Ok(Output::Tried(tried)) => { if tried.granted { 0 } else { 1 } }
+        Ok(Output::Faulty(_)) => 3,
+        Err(Failure::Memory) => 4,
+        Err(_) => 2,
+    }
+}
+
+/// What is printed of an output, in whole lines.
+fn output_text(alloc: Global, output: Output) -> Result<String, AllocError>
+    ensures { IfOk result (λ text. string_bytes text ≡ spec.printed output) }
+{
+    let mut line = match output {
+        Output::Help(text) => return Ok(text),
+        Output::Tried(tried) => tried.line,
+        Output::Faulty(fault) => fault_text(alloc, fault)?,
+    };
+    line.push('\n')?;
+    Ok(line)
+}
+
+/// Prints that memory ran out, and returns the status.
+pub fn print_memory<O: Write, E: Write>(out: &mut O, err: &mut E) -> u8
+    ensures { result ≡ 4 }
+{
+    print("refused 203 Memory\n", 4, out, err)
+}
+
+/// Prints a text and returns the status, or says why the print failed and returns 4.
+fn print<O: Write, E: Write>(text: &str, status: u8, out: &mut O, err: &mut E) -> u8
+    ensures status { (result ≡ status) ⊎ (result ≡ 4) }
+    ensures printed { result ≢ 4 → Appends (O.contents out.old) (O.contents out.new) text.now }
+{
+    match write(text, out) {
+        Ok(()) => status,
+        Err(error) => {
+            let _ = writeln!(err, "exportdesk: standard output: {error}");
+            4
+        }
+    }
+}
+
+fn write<O: Write>(text: &str, out: &mut O) -> io::Result<()>
+    ensures { OnOk result (Appends (O.contents out.old) (O.contents out.new) text.now) }
+{
+    out.write_all(text.as_bytes())?;
+    out.flush()
+}
