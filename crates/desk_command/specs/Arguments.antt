@@ -3,11 +3,11 @@ use Rattle.std.specs.Prelude.{◌≡◌, ℕ, Bool, not, List, Option, Some, Non
 use Rattle.std.specs.List.{filter_map}
 use Rattle.std.specs.Result.{result_ok}
 use Rattle.std.specs.String.{string_bytes}
-use Rattle.desk_text.specs.Addr.{number_of, read_addr}
+use Rattle.desk_text.specs.Address.{number_of, read_addr}
 use Rattle.desk_text.specs.Path.{read_path}
 use Rattle.desk_text.specs.declared.address.AddrFault.{AddrFault}
 use Rattle.desk_text.specs.declared.path.PathFault.{PathFault}
-use Rattle.desk_tables.specs.Mounts.{IsTableOf, TooMany}
+use Rattle.desk_tables.specs.FileSystems.{IsTableOf, TooMany}
 use Rattle.desk_command.specs.declared.arguments.Argument.{Argument}
 use Rattle.desk_command.specs.declared.arguments.Argument.TheVariants as name
 use Rattle.desk_command.specs.declared.arguments.ArgumentFault.{ArgumentFault}

@@ -4,6 +4,7 @@ use Rattle.std.specs.Io.BufRead.{ends_with_byte, strip_last}
 use Rattle.std.specs.List.{after_last, slice_split}
 use Rattle.std.specs.Str.{is_utf8}
 use Rattle.std.specs.Str.Lossy.{utf8_valid_len}
+use Rattle.desk_text.specs.Bytes.{is_blank}
 use Rattle.desk_command.specs.declared.input.TextFault.{TextFault}
 use Rattle.desk_command.specs.declared.input.TextFault.TheVariants.{TooLong, NotUtf8}
 
@@ -41,10 +42,6 @@ without_line_end line = if ends_with_byte 10 line then strip_last 13 (strip_last
 -- the words of the first line of standard input: the line without its line end, if it is not too long
 abbrev pub first_line : List ℕ → Result (List ℕ) TextFault
 first_line line = if nat_lt longest_text (length (without_line_end line)) then Err TooLong else Ok (without_line_end line)
-
--- a space or a tab
-abbrev pub is_blank : ℕ → Bool
-is_blank b = b == 32 || b == 9
 
 -- the words of a line: what stands between its blanks, if it is not empty
 abbrev pub words_of : List ℕ → List (List ℕ)

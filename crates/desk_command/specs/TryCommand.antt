@@ -1,8 +1,9 @@
 -- The output of `try` by the bytes of FILE. (this project's own)
 use Rattle.std.specs.Prelude.{◌≡◌, ℕ, List, Result, Ok, Err}
 use Rattle.std.specs.String.{string_bytes}
-use Rattle.desk_text.specs.Addr.{number_of}
-use Rattle.desk_exports.specs.declared.files.LineFault.{LineFault}
+use Rattle.desk_text.specs.Address.{number_of}
+use Rattle.desk_text.specs.declared.reading.LineFault.{LineFault}
+use Rattle.desk_exports.specs.declared.rules.Rule.{Rule}
 use Rattle.desk_command.specs.TryText.{Answer, answer_of, try_answer}
 use Rattle.desk_command.specs.declared.failure.Failure.{Failure}
 use Rattle.desk_command.specs.declared.failure.Failure.TheVariants.{File, Memory}
@@ -20,7 +21,7 @@ IsFileFailure file reason Memory = Unit {0}
 IsFileFailure file reason failure = ⊥
 
 -- the output tells this answer, or this fault of the text; out of memory says nothing
-abbrev pub Tells : Result Answer LineFault → Result Output Failure → Type 0
+abbrev pub Tells : Result Answer (LineFault Rule) → Result Output Failure → Type 0
 Tells (Ok answer) (Ok (Tried tried)) = answer_of tried ≡ answer
 Tells (Err fault) (Ok (Faulty found)) = found ≡ fault
 Tells expected (Err Memory) = Unit {0}

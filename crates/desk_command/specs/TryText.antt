@@ -1,18 +1,17 @@
 -- What `try` answers over an exports text. (this project's own)
-use Rattle.std.specs.Prelude.{ℕ, ◌++◌, ◌∷◌, Bool, List, Result, Ok, Err, codes, is_ok}
-use Rattle.std.specs.Fmt.{decimal}
+use Rattle.std.specs.Prelude.{ℕ, Bool, List, Result, Ok, Err, is_ok}
 use Rattle.std.specs.String.{string_bytes}
 use Rattle.desk_tables.specs.declared.filesystems.FsId.{FsId}
 use Rattle.desk_tables.specs.declared.filesystems.Mount.{Mount}
 use Rattle.desk_exports.specs.Files.{whole_answer}
-use Rattle.desk_exports.specs.Lent.{only_filesystems}
-use Rattle.desk_exports.specs.Rules.{rule_name, rule_number}
+use Rattle.desk_exports.specs.Tables.{only_filesystems}
 use Rattle.desk_exports.specs.declared.entry.Entry.{Entry}
-use Rattle.desk_exports.specs.declared.files.LineFault.{LineFault}
-use Rattle.desk_policy.specs.Content.{Content, content_of}
+use Rattle.desk_exports.specs.declared.rules.Rule.{Rule}
+use Rattle.desk_text.specs.declared.reading.LineFault.{LineFault}
+use Rattle.desk_policy.specs.Policy.{Content, content_of}
 use Rattle.desk_policy.specs.Prints.{verdict_line}
-use Rattle.desk_policy.specs.Verdicts.{Grant, verdict_of}
-use Rattle.desk_policy.specs.declared.verdicts.Denial.{Denial}
+use Rattle.desk_policy.specs.Verdict.{Grant, verdict_of}
+use Rattle.desk_policy.specs.declared.verdict.Denial.{Denial}
 use Rattle.desk_command.specs.declared.try_text.Tried.{Tried}
 
 -- whether the mount is granted, and the verdict as it is printed, without a line end
@@ -33,14 +32,10 @@ abbrev pub policy_answer : Content → ℕ → List (List ℕ) → Answer
 policy_answer content address path = answer_on content (verdict_of content address path)
 
 -- the answer over the entries of a text, or its fault
-abbrev pub answer_over : List Mount → ℕ → List (List ℕ) → Result (List (FsId × Entry)) LineFault → Result Answer LineFault
+abbrev pub answer_over : List Mount → ℕ → List (List ℕ) → Result (List (FsId × Entry)) (LineFault Rule) → Result Answer (LineFault Rule)
 answer_over table address path (Ok placed) = Ok (policy_answer (content_of table placed) address path)
 answer_over table address path (Err fault) = Err fault
 
 -- the answer for an address and a path over an exports text, with these file systems and no other table; or the text's first fault
-abbrev pub try_answer : List Mount → List ℕ → ℕ → List (List ℕ) → Result Answer LineFault
+abbrev pub try_answer : List Mount → List ℕ → ℕ → List (List ℕ) → Result Answer (LineFault Rule)
 try_answer table text address path = answer_over table address path (whole_answer (only_filesystems table) text)
-
--- a fault as it is printed, without a line end
-abbrev pub fault_line : LineFault → List ℕ
-fault_line fault = codes "fault line " ++ decimal fault.line ++ codes " rule " ++ decimal (rule_number fault.rule) ++ 32 ∷ rule_name fault.rule

@@ -1,9 +1,9 @@
 //! The arguments of `try`: HOST, DIR and MOUNT.
 
 ghost use Rattle.std.specs.Prelude.{◌≡◌, MatchResult, None, map};
-ghost use Rattle.desk_text.specs.Addr.{number_of, read_addr};
+ghost use Rattle.desk_text.specs.Address.{number_of, read_addr};
 ghost use Rattle.desk_text.specs.Path.{read_path};
-ghost use Rattle.desk_tables.specs.Mounts.{IsTableOf};
+ghost use Rattle.desk_tables.specs.FileSystems.{IsTableOf};
 ghost use Rattle.desk_command.specs.Arguments.{AnswersArgument, IsBadArgument, IsBadMount, IsNoTable, IsRefusal, IsRequest, first_bad_path, paths_of};
 ghost use Rattle.desk_command.specs.declared.arguments.Argument.TheVariants.{Host};
 ghost use Rattle.desk_command.specs.declared.arguments.ArgumentFault.TheVariants as fault;

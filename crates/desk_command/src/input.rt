@@ -6,6 +6,7 @@ ghost use Rattle.std.specs.List.{after_last};
 ghost use Rattle.std.specs.Result.{result_map_both};
 ghost use Rattle.desk_command.specs.Input as spec;
 
+use desk_text::is_blank;
 use std::alloc::{AllocError, Global};
 use std::io::{BufRead, Read};
 use std::{io, str};
@@ -123,7 +124,7 @@ fn begins_character(byte: u8) -> bool
 pub fn words_of(alloc: Global, line: &[u8]) -> Result<Vec<&[u8]>, AllocError>
     ensures { IfOk result (λ words. map (λ word. word.now) words.items ≡ spec.words_of line.now) }
 {
-    line.split(|byte| *byte == b' ' || *byte == b'\t')
+    line.split(|byte| is_blank(*byte))
         .filter(|word| !word.is_empty())
         .collect(alloc)
 }

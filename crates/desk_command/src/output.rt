@@ -6,8 +6,9 @@ ghost use Rattle.std.specs.String.{string_bytes};
 ghost use Rattle.desk_command.specs.Output as spec;
 
 use crate::failure::{Failure, Origin, message};
-use crate::try_text::{Tried, fault_text};
-use desk_exports::LineFault;
+use crate::try_text::Tried;
+use desk_exports::{Rule, fault_text};
+use desk_text::LineFault;
 use std::alloc::{AllocError, Global};
 use std::io;
 use std::io::Write;
@@ -20,7 +21,7 @@ pub enum Output {
     /// The answer of `try` to a text without a fault.
     Tried(Tried),
     /// The first faulty line of the exports text.
-    Faulty(LineFault),
+    Faulty(LineFault<Rule>),
 }
 
 /// Prints what a command answers, or why it does not, and returns the exit status.

@@ -1,19 +1,17 @@
 //! The verdict on one mount over an exports text.
 
-ghost use Rattle.std.specs.Prelude.{◌≡◌, ◌≤◌, ◌∷◌, ◌++◌, IfOk, codes, is_ok, length};
-ghost use Rattle.std.specs.Fmt.{decimal};
-ghost use Rattle.std.specs.String.{string_bytes};
-ghost use Rattle.desk_text.specs.Addr.{number_of};
+ghost use Rattle.std.specs.Prelude.{◌≤◌, IfOk, length};
+ghost use Rattle.desk_text.specs.Address.{number_of};
 ghost use Rattle.desk_text.specs.Reading.{Reads, ReadsAs};
 ghost use Rattle.desk_exports.specs.Files.{EntriesAscend, whole_answer};
-ghost use Rattle.desk_exports.specs.Lent.{only_filesystems};
-ghost use Rattle.desk_command.specs.TryText.{answer_of, fault_line, try_answer};
+ghost use Rattle.desk_exports.specs.Tables.{only_filesystems};
+ghost use Rattle.desk_command.specs.TryText.{answer_of, try_answer};
 
-use desk_exports::{Entry, LineFault, Tables, read_whole};
+use desk_exports::{Entry, Rule, Tables, read_whole};
 use desk_policy::{Policy, Verdict, decide, verdict_text};
 use desk_tables::{FileSystems, FsId, Groups, Networks, Users};
-use desk_text::{Addr, Path, ReadError, Sequence};
-use std::alloc::{AllocError, Global};
+use desk_text::{Addr, LineFault, Path, ReadError, Sequence};
+use std::alloc::Global;
 
 /// The answer of `try` to a text without a fault.
 #[derive(Debug, Drop)]
@@ -32,7 +30,7 @@ pub fn try_text(
     filesystems: FileSystems,
     address: Addr,
     path: &Path,
-) -> Result<Tried, ReadError<LineFault>>
+) -> Result<Tried, ReadError<LineFault<Rule>>>
     requires { length text.now ≤ 4294967294 }
     ensures { ReadsAs answer_of result (try_answer filesystems text.now (number_of address) path.now) }
 {
@@ -49,7 +47,7 @@ fn read_with_mounts(
     alloc: Global,
     text: &str,
     filesystems: &FileSystems,
-) -> Result<Sequence<(FsId, Entry)>, ReadError<LineFault>>
+) -> Result<Sequence<(FsId, Entry)>, ReadError<LineFault<Rule>>>
     requires { length text.now ≤ 4294967294 }
     ensures read { Reads result (whole_answer (only_filesystems filesystems.now) text.now) }
     ensures ascending { IfOk result EntriesAscend }
@@ -64,23 +62,4 @@ fn read_with_mounts(
         filesystems,
     };
     read_whole(alloc, text, &tables)
-}
-
-/// A fault as it is printed, without a line end.
-pub fn fault_text(alloc: Global, fault: LineFault) -> Result<String, AllocError>
-    ensures { IfOk result (λ text. string_bytes text ≡ fault_line fault) }
-{
-    numbered_fault_text(alloc, fault.line, fault.rule.number(), fault.rule.name())
-}
-
-fn numbered_fault_text(
-    alloc: Global,
-    line: u32,
-    number: u32,
-    name: &str,
-) -> Result<String, AllocError>
-    ensures { IfOk result (λ text. string_bytes text
-        ≡ codes "fault line " ++ decimal line ++ codes " rule " ++ decimal number ++ 32 ∷ name.now) }
-{
-    format!(in alloc; "fault line {line} rule {number} {name}")
 }

@@ -3,7 +3,7 @@ use Rattle.std.proofs.Common.{◌==◌, rules, not, length}
 use Rattle.std.proofs.lemmas.Iterator.Consumers.{YieldsList-from_filter, map_from_collect}
 use Rattle.std.proofs.lemmas.Iterator.Splits.{YieldsList-from_slice_split}
 use borrow.Author.Tests.{tests}
-use Rattle.desk_command.specs.Input.{is_blank}
+use Rattle.desk_text.specs.Bytes.{is_blank}
 use Rattle.desk_command.proofs.input.words_of.Goals as goal
 
 pub returns : goal.returns
