@@ -3,10 +3,10 @@ use Rattle.std.proofs.Common.{◌≡◌, ◌==◌, ◌⊎◌, inl, inr, ℕ, Boo
 use Rattle.std.specs.List.{flat_map, after_first}
 use Rattle.std.proofs.lemmas.Bool.{cases_Bool}
 use Rattle.desk_exports.specs.Options.{keyword_of}
-use Rattle.desk_exports.specs.Grammar.{has_equals, last_wants, names, offered, option_name, pieces, setting, settings, settings_of, takes_next, wants_value}
+use Rattle.desk_exports.specs.Grammar.{has_equals, last_wants, names, offered, option_name, pieces, setting, settings, settings_of, takes_next}
 use Rattle.desk_exports.specs.declared.options.Setting.{Setting}
 use Rattle.desk_exports.specs.declared.grammar.GrammarWord.{GrammarWord}
-use Rattle.desk_exports.specs.Laws.{AreItems, FallIntoItems, IsAtDash, Item, Name, Options, OptionsWithValue, ItemsSayTheLine, WordsFallIntoItems, item_names, item_settings, item_words}
+use Rattle.desk_exports.specs.Laws.{FallIntoItems, IsAtDash, Name, Options, OptionsWithValue, ItemsSayTheLine, WordsFallIntoItems, item_words}
 
 takes_nothing : (w : GrammarWord) → w.dashed ≡ false → takes_next w ≡ false
 takes_nothing w e = ap (λ d. d && last_wants (pieces w)) e
