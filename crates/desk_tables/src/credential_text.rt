@@ -1,4 +1,7 @@
-//! What a credential text stands for. (exports(5))
+//! Credential texts: a user, or a user and groups. (exports(5))
+//!
+//! Each fault is asked of the text by itself, so that an exports line can ask each of its rules by itself; the first in the
+//! order of their numbers is reported.
 
 ghost use Rattle.std.specs.Prelude.{◌≡◌, ◌==◌, ◌≤◌, ◌&&◌, List, Some, [], find, is_none, length};
 ghost use Rattle.std.specs.List.{filter_map, list_any};
@@ -17,7 +20,7 @@ use crate::users::{User, Users};
 use desk_text::is_digits;
 use thiserror::Error;
 
-/// Why a credential text stands for no credential. Of several faults the first in this order is named.
+/// Why a text is not a credential. Of several faults the first in this order is reported.
 #[derive(Clone, Copy, Debug, PartialEq, Eq, Error)]
 pub enum CredFault {
     #[error("no user has this name or number")]
@@ -28,12 +31,12 @@ pub enum CredFault {
     TooManyGroups,
     #[error("a name or a number is empty")]
     EmptyElement,
-    #[error("a number is no decimal up to 4294967295")]
+    #[error("a number is not a decimal up to 4294967295")]
     Range,
 }
 
 impl CredFault {
-    /// The number of the fault, from 1.
+    /// Returns the number of the fault, from 1.
     pub fn number(self) -> u32
         ensures { result ≡ cred_fault_number self }
     {
@@ -44,7 +47,7 @@ impl CredFault {
 /// The most groups that a credential has.
 const MOST_GROUPS: usize = 16;
 
-/// The order in which a fault is named.
+/// The faults, in the order in which they are checked.
 const CRED_FAULTS: [CredFault; 5] = [
     CredFault::UnknownUser,
     CredFault::UnknownGroup,
@@ -53,9 +56,8 @@ const CRED_FAULTS: [CredFault; 5] = [
     CredFault::Range,
 ];
 
-/// The credential that a text stands for: a user alone, with its own gid and those of the groups that list it; or a user
-/// and groups with colons between them, as they are written. Users and groups are names or numbers; `user:` has no
-/// groups.
+/// Reads a credential: a user alone, with its own gid and those of the groups that list it; or a user and groups with
+/// colons between them, as they are written. Users and groups are names or numbers; `user:` has no groups.
 pub fn credential(users: &Users, groups: &Groups, text: &str) -> Result<Cred, CredFault>
     ensures { Some result ≡ read_credential users.now groups.now text.now }
 {
@@ -71,7 +73,7 @@ pub fn credential(users: &Users, groups: &Groups, text: &str) -> Result<Cred, Cr
     }
 }
 
-/// The credential of a user alone.
+/// Reads the credential of a user alone.
 fn alone(users: &Users, groups: &Groups, user: &str) -> Result<Cred, CredFault>
     ensures { Some result ≡ alone_answer users.now groups.now user.now }
 {
@@ -93,7 +95,7 @@ fn alone(users: &Users, groups: &Groups, user: &str) -> Result<Cred, CredFault>
     }
 }
 
-/// The user that an element alone stands for.
+/// Finds the user for which an element alone stands.
 fn user_named<'a>(users: &'a Users, element: &str) -> Option<&'a User>
     ensures { option_copied result ≡ user_named users.now element.now }
 {
@@ -107,7 +109,7 @@ fn user_named<'a>(users: &'a Users, element: &str) -> Option<&'a User>
     users.by_name(element)
 }
 
-/// The credential of a user with no groups.
+/// Reads the credential of a user with no groups.
 fn without_groups(users: &Users, groups: &Groups, user: &str) -> Result<Cred, CredFault>
     ensures { Some result ≡ written_answer users.now groups.now user.now [] }
 {
@@ -126,7 +128,7 @@ fn without_groups(users: &Users, groups: &Groups, user: &str) -> Result<Cred, Cr
     }
 }
 
-/// The credential of a user and the groups that others names.
+/// Reads the credential of a user and the groups that others names.
 fn with_groups(users: &Users, groups: &Groups, user: &str, others: &str) -> Result<Cred, CredFault>
     ensures { Some result ≡ written_answer users.now groups.now user.now (elements others.now) }
 {
@@ -142,14 +144,14 @@ fn with_groups(users: &Users, groups: &Groups, user: &str, others: &str) -> Resu
     }
 }
 
-/// The least fault of a user and the groups that others names.
+/// Finds the first fault of a user and the groups that others names.
 fn written_fault(users: &Users, groups: &Groups, user: &str, others: &str) -> Option<CredFault>
     ensures { result ≡ find (written_breaks users.now groups.now user.now (elements others.now)) cred_faults }
 {
     CRED_FAULTS.iter().copied().find(|fault| written_breaks(users, groups, user, others, *fault))
 }
 
-/// Whether a fault holds of a text, whatever other faults do.
+/// Tests whether a text has a fault, whatever other faults it has.
 pub fn has_fault(users: &Users, groups: &Groups, text: &str, fault: CredFault) -> bool
     ensures { result ≡ cred_breaks users.now groups.now (elements text.now) fault }
 {
@@ -165,7 +167,7 @@ pub fn has_fault(users: &Users, groups: &Groups, text: &str, fault: CredFault) -
     }
 }
 
-/// Whether a fault holds of a user alone.
+/// Tests whether a user alone has a fault.
 fn alone_breaks(users: &Users, groups: &Groups, user: &str, fault: CredFault) -> bool
     ensures { result ≡ alone_breaks users.now groups.now user.now fault }
 {
@@ -180,7 +182,7 @@ fn alone_breaks(users: &Users, groups: &Groups, user: &str, fault: CredFault) ->
     }
 }
 
-/// Whether a user alone has more than sixteen groups.
+/// Tests whether a user alone has more than sixteen groups.
 fn has_many_groups(users: &Users, groups: &Groups, user: &str) -> bool
     ensures { result ≡ alone_breaks users.now groups.now user.now TooManyGroups }
 {
@@ -190,7 +192,7 @@ fn has_many_groups(users: &Users, groups: &Groups, user: &str) -> bool
     }
 }
 
-/// Whether a fault holds of a user with no groups.
+/// Tests whether a user with no groups has a fault.
 fn without_groups_breaks(users: &Users, user: &str, fault: CredFault) -> bool
     ensures { (groups : List Group) → result ≡ written_breaks users.now groups user.now [] fault }
 {
@@ -202,7 +204,7 @@ fn without_groups_breaks(users: &Users, user: &str, fault: CredFault) -> bool
     }
 }
 
-/// Whether a fault holds of a user and the groups that others names.
+/// Tests whether a user and the groups that others names have a fault.
 fn written_breaks(
     users: &Users,
     groups: &Groups,
@@ -259,21 +261,21 @@ fn any_out_of_range(others: &str) -> bool
     others.split(':').any(|element| is_out_of_range(element))
 }
 
-/// Whether an element is of digits alone and no number.
+/// Tests whether an element consists of digits but is not a number.
 fn is_out_of_range(element: &str) -> bool
     ensures { result ≡ is_out_of_range element.now }
 {
     is_digits(element) && read_number(element).is_none()
 }
 
-/// Whether an element is neither empty nor of digits alone.
+/// Tests whether an element is a name: it is not empty, and does not consist of digits.
 fn is_name(element: &str) -> bool
     ensures { result ≡ is_name element.now }
 {
     !is_digits(element) && !element.is_empty()
 }
 
-/// The number of a user, which is written or that of its name.
+/// Finds the number of a user, which is written or that of its name.
 fn uid_of(users: &Users, element: &str) -> Option<u32>
     ensures { result ≡ uid_of users.now element.now }
 {
@@ -283,7 +285,7 @@ fn uid_of(users: &Users, element: &str) -> Option<u32>
     users.by_name(element).map(|user| user.uid)
 }
 
-/// The number of a group, which is written or that of its name.
+/// Finds the number of a group, which is written or that of its name.
 fn gid_of(groups: &Groups, element: &str) -> Option<u32>
     ensures { result ≡ gid_of groups.now element.now }
 {
@@ -293,7 +295,7 @@ fn gid_of(groups: &Groups, element: &str) -> Option<u32>
     groups.by_name(element).map(|group| group.gid)
 }
 
-/// The numbers of the groups that a text names, of which there are at most sixteen.
+/// Lists the numbers of the groups that a text names, of which there are at most sixteen.
 fn gids_in(groups: &Groups, others: &str) -> GroupIds
     requires { length (elements others.now) ≤ 16 }
     ensures { result ≡ filter_map (gid_of groups.now) (elements others.now) }

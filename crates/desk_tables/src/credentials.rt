@@ -26,7 +26,7 @@ impl Model for GroupIds {
 }
 
 impl GroupIds {
-    /// The group numbers, of which there are at most sixteen.
+    /// Lends the group numbers, of which there are at most sixteen.
     pub fn as_slice(&self) -> &[u32]
         ensures value { result.now ≡ self.now }
         ensures few { length result.now ≤ 16 }
@@ -48,7 +48,7 @@ impl GroupIds {
         Some(items)
     }
 
-    /// One group number.
+    /// Makes the list of one group number.
     pub(crate) fn of(gid: u32) -> GroupIds
         ensures { result ≡ gid ∷ [] }
     {
@@ -59,7 +59,7 @@ impl GroupIds {
         gids
     }
 
-    /// No group numbers.
+    /// Makes the list of no group numbers.
     pub(crate) fn none() -> GroupIds
         ensures { result ≡ [] }
     {
@@ -68,7 +68,7 @@ impl GroupIds {
         }
     }
 
-    /// Adds a group number, where there is room.
+    /// Adds a group number; there is room for it.
     pub(crate) fn push(&mut self, gid: u32)
         requires { length self.old < 16 }
         ensures { self.new ≡ self.old ++ gid ∷ [] }
@@ -108,7 +108,7 @@ impl Cred {
         Some(Cred { uid, gids })
     }
 
-    /// A user with one group.
+    /// Makes the credential of a user with one group.
     pub fn with_group(uid: u32, gid: u32) -> Cred
         ensures { result ≡ record { uid = uid; gids = gid ∷ [] } }
     {
@@ -119,7 +119,7 @@ impl Cred {
     }
 }
 
-/// The group numbers in decimal, with colons between them.
+/// Prints the group numbers in decimal, with colons between them.
 impl fmt::Display for GroupIds {
     ghost use Rattle.std.specs.Prelude.{Some};
     ghost use Rattle.desk_tables.specs.Credentials.{gids_text};
@@ -139,7 +139,7 @@ impl fmt::Display for GroupIds {
     }
 }
 
-/// The number of the user, a colon, and the group numbers with colons between them, as `0:10`; `3:` where there are none.
+/// Prints the number of the user, a colon, and the group numbers with colons between them, as `0:10`; `3:` if there are none.
 impl fmt::Display for Cred {
     ghost use Rattle.std.specs.Prelude.{Some};
     ghost use Rattle.desk_tables.specs.Credentials.{cred_text};

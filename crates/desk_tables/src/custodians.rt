@@ -49,9 +49,9 @@ impl Model for Custodians {
 }
 
 impl Custodians {
-    /// The custodians that a text lists, one a line: a name of 1 to 32 of `a` to `z`, `0` to `9`,
-    /// `-` and `_`, and 64 hexadecimal digits of either case. A text that does not list `site` has
-    /// a fault of line 0. The text has at most 4,294,967,294 bytes.
+    /// Reads the custodians that a text lists, one a line: a name of 1 to 32 of `a` to `z`, `0` to `9`, `-` and `_`, and 64
+    /// hexadecimal digits of either case. A text that does not list `site` has a fault of line 0. The text has at most
+    /// 4,294,967,294 bytes.
     pub fn read(alloc: Global, text: &str) -> Result<Custodians, ReadError<TableFault>>
         requires { length text.now ≤ 4294967294 }
         ensures { Reads result (spec.read_custodians text.now) }
@@ -66,21 +66,21 @@ impl Custodians {
         Ok(table)
     }
 
-    /// The digest of the key of the custodian of this name; none where no custodian has it.
+    /// Finds the digest of the key of the custodian of this name.
     pub fn digest_of(&self, name: &str) -> Option<&[u8; 32]>
         ensures { option_copied result ≡ spec.digest_of self.now name.now }
     {
         self.digests.get(name)
     }
 
-    /// The custodians, in the order of their lines.
+    /// Lends the custodians, in the order of their lines.
     pub fn as_slice(&self) -> &[Custodian]
         ensures { result.now ≡ self.now }
     {
         self.rows.as_slice()
     }
 
-    /// Whether a custodian has this name.
+    /// Tests whether a custodian has this name.
     #[tactic(auto, using(crate::proofs::CustodianLemmas::listed_names))]
     fn lists(&self, name: &str) -> bool
         ensures { result ≡ list_any (bytes_eq name.now) (map (λ row. row.name) self.now) }
@@ -88,7 +88,7 @@ impl Custodians {
         self.digests.contains_key(name)
     }
 
-    /// No custodians.
+    /// Makes the table without custodians.
     fn new(alloc: Global) -> Custodians
         ensures { result ≡ [] }
     {
@@ -98,7 +98,7 @@ impl Custodians {
         }
     }
 
-    /// The custodians with one more at the end.
+    /// Adds a custodian at the end.
     fn with_row(self, alloc: Global, row: Custodian) -> Result<Custodians, AllocError>
         ensures { IfOk result (λ table. table ≡ self ++ row ∷ []) }
     {
@@ -109,7 +109,7 @@ impl Custodians {
     }
 }
 
-/// Digests with that of one name more, unless the name has one.
+/// Adds the digest of a name, unless the name has one.
 fn with_digest(
     alloc: Global,
     mut digests: BTreeMap<String, [u8; 32]>,
@@ -127,7 +127,7 @@ fn with_digest(
     Ok(digests)
 }
 
-/// The custodian of each line, in order, or the first fault.
+/// Reads the custodian of each line, in order, or the first fault.
 fn read_rows(alloc: Global, text: &str) -> Result<Custodians, ReadError<TableFault>>
     requires { length text.now ≤ 4294967294 }
     ensures { Reads result (lines_table spec.line_answer (logical_lines text.now)) }
@@ -141,7 +141,7 @@ fn read_rows(alloc: Global, text: &str) -> Result<Custodians, ReadError<TableFau
     Ok(table)
 }
 
-/// The custodian of a line, or the rule that is named, where these custodians are listed before.
+/// Reads the custodian of a line, or the first rule that it breaks, if these custodians are listed before.
 fn read_line(
     alloc: Global,
     line: &Line,
@@ -154,8 +154,7 @@ fn read_line(
     read_words(alloc, words.as_slice(), before)
 }
 
-/// The custodian that words name, or the rule that is named, where these custodians are listed
-/// before.
+/// Reads the custodian of a line of these words, or the first rule that it breaks, if these custodians are listed before.
 fn read_words(
     alloc: Global,
     words: &[Text],
@@ -180,7 +179,7 @@ fn read_words(
     Ok(Custodian { name, digest })
 }
 
-/// Whether a text is a custodian's name.
+/// Tests whether a text is a custodian's name.
 fn is_name(text: &str) -> bool
     ensures { result ≡ spec.is_custodian_name text.now }
 {

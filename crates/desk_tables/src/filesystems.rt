@@ -51,8 +51,8 @@ impl Model for FileSystems {
 }
 
 impl FileSystems {
-    /// The table of the mount points given, which nobody keeps. One that is given twice, in any spelling, counts once.
-    /// There is no table of more than 256 different ones. An error says that memory ran out.
+    /// Makes the table of the mount points given, which nobody keeps and no line lists. One that is given twice, in any
+    /// spelling, counts once. There is no table of more than 256 different ones. An error says that memory ran out.
     pub fn from_mounts(
         alloc: Global,
         mount_points: Vec<Path>,
@@ -68,11 +68,10 @@ impl FileSystems {
         Ok(Some(FileSystems { mounts }))
     }
 
-    /// The table of a text: one mount point a line, and behind it the one or more custodians who
-    /// keep its exports file. The text has at most 4,294,967,294 bytes. The faults of a line are
-    /// Fields (no custodian, or a quote that does not close), Duplicate (the mount point is listed
-    /// before, in any spelling), BadPath and TooMany (the 257th mount point). That the custodians are
-    /// listed themselves is not asked: it needs their file.
+    /// Reads the table of a text: one mount point a line, and behind it the one or more custodians who keep its exports
+    /// file. The text has at most 4,294,967,294 bytes. A line may break Fields (no custodian, or a quote that does not
+    /// close), Duplicate (the mount point is listed before, in any spelling), BadPath and TooMany (the 257th mount point).
+    /// Whether the custodians are listed themselves is not checked: it needs their file.
     pub fn read(alloc: Global, text: &str) -> Result<FileSystems, ReadError<TableFault>>
         requires { length text.now ≤ 4294967294 }
         ensures read { Reads result (read_filesystems text.now) }
@@ -83,15 +82,15 @@ impl FileSystems {
         Ok(FileSystems { mounts })
     }
 
-    /// The file system of a path: the longest mount point that the path is or lies below. In byte order a longer mount
-    /// point above the path stands later, so the last one is it.
+    /// Finds the file system of a path: the longest mount point that the path is or lies below. In byte order a longer
+    /// mount point above the path comes later, so the last one is it.
     pub fn of(&self, path: &Path) -> Option<FsId>
         ensures { result ≡ option_map (λ i. record { 0 = i }) (fs_of self.now path.now) }
     {
         last_above(self.mounts.as_slice(), path).map(|index| FsId(index as u32))
     }
 
-    /// The mount point of a file system; none where the table has no such place.
+    /// Finds the mount point of a file system.
     pub fn mount(&self, id: FsId) -> Option<&Path>
         ensures { option_copied result ≡ option_map (λ m. m.path) (slice_get self.now id.0) }
     {
@@ -101,22 +100,22 @@ impl FileSystems {
             .map(|mount| &mount.path)
     }
 
-    /// How many mount points are listed.
+    /// Returns how many mount points are listed.
     pub fn len(&self) -> usize
         ensures { result ≡ length self.now }
     {
         self.mounts.as_slice().len()
     }
 
-    /// The mount points with their custodians, in byte order.
+    /// Lends the mount points with their custodians and lines, in byte order.
     pub fn as_slice(&self) -> &[Mount]
         ensures { result.now ≡ self.now }
     {
         self.mounts.as_slice()
     }
 
-    /// Whether a custodian keeps the exports file of a file system: it is one of those listed for
-    /// its mount point. Nobody keeps one that the table does not have.
+    /// Tests whether a custodian keeps the exports file of a file system: it is one of those listed for its mount point.
+    /// Nobody keeps one that the table does not have.
     pub fn keeps(&self, custodian: &str, id: FsId) -> bool
         ensures { result ≡ keeps self.now custodian.now id.0 }
     {
@@ -127,14 +126,14 @@ impl FileSystems {
     }
 }
 
-/// Whether a name is among names.
+/// Tests whether a name is among names.
 fn is_among(names: &[Text], name: &str) -> bool
     ensures { result ≡ list_any (bytes_eq name.now) names.now }
 {
     names.iter().any(|other| name == other.as_str())
 }
 
-/// The place of the last mount point that the path is under.
+/// Finds the place of the last mount point that the path is under.
 fn last_above(mounts: &[Mount], path: &Path) -> Option<usize>
     ensures { MatchOption result (All (λ mount. is_under path.now mount.path ≡ false) mounts.now) (IsLastAbove mounts.now path.now) }
 {
@@ -146,7 +145,7 @@ fn last_above(mounts: &[Mount], path: &Path) -> Option<usize>
     None
 }
 
-/// The mount points in byte order, each once.
+/// Puts the mount points in byte order, each once.
 fn sorted_once(mut mount_points: Vec<Path>) -> Vec<Path>
     ensures { IsTableOf mount_points.items (map unkept result.items) }
 {
@@ -155,7 +154,7 @@ fn sorted_once(mut mount_points: Vec<Path>) -> Vec<Path>
     mount_points
 }
 
-/// The mount points, kept by nobody.
+/// Lists the mount points, kept by nobody.
 fn unkept_mounts(alloc: Global, mount_points: Vec<Path>) -> Result<Sequence<Mount>, AllocError>
     ensures { IfOk result (λ mounts. mounts ≡ map unkept mount_points.items) }
 {

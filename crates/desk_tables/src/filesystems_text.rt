@@ -15,7 +15,7 @@ use crate::rules::{TableFault, TableRule};
 use desk_text::{Line, Path, ReadError, Sequence, Text, logical_lines};
 use std::alloc::{AllocError, Global};
 
-/// The mount points that a text lists, in byte order of their printed forms, or its first fault.
+/// Reads the mount points that a text lists, in byte order of their printed forms, or its first fault.
 pub fn read_mounts(alloc: Global, text: &str) -> Result<Vec<Mount>, ReadError<TableFault>>
     requires { length text.now ≤ 4294967294 }
     ensures read { ReadsAs (λ v. v.items) result (spec.read_filesystems text.now) }
@@ -32,7 +32,7 @@ pub fn read_mounts(alloc: Global, text: &str) -> Result<Vec<Mount>, ReadError<Ta
     Ok(table)
 }
 
-/// The mount point that a line lists, or the rule that is named, where these are listed before.
+/// Reads the mount point that a line lists, or the first rule that it breaks, if these are listed before.
 fn read_line(alloc: Global, line: &Line, before: &[Mount]) -> Result<Mount, ReadError<TableRule>>
     ensures { ReadsAs (λ row. Some row) result
         (spec.values_answer line.now.number (length before.now) (mount_points before.now) (line_values line.now)) }
@@ -41,7 +41,7 @@ fn read_line(alloc: Global, line: &Line, before: &[Mount]) -> Result<Mount, Read
     read_words(alloc, line.number(), words, before)
 }
 
-/// The mount point that words list, or the rule that is named, where these are listed before.
+/// Reads the mount point that a line lists by these words, or the first rule that it breaks, if these are listed before.
 fn read_words(
     alloc: Global,
     line: u32,
@@ -70,7 +70,7 @@ fn read_words(
     })
 }
 
-/// The path that a text writes.
+/// Reads the path that a text writes.
 fn read_mount_point(alloc: Global, text: &str) -> Result<Path, ReadError<TableRule>>
     ensures { Reads result
         (result_map_both (λ path. path) (λ fault. TableRule.BadPath) (read_path text.now)) }
@@ -82,14 +82,14 @@ fn read_mount_point(alloc: Global, text: &str) -> Result<Path, ReadError<TableRu
     }
 }
 
-/// Whether a path is listed, in any spelling.
+/// Tests whether a path is listed, in any spelling.
 fn is_listed(table: &[Mount], path: &Path) -> bool
     ensures { result ≡ list_any (λ mount. are_printed_alike path.now mount.path) table.now }
 {
     table.iter().any(|mount| *path == mount.path)
 }
 
-/// How many of the mount points of a table stand before a path.
+/// Counts the mount points of a table that come before a path.
 fn place_of(table: &[Mount], path: &Path) -> usize
     ensures count { result ≡ prefix_len (λ mount. is_before mount.path path.now) table.now }
     ensures fits { result ≤ length table.now }

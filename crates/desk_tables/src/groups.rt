@@ -48,7 +48,7 @@ impl Model for Groups {
 }
 
 impl Groups {
-    /// No groups.
+    /// Makes the table without groups.
     pub fn new(alloc: Global) -> Groups
         ensures { result ≡ [] }
     {
@@ -59,8 +59,8 @@ impl Groups {
         }
     }
 
-    /// Reads lines `group:password:gid:member,member`, where empty members are dropped. Lines of blanks, and those whose
-    /// first character that is no blank is `#`, are skipped. The faults are Fields (not four), Number (the gid is no
+    /// Reads lines `group:password:gid:member,member`; empty members are dropped. Lines of blanks, and those whose first
+    /// character that is not a blank is `#`, are skipped. A line may break Fields (not four), Number (the gid is not a
     /// decimal up to 4294967295) and Name (it is empty).
     pub fn read(alloc: Global, text: &str) -> Result<Groups, ReadError<TableFault>>
         requires { length text.now ≤ 4294967294 }
@@ -76,15 +76,15 @@ impl Groups {
         })
     }
 
-    /// The group of a name, byte for byte: the first row that has it.
+    /// Finds the group of a name, byte for byte: the first row that has it.
     pub fn by_name(&self, name: &str) -> Option<&Group>
         ensures { option_copied result ≡ spec.group_of_name self.now name.now }
     {
         row_at(self.rows.as_slice(), self.by_name.get(name))
     }
 
-    /// The gids of a user: its own, then those of the groups that list its name, in the order of the table, each once.
-    /// None where they are more than sixteen.
+    /// Lists the gids of a user: its own, then those of the groups that list its name, in the order of the table, each
+    /// once. There are none if they are more than sixteen.
     pub fn gids_of(&self, user: &User) -> Option<GroupIds>
         ensures { result ≡ at_most_16 (spec.gids_of self.now user.now) }
     {
@@ -99,7 +99,7 @@ impl Groups {
 }
 
 impl Group {
-    /// Whether a name, byte for byte, is listed as a member.
+    /// Tests whether a name, byte for byte, is listed as a member.
     pub fn has_member(&self, name: &str) -> bool
         ensures { result ≡ spec.has_member name.now self.now }
     {
@@ -110,7 +110,7 @@ impl Group {
     }
 }
 
-/// The gids that are listed under the name.
+/// Lends the gids that are listed under the name.
 fn listed_gids<'a>(index: &'a BTreeMap<String, Vec<u32>>, name: &str) -> &'a [u32]
     ensures { result.now ≡ listed index.now name.now }
 {
@@ -120,7 +120,7 @@ fn listed_gids<'a>(index: &'a BTreeMap<String, Vec<u32>>, name: &str) -> &'a [u3
     }
 }
 
-/// The place of the first group of each name.
+/// Indexes the place of the first group of each name.
 fn places_by_name(alloc: Global, rows: &[Group]) -> Result<BTreeMap<String, usize>, AllocError>
     ensures { IfOk result (λ index. HasGroupNames rows.now index) }
 {
@@ -131,7 +131,7 @@ fn places_by_name(alloc: Global, rows: &[Group]) -> Result<BTreeMap<String, usiz
     Ok(index)
 }
 
-/// The gids of the groups that list each member, in the order of the groups.
+/// Indexes the gids of the groups that list each member, in the order of the groups.
 fn gids_by_member(alloc: Global, rows: &[Group]) -> Result<BTreeMap<String, Vec<u32>>, AllocError>
     ensures { IfOk result (λ index. HasMembers rows.now index) }
 {
@@ -157,7 +157,7 @@ fn add_members(
     Ok(())
 }
 
-/// The group of a line, or the rule that is named.
+/// Reads the group of a line, or the first rule that it breaks.
 fn read_group(alloc: Global, line: &str) -> Result<Option<Group>, ReadError<TableRule>>
     ensures { Reads result (spec.line_answer line.now) }
 {
@@ -179,7 +179,7 @@ fn read_group(alloc: Global, line: &str) -> Result<Option<Group>, ReadError<Tabl
     Ok(Some(Group { name, gid, members }))
 }
 
-/// The members that a text names, between its commas, without the empty ones.
+/// Reads the members that a text names, between its commas, without the empty ones.
 fn read_members(alloc: Global, text: &str) -> Result<Sequence<Text>, AllocError>
     ensures { IfOk result (λ members. members ≡ spec.members_in text.now) }
 {

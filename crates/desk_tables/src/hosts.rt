@@ -44,7 +44,7 @@ impl Model for Hosts {
 }
 
 impl Hosts {
-    /// No hosts.
+    /// Makes the table without hosts.
     pub fn new(alloc: Global) -> Hosts
         ensures { result ≡ [] }
     {
@@ -54,10 +54,9 @@ impl Hosts {
         }
     }
 
-    /// Reads a hosts file: on each line an address, a name and its aliases, between blanks. `#` begins
-    /// a comment. A line without a word before its comment, and one whose address has a `:`, is
-    /// skipped. The faults of a line are Fields (no name), Number (the address does not read) and
-    /// Name (a name is over 255 bytes). (hosts(5))
+    /// Reads a hosts file: on each line an address, a name and its aliases, between blanks. `#` begins a comment. A line
+    /// without a word before its comment, and one whose address has a `:`, is skipped. A line may break Fields (no name),
+    /// Number (the address cannot be read) and Name (a name is over 255 bytes). (hosts(5))
     pub fn read(alloc: Global, text: &str) -> Result<Hosts, ReadError<TableFault>>
         requires { length text.now ≤ 4294967294 }
         ensures { Reads result (spec.read_hosts text.now) }
@@ -67,8 +66,8 @@ impl Hosts {
         Ok(Hosts { rows, index })
     }
 
-    /// The addresses of all rows that have the name, as their name or as an alias, without ASCII case:
-    /// ascending, each once. (hosts(5))
+    /// Lists the addresses of all rows that have the name, as their name or as an alias, without ASCII case: ascending,
+    /// each once. (hosts(5))
     pub fn addresses(&self, alloc: Global, name: &str) -> Result<Vec<Addr>, AllocError>
         ensures { IfOk result (λ v. map number_of v.items ≡ spec.addresses_of_host self.now name.now) }
     {
@@ -77,7 +76,7 @@ impl Hosts {
     }
 }
 
-/// The addresses that are listed under the name.
+/// Copies the addresses that are listed under the name.
 fn listed_addresses(
     alloc: Global,
     index: &BTreeMap<String, Vec<Addr>>,
@@ -92,7 +91,7 @@ fn listed_addresses(
     }
 }
 
-/// The addresses of the rows, under each of their names.
+/// Indexes the addresses of the rows, under each of their names.
 fn addresses_by_name(
     alloc: Global,
     rows: &[HostRow],
@@ -121,7 +120,7 @@ fn add_hosts(
     Ok(())
 }
 
-/// The row of a line, or the rule that is named.
+/// Reads the row of a line, or the first rule that it breaks.
 fn read_line(alloc: Global, line: &str) -> Result<Option<HostRow>, ReadError<TableRule>>
     ensures { Reads result (spec.line_answer line.now) }
 {
@@ -132,7 +131,7 @@ fn read_line(alloc: Global, line: &str) -> Result<Option<HostRow>, ReadError<Tab
     }
 }
 
-/// The row with this address and these names, or the rule that is named.
+/// Reads the row with this address and these names, or the first rule that it breaks.
 fn read_row(
     alloc: Global,
     address: &str,

@@ -1,4 +1,4 @@
-//! Indexes of tables: what stands under each name.
+//! Indexes of tables: what is listed under each name. Look-ups by name or number go by them.
 
 ghost use Rattle.std.specs.Prelude.{◌≡◌, OnOk, option_and_then, slice_get};
 ghost use Rattle.std.specs.Option.{option_copied};
@@ -8,7 +8,7 @@ ghost use Rattle.desk_tables.specs.PrivateIndex.{AddsFirst, AddsFirstNumber, Add
 use std::alloc::{AllocError, Global};
 use std::collections::BTreeMap;
 
-/// Adds the value under the name, if nothing stands there yet.
+/// Adds the value under the name, if nothing is there yet.
 pub fn add_first<T: Copy>(
     alloc: Global,
     index: &mut BTreeMap<String, T>,
@@ -24,7 +24,7 @@ pub fn add_first<T: Copy>(
     Ok(())
 }
 
-/// Adds the value under the number, if nothing stands there yet.
+/// Adds the value under the number, if nothing is there yet.
 pub fn add_first_number<T: Copy>(
     index: &mut BTreeMap<u32, T>,
     number: u32,
@@ -38,7 +38,7 @@ pub fn add_first_number<T: Copy>(
     Ok(())
 }
 
-/// Adds the value behind those that stand under the name.
+/// Adds the value behind those that are under the name.
 pub fn add_under<T: Copy>(
     index: &mut BTreeMap<String, Vec<T>>,
     name: String,
@@ -50,7 +50,7 @@ pub fn add_under<T: Copy>(
     Ok(())
 }
 
-/// The row at the place that an index gives.
+/// Finds the row at the place that an index gives.
 pub fn row_at<'a, Row>(rows: &'a [Row], place: Option<&usize>) -> Option<&'a Row>
     ensures { option_copied result ≡ option_and_then (slice_get rows.now) (option_copied place.entry) }
 {

@@ -41,7 +41,7 @@ impl Model for Networks {
 }
 
 impl Networks {
-    /// No networks.
+    /// Makes the table without networks.
     pub fn new(alloc: Global) -> Networks
         ensures { result ≡ [] }
     {
@@ -51,10 +51,9 @@ impl Networks {
         }
     }
 
-    /// Reads a networks file: on each line a name, a number of one to four parts, and aliases, between
-    /// blanks. `#` begins a comment, and a line without a word before its comment is skipped. The
-    /// faults of a line are Fields (no number), Number (the number does not read) and Name (a name is
-    /// over 255 bytes). (networks(5))
+    /// Reads a networks file: on each line a name, a number of one to four parts, and aliases, between blanks. `#` begins a
+    /// comment, and a line without a word before its comment is skipped. A line may break Fields (no number), Number (the
+    /// number cannot be read) and Name (a name is over 255 bytes). (networks(5))
     pub fn read(alloc: Global, text: &str) -> Result<Networks, ReadError<TableFault>>
         requires { length text.now ≤ 4294967294 }
         ensures { Reads result (spec.read_networks text.now) }
@@ -64,7 +63,7 @@ impl Networks {
         Ok(Networks { rows, numbers })
     }
 
-    /// The number of the first row that has the name, as its name or as an alias. (networks(5))
+    /// Finds the number of the first row that has the name, as its name or as an alias. (networks(5))
     pub fn find(&self, name: &str) -> Option<Addr>
         ensures { result ≡ spec.network_number self.now name.now }
     {
@@ -72,7 +71,7 @@ impl Networks {
     }
 }
 
-/// The number of the first row of each name.
+/// Indexes the number of the first row of each name.
 fn numbers_by_name(
     alloc: Global,
     rows: &[NetworkName],
@@ -101,7 +100,7 @@ fn add_names(
     Ok(())
 }
 
-/// The row of a line, or the rule that is named.
+/// Reads the row of a line, or the first rule that it breaks.
 fn read_line(alloc: Global, line: &str) -> Result<Option<NetworkName>, ReadError<TableRule>>
     ensures { Reads result (spec.line_answer line.now) }
 {
@@ -112,7 +111,7 @@ fn read_line(alloc: Global, line: &str) -> Result<Option<NetworkName>, ReadError
     }
 }
 
-/// The row with this name and these words behind it, or the rule that is named.
+/// Reads the row with this name and these words behind it, or the first rule that it breaks.
 fn read_row(
     alloc: Global,
     name: &str,

@@ -8,14 +8,14 @@ ghost use Rattle.desk_tables.specs.PrivateSpacedLines.{words_between_tabs};
 use desk_text::{Sequence, Text};
 use std::alloc::{AllocError, Global};
 
-/// The words of a line up to its comment.
+/// Reads the words of a line up to its comment.
 pub fn words_before_comment(alloc: Global, line: &str) -> Result<Vec<&str>, AllocError>
     ensures { IfOk result (λ v. map (λ x. x.now) v.items ≡ words_before_comment line.now) }
 {
     words(alloc, before_comment(line))
 }
 
-/// The line up to `#`.
+/// Cuts the line before `#`.
 fn before_comment(line: &str) -> &str
     ensures { result.now ≡ before_first (λ b. b == 35) line.now }
 {
@@ -25,7 +25,7 @@ fn before_comment(line: &str) -> &str
     }
 }
 
-/// The words between spaces and tabs.
+/// Reads the words between spaces and tabs.
 fn words(alloc: Global, text: &str) -> Result<Vec<&str>, AllocError>
     ensures { IfOk result (λ v. map (λ x. x.now) v.items ≡ words_of text.now) }
 {
@@ -49,7 +49,7 @@ fn push_words<'a>(words: &mut Vec<&'a str>, run: &'a str) -> Result<(), AllocErr
     Ok(())
 }
 
-/// Whether a name is over 255 bytes.
+/// Tests whether a name is over 255 bytes.
 pub fn has_long_name(names: &[&str]) -> bool
     ensures { result ≡ list_any is_long_name (map (λ x. x.now) names.now) }
 {

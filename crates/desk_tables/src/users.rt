@@ -44,7 +44,7 @@ impl Model for Users {
 }
 
 impl Users {
-    /// No users.
+    /// Makes the table without users.
     pub fn new(alloc: Global) -> Users
         ensures { result ≡ [] }
     {
@@ -55,8 +55,8 @@ impl Users {
         }
     }
 
-    /// Reads lines `name:password:uid:gid:gecos:home:shell`. Lines of blanks, and those whose first character that is no
-    /// blank is `#`, are skipped. The faults are Fields (not seven), Number (the uid or the gid is no decimal up to
+    /// Reads lines `name:password:uid:gid:gecos:home:shell`. Lines of blanks, and those whose first character that is not a
+    /// blank is `#`, are skipped. A line may break Fields (not seven), Number (the uid or the gid is not a decimal up to
     /// 4294967295) and Name (it is empty).
     pub fn read(alloc: Global, text: &str) -> Result<Users, ReadError<TableFault>>
         requires { length text.now ≤ 4294967294 }
@@ -72,14 +72,14 @@ impl Users {
         })
     }
 
-    /// The user of a name, byte for byte: the first row that has it.
+    /// Finds the user of a name, byte for byte: the first row that has it.
     pub fn by_name(&self, name: &str) -> Option<&User>
         ensures { option_copied result ≡ spec.user_of_name self.now name.now }
     {
         row_at(self.rows.as_slice(), self.by_name.get(name))
     }
 
-    /// The user of a number: the first row that has it, whatever its name.
+    /// Finds the user of a number: the first row that has it, whatever its name.
     pub fn by_uid(&self, uid: u32) -> Option<&User>
         ensures { option_copied result ≡ spec.user_of_uid self.now uid }
     {
@@ -87,7 +87,7 @@ impl Users {
     }
 }
 
-/// The place of the first user of each name.
+/// Indexes the place of the first user of each name.
 fn places_by_name(alloc: Global, rows: &[User]) -> Result<BTreeMap<String, usize>, AllocError>
     ensures { IfOk result (λ index. HasUserNames rows.now index) }
 {
@@ -98,7 +98,7 @@ fn places_by_name(alloc: Global, rows: &[User]) -> Result<BTreeMap<String, usize
     Ok(index)
 }
 
-/// The place of the first user of each number.
+/// Indexes the place of the first user of each number.
 fn places_by_uid(alloc: Global, rows: &[User]) -> Result<BTreeMap<u32, usize>, AllocError>
     ensures { IfOk result (λ index. HasUserNumbers rows.now index) }
 {
@@ -109,7 +109,7 @@ fn places_by_uid(alloc: Global, rows: &[User]) -> Result<BTreeMap<u32, usize>, A
     Ok(index)
 }
 
-/// The user of a line, or the rule that is named.
+/// Reads the user of a line, or the first rule that it breaks.
 fn read_user(alloc: Global, line: &str) -> Result<Option<User>, ReadError<TableRule>>
     ensures { Reads result (spec.line_answer line.now) }
 {
