@@ -1,7 +1,7 @@
 //! Texts and words from outside: files, standard input, the command line.
 
 ghost use Rattle.std.specs.Prelude.{◌≡◌, ◌≤◌, ◌==◌, IfOk, IfSome, length, map, take};
-ghost use Rattle.std.specs.Io.BufRead.{strip_last};
+ghost use Rattle.std.specs.Io.BufRead.{strip_last, take_through};
 ghost use Rattle.std.specs.List.{after_last};
 ghost use Rattle.std.specs.Result.{result_map_both};
 ghost use Rattle.desk_command.specs.Input as spec;
@@ -34,7 +34,10 @@ pub fn read_bytes<R: Read + Drop>(alloc: Global, reader: R) -> io::Result<Vec<u8
 }
 
 /// Reads the first line that a reader gives, with its line end, and stops behind the most bytes of a text.
-pub fn read_line<I: BufRead>(alloc: Global, input: &mut I) -> io::Result<Vec<u8>> {
+pub fn read_line<I: BufRead>(alloc: Global, input: &mut I) -> io::Result<Vec<u8>>
+    ensures { IfSome (I.remaining input.old)
+        (λ given. IfOk result (λ line. line.items ≡ take_through 10 (take 16777217 given))) }
+{
     let mut bytes = Vec::new(alloc);
     let mut input = input.take(LONGEST_TEXT as u64 + 1);
     input.read_until(b'\n', &mut bytes)?;
