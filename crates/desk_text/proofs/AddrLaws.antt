@@ -1,14 +1,13 @@
 -- Printed addresses read back: for the law `addrs_read_back`.
-use Rattle.std.proofs.Common.{◌≡◌, inl, inr, ℕ, ◌+◌, ◌*◌, ◌/◌, ◌%◌, ◌<◌, ◌^◌, Bool, true, false, not, ◌&&◌, ◌||◌, cond, eqb, List, [], ◌∷◌, ◌++◌, length, map, Result, Ok, Err, refl, sym, ap, ◌∙◌, arith}
+use Rattle.std.proofs.Common.{◌≡◌, ℕ, ◌+◌, ◌*◌, ◌/◌, ◌%◌, ◌<◌, ◌^◌, Bool, true, false, not, ◌&&◌, ◌||◌, cond, eqb, List, [], ◌∷◌, length, Ok, Err, refl, sym, ap, ◌∙◌, arith}
 use Rattle.std.specs.Fmt.{decimal, digits}
-use Rattle.std.specs.List.{All, AllByRecursion, join_with_byte, list_all, list_any, slice_split}
+use Rattle.std.specs.List.{All, AllByRecursion, join_with_byte, list_all}
 use Rattle.std.specs.Str.Parse.{digits_value}
 use Rattle.std.proofs.lemmas.Bool.{cond-false, eqb-true}
 use Rattle.std.proofs.lemmas.List.Elements.{All-from_recursion}
 use Rattle.std.proofs.lemmas.List.Splits.{slice_split_at, slice_split_none}
-use Rattle.desk_text.specs.declared.address.AddrFault.{AddrFault}
 use Rattle.desk_text.specs.declared.address.AddrFault.TheVariants.{Parts}
-use Rattle.desk_text.specs.Address.{addr_text, dotted_parts, is_byte, parts_value, read_addr, read_parts}
+use Rattle.desk_text.specs.Address.{dotted_parts, is_byte, parts_value, read_addr, read_parts}
 use Rattle.desk_text.specs.Bytes.{has_leading_zero, is_digits}
 use Rattle.desk_text.specs.Laws.{AddrsReadBack}
 use Rattle.desk_text.proofs.Masks.{passes_below}

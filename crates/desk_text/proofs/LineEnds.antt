@@ -1,5 +1,5 @@
 -- The end of a line: blanks, a backslash, a carriage return.
-use Rattle.std.proofs.Common.{◌≡◌, ◌≢◌, ℕ, ◌+◌, ◌-◌, ◌<◌, ◌≤◌, List, [], ◌∷◌, ◌++◌, length, get_or, take, eqb, true, false, arith, refl, sym, ap, ◌∙◌, ◌⊎◌, inl, inr, eq-eqb, not, reverse, suc, Some}
+use Rattle.std.proofs.Common.{◌≡◌, ◌≢◌, ℕ, ◌+◌, ◌-◌, ◌<◌, List, [], ◌∷◌, ◌++◌, length, get_or, take, eqb, true, false, arith, refl, sym, ap, ◌∙◌, ◌⊎◌, inl, inr, eq-eqb, not, reverse, suc, Some}
 use Rattle.std.specs.List.{prefix_len, suffix_len}
 use Rattle.std.specs.Str.Lines.{strip_carriage_return}
 use Rattle.std.proofs.lemmas.Bool.{cases_Bool, eqb-true, false≢true, cond-true, cond-false}

@@ -1,14 +1,13 @@
 -- Printed paths: for the laws `printed_paths_differ` and `paths_read_back`, and for `path::Path::text`.
-use Rattle.std.proofs.Common.{◌≡◌, ℕ, ◌≤◌, Bool, true, false, not, ◌&&◌, ◌||◌, cond, eqb, List, [], ◌∷◌, length, Result, Ok, Err, refl, sym, ap, ◌∙◌, arith}
+use Rattle.std.proofs.Common.{◌≡◌, ℕ, Bool, true, false, not, ◌&&◌, eqb, List, [], ◌∷◌, length, Ok, refl, sym, ap, ◌∙◌}
 use Rattle.std.specs.List.{AllByRecursion, join_with_byte, list_all, list_any, slice_split}
-use Rattle.std.specs.Prelude.{nat_lt}
 use Rattle.std.specs.Cmp.Lexicographic.{pointwise}
 use Rattle.std.proofs.lemmas.Bool.{cond-false, le-ltb}
 use Rattle.std.proofs.lemmas.Bool.Decides.{Decides-eqb, same_from_decides}
 use Rattle.std.proofs.lemmas.List.Elements.{All-from_recursion}
 use Rattle.std.proofs.lemmas.List.Splits.{slice_split_at, slice_split_none}
 use Rattle.std.proofs.lemmas.Slice.Eq.{bytes_eq-Decides, slice_eq-Decides}
-use Rattle.desk_text.specs.Path.{IsPath, components, is_component, is_dot_component, longest_path, path_text, read_path, same_path}
+use Rattle.desk_text.specs.Path.{IsPath, components, is_component, is_dot_component, longest_path, path_text, same_path}
 use Rattle.desk_text.specs.Laws.{PathsReadBack, PrintedPathsDiffer}
 use Rattle.desk_text.proofs.Slashes.{IsComponent, NoSlash, are_components, joined_components}
 

@@ -26,7 +26,8 @@ is_decimal text = is_digits text && not (has_leading_zero text)
 
 -- the number that a decimal up to `most` writes; another text writes none
 abbrev pub read_decimal : ℕ → List ℕ → Option ℕ
-read_decimal most text = if is_decimal text && nat_le (digits_value 10 text) most then Some (digits_value 10 text) else None
+read_decimal most text =
+    if is_decimal text && nat_le (digits_value 10 text) most then Some (digits_value 10 text) else None
 
 -- an IPv6 address has a `:`
 abbrev pub is_ipv6 : List ℕ → Bool

@@ -34,7 +34,9 @@ AreGroups (group ∷ next ∷ more) = IsClosed group × AreGroups (next ∷ more
 
 -- the lines fall into groups in one way, and these are the groups
 abbrev pub GroupsAreUnique : Type 0
-GroupsAreUnique = (lines : List PhysicalLine) (grouping : List (List PhysicalLine)) → (AreGroups grouping × (flat_map (λ group. group) grouping ≡ lines)) ↔ (grouping ≡ groups lines)
+GroupsAreUnique =
+    (lines : List PhysicalLine) (grouping : List (List PhysicalLine))
+    → (AreGroups grouping × (flat_map (λ group. group) grouping ≡ lines)) ↔ (grouping ≡ groups lines)
 
 -- The logical lines ascend by their numbers.
 abbrev pub LinesAscend : Type 0
@@ -42,7 +44,9 @@ LinesAscend = (text : List ℕ) → AreNumberedUp (logical_lines text)
 
 -- The physical lines of a logical line are those of the text from its number on.
 abbrev pub LinesAreNumbered : Type 0
-LinesAreNumbered = (text : List ℕ) → All (λ line. take (length line.parts) (drop (line.number - 1) (physical_lines text)) ≡ line.parts) (logical_lines text)
+LinesAreNumbered =
+    (text : List ℕ)
+    → All (λ line. take (length line.parts) (drop (line.number - 1) (physical_lines text)) ≡ line.parts) (logical_lines text)
 
 -- a part of a text: its place, and its bytes
 pub record Slice : Type 0 where
@@ -53,7 +57,8 @@ pub record Slice : Type 0 where
 abbrev pub AreSlices : List ℕ → ℕ → ℕ → List Slice → Type 0
 AreSlices text low high [] = low ≤ high
 AreSlices text low high (slice ∷ more) =
-    (low ≤ slice.start) × (take (length slice.bytes) (drop slice.start text) ≡ slice.bytes) × AreSlices text (slice.start + length slice.bytes) high more
+    (low ≤ slice.start) × (take (length slice.bytes) (drop slice.start text) ≡ slice.bytes)
+    × AreSlices text (slice.start + length slice.bytes) high more
 
 abbrev pub whole_slice : PhysicalLine → Slice
 whole_slice part = record { start = part.start; bytes = part.whole }
@@ -71,7 +76,9 @@ parts_of lines = flat_map (λ line. line.parts) lines
 -- The physical lines of the logical lines, whole and without their continuations, are slices of the text, in ascending order.
 abbrev pub PartsAreSlices : Type 0
 PartsAreSlices =
-    (text : List ℕ) → AreSlices text 0 (length text) (map whole_slice (parts_of (logical_lines text))) × AreSlices text 0 (length text) (map text_slice (parts_of (logical_lines text)))
+    (text : List ℕ)
+    → AreSlices text 0 (length text) (map whole_slice (parts_of (logical_lines text)))
+    × AreSlices text 0 (length text) (map text_slice (parts_of (logical_lines text)))
 
 -- The raw words of the logical lines are slices of the text, in ascending order.
 abbrev pub WordsAreSlices : Type 0
@@ -97,7 +104,9 @@ AreAtoms (Unclosed q inner ∷ more) = (is_quote q ≡ true) × AreInner q false
 
 -- A text is written by one list of such atoms, and these are its atoms.
 abbrev pub AtomsAreUnique : Type 0
-AtomsAreUnique = (text : List ℕ) (read : List Atom) → (AreAtoms read × (flat_map atom_text read ≡ text)) ↔ (read ≡ atoms text)
+AtomsAreUnique =
+    (text : List ℕ) (read : List Atom)
+    → (AreAtoms read × (flat_map atom_text read ≡ text)) ↔ (read ≡ atoms text)
 
 -- blanks, and a run of atoms without a blank behind them
 pub record Run : Type 0 where
@@ -123,7 +132,8 @@ written run = flat_map atom_text run
 abbrev pub words_in : ℕ → List Run → List RawWord
 words_in start [] = []
 words_in start (run ∷ more) =
-    raw_word (start + length (written run.blanks)) (written run.atoms) ∷ words_in (start + length (written run.blanks) + length (written run.atoms)) more
+    raw_word (start + length (written run.blanks)) (written run.atoms)
+    ∷ words_in (start + length (written run.blanks) + length (written run.atoms)) more
 
 -- a text falls into these maximal runs
 pub record FallsInto (text : List ℕ) (runs : List Run) : Type 0 where
@@ -141,12 +151,14 @@ WordsAreMaximalRuns =
 
 -- Paths that are printed alike have the same components.
 abbrev pub PrintedPathsDiffer : Type 0
-PrintedPathsDiffer = (path other : List (List ℕ)) → IsPath path → IsPath other → path_text path ≡ path_text other → path ≡ other
+PrintedPathsDiffer =
+    (path other : List (List ℕ)) → IsPath path → IsPath other → path_text path ≡ path_text other → path ≡ other
 
 -- A printed path reads as that path, unless it has a component `.` or `..`, is too long or has a NUL.
 abbrev pub PathsReadBack : Type 0
 PathsReadBack =
-    (path : List (List ℕ)) → IsPath path → list_any is_dot_component path ≡ false → length (path_text path) ≤ longest_path → list_any (λ b. b == 0) (path_text path) ≡ false
+    (path : List (List ℕ)) → IsPath path → list_any is_dot_component path ≡ false
+    → length (path_text path) ≤ longest_path → list_any (λ b. b == 0) (path_text path) ≡ false
     → read_path (path_text path) ≡ Ok path
 
 -- A printed address reads as that address.
@@ -169,4 +181,5 @@ MasksReadBack = (prefix : ℕ) → prefix ≤ 32 → prefix_of_mask (mask_of pre
 -- A network covers the addresses from its first to its last, and no other.
 abbrev pub CoversBetweenFirstAndLast : Type 0
 CoversBetweenFirstAndLast =
-    (block : Block) → IsBlock block → (address : ℕ) → IsTrue (covers block address) ↔ ((block.first ≤ address) × (address ≤ last_of block))
+    (block : Block) → IsBlock block → (address : ℕ)
+    → IsTrue (covers block address) ↔ ((block.first ≤ address) × (address ≤ last_of block))

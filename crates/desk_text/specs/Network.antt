@@ -65,5 +65,6 @@ with_addr (Err fault) made = Err fault
 abbrev pub read_net_text : List ℕ → Result WrittenNet AddrFault
 read_net_text text =
     if list_any (λ b. b == 47) text
-    then with_addr (read_short (before_first (λ b. b == 47) text)) (λ addr. prefixed addr (read_prefix (after_first (λ b. b == 47) text)))
+    then with_addr (read_short (before_first (λ b. b == 47) text))
+    (λ addr. prefixed addr (read_prefix (after_first (λ b. b == 47) text)))
     else with_addr (read_short text) (λ addr. Ok (record { addr = addr; prefix = None }))

@@ -1,5 +1,5 @@
 -- What the private contracts of the words cite: how far the first atom of a text goes, and its first word.
-use Rattle.std.specs.Prelude.{◌≡◌, ℕ, ◌<◌, ◌≤◌, ◌==◌, Bool, Option, None, Some, true, false, List, [], ◌∷◌, ◌++◌, length, take, drop, slice_index}
+use Rattle.std.specs.Prelude.{◌≡◌, ℕ, ◌<◌, ◌≤◌, ◌==◌, Bool, Option, None, Some, true, false, List, ◌∷◌, ◌++◌, length, take, drop, slice_index}
 use Rattle.std.specs.List.{flat_map, AllByRecursion}
 use Rattle.desk_text.specs.Bytes.{is_blank}
 use Rattle.desk_text.specs.Word.{Atom, atoms, atom_text, is_quote, is_separator, is_unclosed}

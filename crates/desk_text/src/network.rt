@@ -167,7 +167,8 @@ impl NetText {
 
 /// Reads an address, and the prefix behind it. The faults of the address come first.
 fn read_prefixed(address: &str, prefix: &str) -> Result<NetText, AddrFault>
-    ensures { result_map_both written_net (λ fault. fault) result ≡ with_addr (read_short address.now) (λ addr. prefixed addr (read_prefix prefix.now)) }
+    ensures { result_map_both written_net (λ fault. fault) result
+        ≡ with_addr (read_short address.now) (λ addr. prefixed addr (read_prefix prefix.now)) }
 {
     let addr = Addr::read_short(address)?;
     match Prefix::read(prefix) {

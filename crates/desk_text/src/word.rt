@@ -87,7 +87,8 @@ fn push_words<'a>(
 ) -> Result<bool, AllocError>
     requires { start + length text.now < 2 ^ 64 }
     ensures closed { IfOk result (λ closed. has_open_quote text.now ≡ not closed) }
-    ensures found { IfOk result (λ closed. IsTrue closed → map word_of words.new.items ≡ map word_of words.old.items ++ words_at start text.now) }
+    ensures found { IfOk result (λ closed. IsTrue closed
+        → map word_of words.new.items ≡ map word_of words.old.items ++ words_at start text.now) }
 {
     let bytes = text.as_bytes();
     let mut at = 0;
