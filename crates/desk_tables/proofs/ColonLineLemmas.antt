@@ -1,5 +1,5 @@
 -- Lemmas on the fields of a line, and on the parts of a text that are kept.
-use Rattle.std.proofs.Common.{◌+◌, ◌∷◌, ◌++◌, cond, filter, take, get_or, ◌≡◌, ◌<◌, ◌^◌, ℕ, Bool, true, false, not, ◌&&◌, List, [], Option, Some, None, Result, Ok, Err, length, ap, sym, ◌∙◌, arith, rules, inl, inr, Bor}
+use Rattle.std.proofs.Common.{◌+◌, ◌∷◌, ◌++◌, cond, filter, take, get_or, ◌≡◌, ◌<◌, ℕ, Bool, true, false, List, [], Option, Some, None, length, ap, sym, ◌∙◌, Bor}
 use Rattle.std.proofs.lemmas.List.{append-nil, take_more}
 use Rattle.std.proofs.lemmas.List.Elements.{filter-append, filter_map-append}
 use Rattle.std.proofs.lemmas.Option.{unwrap_or-slice_get}

@@ -1,10 +1,8 @@
 -- What a line of custodians answers, by the tests of its rules.
-use Rattle.std.proofs.Common.{◌≡◌, ℕ, ◌==◌, Bool, true, false, not, ◌||◌, List, [], ◌∷◌, Some, None, Result, Ok, Err, Option, ◌<◌, ◌+◌, ◌++◌, cond, inl, inr, find, get_or, length, map, take, refl, ap, sym, ◌∙◌, arith}
+use Rattle.std.proofs.Common.{◌≡◌, ℕ, ◌==◌, Bool, true, false, not, ◌||◌, List, [], ◌∷◌, Some, None, Result, Ok, Err, Option, ◌<◌, ◌+◌, ◌++◌, cond, find, get_or, length, map, take, refl, ap, sym, ◌∙◌, arith}
 use Rattle.std.specs.List.{cons_option, list_any}
 use Rattle.std.proofs.lemmas.List.{take_more}
 use Rattle.std.proofs.lemmas.List.Elements.{filter_map-append}
-use Rattle.std.proofs.lemmas.Bool.{cases_Bool}
-use Rattle.std.proofs.lemmas.Slice.Eq.{bytes_eq-Decides}
 use Rattle.std.specs.Cmp.Lexicographic.{on_texts_equal}
 use Rattle.std.specs.Option.{is_some, option_map, option_or}
 use Rattle.std.specs.Result.{is_err, result_ok}
@@ -46,41 +44,16 @@ digest_alone : (b : Bool) (row : Custodian) → digest_in (cond b (Some row) Non
 digest_alone true row = refl
 digest_alone false row = refl
 
--- the digests with one custodian more: the first of a name counts
-pub digest_push : (rows : List Custodian) (row : Custodian) (q : List ℕ) → digest_of (rows ++ row ∷ []) q ≡ option_or (digest_of rows q) (cond (bytes_eq row.name q) (Some row.digest) None)
-digest_push [] row q = digest_alone (bytes_eq row.name q) row
-digest_push (first ∷ rows) row q =
+by_names : (rows : List Custodian) (row : Custodian) (q : List ℕ) → digest_of (rows ++ row ∷ []) q ≡ option_or (digest_of rows q) (cond (bytes_eq row.name q) (Some row.digest) None)
+by_names [] row q = digest_alone (bytes_eq row.name q) row
+by_names (first ∷ rows) row q =
     digest_first (bytes_eq first.name q) first (find (λ custodian. bytes_eq custodian.name q) rows) (find (λ custodian. bytes_eq custodian.name q) (rows ++ row ∷ []))
-    (cond (bytes_eq row.name q) (Some row.digest) None) (digest_push rows row q)
+    (cond (bytes_eq row.name q) (Some row.digest) None) (by_names rows row q)
 
-or_none : (o : Option (List ℕ)) → o ≡ option_or o None
-or_none None = refl
-or_none (Some x) = refl
-
-or_some : (o : Option (List ℕ)) (d : List ℕ) → is_some o ≡ true → o ≡ option_or o (Some d)
-or_some None d h = absurd (cc)
-or_some (Some x) d h = refl
-
-or_new : (o : Option (List ℕ)) (d : List ℕ) → is_some o ≡ false → Some d ≡ option_or o (Some d)
-or_new None d h = refl
-or_new (Some x) d h = absurd (cc)
-
-module _ (f : List ℕ → Option (List ℕ)) (name : List ℕ) (d : List ℕ) where
-  -- a name that has a digest keeps it
-  pub keeps_digest : is_some (f name) ≡ true → (q : List ℕ) → f q ≡ option_or (f q) (cond (bytes_eq name q) (Some d) None)
-  keeps_digest has q =
-      elim (cases_Bool (bytes_eq name q)) [
-        | inl same ↦ or_some (f q) d (ap (λ t. is_some (f t)) (sym ((bytes_eq-Decides name q).0 same)) ∙ has) ∙ ap (λ b. option_or (f q) (cond b (Some d) None)) (sym same)
-        | inr apart ↦ or_none (f q) ∙ ap (λ b. option_or (f q) (cond b (Some d) None)) (sym apart)
-      ]
-
-  -- a name that has none gets one
-  pub adds_digest : is_some (f name) ≡ false → (q : List ℕ) → cond (bytes_eq name q) (Some d) (f q) ≡ option_or (f q) (cond (bytes_eq name q) (Some d) None)
-  adds_digest none q =
-      elim (cases_Bool (bytes_eq name q)) [
-        | inl same ↦ ap (λ b. cond b (Some d) (f q)) same ∙ or_new (f q) d (ap (λ t. is_some (f t)) (sym ((bytes_eq-Decides name q).0 same)) ∙ none) ∙ ap (λ b. option_or (f q) (cond b (Some d) None)) (sym same)
-        | inr apart ↦ ap (λ b. cond b (Some d) (f q)) apart ∙ or_none (f q) ∙ ap (λ b. option_or (f q) (cond b (Some d) None)) (sym apart)
-      ]
+-- the digests with one custodian more: the first of a name counts
+pub digest_push : (rows : List Custodian) (row : Custodian) (q : List ℕ) → option_or (digest_of rows q) (cond (bytes_eq q row.name) (Some row.digest) None) ≡ digest_of (rows ++ row ∷ []) q
+digest_push rows row q =
+    ap (λ b. option_or (digest_of rows q) (cond b (Some row.digest) None)) ((on_texts_equal (λ t. t)).symm q row.name) ∙ sym (by_names rows row q)
 
 -- the answer by the four tests
 abbrev by_tests : Bool → Bool → Bool → Bool → Option Custodian → Result (Option Custodian) TableRule

@@ -1,5 +1,5 @@
 -- Mount points in their places, and what a line of file systems answers, by the tests of its rules.
-use Rattle.std.proofs.Common.{◌≡◌, ◌<◌, ◌≤◌, ℕ, ◌+◌, Bool, true, false, ◌||◌, List, [], ◌∷◌, ◌++◌, Some, None, Result, Ok, Err, Option, cond, find, get_or, length, take, drop, zero, suc, refl, ap, subst, sym, ◌∙◌, arith, nat_cmp, nat_le}
+use Rattle.std.proofs.Common.{◌≡◌, ◌<◌, ◌≤◌, ℕ, ◌+◌, Bool, true, false, ◌||◌, List, [], ◌∷◌, ◌++◌, Some, None, Result, Ok, Err, Option, cond, find, get_or, length, drop, zero, suc, refl, ap, subst, sym, ◌∙◌, arith, nat_cmp, nat_le}
 use Rattle.std.specs.Prelude.{nat_lt}
 use Rattle.std.specs.List.{All, count_by, cons_option, filter_map, insert, list_any, prefix_len, remove}
 use Rattle.std.specs.Option.{option_map}

@@ -1,5 +1,5 @@
 -- For the law `good_lines_have_rows`: what breaks no rule can be read.
-use Rattle.std.proofs.Common.{◌≡◌, ℕ, Bool, true, false, ◌||◌, List, Option, Some, None, Result, Ok, Err, cond, length, refl}
+use Rattle.std.proofs.Common.{◌≡◌, ℕ, Bool, true, false, ◌||◌, Option, Some, None, Result, Ok, Err, cond, length, refl}
 use Rattle.std.specs.Prelude.{IsSome, is_err, is_none, nat_le, nat_lt, not, option_and_then, ◌==◌}
 use Rattle.std.specs.List.{list_any}
 use Rattle.std.specs.Option.{option_map}
@@ -7,17 +7,11 @@ use Rattle.std.specs.Result.{result_ok}
 use Rattle.std.specs.Str.{bytes_eq}
 use Rattle.hex.specs.Hex.{decode_sized}
 use Rattle.desk_text.specs.Address.{read_addr, read_short}
-use Rattle.desk_tables.specs.ColonLines.{field, fields, number_in}
+use Rattle.desk_tables.specs.ColonLines.{field, number_in}
 use Rattle.desk_tables.specs.Custodians as custodians
 use Rattle.desk_tables.specs.FileSystemsText as filesystems
-use Rattle.desk_tables.specs.Groups as groups
-use Rattle.desk_tables.specs.Hosts as hosts
 use Rattle.desk_tables.specs.Laws.{GoodLinesHaveRows}
 use Rattle.desk_tables.specs.Networks as networks
-use Rattle.desk_tables.specs.Users as users
-use Rattle.desk_tables.specs.declared.filesystems.Mount.{Mount}
-use Rattle.desk_tables.specs.declared.groups.Group.{Group}
-use Rattle.desk_tables.specs.declared.users.User.{User}
 use Rattle.desk_tables.specs.declared.rules.TableRule.{TableRule}
 use Rattle.desk_tables.specs.declared.rules.TableRule.TheVariants as variant
 

@@ -6,7 +6,9 @@ use Rattle.std.specs.Option.{option_map_or, option_or}
 use Rattle.std.specs.Ordering.{nat_cmp}
 use Rattle.std.specs.Str.{bytes_eq, str_to_ascii_lowercase}
 use Rattle.desk_text.specs.declared.address.Addr.{Addr}
+use Rattle.desk_tables.specs.Custodians.{digest_of}
 use Rattle.desk_tables.specs.Networks.{network_number}
+use Rattle.desk_tables.specs.declared.custodians.Custodian.{Custodian}
 use Rattle.desk_tables.specs.declared.groups.Group.{Group}
 use Rattle.desk_tables.specs.declared.hosts.HostRow.{HostRow}
 use Rattle.desk_tables.specs.declared.networks.NetworkName.{NetworkName}
@@ -63,6 +65,10 @@ module _ {Y : Type 0} where
   -- the index has the number of the first row of each name
   abbrev pub HasNumbers : List NetworkName → BTreeMap (String Y) Addr → Type 0
   HasNumbers rows index = (name : List ℕ) → get_by_text index name ≡ network_number rows name
+
+  -- the index has the digest of each custodian's name
+  abbrev pub HasDigests : List Custodian → BTreeMap (String Y) (List ℕ) → Type 0
+  HasDigests rows index = (name : List ℕ) → get_by_text index name ≡ digest_of rows name
 
   -- the index has the place of the first user of each name
   abbrev pub HasUserNames : List User → BTreeMap (String Y) ℕ → Type 0

@@ -1,20 +1,21 @@
 //! Custodians, and the digests of their keys. (this project's own)
 
-ghost use Rattle.std.specs.BTreeMap.{get_by_text};
-ghost use Rattle.std.specs.Prelude.{◌≡◌, ℕ, List, [], ◌∷◌, ◌++◌, ◌≤◌, ◌==◌, IfOk, None, Some, length, map, if◌then◌else◌};
-ghost use Rattle.std.specs.List.{list_all, list_any};
-ghost use Rattle.std.specs.Option.{option_copied, option_or};
-ghost use Rattle.std.specs.Str.{bytes_eq};
+ghost use Rattle.std.specs.Prelude.{◌≡◌, ◌≤◌, List, Ok, Some, length, map};
+ghost use Rattle.std.specs.List.{list_all};
+ghost use Rattle.std.specs.Option.{option_copied};
 ghost use Rattle.desk_text.specs.Reading.{Reads, ReadsAs};
 ghost use Rattle.desk_text.specs.Lines.{logical_lines};
 ghost use Rattle.desk_tables.specs.Custodians as spec;
+ghost use Rattle.desk_tables.specs.PrivateIndex.{HasDigests};
 ghost use Rattle.desk_tables.specs.QuotedLines.{line_values, lines_table};
+ghost use Rattle.desk_tables.specs.declared.custodians.Custodian.{Custodian};
 
+use crate::index::add_first;
 use crate::quoted_lines::{at_line, line_values};
 use crate::rules::{TableFault, TableRule};
 use desk_text::{Line, LineFault, ReadError, Sequence, Text, logical_lines};
 use hex::FromHex;
-use std::alloc::{AllocError, Global};
+use std::alloc::Global;
 use std::collections::BTreeMap;
 use std::marker::Model;
 
@@ -36,16 +37,15 @@ pub struct Custodians {
 }
 
 impl Model for Custodians {
-    ghost use Rattle.std.specs.Prelude.{◌≡◌, ℕ, List};
-    ghost use Rattle.std.specs.BTreeMap.{get_by_text};
-    ghost use Rattle.desk_tables.specs.Custodians.{digest_of};
+    ghost use Rattle.std.specs.Prelude.{List};
+    ghost use Rattle.desk_tables.specs.PrivateIndex.{HasDigests};
     ghost use Rattle.desk_tables.specs.declared.custodians.Custodian.{Custodian};
 
     ghost Value = { List Custodian };
 
     ghost view = { λ c. c.rows };
 
-    ghost invariant = { λ c. (name : List ℕ) → get_by_text c.digests name ≡ digest_of c.rows name };
+    ghost invariant = { λ c. HasDigests c.rows c.digests };
 }
 
 impl Custodians {
@@ -79,52 +79,6 @@ impl Custodians {
     {
         self.rows.as_slice()
     }
-
-    /// Tests whether a custodian has this name.
-    #[tactic(auto, using(crate::proofs::CustodianLemmas::listed_names))]
-    fn lists(&self, name: &str) -> bool
-        ensures { result ≡ list_any (bytes_eq name.now) (map (λ row. row.name) self.now) }
-    {
-        self.digests.contains_key(name)
-    }
-
-    /// Makes the table without custodians.
-    fn new(alloc: Global) -> Custodians
-        ensures { result ≡ [] }
-    {
-        Custodians {
-            rows: Sequence::new(alloc),
-            digests: BTreeMap::new(alloc),
-        }
-    }
-
-    /// Adds a custodian at the end.
-    fn with_row(self, alloc: Global, row: Custodian) -> Result<Custodians, AllocError>
-        ensures { IfOk result (λ table. table ≡ self ++ row ∷ []) }
-    {
-        let Custodians { mut rows, digests } = self;
-        let digests = with_digest(alloc, digests, row.name.as_str(), row.digest)?;
-        rows.push(row)?;
-        Ok(Custodians { rows, digests })
-    }
-}
-
-/// Adds the digest of a name, unless the name has one.
-fn with_digest(
-    alloc: Global,
-    mut digests: BTreeMap<String, [u8; 32]>,
-    name: &str,
-    digest: [u8; 32],
-) -> Result<BTreeMap<String, [u8; 32]>, AllocError>
-    ensures { IfOk result (λ more. (q : List ℕ) → get_by_text more q
-        ≡ option_or (get_by_text digests q) (if bytes_eq name.now q then Some digest else None)) }
-{
-    if digests.contains_key(name) {
-        return Ok(digests);
-    }
-    let key = String::from_str(alloc, name)?;
-    digests.insert(key, digest)?;
-    Ok(digests)
 }
 
 /// Reads the custodian of each line, in order, or the first fault.
@@ -133,35 +87,39 @@ fn read_rows(alloc: Global, text: &str) -> Result<Custodians, ReadError<TableFau
     ensures { Reads result (lines_table spec.line_answer (logical_lines text.now)) }
 {
     let lines = logical_lines(alloc, text)?;
-    let mut table = Custodians::new(alloc);
+    let mut rows = Sequence::new(alloc);
+    let mut digests = BTreeMap::new(alloc);
     for line in &lines {
-        let row = at_line(line.number(), read_line(alloc, line, &table))?;
-        table = table.with_row(alloc, row)?;
+        let row = at_line(line.number(), read_line(alloc, line, &digests))?;
+        add_first(alloc, &mut digests, row.name.as_str(), row.digest)?;
+        rows.push(row)?;
     }
-    Ok(table)
+    Ok(Custodians { rows, digests })
 }
 
-/// Reads the custodian of a line, or the first rule that it breaks, if these custodians are listed before.
+/// Reads the custodian of a line, or the first rule that it breaks, if the custodians with these digests are listed
+/// before.
 fn read_line(
     alloc: Global,
     line: &Line,
-    before: &Custodians,
+    digests: &BTreeMap<String, [u8; 32]>,
 ) -> Result<Custodian, ReadError<TableRule>>
-    ensures { ReadsAs (λ row. Some row) result
-        (spec.values_answer (map (λ row. row.name) before.now) (line_values line.now)) }
+    ensures { (before : List Custodian) → HasDigests before digests.now → ReadsAs (λ row. Some row) result
+        (spec.values_answer (map (λ row. row.name) before) (line_values line.now)) }
 {
     let words = line_values(alloc, line)?;
-    read_words(alloc, words.as_slice(), before)
+    read_words(alloc, words.as_slice(), digests)
 }
 
-/// Reads the custodian of a line of these words, or the first rule that it breaks, if these custodians are listed before.
+/// Reads the custodian of a line of these words, or the first rule that it breaks, if the custodians with these digests are
+/// listed before.
 fn read_words(
     alloc: Global,
     words: &[Text],
-    before: &Custodians,
+    digests: &BTreeMap<String, [u8; 32]>,
 ) -> Result<Custodian, ReadError<TableRule>>
-    ensures { ReadsAs (λ row. Some row) result
-        (spec.values_answer (map (λ row. row.name) before.now) (Ok words.now)) }
+    ensures { (before : List Custodian) → HasDigests before digests.now → ReadsAs (λ row. Some row) result
+        (spec.values_answer (map (λ row. row.name) before) (Ok words.now)) }
 {
     let [name, digest] = words else {
         return Err(ReadError::Fault(TableRule::Fields));
@@ -169,7 +127,7 @@ fn read_words(
     if !is_name(name.as_str()) {
         return Err(ReadError::Fault(TableRule::Name));
     }
-    if before.lists(name.as_str()) {
+    if digests.contains_key(name.as_str()) {
         return Err(ReadError::Fault(TableRule::Duplicate));
     }
     let Ok(digest) = <[u8; 32] as FromHex>::from_hex(digest.as_str()) else {

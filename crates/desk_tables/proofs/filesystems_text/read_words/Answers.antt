@@ -1,5 +1,4 @@
-use Rattle.std.proofs.Common.{◌≡◌, ◌∙◌, ◌-◌, ap, sym, true, false, length, drop, List, ℕ, arith, Ok, Some}
-use Rattle.std.proofs.lemmas.List.{take_all, length-drop}
+use Rattle.std.proofs.Common.{◌≡◌, ◌∙◌, ap, sym, true, false, length, List, ℕ, arith, Ok, Some}
 use Rattle.std.specs.List.{list_any}
 use Rattle.desk_text.specs.Path.{are_printed_alike}
 use Rattle.desk_tables.specs.FileSystemsText as spec
