@@ -59,18 +59,21 @@ names_after w ws at =
 
 pub items_say_the_line : ItemsSayTheLine
 items_say_the_line [] h = (refl, refl)
-items_say_the_line (Name w ∷ items) h =
-    (settings_bare w (flat_map item_words items) h.0 ∙ (items_say_the_line items h.1).0,
-    names_step false w (flat_map item_words items) false false h.0 (takes_nothing w h.0) ∙ ap (λ ns. w.value ∷ ns) (items_say_the_line items h.1).1)
-items_say_the_line (Options w ∷ items) h =
-    (settings_dashed w (flat_map item_words items) h.0 ∙ (ap (λ s. s ++ settings (flat_map item_words items)) (options_say w (flat_map item_words items) h.0 h.1) ∙ ap (λ s. map (setting None) (pieces w) ++ s) (items_say_the_line items h.2).0),
-    names_step false w (flat_map item_words items) true (takes_next w) h.0 refl ∙ (names_after w (flat_map item_words items) h.1 ∙ (items_say_the_line items h.2).1))
-items_say_the_line (OptionsWithValue w v ∷ items) h =
-    (settings_dashed w (v ∷ flat_map item_words items) h.0
-        ∙ (ap (λ o. settings_of o (pieces w) ++ settings (v ∷ flat_map item_words items)) (ap (λ d. cond d None (Some v.value)) h.2)
-        ∙ ap (λ s. settings_of (Some v.value) (pieces w) ++ s) (settings_bare v (flat_map item_words items) h.2 ∙ (items_say_the_line items h.3).0)),
-    names_step false w (v ∷ flat_map item_words items) true true h.0 h.1
-        ∙ (names_step true v (flat_map item_words items) false false h.2 (takes_nothing v h.2) ∙ (items_say_the_line items h.3).1))
+items_say_the_line (Name w ∷ items) h = (
+  settings_bare w (flat_map item_words items) h.0 ∙ (items_say_the_line items h.1).0,
+  names_step false w (flat_map item_words items) false false h.0 (takes_nothing w h.0) ∙ ap (λ ns. w.value ∷ ns) (items_say_the_line items h.1).1,
+)
+items_say_the_line (Options w ∷ items) h = (
+  settings_dashed w (flat_map item_words items) h.0 ∙ (ap (λ s. s ++ settings (flat_map item_words items)) (options_say w (flat_map item_words items) h.0 h.1) ∙ ap (λ s. map (setting None) (pieces w) ++ s) (items_say_the_line items h.2).0),
+  names_step false w (flat_map item_words items) true (takes_next w) h.0 refl ∙ (names_after w (flat_map item_words items) h.1 ∙ (items_say_the_line items h.2).1),
+)
+items_say_the_line (OptionsWithValue w v ∷ items) h = (
+  settings_dashed w (v ∷ flat_map item_words items) h.0
+      ∙ (ap (λ o. settings_of o (pieces w) ++ settings (v ∷ flat_map item_words items)) (ap (λ d. cond d None (Some v.value)) h.2)
+      ∙ ap (λ s. settings_of (Some v.value) (pieces w) ++ s) (settings_bare v (flat_map item_words items) h.2 ∙ (items_say_the_line items h.3).0)),
+  names_step false w (v ∷ flat_map item_words items) true true h.0 h.1
+      ∙ (names_step true v (flat_map item_words items) false false h.2 (takes_nothing v h.2) ∙ (items_say_the_line items h.3).1),
+)
 
 pub words_fall_into_items : WordsFallIntoItems
 words_fall_into_items [] = record { items = []; fit = tt; all = refl }

@@ -139,7 +139,11 @@ pub(crate) fn network_clients(
 }
 
 /// Copies the value, if its class counts.
-fn classful_value(alloc: Global, settings: &[Setting], value: &str) -> Result<Option<Text>, AllocError>
+fn classful_value(
+    alloc: Global,
+    settings: &[Setting],
+    value: &str,
+) -> Result<Option<Text>, AllocError>
     ensures { IfOk result (λ noted. noted ≡ spec.classful_value settings.now value.now) }
 {
     if is_classful(settings, value) {

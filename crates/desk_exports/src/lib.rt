@@ -1,4 +1,18 @@
-//! The lines of exports files: the grammar of a line, its entry, and its faults. (exports(5))
+//! The lines of exports files: the grammar of a line, the rules that it may break, and its entry. (exports(5))
+//!
+//! A text is read as the entries of its lines, in order, each of which says just what its line writes; or
+//! it is refused, with the first faulty line and the first rule that it breaks. Nothing that a line writes
+//! is left unread: a line that breaks no rule has an entry, and only a line that writes neither a name
+//! nor a network is for everybody.
+//!
+//! ```
+//! // `/usr -ro 10.0.0.5` is one entry: of the file system of `/usr`, read-only, for one host. But
+//! // `/usr -ro=1` breaks UnknownOption:
+//! match read_whole(alloc, "/usr -ro=1\n", &tables) {
+//!     Err(ReadError::Fault(fault)) => fault_text(alloc, fault)?, // fault line 1 rule 5 UnknownOption
+//!     ..
+//! }
+//! ```
 #![tactic(auto)]
 
 mod clients;

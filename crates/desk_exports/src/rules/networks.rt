@@ -9,9 +9,7 @@ ghost use Rattle.desk_exports.specs.Options.{of_value};
 ghost use Rattle.desk_exports.specs.Rules as spec;
 ghost use Rattle.desk_exports.specs.declared.options.Keyword.TheVariants as keyword;
 
-use crate::clients::{
-    class_prefix, has_slash, mask_prefix, network_address, prefix_text,
-};
+use crate::clients::{class_prefix, has_slash, mask_prefix, network_address, prefix_text};
 use crate::options::{Keyword, Setting, value_of};
 use desk_tables::Networks;
 use desk_text::{Addr, Prefix, is_ipv6};

@@ -1,4 +1,4 @@
-use Rattle.std.proofs.Common.{◌≡◌, ◌∙◌, Option, Some, None, IsSome, ap, subst, sym}
+use Rattle.std.proofs.Common.{◌≡◌, ◌∙◌, Option, Some, None, IsSome, ap, refl, subst, sym}
 use Rattle.std.specs.Option.{option_map, option_zip}
 use Rattle.desk_exports.specs.Clients.{clients_of}
 use Rattle.desk_exports.specs.Entry.{entry_with, terms_of}
@@ -9,11 +9,11 @@ use Rattle.desk_exports.proofs.entry.make_entry.Goals as goal
 
 is_mapped : {X Y : Type 0} (f : X → Y) (o : Option X) → IsSome (option_map f o) → IsSome o
 is_mapped f None h = h
-is_mapped f (Some x) h = tt
+is_mapped f (Some x) h = refl
 
 -- what is written has terms and clients
-pub unwrap-requires : goal.unwrap-requires
-unwrap-requires c =
+pub unwrap-terms-requires : goal.unwrap-terms-requires
+unwrap-terms-requires c =
     let tables : TableRows = table_rows c.args.tables.now in
     let line = c.args.line in
     let terms : c.in_ok-terms.terms ≡ terms_of tables line.settings = c.in_ok-terms.ensures ∙ ap (terms_of tables) c.as_slice-2.ensures in

@@ -10,7 +10,7 @@ returns-in_ok-push c =
     let offer = option_copied c.args.offer in
     let before : List Setting = c.args.settings.now in
     let others : List Setting = map (λ x. setting None x.now) c.in-Some.others.now in
-    c.in_ok-push.ensures
+    c.in_ok-push.ensures.added
     ∙ ap (λ s. s ++ c.in_ok-read.field-0 ∷ []) c.in_ok-push_without_offer.ensures
     ∙ ap (λ v. (before ++ others) ++ v ∷ []) c.in_ok-read.ensures
     ∙ append_assoc before others (setting offer c.in-Some.last.now.now ∷ [])
