@@ -1,5 +1,5 @@
 mod VerdictExamples
-pub mod Ascending
+pub mod RowAddresses
 pub mod EntriesByFileSystem
 pub mod GreatestWeight
 pub mod VerdictLines

@@ -19,7 +19,7 @@ ordered_once : addresses_of_names (codes "0.0.1.0" ∷ codes "oldhost" ∷ codes
 ordered_once = refl
 
 abbrev mount : List (List ℕ) → Mount
-mount path = record { path = path; custodians = [] }
+mount path = record { path = path; custodians = []; line = 0 }
 
 abbrev usr : List (List ℕ)
 usr = codes "usr" ∷ []

@@ -9,7 +9,7 @@ use Rattle.desk_policy.specs.PrivateWeights.{has_weight, lists_here, IsGreatest}
 use Rattle.std.proofs.Math.Bool.{and-true}
 use Rattle.std.proofs.lemmas.Bool.{eq-eqb}
 use Rattle.desk_policy.specs.Policy.{Content}
-use Rattle.desk_tables.specs.Mounts.{fs_of}
+use Rattle.desk_tables.specs.FileSystems.{fs_of}
 use Rattle.desk_policy.specs.Weights.{selected}
 use Rattle.desk_policy.specs.Verdict.{Grant, granted_by, verdict_among, lists, is_in, is_directory_among}
 use Rattle.desk_policy.proofs.GreatestWeight.{find-filter, find_front, selected-none, selected-some}

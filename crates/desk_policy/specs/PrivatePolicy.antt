@@ -1,14 +1,7 @@
 -- What the private contracts of the steps to a policy cite.
-use Rattle.std.specs.Prelude.{◌≡◌, ℕ, nat_lt, List, [], ◌∷◌, ◌++◌, length, slice_index_or, slice_set, if◌then◌else◌}
-use Rattle.std.specs.List.Sorted.{IsStrictlyIncreasing}
-use Rattle.desk_tables.specs.Ascending.{ascending}
+use Rattle.std.specs.Prelude.{ℕ, nat_lt, List, [], ◌∷◌, ◌++◌, length, slice_index_or, slice_set, if◌then◌else◌}
 use Rattle.desk_policy.specs.declared.row.Row.{Row}
 
 -- the lists, of which the one of this file system, if there is one, has one more line
 abbrev pub with_row : List (List Row) → ℕ → Row → List (List Row)
 with_row lists fs row = if nat_lt fs (length lists) then slice_set lists fs (slice_index_or lists fs [] ++ row ∷ []) else lists
-
--- these are the numbers in ascending order, each once
-pub record IsSortedOnce (numbers kept : List ℕ) : Type 0 where
-  pub ascend : IsStrictlyIncreasing kept
-  pub same : kept ≡ ascending numbers

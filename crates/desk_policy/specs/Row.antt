@@ -3,8 +3,8 @@
 use Rattle.std.specs.Prelude.{◌≡◌, ◌↔◌, ℕ, ◌==◌, Bool, false, Result, Ok, Err, List, [], ◌∷◌}
 use Rattle.std.specs.List.{list_any, flat_map}
 use Rattle.std.specs.List.Sorted.{IsStrictlyIncreasing}
-use Rattle.desk_text.specs.Addr.{read_addr}
-use Rattle.desk_tables.specs.Ascending.{ascending}
+use Rattle.desk_text.specs.Address.{read_addr}
+use Rattle.desk_text.specs.AddrSet.{is_among, sorted_set}
 use Rattle.desk_text.specs.declared.address.AddrFault.{AddrFault}
 use Rattle.desk_exports.specs.declared.entry.Entry.{Entry}
 use Rattle.desk_exports.specs.declared.entry.Clients.{Clients}
@@ -27,12 +27,12 @@ number_read (Err fault) = []
 
 -- the addresses for which the names stand, in ascending order, each once
 abbrev pub addresses_of_names : List (List ℕ) → List ℕ
-addresses_of_names names = ascending (flat_map (λ name. number_read (read_addr name)) names)
+addresses_of_names names = sorted_set (flat_map (λ name. number_read (read_addr name)) names)
 
 -- these addresses ascend, each once, and an address is among them exactly where some name stands for it
 pub record AreAddressesOf (names : List (List ℕ)) (addresses : List ℕ) : Type 0 where
   pub ascend : IsStrictlyIncreasing addresses
-  pub each : (address : ℕ) → list_any (λ other. other == address) addresses ≡ list_any (λ name. stands_for name address) names
+  pub each : (address : ℕ) → is_among address addresses ≡ list_any (λ name. stands_for name address) names
 
 -- names have one list of such addresses, and it is this one
 abbrev pub AddressesAreUnique : Type 0

@@ -1,7 +1,8 @@
 -- Which lines of a file system are selected for a client. (this project's own)
-use Rattle.std.specs.Prelude.{ℕ, ◌+◌, ◌==◌, Bool, true, false, List, Option, Some, None, nat_le, filter, if◌then◌else◌}
-use Rattle.std.specs.List.{list_any, list_all}
-use Rattle.desk_text.specs.Networks.{covers}
+use Rattle.std.specs.Prelude.{ℕ, ◌+◌, Bool, true, false, List, Option, Some, None, nat_le, filter, if◌then◌else◌}
+use Rattle.std.specs.List.{list_all}
+use Rattle.desk_text.specs.AddrSet.{is_among}
+use Rattle.desk_text.specs.Network.{covers}
 use Rattle.desk_exports.specs.declared.entry.Clients.{Clients}
 use Rattle.desk_exports.specs.declared.entry.Clients.TheVariants.{Hosts, Net, Net6, World}
 use Rattle.desk_policy.specs.declared.row.Row.{Row}
@@ -14,7 +15,7 @@ name_weight = 34
 -- one more than the prefix where its network covers the address, 0 where it is for everybody. A network of IPv6 matches
 -- nobody.
 abbrev pub weight_by : Clients → List ℕ → ℕ → Option ℕ
-weight_by (Hosts names) addresses address = if list_any (λ other. other == address) addresses then Some name_weight else None
+weight_by (Hosts names) addresses address = if is_among address addresses then Some name_weight else None
 weight_by (Net net noted) addresses address = if covers net address then Some (net.prefix + 1) else None
 weight_by (Net6 value) addresses address = None
 weight_by World addresses address = Some 0

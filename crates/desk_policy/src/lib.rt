@@ -12,7 +12,6 @@
 #![tactic(auto)]
 
 pub mod acting;
-pub mod addresses;
 pub mod laws;
 pub mod policy;
 pub mod prints;
@@ -21,7 +20,6 @@ pub mod verdict;
 mod weights;
 
 pub use acting::act_as;
-pub use addresses::AddrList;
 pub use laws::{
     addresses_are_unique, ascending_entries_ascend_in_each_file, each_has_its_lines,
     least_lines_are_named,

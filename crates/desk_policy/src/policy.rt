@@ -1,6 +1,6 @@
 //! A policy: the table of file systems, and the lines in force of each.
 
-ghost use Rattle.std.specs.Prelude.{◌≡◌, ◌≤◌, List, [], IfOk, OnOk, length, replicate};
+ghost use Rattle.std.specs.Prelude.{◌≡◌, List, [], IfOk, OnOk, length, replicate};
 ghost use Rattle.desk_policy.specs.Policy.{EachFileAscends, content_of, rows_of};
 ghost use Rattle.desk_policy.specs.PrivatePolicy.{with_row};
 
@@ -12,7 +12,7 @@ use std::alloc::{AllocError, Global};
 use std::marker::Model;
 
 /// The table of file systems, and the lines of each, in the order of their entries.
-#[derive(Debug, Drop)]
+#[derive(Drop)]
 pub struct Policy {
     filesystems: FileSystems,
     rows: Vec<Sequence<Row>>,
@@ -78,14 +78,11 @@ fn add_row(lists: &mut Vec<Sequence<Row>>, fs: FsId, row: Row) -> Result<(), All
 
 /// Makes a list without lines for each file system.
 fn empty_lists(alloc: Global, filesystems: &FileSystems) -> Result<Vec<Sequence<Row>>, AllocError>
-    requires { length filesystems.now ≤ 256 }
     ensures { IfOk result (λ lists. lists.items ≡ replicate (length filesystems.now) []) }
 {
     let mut lists = Vec::new(alloc);
-    let mut count = 0;
-    while filesystems.mount(FsId(count)).is_some() {
+    for _ in 0..filesystems.len() {
         lists.push(Sequence::new(alloc))?;
-        count += 1;
     }
     Ok(lists)
 }

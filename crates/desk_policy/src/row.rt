@@ -1,17 +1,19 @@
-//! The lines in force.
+//! The lines in force: an entry, and the addresses for which its written names stand.
 
-ghost use Rattle.std.specs.Prelude.{◌≡◌, IfOk};
-ghost use Rattle.desk_policy.specs.Row.{addresses_of_names, names_of, row_of};
+ghost use Rattle.std.specs.Prelude.{◌≡◌, IfOk, map};
+ghost use Rattle.std.specs.List.{flat_map};
+ghost use Rattle.desk_text.specs.Address.{number_of, read_addr};
+ghost use Rattle.desk_policy.specs.Row.{addresses_of_names, names_of, number_read, row_of};
 
-use crate::addresses::AddrList;
 use desk_exports::{Clients, Entry};
+use desk_text::{Addr, AddrSet, Text};
 use std::alloc::{AllocError, Global};
 
 /// A line of an exports file, with the addresses for which its written names stand.
-#[derive(Debug, Drop)]
+#[derive(Drop)]
 pub struct Row {
     pub entry: Entry,
-    pub addrs: AddrList,
+    pub addrs: AddrSet,
 }
 
 impl Row {
@@ -26,11 +28,24 @@ impl Row {
 }
 
 /// Finds the addresses for which the written names of these clients stand.
-fn addresses_of(alloc: Global, clients: &Clients) -> Result<AddrList, AllocError>
+fn addresses_of(alloc: Global, clients: &Clients) -> Result<AddrSet, AllocError>
     ensures { IfOk result (λ addrs. addrs ≡ addresses_of_names (names_of clients.now)) }
 {
     match clients {
-        Clients::Hosts(names) => AddrList::of_names(alloc, names.as_slice()),
-        Clients::Net(_, _) | Clients::Net6(_) | Clients::World => Ok(AddrList::empty(alloc)),
+        Clients::Hosts(names) => Ok(AddrSet::from_vec(written_addresses(alloc, names.as_slice())?)),
+        Clients::Net(_, _) | Clients::Net6(_) | Clients::World => Ok(AddrSet::new(alloc)),
     }
+}
+
+/// Finds the addresses that the names write, in the order of the names.
+fn written_addresses(alloc: Global, names: &[Text]) -> Result<Vec<Addr>, AllocError>
+    ensures { IfOk result (λ v. map number_of v.items ≡ flat_map (λ name. number_read (read_addr name)) names.now) }
+{
+    let mut addresses = Vec::new(alloc);
+    for name in names {
+        if let Ok(address) = Addr::read(name.as_str()) {
+            addresses.push(address)?;
+        }
+    }
+    Ok(addresses)
 }

@@ -1,7 +1,7 @@
 //! Who may mount what.
 
 ghost use Rattle.std.specs.Prelude.{◌≡◌};
-ghost use Rattle.desk_text.specs.Addr.{number_of};
+ghost use Rattle.desk_text.specs.Address.{number_of};
 ghost use Rattle.desk_policy.specs.Weights.{selected};
 ghost use Rattle.desk_policy.specs.Verdict.{verdict_result, verdict_among, verdict_of};
 ghost use Rattle.desk_policy.specs.PrivateWeights.{lists_here};
@@ -14,7 +14,7 @@ use desk_tables::FsId;
 use desk_text::{Addr, Path};
 
 /// Why a mount is denied.
-#[derive(Clone, Copy, Debug, PartialEq, Eq)]
+#[derive(Clone, Copy)]
 pub enum Denial {
     /// The path is under no mount point.
     NoFileSystem,
@@ -25,7 +25,7 @@ pub enum Denial {
 }
 
 /// The answer to a client that asks for a directory.
-#[derive(Clone, Copy, Debug)]
+#[derive(Clone, Copy)]
 pub enum Verdict<'a> {
     /// The mount is granted by this line of this file system, on its terms.
     Granted {

@@ -6,7 +6,7 @@
 
 ghost use Rattle.std.specs.Prelude.{◌≡◌, ◌&&◌, find};
 ghost use Rattle.std.specs.Option.{option_copied};
-ghost use Rattle.desk_text.specs.Addr.{number_of};
+ghost use Rattle.desk_text.specs.Address.{number_of};
 ghost use Rattle.desk_policy.specs.Weights.{weight_of};
 ghost use Rattle.desk_policy.specs.Verdict.{is_directory_among};
 ghost use Rattle.desk_policy.specs.PrivateWeights.{has_weight, greater, lists_here, IsGreatest};
@@ -23,7 +23,7 @@ pub fn weight_of(row: &Row, address: Addr) -> Option<u8>
     ensures { result ≡ weight_of row.now (number_of address) }
 {
     match &row.entry.clients {
-        Clients::Hosts(_) if row.addrs.has(address) => Some(NAME_WEIGHT),
+        Clients::Hosts(_) if row.addrs.contains(address) => Some(NAME_WEIGHT),
         Clients::Net(net, _) if net.covers(address) => Some(net.prefix().get() + 1),
         Clients::World => Some(0),
         Clients::Hosts(_) | Clients::Net(_, _) | Clients::Net6(_) => None,
@@ -86,5 +86,5 @@ fn lists_here(row: &Row, path: &Path) -> bool
 fn is_directory_among(path: &Path, dirs: &[Path]) -> bool
     ensures { result ≡ is_directory_among path.now dirs.now }
 {
-    dirs.iter().any(|dir| dir == path)
+    dirs.iter().any(|dir| *dir == *path)
 }

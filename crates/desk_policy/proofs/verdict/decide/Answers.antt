@@ -1,6 +1,6 @@
 use Rattle.std.proofs.Common.{◌≡◌, Option, Some, None, sym, ◌∙◌, ap, ℕ}
 use Rattle.std.specs.Option.{option_map}
-use Rattle.desk_tables.specs.Mounts.{fs_of}
+use Rattle.desk_tables.specs.FileSystems.{fs_of}
 use Rattle.desk_tables.specs.declared.filesystems.FsId.{FsId}
 use Rattle.desk_policy.specs.Policy.{rows_of}
 use Rattle.desk_policy.specs.Weights.{selected}

@@ -1,6 +1,6 @@
 -- The greatest weight of the lines so far.
 use Rattle.std.proofs.Common.{take}
-use Rattle.desk_text.specs.Addr.{number_of}
+use Rattle.desk_text.specs.Address.{number_of}
 use Rattle.desk_policy.specs.PrivateWeights.{IsGreatest}
 use Rattle.desk_policy.proofs.weights.greatest_weight.Given as goal
 
