@@ -1,4 +1,5 @@
 pub mod FirstBad
+pub mod KnownAnswers
 pub mod KnownBytes
 pub mod MountWords
 pub mod TextFaults

@@ -1,9 +1,8 @@
 -- The words of mount points, for `arguments::read_mount_points`.
-use Rattle.std.proofs.Common.{◌≡◌, ℕ, ◌+◌, ◌<◌, Bool, true, false, List, [], ◌∷◌, ◌++◌, map, length, get_or, take, Some, None, find, Ok, Err, Result, refl, sym, subst, ap, ◌∙◌}
+use Rattle.std.proofs.Common.{◌≡◌, ℕ, ◌+◌, ◌<◌, true, false, List, [], ◌∷◌, ◌++◌, map, length, get_or, take, Some, find, Ok, Err, Result, refl, sym, subst, ap, ◌∙◌}
 use Rattle.std.proofs.lemmas.List.{map_more}
 use Rattle.std.proofs.lemmas.List.Elements.{filter_map-append}
 use Rattle.std.specs.Result.{result_ok}
-use Rattle.std.specs.String.{string_bytes}
 use Rattle.desk_text.specs.Path.{read_path}
 use Rattle.desk_text.specs.declared.path.PathFault.{PathFault}
 use Rattle.desk_command.specs.Arguments.{AnswersArgument, IsBadMount, is_no_path, paths_of}

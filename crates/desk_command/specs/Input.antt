@@ -1,5 +1,5 @@
 -- The texts and words that come from outside: files, standard input, the command line. (this project's own)
-use Rattle.std.specs.Prelude.{ℕ, ◌+◌, ◌==◌, ◌||◌, nat_le, nat_lt, Bool, not, List, [], ◌∷◌, length, take, filter, count_by, Result, Ok, Err, Option, Some, None, if◌then◌else◌, ⊤}
+use Rattle.std.specs.Prelude.{ℕ, ◌+◌, ◌==◌, ◌||◌, nat_le, nat_lt, Bool, not, List, length, take, filter, count_by, Result, Ok, Err, if◌then◌else◌}
 use Rattle.std.specs.Io.BufRead.{ends_with_byte, strip_last}
 use Rattle.std.specs.List.{after_last, slice_split}
 use Rattle.std.specs.Str.{is_utf8}

@@ -1,14 +1,17 @@
 -- The output of `try` by the bytes of FILE. (this project's own)
-use Rattle.std.specs.Prelude.{◌≡◌, ℕ, List, Result, Ok, Err}
+use Rattle.std.specs.Prelude.{◌≡◌, ◌⊎◌, ℕ, List, Result, Ok, Err}
 use Rattle.std.specs.String.{string_bytes}
-use Rattle.desk_text.specs.Address.{number_of}
+use Rattle.desk_text.specs.Address.{number_of, read_addr}
+use Rattle.desk_text.specs.Path.{read_path}
 use Rattle.desk_text.specs.declared.reading.LineFault.{LineFault}
 use Rattle.desk_exports.specs.declared.rules.Rule.{Rule}
+use Rattle.desk_command.specs.Arguments.{IsBadArgument, IsRequest}
+use Rattle.desk_command.specs.Input.{text_of}
 use Rattle.desk_command.specs.TryText.{Answer, answer_of, try_answer}
 use Rattle.desk_command.specs.declared.failure.Failure.{Failure}
 use Rattle.desk_command.specs.declared.failure.Failure.TheVariants.{File, Memory}
 use Rattle.desk_command.specs.declared.failure.ReadFailure.{ReadFailure}
-use Rattle.desk_command.specs.declared.failure.ReadFailure.TheVariants.{Text}
+use Rattle.desk_command.specs.declared.failure.ReadFailure.TheVariants.{System, Text}
 use Rattle.desk_command.specs.declared.input.TextFault.{TextFault}
 use Rattle.desk_command.specs.declared.output.Output.{Output}
 use Rattle.desk_command.specs.declared.output.Output.TheVariants.{Faulty, Tried}
@@ -32,3 +35,28 @@ abbrev pub AnswersTry : List ℕ → Request → Result (List ℕ) TextFault →
 AnswersTry file request (Ok text) result = Tells (try_answer request.filesystems text (number_of request.address) request.path) result
 AnswersTry file request (Err fault) (Err failure) = IsFileFailure file (Text fault) failure
 AnswersTry file request (Err fault) (Ok output) = ⊥
+
+-- why the system could not read
+abbrev pub IsSystem : ReadFailure → Type 0
+IsSystem (System error) = Unit {0}
+IsSystem (Text fault) = ⊥
+
+-- the failure says that the system could not read this file; out of memory says nothing
+abbrev pub IsUnread : List ℕ → Failure → Type 0
+IsUnread file (File name reason) = (string_bytes name ≡ file) × IsSystem reason
+IsUnread file Memory = Unit {0}
+IsUnread file failure = ⊥
+
+-- the output answers a request that these words write, by these bytes
+pub record AnswersBytes (file host dir : List ℕ) (mounts : List (List ℕ)) (bytes : List ℕ) (result : Result Output Failure) : Type 0 where
+  pub request : Request
+  pub written : IsRequest host dir mounts request
+  pub answers : AnswersTry file request (text_of bytes) result
+
+-- What `try` answers to FILE HOST DIR MOUNT.. where FILE has these bytes: the answer to the request that the words write;
+-- or which word cannot be parsed; or that FILE could not be read.
+abbrev pub AnswersWords : List ℕ → List ℕ → List ℕ → List (List ℕ) → List ℕ → Result Output Failure → Type 0
+AnswersWords file host dir mounts bytes (Ok output) = AnswersBytes file host dir mounts bytes (Ok output)
+AnswersWords file host dir mounts bytes (Err failure) =
+    AnswersBytes file host dir mounts bytes (Err failure)
+    ⊎ (IsBadArgument host (read_addr host) dir (read_path dir) mounts failure ⊎ IsUnread file failure)

@@ -1,6 +1,8 @@
 //! Why a command has no answer.
 
-ghost use Rattle.desk_command.specs.TryCommand.{IsFileFailure};
+ghost use Rattle.std.specs.Prelude.{◌≡◌, MatchResult};
+ghost use Rattle.desk_command.specs.TryCommand.{IsFileFailure, IsSystem};
+ghost use Rattle.desk_command.specs.declared.failure.Failure.TheVariants.{Memory};
 
 use crate::arguments::BadArgument;
 use crate::input::TextFault;
@@ -79,7 +81,9 @@ impl Failure {
 
 impl ReadFailure {
     /// Why the system could not read; or that memory ran out.
-    pub fn of_error(error: io::Error) -> Result<ReadFailure, Failure> {
+    pub fn of_error(error: io::Error) -> Result<ReadFailure, Failure>
+        ensures { MatchResult result IsSystem (λ failure. failure ≡ Memory) }
+    {
         match error.kind() {
             ErrorKind::OutOfMemory => Err(Failure::Memory),
             _ => Ok(ReadFailure::System(error)),

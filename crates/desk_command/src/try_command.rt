@@ -1,7 +1,8 @@
 //! The command `try`: one verdict over one exports text.
 
+ghost use Rattle.std.specs.Prelude.{◌≡◌, IfOk, IfSome, MatchResult, codes, map, take};
 ghost use Rattle.desk_command.specs.Input.{text_of};
-ghost use Rattle.desk_command.specs.TryCommand.{AnswersTry};
+ghost use Rattle.desk_command.specs.TryCommand.{AnswersTry, AnswersWords, IsUnread};
 
 use crate::arguments::{Request, read_request};
 use crate::failure::{Failure, ReadFailure};
@@ -11,23 +12,37 @@ use crate::try_text::try_text;
 use clap::ArgMatches;
 use desk_text::ReadError;
 use std::alloc::Global;
-use std::fs;
 use std::io::BufRead;
+use std::{fs, io};
 
-/// Runs `try` on its words. They are parsed from left to right, and then the file is read.
+/// Runs `try` on what `clap` made of its words.
 pub fn run_try<I: BufRead>(
     rt: &HostRuntime,
     words: &ArgMatches<'_>,
     input: &mut I,
 ) -> Result<Output, Failure> {
-    let alloc = rt.alloc();
     let file = required(words, "FILE")?;
     let host = required(words, "HOST")?;
     let dir = required(words, "DIR")?;
     let mounts = words.get_strs("MOUNT").ok_or(Failure::Missing("MOUNT"))?;
-    let request = read_request(alloc, host, dir, mounts)?;
+    answer_words(rt, file, host, dir, mounts, input)
+}
+
+/// Answers `try FILE HOST DIR MOUNT...`. The arguments are parsed from left to right, and then the file is read.
+pub fn answer_words<I: BufRead>(
+    rt: &HostRuntime,
+    file: &str,
+    host: &str,
+    dir: &str,
+    mounts: &[&str],
+    input: &mut I,
+) -> Result<Output, Failure>
+    ensures { let words = map (λ word. word.now) mounts.now in
+        file.now ≡ codes "-" → IfSome (I.remaining input.old) (λ given. AnswersWords file.now host.now dir.now words given result) }
+{
+    let request = read_request(rt.alloc(), host, dir, mounts)?;
     let bytes = read_file(rt, file, input)?;
-    answer_request(alloc, file, bytes.as_slice(), request)
+    answer_request(rt.alloc(), file, bytes.as_slice(), request)
 }
 
 /// The word of an argument that `clap` requires.
@@ -35,21 +50,26 @@ fn required<'a>(words: &ArgMatches<'a>, name: &'static str) -> Result<&'a str, F
     words.get_str(name).ok_or(Failure::Missing(name))
 }
 
-/// Reads the bytes of FILE; `-` is standard input.
-fn read_file<I: BufRead>(rt: &HostRuntime, file: &str, input: &mut I) -> Result<Vec<u8>, Failure> {
-    let alloc = rt.alloc();
-    let bytes = if file == "-" {
-        read_bytes(alloc, input)
-    } else {
-        match fs::open(rt, file) {
-            Ok(opened) => read_bytes(alloc, opened),
-            Err(error) => Err(error),
-        }
-    };
-    match bytes {
+/// Reads the bytes of FILE.
+fn read_file<I: BufRead>(rt: &HostRuntime, file: &str, input: &mut I) -> Result<Vec<u8>, Failure>
+    ensures { file.now ≡ codes "-" → IfSome (I.remaining input.old)
+        (λ given. MatchResult result (λ bytes. bytes.items ≡ take 16777217 given) (IsUnread file.now)) }
+{
+    match open_and_read(rt, file, input) {
         Ok(bytes) => Ok(bytes),
-        Err(error) => Err(Failure::of_file(alloc, file, ReadFailure::of_error(error)?)),
+        Err(error) => Err(Failure::of_file(rt.alloc(), file, ReadFailure::of_error(error)?)),
     }
+}
+
+/// Reads the file that a word names; `-` is standard input.
+fn open_and_read<I: BufRead>(rt: &HostRuntime, file: &str, input: &mut I) -> io::Result<Vec<u8>>
+    ensures { file.now ≡ codes "-" → IfSome (I.remaining input.old)
+        (λ given. IfOk result (λ bytes. bytes.items ≡ take 16777217 given)) }
+{
+    if file == "-" {
+        return read_bytes(rt.alloc(), input);
+    }
+    read_bytes(rt.alloc(), fs::open(rt, file)?)
 }
 
 /// The answer to a request, by the bytes of FILE.

@@ -1,7 +1,7 @@
 -- The loop stops at the first word that is not a path.
-use Rattle.std.proofs.Common.{◌≡◌, ◌<◌, ap, ◌∙◌, sym, Bor, List, ℕ, get_or, refl, take_all, map, length, rules, Err, Ok, arith, subst, [], take}
+use Rattle.std.proofs.Common.{◌≡◌, ◌∙◌, Bor, List, ℕ, get_or, refl, take_all, map, rules, Ok, subst, [], take}
 use Rattle.desk_text.specs.Path.{read_path}
-use Rattle.desk_command.specs.Arguments.{AnswersArgument, IsBadMount, is_no_path, paths_of}
+use Rattle.desk_command.specs.Arguments.{AnswersArgument, IsBadMount, is_no_path}
 use Rattle.desk_command.specs.declared.arguments.Argument.TheVariants as name
 use Rattle.desk_command.specs.declared.arguments.ArgumentFault.TheVariants as fault
 use Rattle.desk_command.proofs.FirstBad.{find_none, first_found, none_more_of}

@@ -1,5 +1,5 @@
 -- The loop stops at the first word that is not UTF-8.
-use Rattle.std.proofs.Common.{sym, ◌∙◌, codes, ap, map, Bor, List, ℕ}
+use Rattle.std.proofs.Common.{◌∙◌, codes, ap, map, Bor, List, ℕ}
 use Rattle.desk_command.specs.Commands.{is_not_utf8}
 use Rattle.desk_command.proofs.FirstBad.{first_place, none_more_of, texts_more}
 use Rattle.desk_command.proofs.TextFaults.{bad_word, good_word}

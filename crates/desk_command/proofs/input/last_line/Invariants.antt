@@ -1,4 +1,4 @@
-use Rattle.std.proofs.Common.{◌≡◌, ◌≢◌, ℕ, ◌<◌, ◌≤◌, length, slice_index}
+use Rattle.std.proofs.Common.{◌≢◌, ℕ, ◌<◌, ◌≤◌, length, slice_index}
 use Rattle.desk_command.proofs.input.last_line.Given as goal
 
 abbrev pub invariant-loop-start : goal.invariant-loop-start

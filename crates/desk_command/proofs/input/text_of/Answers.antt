@@ -1,6 +1,5 @@
 -- Each answer is that of the definition at the bytes.
-use Rattle.std.proofs.Common.{sym, ◌∙◌, ap, Ok, Err, take}
-use Rattle.desk_command.specs.Input.{not_utf8_behind}
+use Rattle.std.proofs.Common.{sym, ◌∙◌, ap, Ok}
 use Rattle.desk_command.proofs.TextFaults.{refused, taken}
 use Rattle.desk_command.proofs.input.text_of.Goals as goal
 
