@@ -1,40 +1,41 @@
 //! Questions on addresses.
 
-use crate::answers::{Answer, text, yes_or_no};
+use crate::answers::{Asked, say_found, say_whether};
 use desk_text::{Addr, AddrFault, is_dotted};
-use std::alloc::Global;
 
-/// The answer to a question on an address.
-pub fn answer(alloc: Global, question: &str, asked: &str) -> Answer {
+/// Answers a question on an address.
+pub fn answer(out: &mut String, question: &str, text: &str) -> Asked {
     match question {
-        "address" => address(alloc, Addr::read(asked)),
-        "short_address" => address(alloc, Addr::read_short(asked)),
-        "address_of_number" => of_number(alloc, asked),
-        "is_dotted" => yes_or_no(alloc, is_dotted(asked)),
-        _ => Ok(None),
+        "address" => address(out, Addr::read(text)),
+        "short_address" => address(out, Addr::read_short(text)),
+        "address_of_number" => of_number(out, text),
+        "is_dotted" => say_whether(out, is_dotted(text)),
+        _ => Ok(false),
     }
 }
 
 /// `address TEXT`, and `short_address TEXT` with one to four parts: the address and its number, or the fault.
-fn address(alloc: Global, read: Result<Addr, AddrFault>) -> Answer {
+fn address(out: &mut String, read: Result<Addr, AddrFault>) -> Asked {
     match read {
         Ok(address) => {
             let number = address.number();
-            Ok(Some(format!(in alloc; "{address} {number}")?))
+            write!(out, "{address} {number}")?;
+            Ok(true)
         }
-        Err(fault) => fault_text(alloc, fault),
+        Err(fault) => say_fault(out, fault),
     }
 }
 
-/// A fault by its name: `fault Parts`.
-pub fn fault_text(alloc: Global, fault: AddrFault) -> Answer {
-    Ok(Some(format!(in alloc; "fault {fault:?}")?))
+/// Answers with a fault by its name: `fault Parts`.
+pub fn say_fault(out: &mut String, fault: AddrFault) -> Asked {
+    write!(out, "fault {fault:?}")?;
+    Ok(true)
 }
 
 /// `address_of_number NUMBER`: the address.
-fn of_number(alloc: Global, asked: &str) -> Answer {
-    match asked.parse::<u32>() {
-        Ok(number) => text(alloc, Addr::from_number(number).to_string(alloc)?.as_str()),
-        Err(_) => Ok(None),
+fn of_number(out: &mut String, text: &str) -> Asked {
+    match text.parse::<u32>() {
+        Ok(number) => say_found(out, Some(Addr::from_number(number))),
+        Err(_) => Ok(false),
     }
 }

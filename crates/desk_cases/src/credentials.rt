@@ -2,121 +2,138 @@
 
 ghost use Rattle.std.specs.Prelude.{◌≤◌, length};
 
-use crate::answers::{self, Answer, list_or_none, push_word, yes_or_no};
-use crate::site::{self, Site};
-use desk_tables::{Cred, CredFault, Group, Groups, User, Users, credential, has_fault};
+use crate::answers::{Asked, end_list, say_whether};
+use crate::site::{Site, say_fault, say_read};
+use desk_tables::{Cred, CredFault, Groups, User, Users, credential, has_fault};
 use std::alloc::Global;
 
-const FAULTS: [CredFault; 5] = [
-    CredFault::UnknownUser,
-    CredFault::UnknownGroup,
-    CredFault::TooManyGroups,
-    CredFault::EmptyElement,
-    CredFault::Range,
-];
+/// Answers a question on users, groups or credentials.
+pub fn answer(alloc: Global, site: &mut Site, out: &mut String, question: &str, text: &str) -> Asked
+    requires { length text.now ≤ 4294967294 }
+{
+    match question {
+        "users" => read_users(alloc, site, out, text),
+        "groups" => read_groups(alloc, site, out, text),
+        "user" => user(out, site.users.by_name(text)),
+        "uid" => uid(&site.users, out, text),
+        "group" => group(&site.groups, out, text),
+        "member" => member(&site.groups, out, text),
+        "credential" => read(site, out, text),
+        "faults" => faults(site, out, text),
+        "with_group" => with_group(out, text),
+        _ => Ok(false),
+    }
+}
 
 /// `users TEXT`: `read`, or the fault.
-pub fn read_users(alloc: Global, site: &mut Site, text: &str) -> Answer
+fn read_users(alloc: Global, site: &mut Site, out: &mut String, text: &str) -> Asked
     requires { length text.now ≤ 4294967294 }
 {
     match Users::read(alloc, text) {
         Ok(users) => {
             site.users = users;
-            answers::text(alloc, "read")
+            say_read(out)
         }
-        Err(error) => site::fault(alloc, error),
+        Err(error) => say_fault(out, error),
     }
 }
 
 /// `groups TEXT`: `read`, or the fault.
-pub fn read_groups(alloc: Global, site: &mut Site, text: &str) -> Answer
+fn read_groups(alloc: Global, site: &mut Site, out: &mut String, text: &str) -> Asked
     requires { length text.now ≤ 4294967294 }
 {
     match Groups::read(alloc, text) {
         Ok(groups) => {
             site.groups = groups;
-            answers::text(alloc, "read")
+            say_read(out)
         }
-        Err(error) => site::fault(alloc, error),
+        Err(error) => say_fault(out, error),
     }
 }
 
 /// `user NAME`: the user's name, uid and gid, or `none`.
-pub fn user(alloc: Global, found: Option<&User>) -> Answer {
-    match found {
-        Some(user) => {
-            let (name, uid, gid) = (user.name.as_str(), user.uid, user.gid);
-            Ok(Some(format!(in alloc; "{name} {uid} {gid}")?))
-        }
-        None => answers::text(alloc, "none"),
+fn user(out: &mut String, found: Option<&User>) -> Asked {
+    if let Some(user) = found {
+        let (name, uid, gid) = (user.name.as_str(), user.uid, user.gid);
+        write!(out, "{name} {uid} {gid}")?;
     }
+    Ok(true)
 }
 
 /// `uid NUMBER`: the same of the first user with this uid.
-pub fn uid(alloc: Global, users: &Users, text: &str) -> Answer {
+fn uid(users: &Users, out: &mut String, text: &str) -> Asked {
     match text.parse::<u32>() {
-        Ok(uid) => user(alloc, users.by_uid(uid)),
-        Err(_) => Ok(None),
+        Ok(uid) => user(out, users.by_uid(uid)),
+        Err(_) => Ok(false),
     }
 }
 
 /// `group NAME`: its gid and members, or `none`.
-pub fn group(alloc: Global, found: Option<&Group>) -> Answer {
-    match found {
-        Some(group) => gid_and_members(alloc, group),
-        None => answers::text(alloc, "none"),
+fn group(groups: &Groups, out: &mut String, name: &str) -> Asked {
+    if let Some(group) = groups.by_name(name) {
+        let gid = group.gid;
+        write!(out, "{gid}")?;
+        for member in group.members.as_slice() {
+            let member = member.as_str();
+            write!(out, " {member}")?;
+        }
     }
-}
-
-fn gid_and_members(alloc: Global, group: &Group) -> Answer {
-    let mut out = group.gid.to_string(alloc)?;
-    for member in group.members.as_slice() {
-        push_word(&mut out, member.as_str())?;
-    }
-    Ok(Some(out))
+    Ok(true)
 }
 
 /// `member GROUP NAME`: `yes` or `no`.
-pub fn member(alloc: Global, groups: &Groups, text: &str) -> Answer {
+fn member(groups: &Groups, out: &mut String, text: &str) -> Asked {
     let Some((group, name)) = text.split_once(' ') else {
-        return Ok(None);
+        return Ok(false);
     };
     match groups.by_name(group) {
-        Some(group) => yes_or_no(alloc, group.has_member(name)),
-        None => Ok(None),
+        Some(group) => say_whether(out, group.has_member(name)),
+        None => Ok(false),
     }
 }
 
 /// `credential TEXT`: the credential, or `fault NUMBER`.
-pub fn read(alloc: Global, site: &Site, text: &str) -> Answer {
+fn read(site: &Site, out: &mut String, text: &str) -> Asked {
     match credential(&site.users, &site.groups, text) {
-        Ok(cred) => Ok(Some(cred.to_string(alloc)?)),
-        Err(fault) => Ok(Some(format!(in alloc; "fault {}", fault.number())?)),
+        Ok(cred) => write!(out, "{cred}")?,
+        Err(fault) => {
+            let number = fault.number();
+            write!(out, "fault {number}")?;
+        }
     }
+    Ok(true)
 }
 
 /// `faults TEXT`: the numbers of all faults of a credential text, or `none`.
-pub fn faults(alloc: Global, site: &Site, text: &str) -> Answer {
-    let mut out = String::new(alloc);
-    for fault in FAULTS {
+fn faults(site: &Site, out: &mut String, text: &str) -> Asked {
+    for fault in [
+        CredFault::UnknownUser,
+        CredFault::UnknownGroup,
+        CredFault::TooManyGroups,
+        CredFault::EmptyElement,
+        CredFault::Range,
+    ] {
         if has_fault(&site.users, &site.groups, text, fault) {
-            push_word(&mut out, fault.number().to_string(alloc)?.as_str())?;
+            let number = fault.number();
+            write!(out, "{number} ")?;
         }
     }
-    list_or_none(out)
+    end_list(out)
 }
 
 /// `with_group UID GID`: the credential of a user with one group, its groups as they are printed, and each.
-pub fn with_group(alloc: Global, text: &str) -> Answer {
+fn with_group(out: &mut String, text: &str) -> Asked {
     let Some((uid, gid)) = numbers(text) else {
-        return Ok(None);
+        return Ok(false);
     };
     let cred = Cred::with_group(uid, gid);
-    let mut out = format!(in alloc; "{cred} {}", cred.gids)?;
-    for gid in cred.gids.as_slice() {
-        push_word(&mut out, gid.to_string(alloc)?.as_str())?;
+    write!(out, "{cred} ")?;
+    let gids = &cred.gids;
+    write!(out, "{gids}")?;
+    for gid in gids.as_slice() {
+        write!(out, " {gid}")?;
     }
-    Ok(Some(out))
+    Ok(true)
 }
 
 fn numbers(text: &str) -> Option<(u32, u32)> {

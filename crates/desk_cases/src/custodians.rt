@@ -2,44 +2,49 @@
 
 ghost use Rattle.std.specs.Prelude.{◌≤◌, length};
 
-use crate::answers::{self, Answer, list_or_none, push_word};
-use crate::site::{self, Site};
+use crate::answers::{Asked, end_list, say};
+use crate::site::{Site, say_fault, say_read};
 use desk_tables::Custodians;
 use std::alloc::Global;
 
+/// Answers a question on the custodians file.
+pub fn answer(alloc: Global, site: &mut Site, out: &mut String, question: &str, text: &str) -> Asked
+    requires { length text.now ≤ 4294967294 }
+{
+    match (question, &site.custodians) {
+        ("custodians", _) => read(alloc, site, out, text),
+        ("digest", Some(table)) => digest(alloc, table, out, text),
+        ("custodian_names", Some(table)) => names(table, out),
+        _ => Ok(false),
+    }
+}
+
 /// `custodians TEXT`: `read`, or the fault.
-pub fn read(alloc: Global, site: &mut Site, text: &str) -> Answer
+fn read(alloc: Global, site: &mut Site, out: &mut String, text: &str) -> Asked
     requires { length text.now ≤ 4294967294 }
 {
     match Custodians::read(alloc, text) {
         Ok(custodians) => {
             site.custodians = Some(custodians);
-            answers::text(alloc, "read")
+            say_read(out)
         }
-        Err(error) => site::fault(alloc, error),
+        Err(error) => say_fault(out, error),
     }
 }
 
-/// `digest NAME`: the digest in hexadecimal, or `none`. `custodian_names`: the names of all custodians, in order.
-pub fn answer(alloc: Global, table: &Custodians, question: &str, name: &str) -> Answer {
-    if question == "digest" {
-        digest(alloc, table.digest_of(name))
-    } else {
-        names(alloc, table)
+/// `digest NAME`: the digest in hexadecimal, or `none`.
+fn digest(alloc: Global, table: &Custodians, out: &mut String, name: &str) -> Asked {
+    match table.digest_of(name) {
+        Some(digest) => say(out, hex::encode(alloc, digest.as_slice())?.as_str()),
+        None => Ok(true),
     }
 }
 
-fn digest(alloc: Global, digest: Option<&[u8; 32]>) -> Answer {
-    match digest {
-        Some(bytes) => Ok(Some(hex::encode(alloc, bytes.as_slice())?)),
-        None => answers::text(alloc, "none"),
-    }
-}
-
-fn names(alloc: Global, table: &Custodians) -> Answer {
-    let mut out = String::new(alloc);
+/// `custodian_names`: the names of all custodians, in order.
+fn names(table: &Custodians, out: &mut String) -> Asked {
     for row in table.as_slice() {
-        push_word(&mut out, row.name.as_str())?;
+        let name = row.name.as_str();
+        write!(out, "{name} ")?;
     }
-    list_or_none(out)
+    end_list(out)
 }

@@ -2,36 +2,50 @@
 
 ghost use Rattle.std.specs.Prelude.{◌≤◌, length};
 
-use crate::answers::{self, Answer, number_or_none, text_or_none, yes_or_no};
-use crate::site::{self, Site};
+use crate::answers::{Asked, say, say_found, say_whether};
+use crate::site::{Site, say_fault, say_read};
 use desk_tables::{FileSystems, FsId};
 use desk_text::{Path, PathFault, ReadError};
 use std::alloc::Global;
 
+/// Answers a question on the file systems.
+pub fn answer(alloc: Global, site: &mut Site, out: &mut String, question: &str, text: &str) -> Asked
+    requires { length text.now ≤ 4294967294 }
+{
+    match (question, &site.filesystems) {
+        ("filesystems", _) => read(alloc, site, out, text),
+        ("mounts", _) => of_mounts(alloc, site, out, text),
+        ("mount", Some(table)) => mount(table, out, text),
+        ("of", Some(table)) => of(alloc, table, out, text),
+        ("keeps", Some(table)) => keeps(table, out, text),
+        _ => Ok(false),
+    }
+}
+
 /// `filesystems TEXT`: `read`, or the fault. The table that is set is a copy.
-pub fn read(alloc: Global, site: &mut Site, text: &str) -> Answer
+fn read(alloc: Global, site: &mut Site, out: &mut String, text: &str) -> Asked
     requires { length text.now ≤ 4294967294 }
 {
     match FileSystems::read(alloc, text) {
         Ok(table) => {
             site.filesystems = Some(table.clone()?);
-            answers::text(alloc, "read")
+            say_read(out)
         }
-        Err(error) => site::fault(alloc, error),
+        Err(error) => say_fault(out, error),
     }
 }
 
 /// `mounts PATH PATH ..`: `read`, or `too many`. Sets the table of these mount points, which nobody keeps.
-pub fn of_mounts(alloc: Global, site: &mut Site, text: &str) -> Answer {
+fn of_mounts(alloc: Global, site: &mut Site, out: &mut String, text: &str) -> Asked {
     let Ok(paths) = paths(alloc, text) else {
-        return Ok(None);
+        return Ok(false);
     };
     match FileSystems::from_mounts(alloc, paths)? {
         Some(table) => {
             site.filesystems = Some(table);
-            answers::text(alloc, "read")
+            say_read(out)
         }
-        None => answers::text(alloc, "too many"),
+        None => say(out, "too many"),
     }
 }
 
@@ -50,28 +64,28 @@ pub fn fs_id(text: &str) -> Option<FsId> {
 }
 
 /// `mount NUMBER`: the mount point at the place, or `none`.
-pub fn mount(alloc: Global, table: &FileSystems, text: &str) -> Answer {
+pub fn mount(table: &FileSystems, out: &mut String, text: &str) -> Asked {
     match fs_id(text) {
-        Some(id) => text_or_none(alloc, table.mount(id).map(|path| path.text())),
-        None => Ok(None),
+        Some(id) => say_found(out, table.mount(id).map(|path| path.text())),
+        None => Ok(false),
     }
 }
 
 /// `of PATH`: the place of its file system, or `none`.
-pub fn of(alloc: Global, table: &FileSystems, text: &str) -> Answer {
+fn of(alloc: Global, table: &FileSystems, out: &mut String, text: &str) -> Asked {
     match Path::read(alloc, text) {
-        Ok(path) => number_or_none(alloc, table.of(&path).map(|id| id.0)),
-        Err(_) => Ok(None),
+        Ok(path) => say_found(out, table.of(&path).map(|id| id.0)),
+        Err(_) => Ok(false),
     }
 }
 
 /// `keeps NUMBER NAME`: whether the custodian keeps the exports file of the file system at the place, `yes` or `no`.
-pub fn keeps(alloc: Global, table: &FileSystems, text: &str) -> Answer {
+fn keeps(table: &FileSystems, out: &mut String, text: &str) -> Asked {
     let Some((place, name)) = text.split_once(' ') else {
-        return Ok(None);
+        return Ok(false);
     };
     match fs_id(place) {
-        Some(id) => yes_or_no(alloc, table.keeps(name, id)),
-        None => Ok(None),
+        Some(id) => say_whether(out, table.keeps(name, id)),
+        None => Ok(false),
     }
 }

@@ -2,29 +2,39 @@
 
 ghost use Rattle.std.specs.Prelude.{◌≤◌, length};
 
-use crate::answers::{self, Answer, list_or_none, push_word};
-use crate::site::{self, Site};
+use crate::answers::{Asked, end_list};
+use crate::site::{Site, say_fault, say_read};
 use desk_tables::Hosts;
 use std::alloc::Global;
 
+/// Answers a question on the hosts file.
+pub fn answer(alloc: Global, site: &mut Site, out: &mut String, question: &str, text: &str) -> Asked
+    requires { length text.now ≤ 4294967294 }
+{
+    match question {
+        "hosts" => read(alloc, site, out, text),
+        "addresses" => addresses(alloc, &site.hosts, out, text),
+        _ => Ok(false),
+    }
+}
+
 /// `hosts TEXT`: `read`, or the fault.
-pub fn read(alloc: Global, site: &mut Site, text: &str) -> Answer
+fn read(alloc: Global, site: &mut Site, out: &mut String, text: &str) -> Asked
     requires { length text.now ≤ 4294967294 }
 {
     match Hosts::read(alloc, text) {
         Ok(hosts) => {
             site.hosts = hosts;
-            answers::text(alloc, "read")
+            say_read(out)
         }
-        Err(error) => site::fault(alloc, error),
+        Err(error) => say_fault(out, error),
     }
 }
 
-/// `addresses NAME`: the addresses, or `none`.
-pub fn addresses(alloc: Global, hosts: &Hosts, name: &str) -> Answer {
-    let mut out = String::new(alloc);
+/// `addresses NAME`: its addresses, or `none`.
+fn addresses(alloc: Global, hosts: &Hosts, out: &mut String, name: &str) -> Asked {
     for address in &hosts.addresses(alloc, name)? {
-        push_word(&mut out, address.to_string(alloc)?.as_str())?;
+        write!(out, "{address} ")?;
     }
-    list_or_none(out)
+    end_list(out)
 }

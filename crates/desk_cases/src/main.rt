@@ -21,9 +21,7 @@ mod policies;
 mod questions;
 mod report;
 mod site;
-mod tables;
 mod terminal;
-mod texts;
 
 use crate::report::Report;
 use std::alloc::AllocError;

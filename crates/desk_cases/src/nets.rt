@@ -1,58 +1,55 @@
 //! Questions on prefixes, masks and networks of addresses.
 
-use crate::addresses::fault_text;
-use crate::answers::{Answer, number_or_none, yes_or_no};
+use crate::addresses::say_fault;
+use crate::answers::{Asked, say_found, say_whether};
 use desk_text::{Addr, Net, NetText, Prefix};
-use std::alloc::Global;
 
-/// The answer to a question on a prefix, a mask or a network.
-pub fn answer(alloc: Global, question: &str, text: &str) -> Answer {
+/// Answers a question on a prefix, a mask or a network.
+pub fn answer(out: &mut String, question: &str, text: &str) -> Asked {
     match question {
-        "prefix" => bits(alloc, Prefix::read(text)),
-        "prefix_of_bits" => of_bits(alloc, text),
-        "prefix_of_mask" => of_mask(alloc, text),
-        "network_text" => network_text(alloc, text),
-        "net" => net(alloc, text),
-        "covers" => covers(alloc, text),
-        _ => Ok(None),
+        "prefix" => prefix(out, Prefix::read(text)),
+        "prefix_of_bits" => of_bits(out, text),
+        "prefix_of_mask" => of_mask(out, text),
+        "network_text" => network_text(out, text),
+        "net" => net(out, text),
+        "covers" => covers(out, text),
+        _ => Ok(false),
     }
 }
 
 /// `prefix TEXT`: its bits, or `none`.
-fn bits(alloc: Global, prefix: Option<Prefix>) -> Answer {
-    number_or_none(alloc, prefix.map(|prefix| u32::from(prefix.get())))
+fn prefix(out: &mut String, prefix: Option<Prefix>) -> Asked {
+    say_found(out, prefix.map(Prefix::get))
 }
 
 /// `prefix_of_bits NUMBER`: the same.
-fn of_bits(alloc: Global, text: &str) -> Answer {
+fn of_bits(out: &mut String, text: &str) -> Asked {
     match text.parse::<u8>() {
-        Ok(number) => bits(alloc, Prefix::new(number)),
-        Err(_) => Ok(None),
+        Ok(bits) => prefix(out, Prefix::new(bits)),
+        Err(_) => Ok(false),
     }
 }
 
 /// `prefix_of_mask ADDRESS`: the same.
-fn of_mask(alloc: Global, text: &str) -> Answer {
+fn of_mask(out: &mut String, text: &str) -> Asked {
     match Addr::read(text) {
-        Ok(mask) => bits(alloc, Prefix::from_mask(mask)),
-        Err(_) => Ok(None),
+        Ok(mask) => prefix(out, Prefix::from_mask(mask)),
+        Err(_) => Ok(false),
     }
 }
 
-/// `network_text TEXT`: its address, the number of that, and its prefix or `none`; or the fault.
-fn network_text(alloc: Global, text: &str) -> Answer {
+/// `network_text TEXT`: its address, the number of that, and its prefix, if it has one; or the fault.
+fn network_text(out: &mut String, text: &str) -> Asked {
     match NetText::read(text) {
-        Ok(NetText { addr, prefix }) => {
-            let number = addr.number();
-            match prefix {
-                Some(prefix) => {
-                    let bits = prefix.get();
-                    Ok(Some(format!(in alloc; "{addr} {number} {bits}")?))
-                }
-                None => Ok(Some(format!(in alloc; "{addr} {number} none")?)),
+        Ok(read) => {
+            let (address, number) = (read.addr, read.addr.number());
+            write!(out, "{address} {number} ")?;
+            match read.prefix {
+                Some(prefix) => say_found(out, Some(prefix.get())),
+                None => say_found(out, Some("none")),
             }
         }
-        Err(fault) => fault_text(alloc, fault),
+        Err(fault) => say_fault(out, fault),
     }
 }
 
@@ -63,21 +60,20 @@ fn read_net(text: &str) -> Option<Net> {
 }
 
 /// `net ADDRESS/BITS`: the network's bits, its first address and its last.
-fn net(alloc: Global, text: &str) -> Answer {
-    match read_net(text) {
-        Some(net) => {
-            let (bits, first, last) = (net.prefix().get(), net.first(), net.last());
-            Ok(Some(format!(in alloc; "{bits} {first} {last}")?))
-        }
-        None => Ok(None),
-    }
+fn net(out: &mut String, text: &str) -> Asked {
+    let Some(net) = read_net(text) else {
+        return Ok(false);
+    };
+    let (bits, first, last) = (net.prefix().get(), net.first(), net.last());
+    write!(out, "{bits} {first} {last}")?;
+    Ok(true)
 }
 
 /// `covers ADDRESS/BITS ADDRESS`: whether the network has the address, `yes` or `no`.
-fn covers(alloc: Global, text: &str) -> Answer {
+fn covers(out: &mut String, text: &str) -> Asked {
     match net_and_address(text) {
-        Some((net, address)) => yes_or_no(alloc, net.covers(address)),
-        None => Ok(None),
+        Some((net, address)) => say_whether(out, net.covers(address)),
+        None => Ok(false),
     }
 }
 

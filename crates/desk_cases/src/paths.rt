@@ -1,38 +1,37 @@
 //! Questions on paths.
 
-use crate::answers::{self, Answer, yes_or_no};
+use crate::answers::{Asked, say, say_whether};
 use desk_text::{Path, PathFault, ReadError};
 use std::alloc::{AllocError, Global};
 
-/// The answer to a question on paths.
-pub fn answer(alloc: Global, question: &str, text: &str) -> Answer {
+/// Answers a question on paths.
+pub fn answer(alloc: Global, out: &mut String, question: &str, text: &str) -> Asked {
     match question {
-        "path" => path(alloc, text),
-        "is_under" => is_under(alloc, text),
-        _ => Ok(None),
+        "path" => path(out, Path::read(alloc, text)),
+        "is_under" => is_under(alloc, out, text),
+        _ => Ok(false),
     }
 }
 
 /// `path TEXT`: the path as it is printed, or the fault by its name: `fault TooLong`.
-fn path(alloc: Global, text: &str) -> Answer {
-    match Path::read(alloc, text) {
-        Ok(path) => answers::text(alloc, path.text()),
-        Err(ReadError::Fault(fault)) => Ok(Some(format!(in alloc; "fault {fault:?}")?)),
+fn path(out: &mut String, read: Result<Path, ReadError<PathFault>>) -> Asked {
+    match read {
+        Ok(path) => say(out, path.text()),
+        Err(ReadError::Fault(fault)) => {
+            write!(out, "fault {fault:?}")?;
+            Ok(true)
+        }
         Err(ReadError::Memory) => Err(AllocError),
     }
 }
 
 /// `is_under PATH ABOVE`: whether the first path, which has no blank, is the other or lies below it, `yes` or `no`.
-fn is_under(alloc: Global, text: &str) -> Answer {
+fn is_under(alloc: Global, out: &mut String, text: &str) -> Asked {
     let Some((path, above)) = text.split_once(' ') else {
-        return Ok(None);
+        return Ok(false);
     };
-    match two_paths(alloc, path, above) {
-        Ok((path, above)) => yes_or_no(alloc, path.is_under(&above)),
-        Err(_) => Ok(None),
-    }
-}
-
-fn two_paths(alloc: Global, path: &str, above: &str) -> Result<(Path, Path), ReadError<PathFault>> {
-    Ok((Path::read(alloc, path)?, Path::read(alloc, above)?))
+    let (Ok(path), Ok(above)) = (Path::read(alloc, path), Path::read(alloc, above)) else {
+        return Ok(false);
+    };
+    say_whether(out, path.is_under(&above))
 }

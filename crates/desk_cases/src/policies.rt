@@ -2,98 +2,102 @@
 
 ghost use Rattle.std.specs.Prelude.{◌≤◌, length};
 
-use crate::answers::{self, Answer, list_or_none, push_word, text_or_none, yes_or_no};
-use crate::exports::{fault, tables};
-use crate::filesystems::{fs_id, paths};
-use crate::site::Site;
+use crate::answers::{Asked, end_list, say, say_whether};
+use crate::exports::{say_fault, tables};
+use crate::filesystems::{self, fs_id, paths};
+use crate::site::{Site, say_read};
 use desk_exports::read_whole;
 use desk_policy::{Denial, Policy, Row, Verdict, act_as, decide, verdict_text};
 use desk_tables::{FileSystems, FsId, credential};
 use desk_text::{Addr, Path};
 use std::alloc::{AllocError, Global};
 
+/// Answers a question on the policy, or one that sets it.
+pub fn answer(alloc: Global, site: &mut Site, out: &mut String, question: &str, text: &str) -> Asked
+    requires { length text.now ≤ 4294967294 }
+{
+    match (question, &site.policy) {
+        ("policy", _) => read(alloc, site, out, text),
+        ("policy_with", _) => read_with(alloc, site, out, text),
+        ("verdict", Some(policy)) => verdict(alloc, policy, out, text),
+        ("not_listed", Some(policy)) => not_listed(alloc, policy, out, text),
+        ("rows", Some(policy)) => rows(policy, out, text),
+        ("row_has", Some(policy)) => row_has(policy, out, text),
+        ("policy_mount", Some(policy)) => filesystems::mount(policy.filesystems(), out, text),
+        ("acts_as", Some(policy)) => acts_as(site, policy, out, text),
+        _ => Ok(false),
+    }
+}
+
 /// `policy TEXT`: `read`, or the fault. Sets the policy of a text for all file systems, which is read with the tables that
 /// the file read last.
-pub fn read(alloc: Global, site: &mut Site, text: &str) -> Answer
+fn read(alloc: Global, site: &mut Site, out: &mut String, text: &str) -> Asked
     requires { length text.now ≤ 4294967294 }
 {
     let Some(filesystems) = &site.filesystems else {
-        return Ok(None);
+        return Ok(false);
     };
     let filesystems = filesystems.clone()?;
-    set(alloc, site, filesystems, text)
+    set(alloc, site, out, filesystems, text)
 }
 
 /// `policy_with MOUNTS\nTEXT`: the same, but in the policy the file systems have the mount points of the first line.
-pub fn read_with(alloc: Global, site: &mut Site, text: &str) -> Answer
+fn read_with(alloc: Global, site: &mut Site, out: &mut String, text: &str) -> Asked
     requires { length text.now ≤ 4294967294 }
 {
     let Some((mounts, text)) = text.split_once('\n') else {
-        return Ok(None);
+        return Ok(false);
     };
     let Ok(paths) = paths(alloc, mounts) else {
-        return Ok(None);
+        return Ok(false);
     };
-    if text.len() > 4294967294 {
-        return Ok(None);
-    }
     match FileSystems::from_mounts(alloc, paths)? {
-        Some(filesystems) => set(alloc, site, filesystems, text),
-        None => Ok(None),
+        Some(filesystems) if text.len() <= 4294967294 => set(alloc, site, out, filesystems, text),
+        _ => Ok(false),
     }
 }
 
 /// Sets the policy of a text, which has these file systems.
-fn set(alloc: Global, site: &mut Site, filesystems: FileSystems, text: &str) -> Answer
+fn set(
+    alloc: Global,
+    site: &mut Site,
+    out: &mut String,
+    filesystems: FileSystems,
+    text: &str,
+) -> Asked
     requires { length text.now ≤ 4294967294 }
 {
     let Some(known) = &site.filesystems else {
-        return Ok(None);
+        return Ok(false);
     };
     match read_whole(alloc, text, &tables(site, known)) {
         Ok(entries) => {
             site.policy = Some(Policy::of_entries(alloc, filesystems, entries)?);
-            answers::text(alloc, "read")
+            say_read(out)
         }
-        Err(error) => fault(alloc, error),
-    }
-}
-
-/// The answer to a question on the policy that was read.
-pub fn answer(alloc: Global, site: &Site, question: &str, text: &str) -> Answer {
-    let Some(policy) = &site.policy else {
-        return Ok(None);
-    };
-    match question {
-        "verdict" => verdict(alloc, policy, text),
-        "not_listed" => not_listed(alloc, policy, text),
-        "rows" => rows(alloc, policy, text),
-        "row_has" => row_has(alloc, policy, text),
-        "policy_mount" => mount(alloc, policy, text),
-        "acts_as" => acts_as(alloc, site, policy, text),
-        _ => Ok(None),
+        Err(error) => say_fault(out, error),
     }
 }
 
 /// `verdict CLIENT PATH`: the verdict as it is printed.
-fn verdict(alloc: Global, policy: &Policy, text: &str) -> Answer {
+fn verdict(alloc: Global, policy: &Policy, out: &mut String, text: &str) -> Asked {
     let Some((client, path)) = text.split_once(' ') else {
-        return Ok(None);
+        return Ok(false);
     };
     let (Ok(client), Ok(path)) = (Addr::read(client), Path::read(alloc, path)) else {
-        return Ok(None);
+        return Ok(false);
     };
     let verdict = decide(policy, client, &path);
-    Ok(Some(verdict_text(alloc, policy, &verdict)?))
+    say(out, verdict_text(alloc, policy, &verdict)?.as_str())
 }
 
 /// `not_listed FS LINE`: the denial that names this line of the file system with this number, as it is printed.
-fn not_listed(alloc: Global, policy: &Policy, text: &str) -> Answer {
+fn not_listed(alloc: Global, policy: &Policy, out: &mut String, text: &str) -> Asked {
     let Some((fs, line)) = fs_and_line(text) else {
-        return Ok(None);
+        return Ok(false);
     };
     let denied = Verdict::Denied(Denial::NotListed(fs, line));
-    Ok(Some(verdict_text(alloc, policy, &denied)?))
+    say(out, verdict_text(alloc, policy, &denied)?.as_str())
 }
 
 fn fs_and_line(text: &str) -> Option<(FsId, u32)> {
@@ -101,72 +105,54 @@ fn fs_and_line(text: &str) -> Option<(FsId, u32)> {
     Some((fs_id(fs)?, line.parse().ok()?))
 }
 
-/// `rows FS`: the lines of the file system with this number, each its number and in brackets the addresses of its names; or
-/// `none`.
-fn rows(alloc: Global, policy: &Policy, text: &str) -> Answer {
+/// `rows FS`: the lines of the file system with this number, each its number, the addresses of its names, and `;`.
+fn rows(policy: &Policy, out: &mut String, text: &str) -> Asked {
     let Some(fs) = fs_id(text) else {
-        return Ok(None);
+        return Ok(false);
     };
-    let mut out = String::new(alloc);
     for row in policy.rows(fs) {
-        push_word(&mut out, row_text(alloc, row)?.as_str())?;
+        add_row(out, row)?;
     }
-    list_or_none(out)
+    end_list(out)
 }
 
-fn row_text(alloc: Global, row: &Row) -> Result<String, AllocError> {
-    let mut addresses = String::new(alloc);
+fn add_row(out: &mut String, row: &Row) -> Result<(), AllocError> {
+    let line = row.entry.line;
+    write!(out, "{line}")?;
     for address in row.addrs.as_slice() {
-        push_word(&mut addresses, address.to_string(alloc)?.as_str())?;
+        write!(out, " {address}")?;
     }
-    let number = row.entry.line;
-    format!(in alloc; "{number}[{addresses}]")
-}
-
-/// The line with this number of a file system.
-fn find_row(policy: &Policy, fs: FsId, line: u32) -> Option<&Row> {
-    policy.rows(fs).iter().find(|row| row.entry.line == line)
+    out.push_str("; ")
 }
 
 /// `row_has FS LINE ADDRESS`: whether the address is one of those of the line's names, `yes` or `no`.
-fn row_has(alloc: Global, policy: &Policy, text: &str) -> Answer {
-    match row_and_address(policy, text) {
-        Some((row, address)) => yes_or_no(alloc, row.addrs.has(address)),
-        None => Ok(None),
+fn row_has(policy: &Policy, out: &mut String, text: &str) -> Asked {
+    match row_and_behind(policy, text) {
+        Some((row, address)) => match Addr::read(address) {
+            Ok(address) => say_whether(out, row.addrs.contains(address)),
+            Err(_) => Ok(false),
+        },
+        None => Ok(false),
     }
 }
 
-fn row_and_address<'a>(policy: &'a Policy, text: &str) -> Option<(&'a Row, Addr)> {
-    let (line, address) = text.rsplit_once(' ')?;
-    let (fs, line) = fs_and_line(line)?;
-    Some((find_row(policy, fs, line)?, Addr::read(address).ok()?))
-}
-
-/// `policy_mount FS`: the mount point of the file system with this number in the policy's table, or `none`.
-fn mount(alloc: Global, policy: &Policy, text: &str) -> Answer {
-    match fs_id(text) {
-        Some(fs) => text_or_none(
-            alloc,
-            policy.filesystems().mount(fs).map(|path| path.text()),
-        ),
-        None => Ok(None),
-    }
+/// The line with the numbers that a text begins with, of its file system and its own, and what stands behind them.
+fn row_and_behind<'a, 'b>(policy: &'a Policy, text: &'b str) -> Option<(&'a Row, &'b str)> {
+    let (numbers, behind) = text.rsplit_once(' ')?;
+    let (fs, line) = fs_and_line(numbers)?;
+    let row = policy.rows(fs).iter().find(|row| row.entry.line == line)?;
+    Some((row, behind))
 }
 
 /// `acts_as FS LINE CREDENTIAL`: the credential that a client with this one acts as under the terms of the line.
-fn acts_as(alloc: Global, site: &Site, policy: &Policy, text: &str) -> Answer {
-    let Some((line, cred)) = text.rsplit_once(' ') else {
-        return Ok(None);
+fn acts_as(site: &Site, policy: &Policy, out: &mut String, text: &str) -> Asked {
+    let Some((row, own)) = row_and_behind(policy, text) else {
+        return Ok(false);
     };
-    let Some((fs, line)) = fs_and_line(line) else {
-        return Ok(None);
+    let Ok(own) = credential(&site.users, &site.groups, own) else {
+        return Ok(false);
     };
-    let (Some(row), Ok(cred)) = (
-        find_row(policy, fs, line),
-        credential(&site.users, &site.groups, cred),
-    ) else {
-        return Ok(None);
-    };
-    let acted = act_as(&row.entry.terms, &cred);
-    Ok(Some(acted.to_string(alloc)?))
+    let acted = act_as(&row.entry.terms, &own);
+    write!(out, "{acted}")?;
+    Ok(true)
 }

@@ -1,34 +1,52 @@
-//! The questions, by their first words.
+//! The questions. What each asks stands at the function that answers it.
 
 ghost use Rattle.std.specs.Prelude.{◌≤◌, length};
 
-use crate::answers::Answer;
+use crate::answers::Asked;
 use crate::site::Site;
-use crate::{exports, policies, tables, texts};
+use crate::{
+    addresses, credentials, custodians, exports, filesystems, hosts, lines, nets, networks, paths,
+    policies,
+};
 use std::alloc::Global;
 
-/// The answer to a question. What each asks stands at the function that answers it.
-pub fn answer(alloc: Global, site: &mut Site, question: &str, text: &str) -> Answer {
+/// Answers a question.
+pub fn answer(
+    alloc: Global,
+    site: &mut Site,
+    out: &mut String,
+    question: &str,
+    text: &str,
+) -> Asked {
     if text.len() > 4294967294 {
-        return Ok(None);
+        return Ok(false);
     }
-    match question {
-        "policy" => policies::read(alloc, site, text),
-        "policy_with" => policies::read_with(alloc, site, text),
-        "entries" | "rule" | "file" => exports::answer(alloc, site, question, text),
-        _ => of_texts(alloc, site, question, text),
-    }
+    Ok(of_text(alloc, out, question, text)? || of_site(alloc, site, out, question, text)?)
 }
 
-/// The answer to a question on a text, a table or the policy.
-fn of_texts(alloc: Global, site: &mut Site, question: &str, text: &str) -> Answer
+/// Answers a question on a text alone.
+fn of_text(alloc: Global, out: &mut String, question: &str, text: &str) -> Asked
     requires { length text.now ≤ 4294967294 }
 {
-    if let Some(answer) = texts::answer(alloc, question, text)? {
-        return Ok(Some(answer));
-    }
-    if let Some(answer) = tables::answer(alloc, site, question, text)? {
-        return Ok(Some(answer));
-    }
-    policies::answer(alloc, site, question, text)
+    Ok(
+        addresses::answer(out, question, text)?
+            || nets::answer(out, question, text)?
+            || paths::answer(alloc, out, question, text)?
+            || lines::answer(alloc, out, question, text)?,
+    )
+}
+
+/// Answers a question on the tables or the policy, or one that reads them.
+fn of_site(alloc: Global, site: &mut Site, out: &mut String, question: &str, text: &str) -> Asked
+    requires { length text.now ≤ 4294967294 }
+{
+    Ok(
+        hosts::answer(alloc, site, out, question, text)?
+            || networks::answer(alloc, site, out, question, text)?
+            || credentials::answer(alloc, site, out, question, text)?
+            || custodians::answer(alloc, site, out, question, text)?
+            || filesystems::answer(alloc, site, out, question, text)?
+            || exports::answer(alloc, site, out, question, text)?
+            || policies::answer(alloc, site, out, question, text)?,
+    )
 }

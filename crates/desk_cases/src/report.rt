@@ -9,6 +9,8 @@ pub struct Report {
     cases: u64,
     differing: u64,
     differences: String,
+    /// The number of the line of the case that is tried.
+    line: usize,
 }
 
 impl Report {
@@ -18,34 +20,30 @@ impl Report {
             cases: 0,
             differing: 0,
             differences: String::new(alloc),
+            line: 0,
         }
     }
 
     /// The report of a file that cannot be read.
     pub fn unread(alloc: Global, error: &io::Error) -> Result<Report, AllocError> {
         let mut report = Report::new(alloc);
+        report.begin_case(0);
         let error = error.to_string(alloc)?;
-        report.add_difference(alloc, 0, "it cannot be read: ", error.as_str())?;
+        report.add_difference("this file cannot be read", error.as_str())?;
         Ok(report)
     }
 
-    /// Counts a case that has its answer.
-    pub fn add_right(&mut self) {
+    /// Begins a case on the line behind this many.
+    pub fn begin_case(&mut self, lines: usize) {
+        self.line = lines.saturating_add(1);
         self.cases = self.cases.saturating_add(1);
     }
 
-    /// Counts a case that differs, and tells how, at a line of the file.
-    pub fn add_difference(
-        &mut self,
-        alloc: Global,
-        line: usize,
-        what: &str,
-        text: &str,
-    ) -> Result<(), AllocError> {
-        self.cases = self.cases.saturating_add(1);
+    /// Tells that the case that is tried differs, and what it has in place of what it wants.
+    pub fn add_difference(&mut self, case: &str, found: &str) -> Result<(), AllocError> {
         self.differing = self.differing.saturating_add(1);
-        let difference = format!(in alloc; "\n  line {line}: {what}{text}")?;
-        self.differences.push_str(difference.as_str())
+        let line = self.line;
+        write!(self.differences, "\n  line {line}: {case}\n  {found}")
     }
 
     /// Whether there are cases, and none differs.

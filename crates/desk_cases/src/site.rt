@@ -1,6 +1,6 @@
 //! The tables and the policy that the questions of a file are asked of.
 
-use crate::answers::Answer;
+use crate::answers::{Asked, say};
 use desk_policy::Policy;
 use desk_tables::{Custodians, FileSystems, Groups, Hosts, Networks, TableFault, Users};
 use desk_text::ReadError;
@@ -33,13 +33,19 @@ impl Site {
     }
 }
 
-/// The answer of a table that cannot be read: `fault line 2 Fields`.
-pub fn fault(alloc: Global, error: ReadError<TableFault>) -> Answer {
+/// Answers that a table is read.
+pub fn say_read(out: &mut String) -> Asked {
+    say(out, "read")
+}
+
+/// Answers that a table cannot be read: `fault line 2 Fields`.
+pub fn say_fault(out: &mut String, error: ReadError<TableFault>) -> Asked {
     match error {
         ReadError::Memory => Err(AllocError),
         ReadError::Fault(fault) => {
             let (line, name) = (fault.line, fault.rule.name());
-            Ok(Some(format!(in alloc; "fault line {line} {name}")?))
+            write!(out, "fault line {line} {name}")?;
+            Ok(true)
         }
     }
 }
