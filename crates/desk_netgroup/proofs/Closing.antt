@@ -1,16 +1,15 @@
 -- Levels beyond the number of groups give no more hosts, so the hosts of groups are the least closed sets.
-use Rattle.std.proofs.Common.{◌≡◌, ℕ, zero, suc, ◌+◌, ◌<◌, ◌≤◌, ◌||◌, Bool, true, false, cond, List, [], ◌∷◌, ◌++◌, length, Option, Some, None, sym, ◌∙◌, ap, subst, refl, inl, inr, ◌⊎◌, arith}
-use Rattle.std.specs.Prelude.{find, not}
-use Rattle.std.specs.List.{flat_map, list_any, count_by}
+use Rattle.std.proofs.Common.{◌≡◌, ℕ, zero, suc, ◌+◌, ◌<◌, ◌≤◌, ◌||◌, Bool, true, false, cond, List, [], ◌∷◌, length, Option, Some, sym, ◌∙◌, ap, subst, refl, inl, inr, ◌⊎◌, arith}
+use Rattle.std.specs.Prelude.{find}
+use Rattle.std.specs.List.{flat_map, list_any}
 use Rattle.std.specs.Option.{option_map_or}
 use Rattle.std.specs.Str.{bytes_eq}
-use Rattle.std.proofs.lemmas.Bool.{or_cases, or_left, or_right, cases_Bool, cond-true, cond-false, true≢false, both_ways, false_from_ne_true}
+use Rattle.std.proofs.lemmas.Bool.{or_cases, or_left, or_right, cases_Bool, cond-false, true≢false}
 use Rattle.std.proofs.lemmas.List.Folds.{list_any-append}
 use Rattle.std.proofs.lemmas.Slice.Eq.{bytes_eq-Decides}
 use Rattle.desk_netgroup.specs.declared.group_line.GroupLine.{GroupLine}
 use Rattle.desk_netgroup.specs.declared.group_line.Member.{Member}
 use Rattle.desk_netgroup.specs.declared.group_line.Member.TheVariants.{Group, Host}
-use Rattle.desk_netgroup.specs.GroupLine.{group_named}
 use Rattle.desk_netgroup.specs.Laws.{is_host, is_group, AreClosed, HostsAreLeast, HostsAreReached, Leads}
 use Rattle.desk_netgroup.specs.Netgroups.{is_among, members_of, hosts_by, hosts_within, hosts_of}
 

@@ -1,5 +1,5 @@
 -- What the private contracts of the walk cite.
-use Rattle.std.specs.Prelude.{◌≡◌, ℕ, ◌||◌, Bool, true, false, List, [], ◌∷◌, ◌++◌, Option, Some, None, reverse, if◌then◌else◌}
+use Rattle.std.specs.Prelude.{◌≡◌, ℕ, ◌||◌, Bool, List, [], ◌∷◌, ◌++◌, Option, Some, None, reverse, if◌then◌else◌}
 use Rattle.std.specs.Str.{bytes_eq}
 use Rattle.desk_netgroup.specs.Netgroups.{is_among}
 use Rattle.desk_netgroup.specs.declared.group_line.GroupLine.{GroupLine}

@@ -1,4 +1,4 @@
-use Rattle.std.proofs.Common.{◌∙◌, ap, sym, take, List}
+use Rattle.std.proofs.Common.{◌∙◌, ap}
 use Rattle.std.proofs.lemmas.List.{take_all}
 use Rattle.desk_netgroup.specs.Faults.{has_unclosed}
 use Rattle.desk_netgroup.specs.Line.{is_open_behind}

@@ -1,11 +1,9 @@
-use Rattle.std.proofs.Common.{◌≡◌, ℕ, ◌-◌, ◌<◌, ◌++◌, ◌∷◌, [], ◌∙◌, List, ap, drop, get_or, length, rules, sym, take, arith}
+use Rattle.std.proofs.Common.{◌≡◌, ℕ, ◌-◌, ◌<◌, ◌∙◌, List, ap, length, rules, take, arith}
 use Rattle.std.specs.List.{prefix_len}
 use Rattle.std.specs.Str.{IsUtf8}
 use Rattle.std.proofs.lemmas.Bool.Decides.{nat_tests}
 use Rattle.std.proofs.lemmas.Str.{IsCharBoundary-after_ascii}
-use Rattle.desk_netgroup.specs.Line.{mark_tokens}
 use Rattle.desk_netgroup.specs.Token as spec
-use Rattle.desk_netgroup.specs.declared.token.Token.TheVariants.{Word}
 use Rattle.desk_netgroup.proofs.TokenLemmas.{first_is_ascii, next_word, word_boundary}
 use Rattle.desk_netgroup.proofs.token.push_tokens.Goals as goal
 

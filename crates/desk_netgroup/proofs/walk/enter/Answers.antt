@@ -1,4 +1,4 @@
-use Rattle.std.proofs.Common.{◌≡◌, ◌||◌, ◌++◌, ◌∙◌, Bool, true, false, cond, ℕ, List, Option, Some, Ok, Err, Result, map, reverse, rules, ap, sym, subst, refl, string_bytes}
+use Rattle.std.proofs.Common.{◌≡◌, ◌||◌, ◌++◌, ◌∙◌, true, false, cond, ℕ, List, Option, Some, Ok, Err, Result, map, reverse, rules, ap, sym, subst, string_bytes}
 use Rattle.std.specs.BTreeSet.{contains_text}
 use Rattle.std.specs.Borrow.{Bor}
 use Rattle.std.specs.Option.{option_copied}

@@ -1,10 +1,9 @@
-use Rattle.std.proofs.Common.{◌≡◌, ◌∙◌, Bool, true, List, ℕ, Option, Some, None, IsSome, map, ap, sym, subst, refl}
+use Rattle.std.proofs.Common.{◌∙◌, List, ℕ, Option, Some, None, IsSome, map, ap, sym, subst, refl}
 use Rattle.std.specs.Prelude.{not}
 use Rattle.std.specs.Borrow.{Bor}
 use Rattle.std.specs.Option.{option_copied}
 use Rattle.std.proofs.lemmas.Bool.{true≢false}
 use Rattle.desk_netgroup.specs.Netgroups.{AreDistinct, is_among}
-use Rattle.desk_netgroup.specs.Walk.{new_texts}
 use Rattle.desk_netgroup.proofs.OnceLemmas.{distinct, same_texts}
 use Rattle.desk_netgroup.proofs.netgroups.Netgroups.hosts_of.Goals as goal
 
