@@ -17,4 +17,4 @@ invariant_of-result c = λ q.
     ∙ ap (λ (name : List ℕ). option_or (get_by_text c.self.inside.index q) (if bytes_eq q name then Some (length lines) else None)) c.as_str.ensures
     ∙ ap (λ (o : Option ℕ). option_or o (if bytes_eq q group.name then Some (length lines) else None)) (c.self.invariant q)
     ∙ sym (place_push (λ (line : GroupLine). bytes_eq q line.name) lines group)
-    ∙ ap (λ (ls : List GroupLine). position (λ (line : GroupLine). bytes_eq q line.name) ls) (sym c.in_ok-push.ensures)
+    ∙ ap (λ (ls : List GroupLine). position (λ (line : GroupLine). bytes_eq q line.name) ls) (sym c.in_ok-push.ensures.added)
