@@ -1,0 +1,26 @@
+use Rattle.std.proofs.Common.{◌∙◌, List, ℕ, Option, Some, None, IsSome, map, ap, sym, subst, refl}
+use Rattle.std.specs.Prelude.{not}
+use Rattle.std.specs.Borrow.{Bor}
+use Rattle.std.specs.Option.{option_copied}
+use Rattle.std.proofs.lemmas.Bool.{true≢false}
+use Rattle.desk_netgroup.specs.Netgroups.{AreDistinct, is_among}
+use Rattle.desk_netgroup.proofs.OnceLemmas.{distinct, same_texts}
+use Rattle.desk_netgroup.proofs.netgroups.Netgroups.hosts_of.Goals as goal
+
+some_copied : {X : Type 0} (o : Option (Bor X)) → IsSome o → IsSome (option_copied o)
+some_copied None e = absurd (true≢false (sym e))
+some_copied (Some x) e = refl
+
+abbrev texts : List (Bor (List ℕ)) → List (List ℕ)
+texts xs = map (λ x. x.now) xs
+
+pub returns-clause-defined : goal.returns-clause-defined
+returns-clause-defined c = subst (λ o. IsSome o) c.group.ensures (some_copied c.group.result (c.is_none.ensures ∙ ap not c.if-is_none.false))
+
+pub returns-clause-hosts : goal.returns-clause-hosts
+returns-clause-hosts c = λ host.
+    ap (is_among host) c.in_ok-each_once.ensures ∙ same_texts (texts c.as_slice.result.now) host
+    ∙ ap (λ (xs : List (Bor (List ℕ))). is_among host (texts xs)) c.as_slice.ensures.value ∙ c.in_ok-met.ensures host
+
+pub returns-clause-once : goal.returns-clause-once
+returns-clause-once c = subst AreDistinct (sym c.in_ok-each_once.ensures) (distinct (texts c.as_slice.result.now))

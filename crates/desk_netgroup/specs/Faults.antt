@@ -1,0 +1,100 @@
+-- The faults of a netgroup line. (netgroup(5); the rules and their order are this project's own)
+use Rattle.std.specs.Prelude.{ℕ, ◌==◌, ◌||◌, nat_lt, Bool, true, false, not, List, [], ◌∷◌, Option, None, codes, find, length, option_and_then, slice_index, if◌then◌else◌}
+use Rattle.std.specs.List.{list_any}
+use Rattle.std.specs.Option.{is_none, is_some, option_map}
+use Rattle.desk_text.specs.Lines.{LogicalLine}
+use Rattle.desk_netgroup.specs.GroupLine.{group_named, group_on, tokens_of}
+use Rattle.desk_netgroup.specs.declared.faults.GroupFault.{GroupFault}
+use Rattle.desk_netgroup.specs.declared.faults.GroupRule.{GroupRule}
+use Rattle.desk_netgroup.specs.declared.faults.GroupRule.TheVariants as rule
+use Rattle.desk_netgroup.specs.declared.group_line.GroupLine.{GroupLine}
+use Rattle.desk_netgroup.specs.declared.token.Token.{Token}
+use Rattle.desk_netgroup.specs.declared.token.Token.TheVariants.{Open, Close, Comma, Word}
+
+-- a token is a word
+abbrev pub is_word : Token → Bool
+is_word (Word word) = true
+is_word Open = false
+is_word Close = false
+is_word Comma = false
+
+-- what stands behind the first word
+abbrev pub behind_first_word : List Token → List Token
+behind_first_word [] = []
+behind_first_word (token ∷ more) = if is_word token then more else behind_first_word more
+
+-- a word that begins a comment
+abbrev pub is_comment : Token → Bool
+is_comment (Word word) = slice_index word 0 == 35
+is_comment Open = false
+is_comment Close = false
+is_comment Comma = false
+
+-- the most bytes that a word may have
+abbrev pub longest_word : ℕ
+longest_word = 255
+
+-- a word of more bytes
+abbrev pub is_long : Token → Bool
+is_long (Word word) = nat_lt longest_word (length word)
+is_long Open = false
+is_long Close = false
+is_long Comma = false
+
+abbrev pub is_close : Token → Bool
+is_close Close = true
+is_close Open = false
+is_close Comma = false
+is_close (Word word) = false
+
+-- some `(` has no `)` behind it
+abbrev pub has_unclosed : List Token → Bool
+has_unclosed [] = false
+has_unclosed (Open ∷ more) = not (list_any is_close more) || has_unclosed more
+has_unclosed (Close ∷ more) = has_unclosed more
+has_unclosed (Comma ∷ more) = has_unclosed more
+has_unclosed (Word word ∷ more) = has_unclosed more
+
+-- the number of the earlier line that defines the group that this line defines
+abbrev pub earlier_line : List GroupLine → LogicalLine → Option ℕ
+earlier_line earlier line = option_and_then (λ group. option_map (λ other. other.line) (group_named earlier group.name)) (group_on line)
+
+-- whether a line breaks a rule, behind lines that define these groups
+abbrev pub breaks : List GroupLine → LogicalLine → GroupRule → Bool
+breaks earlier line rule.BadTriple = is_none (group_on line) || list_any is_long (tokens_of line)
+breaks earlier line rule.Unclosed = has_unclosed (tokens_of line)
+breaks earlier line rule.Duplicate = is_some (earlier_line earlier line)
+breaks earlier line rule.StrayComment = list_any is_comment (behind_first_word (tokens_of line))
+
+-- the order in which a broken rule is named
+abbrev pub rules_in_order : List GroupRule
+rules_in_order = rule.StrayComment ∷ rule.Unclosed ∷ rule.BadTriple ∷ rule.Duplicate ∷ []
+
+abbrev pub first_broken_rule : List GroupLine → LogicalLine → Option GroupRule
+first_broken_rule earlier line = find (breaks earlier line) rules_in_order
+
+-- the earlier line is named with Duplicate alone
+abbrev pub other_of : GroupRule → Option ℕ → Option ℕ
+other_of rule.BadTriple earlier = None
+other_of rule.Unclosed earlier = None
+other_of rule.Duplicate earlier = earlier
+other_of rule.StrayComment earlier = None
+
+-- the fault of a line, behind lines that define these groups
+abbrev pub fault_on : List GroupLine → LogicalLine → Option GroupFault
+fault_on earlier line =
+    option_map (λ rule. record { line = line.number; rule = rule; other = other_of rule (earlier_line earlier line) }) (first_broken_rule earlier line)
+
+-- the number of a rule
+abbrev pub rule_number : GroupRule → ℕ
+rule_number rule.BadTriple = 1
+rule_number rule.Unclosed = 2
+rule_number rule.Duplicate = 3
+rule_number rule.StrayComment = 4
+
+-- the name of a rule
+abbrev pub rule_name : GroupRule → List ℕ
+rule_name rule.BadTriple = codes "BadTriple"
+rule_name rule.Unclosed = codes "Unclosed"
+rule_name rule.Duplicate = codes "Duplicate"
+rule_name rule.StrayComment = codes "StrayComment"

@@ -1,0 +1,21 @@
+//! What the definitions of this crate come to, each as a function that does nothing.
+
+ghost use Rattle.desk_netgroup.specs.Laws.{HostsAreLeast, HostsAreReached, TokensAreTheText};
+
+/// Says that the tokens of a text are its characters without the blanks, and that two words stand
+/// side by side only with a blank between them.
+pub fn tokens_are_the_text()
+    ensures { TokensAreTheText }
+{}
+
+/// Says that the hosts of groups are the least sets that have the hosts of each group's own triples
+/// and those of its member groups.
+pub fn hosts_are_least()
+    ensures { HostsAreLeast }
+{}
+
+/// Says that a host is a group's exactly if a chain of groups, each a member of the one before, leads
+/// to a triple with it.
+pub fn hosts_are_reached()
+    ensures { HostsAreReached }
+{}
