@@ -14,6 +14,7 @@ mod exports;
 mod filesystems;
 mod hosts;
 mod lines;
+mod netgroups;
 mod nets;
 mod networks;
 mod paths;

@@ -5,8 +5,8 @@ ghost use Rattle.std.specs.Prelude.{◌≤◌, length};
 use crate::answers::Asked;
 use crate::site::Site;
 use crate::{
-    addresses, credentials, custodians, exports, filesystems, hosts, lines, nets, networks, paths,
-    policies,
+    addresses, credentials, custodians, exports, filesystems, hosts, lines, netgroups, nets,
+    networks, paths, policies,
 };
 use std::alloc::Global;
 
@@ -43,6 +43,7 @@ fn of_site(alloc: Global, site: &mut Site, out: &mut String, question: &str, tex
     Ok(
         hosts::answer(alloc, site, out, question, text)?
             || networks::answer(alloc, site, out, question, text)?
+            || netgroups::answer(alloc, site, out, question, text)?
             || credentials::answer(alloc, site, out, question, text)?
             || custodians::answer(alloc, site, out, question, text)?
             || filesystems::answer(alloc, site, out, question, text)?

@@ -1,6 +1,7 @@
 //! The tables and the policy that the questions of a file are asked of.
 
 use crate::answers::{Asked, say};
+use desk_netgroup::Netgroups;
 use desk_policy::Policy;
 use desk_tables::{Custodians, FileSystems, Groups, Hosts, Networks, TableFault, Users};
 use desk_text::ReadError;
@@ -11,6 +12,7 @@ use std::alloc::{AllocError, Global};
 pub struct Site {
     pub hosts: Hosts,
     pub networks: Networks,
+    pub netgroups: Netgroups,
     pub users: Users,
     pub groups: Groups,
     pub filesystems: Option<FileSystems>,
@@ -24,6 +26,7 @@ impl Site {
         Site {
             hosts: Hosts::new(alloc),
             networks: Networks::new(alloc),
+            netgroups: Netgroups::new(alloc),
             users: Users::new(alloc),
             groups: Groups::new(alloc),
             filesystems: None,

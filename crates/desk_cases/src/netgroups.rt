@@ -1,0 +1,98 @@
+//! Questions on the netgroup file.
+
+ghost use Rattle.std.specs.Prelude.{◌≤◌, length};
+
+use crate::answers::{Asked, end_list, say};
+use crate::site::{Site, say_read};
+use desk_netgroup::{GroupFault, GroupLine, Member, Netgroups, Token};
+use desk_text::ReadError;
+use std::alloc::{AllocError, Global};
+
+/// Answers a question on the netgroup file. `tokens TEXT`: its tokens.
+pub fn answer(alloc: Global, site: &mut Site, out: &mut String, question: &str, text: &str) -> Asked
+    requires { length text.now ≤ 4294967294 }
+{
+    match question {
+        "netgroups" => read(alloc, site, out, text),
+        "groups_of" => lines(site.netgroups.lines(), out),
+        "hosts_of" => hosts_of(alloc, &site.netgroups, out, text),
+        "tokens" => tokens(alloc, out, text),
+        _ => Ok(false),
+    }
+}
+
+/// `netgroups TEXT`: `read`, or the fault with the earlier line of a name that is listed twice.
+fn read(alloc: Global, site: &mut Site, out: &mut String, text: &str) -> Asked
+    requires { length text.now ≤ 4294967294 }
+{
+    match Netgroups::read(alloc, text) {
+        Ok(netgroups) => {
+            site.netgroups = netgroups;
+            say_read(out)
+        }
+        Err(error) => say_fault(out, error),
+    }
+}
+
+fn say_fault(out: &mut String, error: ReadError<GroupFault>) -> Asked {
+    match error {
+        ReadError::Memory => Err(AllocError),
+        ReadError::Fault(fault) => {
+            let (line, name) = (fault.line, fault.rule.name());
+            write!(out, "fault line {line} {name}")?;
+            if let Some(other) = fault.other {
+                write!(out, " line {other}")?;
+            }
+            Ok(true)
+        }
+    }
+}
+
+/// `groups_of`: the groups of the file in order, each its line, its name and its members, and `;`.
+fn lines(lines: &[GroupLine], out: &mut String) -> Asked {
+    for line in lines {
+        let (number, name) = (line.line, line.name.as_str());
+        write!(out, "{number} {name}")?;
+        for member in line.members.as_slice() {
+            add_member(out, member)?;
+        }
+        out.push(';')?;
+    }
+    Ok(true)
+}
+
+fn add_member(out: &mut String, member: &Member) -> Result<(), AllocError> {
+    let (kind, name) = match member {
+        Member::Group(name) => ("group", name.as_str()),
+        Member::Host(name) => ("host", name.as_str()),
+    };
+    write!(out, " {kind}:{name}")
+}
+
+/// `hosts_of NAME`: the hosts of the group, `no hosts`, or `not defined`.
+fn hosts_of(alloc: Global, netgroups: &Netgroups, out: &mut String, name: &str) -> Asked {
+    let Some(hosts) = netgroups.hosts_of(alloc, name)? else {
+        return say(out, "not defined");
+    };
+    if hosts.is_empty() {
+        return say(out, "no hosts");
+    }
+    for host in &hosts {
+        write!(out, "{host} ")?;
+    }
+    end_list(out)
+}
+
+/// The tokens of a text, with a blank between them.
+fn tokens(alloc: Global, out: &mut String, text: &str) -> Asked {
+    for token in &desk_netgroup::tokens(alloc, text)? {
+        let token = match token {
+            Token::Open => "(",
+            Token::Close => ")",
+            Token::Comma => ",",
+            Token::Word(word) => word.as_str(),
+        };
+        write!(out, "{token} ")?;
+    }
+    end_list(out)
+}
