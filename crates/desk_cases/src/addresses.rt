@@ -1,29 +1,39 @@
 //! Questions on addresses.
 
-use crate::answers::{Asked, say_found, say_whether};
+use crate::answers::{Asked, number, say_found, say_whether};
 use desk_text::{Addr, AddrFault, is_dotted};
 
 /// Answers a question on an address.
 pub fn answer(out: &mut String, question: &str, text: &str) -> Asked {
     match question {
-        "address" => address(out, Addr::read(text)),
-        "short_address" => address(out, Addr::read_short(text)),
+        "address" => address(out, text),
+        "short_address" => short_address(out, text),
         "address_of_number" => of_number(out, text),
         "is_dotted" => say_whether(out, is_dotted(text)),
         _ => Ok(false),
     }
 }
 
-/// `address TEXT`, and `short_address TEXT` with one to four parts: the address and its number, or the fault.
-fn address(out: &mut String, read: Result<Addr, AddrFault>) -> Asked {
-    match read {
-        Ok(address) => {
-            let number = address.number();
-            write!(out, "{address} {number}")?;
-            Ok(true)
-        }
+/// `address TEXT`: the address and its number, or the fault.
+fn address(out: &mut String, text: &str) -> Asked {
+    match Addr::read(text) {
+        Ok(address) => say_address(out, address),
         Err(fault) => say_fault(out, fault),
     }
+}
+
+/// `short_address TEXT`: the same of a text with one to four parts.
+fn short_address(out: &mut String, text: &str) -> Asked {
+    match Addr::read_short(text) {
+        Ok(address) => say_address(out, address),
+        Err(fault) => say_fault(out, fault),
+    }
+}
+
+fn say_address(out: &mut String, address: Addr) -> Asked {
+    let number = address.number();
+    write!(out, "{address} {number}")?;
+    Ok(true)
 }
 
 /// Answers with a fault by its name: `fault Parts`.
@@ -34,8 +44,8 @@ pub fn say_fault(out: &mut String, fault: AddrFault) -> Asked {
 
 /// `address_of_number NUMBER`: the address.
 fn of_number(out: &mut String, text: &str) -> Asked {
-    match text.parse::<u32>() {
-        Ok(number) => say_found(out, Some(Addr::from_number(number))),
-        Err(_) => Ok(false),
+    match number(text) {
+        Some(number) => say_found(out, Some(Addr::from_number(number))),
+        None => Ok(false),
     }
 }

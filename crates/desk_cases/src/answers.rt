@@ -21,9 +21,25 @@ pub fn say_found<T: fmt::Display + Copy>(out: &mut String, found: Option<T>) -> 
     Ok(true)
 }
 
+/// Answers with a list, with a blank between its items.
+pub fn say_each<T: fmt::Display>(out: &mut String, items: &[T]) -> Asked {
+    for item in items {
+        write!(out, "{item} ")?;
+    }
+    end_list(out)
+}
+
 /// Answers `yes` or `no`.
 pub fn say_whether(out: &mut String, holds: bool) -> Asked {
     say(out, if holds { "yes" } else { "no" })
+}
+
+/// The number that a text writes, if it is one.
+pub fn number(text: &str) -> Option<u32> {
+    match text.parse() {
+        Ok(number) => Some(number),
+        Err(_) => None,
+    }
 }
 
 /// Ends a list, each item of which has a blank or a line end behind it.

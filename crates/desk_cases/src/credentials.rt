@@ -2,10 +2,11 @@
 
 ghost use Rattle.std.specs.Prelude.{◌≤◌, length};
 
-use crate::answers::{Asked, end_list, say_whether};
+use crate::answers::{Asked, end_list, number, say_each, say_whether};
 use crate::site::{Site, say_fault, say_read};
 use desk_tables::{Cred, CredFault, Groups, User, Users, credential, has_fault};
-use std::alloc::Global;
+use desk_text::Text;
+use std::alloc::{AllocError, Global};
 
 /// Answers a question on users, groups or credentials.
 pub fn answer(alloc: Global, site: &mut Site, out: &mut String, question: &str, text: &str) -> Asked
@@ -62,9 +63,9 @@ fn user(out: &mut String, found: Option<&User>) -> Asked {
 
 /// `uid NUMBER`: the same of the first user with this uid.
 fn uid(users: &Users, out: &mut String, text: &str) -> Asked {
-    match text.parse::<u32>() {
-        Ok(uid) => user(out, users.by_uid(uid)),
-        Err(_) => Ok(false),
+    match number(text) {
+        Some(uid) => user(out, users.by_uid(uid)),
+        None => Ok(false),
     }
 }
 
@@ -73,12 +74,17 @@ fn group(groups: &Groups, out: &mut String, name: &str) -> Asked {
     if let Some(group) = groups.by_name(name) {
         let gid = group.gid;
         write!(out, "{gid}")?;
-        for member in group.members.as_slice() {
-            let member = member.as_str();
-            write!(out, " {member}")?;
-        }
+        add_members(out, group.members.as_slice())?;
     }
     Ok(true)
+}
+
+fn add_members(out: &mut String, members: &[Text]) -> Result<(), AllocError> {
+    for member in members {
+        let member = member.as_str();
+        write!(out, " {member}")?;
+    }
+    Ok(())
 }
 
 /// `member GROUP NAME`: `yes` or `no`.
@@ -127,16 +133,12 @@ fn with_group(out: &mut String, text: &str) -> Asked {
         return Ok(false);
     };
     let cred = Cred::with_group(uid, gid);
-    write!(out, "{cred} ")?;
     let gids = &cred.gids;
-    write!(out, "{gids}")?;
-    for gid in gids.as_slice() {
-        write!(out, " {gid}")?;
-    }
-    Ok(true)
+    write!(out, "{cred} {gids} ")?;
+    say_each(out, gids.as_slice())
 }
 
 fn numbers(text: &str) -> Option<(u32, u32)> {
     let (uid, gid) = text.split_once(' ')?;
-    Some((uid.parse().ok()?, gid.parse().ok()?))
+    Some((number(uid)?, number(gid)?))
 }

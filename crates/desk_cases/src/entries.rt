@@ -1,17 +1,14 @@
 //! Entries of exports files as answers.
 
 use desk_exports::{Clients, Entry};
-use desk_text::{Net, Text};
+use desk_text::{Net, Path, Text};
 use std::alloc::AllocError;
 
 /// Adds an entry: `1 /usr /usr/local ro sec=sys root=65534:65533 [10.0.0.5]`.
 pub fn add_entry(out: &mut String, entry: &Entry) -> Result<(), AllocError> {
     let line = entry.line;
     write!(out, "{line}")?;
-    for dir in entry.dirs.as_slice() {
-        let dir = dir.text();
-        write!(out, " {dir}")?;
-    }
+    add_dirs(out, entry.dirs.as_slice())?;
     if entry.alldirs {
         out.push_str(" alldirs")?;
     }
@@ -19,6 +16,14 @@ pub fn add_entry(out: &mut String, entry: &Entry) -> Result<(), AllocError> {
     write!(out, " {terms}")?;
     add_clients(out, &entry.clients)?;
     out.push('\n')
+}
+
+fn add_dirs(out: &mut String, dirs: &[Path]) -> Result<(), AllocError> {
+    for dir in dirs {
+        let dir = dir.text();
+        write!(out, " {dir}")?;
+    }
+    Ok(())
 }
 
 /// Adds whom a line is for: `[a] [b]`, `10.0.0.0/8`, `10.0.0.0/8 by the class of 10`, `ipv6 ::1` or `world`.

@@ -2,6 +2,7 @@
 //! byte and a backslash, and `\xff` is the byte of two hexadecimal digits. `\[3 ab\]` is `ababab`, and in it `\#` is
 //! the number of the repetition, from 0.
 
+use crate::answers::number;
 use std::alloc::{AllocError, Global};
 
 /// The bytes for which a text with escapes stands; none if it has an unknown escape, or a repetition that is not one.
@@ -30,21 +31,32 @@ pub fn text(alloc: Global, text: &str) -> Result<Option<String>, AllocError> {
 
 /// Adds what a repetition stands for, and the text behind it. Tells whether it is one.
 fn push_repetition(alloc: Global, out: &mut Vec<u8>, text: &str) -> Result<bool, AllocError> {
-    let Some((repetition, behind)) = text.split_once("\\]") else {
-        return Ok(false);
-    };
-    let Some((count, piece)) = repetition.split_once(' ') else {
-        return Ok(false);
-    };
-    let Ok(count) = count.parse::<u32>() else {
-        return Ok(false);
-    };
-    let is_good = if piece.contains("\\#") {
-        push_numbered(alloc, out, count, piece)?
+    match repetition_of(text) {
+        Some((count, piece, behind)) => {
+            Ok(push_repeated(alloc, out, count, piece)? && push_plain(out, behind)?)
+        }
+        None => Ok(false),
+    }
+}
+
+/// How often a repetition repeats its text, that text, and what stands behind it.
+fn repetition_of(text: &str) -> Option<(u32, &str, &str)> {
+    let (repetition, behind) = text.split_once("\\]")?;
+    let (count, piece) = repetition.split_once(' ')?;
+    Some((number(count)?, piece, behind))
+}
+
+fn push_repeated(
+    alloc: Global,
+    out: &mut Vec<u8>,
+    count: u32,
+    piece: &str,
+) -> Result<bool, AllocError> {
+    if piece.contains("\\#") {
+        push_numbered(alloc, out, count, piece)
     } else {
-        push_times(alloc, out, count, piece)?
-    };
-    Ok(is_good && push_plain(out, behind)?)
+        push_times(alloc, out, count, piece)
+    }
 }
 
 /// Adds a text so many times; many times at once, since there may be millions.
@@ -115,20 +127,19 @@ fn step(state: State, byte: u8) -> (State, Option<u8>) {
         State::Plain if byte == b'\\' => (State::Backslash, None),
         State::Plain => (State::Plain, Some(byte)),
         State::Backslash if byte == b'x' => (State::FirstDigit, None),
-        State::Backslash => complete(escaped(byte)),
+        State::Backslash => match escaped(byte) {
+            Some(byte) => (State::Plain, Some(byte)),
+            None => (State::Bad, None),
+        },
         State::FirstDigit => match digit(byte) {
             Some(digit) => (State::SecondDigit(digit), None),
             None => (State::Bad, None),
         },
-        State::SecondDigit(first) => complete(digit(byte).map(|second| first << 4 | second)),
+        State::SecondDigit(first) => match digit(byte) {
+            Some(second) => (State::Plain, Some(first << 4 | second)),
+            None => (State::Bad, None),
+        },
         State::Bad => (State::Bad, None),
-    }
-}
-
-fn complete(byte: Option<u8>) -> (State, Option<u8>) {
-    match byte {
-        Some(byte) => (State::Plain, Some(byte)),
-        None => (State::Bad, None),
     }
 }
 

@@ -9,7 +9,7 @@ use crate::filesystems::fs_id;
 use crate::site::Site;
 use desk_exports::{Entry, Rule, Tables, read_file, read_whole};
 use desk_tables::{FileSystems, FsId};
-use desk_text::{LineFault, ReadError, Sequence};
+use desk_text::{LineFault, ReadError};
 use std::alloc::{AllocError, Global};
 
 /// Answers a question on the lines of a text.
@@ -21,8 +21,8 @@ pub fn answer(alloc: Global, site: &Site, out: &mut String, question: &str, text
     };
     let tables = tables(site, filesystems);
     match question {
-        "entries" => entries(out, read_whole(alloc, text, &tables)),
-        "rule" => rule(out, read_whole(alloc, text, &tables)),
+        "entries" => entries(alloc, &tables, out, text),
+        "rule" => rule(alloc, &tables, out, text),
         "file" => file(alloc, &tables, out, text),
         _ => Ok(false),
     }
@@ -38,23 +38,34 @@ pub fn tables<'a>(site: &'a Site, filesystems: &'a FileSystems) -> Tables<'a> {
     }
 }
 
-/// What a text for all file systems has: its entries, each with its file system, or its first fault.
-type Whole = Result<Sequence<(FsId, Entry)>, ReadError<LineFault<Rule>>>;
-
 /// `entries TEXT`: each entry of a text for all file systems, on a line: the number of its file system, the number of its
 /// line, its directories, `alldirs`, its terms, and whom it is for. Or `none`, or the fault.
-fn entries(out: &mut String, read: Whole) -> Asked {
-    match read {
+fn entries(alloc: Global, tables: &Tables, out: &mut String, text: &str) -> Asked
+    requires { length text.now ≤ 4294967294 }
+{
+    match read_whole(alloc, text, tables) {
         Ok(entries) => {
-            for (fs, entry) in entries.as_slice() {
-                let fs = fs.0;
-                write!(out, "{fs} ")?;
-                add_entry(out, entry)?;
-            }
+            add_whole(out, entries.as_slice())?;
             end_list(out)
         }
         Err(error) => say_fault(out, error),
     }
+}
+
+fn add_whole(out: &mut String, entries: &[(FsId, Entry)]) -> Result<(), AllocError> {
+    for (fs, entry) in entries {
+        let fs = fs.0;
+        write!(out, "{fs} ")?;
+        add_entry(out, entry)?;
+    }
+    Ok(())
+}
+
+fn add_entries(out: &mut String, entries: &[Entry]) -> Result<(), AllocError> {
+    for entry in entries {
+        add_entry(out, entry)?;
+    }
+    Ok(())
 }
 
 /// Answers with a text's fault: `fault line 2 rule 4 DirectoryElsewhere`.
@@ -70,8 +81,10 @@ pub fn say_fault(out: &mut String, error: ReadError<LineFault<Rule>>) -> Asked {
 }
 
 /// `rule TEXT`: the number and the name of the rule that the first line breaks, or `none`.
-fn rule(out: &mut String, read: Whole) -> Asked {
-    match read {
+fn rule(alloc: Global, tables: &Tables, out: &mut String, text: &str) -> Asked
+    requires { length text.now ≤ 4294967294 }
+{
+    match read_whole(alloc, text, tables) {
         Ok(_) => Ok(true),
         Err(ReadError::Fault(fault)) if fault.line == 1 => {
             let (number, name) = (fault.rule.number(), fault.rule.name());
@@ -94,11 +107,21 @@ fn file(alloc: Global, tables: &Tables, out: &mut String, text: &str) -> Asked
     if lines.len() > 4294967294 {
         return Ok(false);
     }
-    match read_file(alloc, lines, tables, own_fs) {
+    entries_of_file(alloc, tables, out, own_fs, lines)
+}
+
+fn entries_of_file(
+    alloc: Global,
+    tables: &Tables,
+    out: &mut String,
+    own_fs: FsId,
+    text: &str,
+) -> Asked
+    requires { length text.now ≤ 4294967294 }
+{
+    match read_file(alloc, text, tables, own_fs) {
         Ok(entries) => {
-            for entry in entries.as_slice() {
-                add_entry(out, entry)?;
-            }
+            add_entries(out, entries.as_slice())?;
             end_list(out)
         }
         Err(error) => say_fault(out, error),

@@ -2,7 +2,7 @@
 
 ghost use Rattle.std.specs.Prelude.{◌≤◌, length};
 
-use crate::answers::{Asked, say, say_found, say_whether};
+use crate::answers::{Asked, number, say, say_found, say_whether};
 use crate::site::{Site, say_fault, say_read};
 use desk_tables::{FileSystems, FsId};
 use desk_text::{Path, PathFault, ReadError};
@@ -60,22 +60,36 @@ pub fn paths(alloc: Global, text: &str) -> Result<Vec<Path>, ReadError<PathFault
 
 /// The file system with the number that a text writes.
 pub fn fs_id(text: &str) -> Option<FsId> {
-    Some(FsId(text.parse().ok()?))
+    Some(FsId(number(text)?))
 }
 
 /// `mount NUMBER`: the mount point at the place, or `none`.
 pub fn mount(table: &FileSystems, out: &mut String, text: &str) -> Asked {
     match fs_id(text) {
-        Some(id) => say_found(out, table.mount(id).map(|path| path.text())),
+        Some(id) => say_path(out, table.mount(id)),
         None => Ok(false),
+    }
+}
+
+fn say_path(out: &mut String, found: Option<&Path>) -> Asked {
+    match found {
+        Some(path) => say(out, path.text()),
+        None => Ok(true),
     }
 }
 
 /// `of PATH`: the place of its file system, or `none`.
 fn of(alloc: Global, table: &FileSystems, out: &mut String, text: &str) -> Asked {
     match Path::read(alloc, text) {
-        Ok(path) => say_found(out, table.of(&path).map(|id| id.0)),
+        Ok(path) => say_place(out, table.of(&path)),
         Err(_) => Ok(false),
+    }
+}
+
+fn say_place(out: &mut String, found: Option<FsId>) -> Asked {
+    match found {
+        Some(id) => say_found(out, Some(id.0)),
+        None => Ok(true),
     }
 }
 

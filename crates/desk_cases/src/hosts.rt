@@ -2,7 +2,7 @@
 
 ghost use Rattle.std.specs.Prelude.{◌≤◌, length};
 
-use crate::answers::{Asked, end_list};
+use crate::answers::{Asked, say_each};
 use crate::site::{Site, say_fault, say_read};
 use desk_tables::Hosts;
 use std::alloc::Global;
@@ -33,8 +33,5 @@ fn read(alloc: Global, site: &mut Site, out: &mut String, text: &str) -> Asked
 
 /// `addresses NAME`: its addresses, or `none`.
 fn addresses(alloc: Global, hosts: &Hosts, out: &mut String, name: &str) -> Asked {
-    for address in &hosts.addresses(alloc, name)? {
-        write!(out, "{address} ")?;
-    }
-    end_list(out)
+    say_each(out, hosts.addresses(alloc, name)?.as_slice())
 }

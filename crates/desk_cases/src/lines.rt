@@ -2,7 +2,7 @@
 
 ghost use Rattle.std.specs.Prelude.{◌≤◌, length};
 
-use crate::answers::{Asked, end_list, say};
+use crate::answers::{Asked, end_list, say, say_found};
 use desk_text::{
     Line, OpenQuote, ReadError, Sequence, Text, Word, logical_lines, split_at, unquote, words,
 };
@@ -24,14 +24,23 @@ pub fn answer(alloc: Global, out: &mut String, question: &str, text: &str) -> As
 fn of_lines(alloc: Global, out: &mut String, question: &str, text: &str) -> Asked
     requires { length text.now ≤ 4294967294 }
 {
-    for line in &logical_lines(alloc, text)? {
-        match of_line(alloc, out, question, line) {
-            Ok(()) => {}
-            Err(ReadError::Fault(OpenQuote)) => return say(out, "fault OpenQuote"),
-            Err(ReadError::Memory) => return Err(AllocError),
-        }
+    match of_each_line(alloc, out, question, logical_lines(alloc, text)?.as_slice()) {
+        Ok(()) => end_list(out),
+        Err(ReadError::Fault(OpenQuote)) => say(out, "fault OpenQuote"),
+        Err(ReadError::Memory) => Err(AllocError),
     }
-    end_list(out)
+}
+
+fn of_each_line(
+    alloc: Global,
+    out: &mut String,
+    question: &str,
+    lines: &[Line],
+) -> Result<(), ReadError<OpenQuote>> {
+    for line in lines {
+        of_line(alloc, out, question, line)?;
+    }
+    Ok(())
 }
 
 fn of_line(
@@ -43,10 +52,22 @@ fn of_line(
     match question {
         "lines" => add_number(out, line)?,
         "physical_lines" => add_parts(out, line)?,
-        "words" => add_words(out, words(alloc, line)?.as_slice())?,
-        _ => add_values(alloc, out, words(alloc, line)?.as_slice())?,
+        _ => of_words(alloc, out, question, words(alloc, line)?.as_slice())?,
     }
     Ok(())
+}
+
+fn of_words(
+    alloc: Global,
+    out: &mut String,
+    question: &str,
+    words: &[Word],
+) -> Result<(), AllocError> {
+    if question == "words" {
+        add_words(out, words)
+    } else {
+        add_values(alloc, out, words)
+    }
 }
 
 /// `lines TEXT`: the numbers of its logical lines.
@@ -79,31 +100,47 @@ fn add_words(out: &mut String, words: &[Word]) -> Result<(), AllocError> {
 /// `values TEXT`: what the words of its logical lines stand for, each in brackets.
 fn add_values(alloc: Global, out: &mut String, words: &[Word]) -> Result<(), AllocError> {
     for word in words {
-        let value = unquote(alloc, word)?;
-        write!(out, "[{value}] ")?;
+        add_in_brackets(out, unquote(alloc, word)?.as_str())?;
     }
     Ok(())
 }
 
+fn add_in_brackets(out: &mut String, text: &str) -> Result<(), AllocError> {
+    write!(out, "[{text}] ")
+}
+
 /// `split_at_commas TEXT`: the texts between its commas, each in brackets.
 fn split_at_commas(alloc: Global, out: &mut String, text: &str) -> Asked {
-    for part in &split_at(alloc, text, ',')? {
-        write!(out, "[{part}] ")?;
-    }
+    add_each_in_brackets(out, split_at(alloc, text, ',')?.as_slice())?;
     end_list(out)
+}
+
+fn add_each_in_brackets(out: &mut String, texts: &[&str]) -> Result<(), AllocError> {
+    for text in texts {
+        add_in_brackets(out, text)?;
+    }
+    Ok(())
 }
 
 /// `sequence WORD WORD ..`: the list of these words, and how many it has when it is given away.
 fn sequence(alloc: Global, out: &mut String, text: &str) -> Asked {
+    let texts = sequence_of(alloc, text)?;
+    add_texts(out, texts.as_slice())?;
+    say_found(out, Some(texts.into_vec().len()))
+}
+
+fn sequence_of(alloc: Global, text: &str) -> Result<Sequence<Text>, AllocError> {
     let mut texts = Sequence::new(alloc);
     for word in text.split_whitespace() {
         texts.push(Text::copy(alloc, word)?)?;
     }
-    for text in texts.as_slice() {
+    Ok(texts)
+}
+
+fn add_texts(out: &mut String, texts: &[Text]) -> Result<(), AllocError> {
+    for text in texts {
         let text = text.as_str();
         write!(out, "{text} ")?;
     }
-    let count = texts.into_vec().len();
-    write!(out, "{count}")?;
-    Ok(true)
+    Ok(())
 }

@@ -2,7 +2,7 @@
 
 ghost use Rattle.std.specs.Prelude.{◌≤◌, length};
 
-use crate::answers::{Asked, end_list, say};
+use crate::answers::{Asked, end_list, say, say_each};
 use crate::site::{Site, say_read};
 use desk_netgroup::{GroupFault, GroupLine, Member, Netgroups, Token};
 use desk_text::ReadError;
@@ -51,14 +51,18 @@ fn say_fault(out: &mut String, error: ReadError<GroupFault>) -> Asked {
 /// `groups_of`: the groups of the file in order, each its line, its name and its members, and `;`.
 fn lines(lines: &[GroupLine], out: &mut String) -> Asked {
     for line in lines {
-        let (number, name) = (line.line, line.name.as_str());
-        write!(out, "{number} {name}")?;
-        for member in line.members.as_slice() {
-            add_member(out, member)?;
-        }
-        out.push(';')?;
+        add_line(out, line)?;
     }
     Ok(true)
+}
+
+fn add_line(out: &mut String, line: &GroupLine) -> Result<(), AllocError> {
+    let (number, name) = (line.line, line.name.as_str());
+    write!(out, "{number} {name}")?;
+    for member in line.members.as_slice() {
+        add_member(out, member)?;
+    }
+    out.push(';')
 }
 
 fn add_member(out: &mut String, member: &Member) -> Result<(), AllocError> {
@@ -77,15 +81,17 @@ fn hosts_of(alloc: Global, netgroups: &Netgroups, out: &mut String, name: &str) 
     if hosts.is_empty() {
         return say(out, "no hosts");
     }
-    for host in &hosts {
-        write!(out, "{host} ")?;
-    }
-    end_list(out)
+    say_each(out, hosts.as_slice())
 }
 
 /// The tokens of a text, with a blank between them.
 fn tokens(alloc: Global, out: &mut String, text: &str) -> Asked {
-    for token in &desk_netgroup::tokens(alloc, text)? {
+    add_tokens(out, desk_netgroup::tokens(alloc, text)?.as_slice())?;
+    end_list(out)
+}
+
+fn add_tokens(out: &mut String, tokens: &[Token]) -> Result<(), AllocError> {
+    for token in tokens {
         let token = match token {
             Token::Open => "(",
             Token::Close => ")",
@@ -94,5 +100,5 @@ fn tokens(alloc: Global, out: &mut String, text: &str) -> Asked {
         };
         write!(out, "{token} ")?;
     }
-    end_list(out)
+    Ok(())
 }

@@ -19,7 +19,10 @@ pub fn answer(out: &mut String, question: &str, text: &str) -> Asked {
 
 /// `prefix TEXT`: its bits, or `none`.
 fn prefix(out: &mut String, prefix: Option<Prefix>) -> Asked {
-    say_found(out, prefix.map(Prefix::get))
+    match prefix {
+        Some(prefix) => say_found(out, Some(prefix.get())),
+        None => Ok(true),
+    }
 }
 
 /// `prefix_of_bits NUMBER`: the same.
@@ -61,9 +64,13 @@ fn read_net(text: &str) -> Option<Net> {
 
 /// `net ADDRESS/BITS`: the network's bits, its first address and its last.
 fn net(out: &mut String, text: &str) -> Asked {
-    let Some(net) = read_net(text) else {
-        return Ok(false);
-    };
+    match read_net(text) {
+        Some(net) => say_net(out, net),
+        None => Ok(false),
+    }
+}
+
+fn say_net(out: &mut String, net: Net) -> Asked {
     let (bits, first, last) = (net.prefix().get(), net.first(), net.last());
     write!(out, "{bits} {first} {last}")?;
     Ok(true)

@@ -2,14 +2,14 @@
 
 ghost use Rattle.std.specs.Prelude.{◌≤◌, length};
 
-use crate::answers::{Asked, end_list, say, say_whether};
+use crate::answers::{Asked, end_list, number, say, say_whether};
 use crate::exports::{say_fault, tables};
 use crate::filesystems::{self, fs_id, paths};
 use crate::site::{Site, say_read};
-use desk_exports::read_whole;
+use desk_exports::{Rule, Tables, read_whole};
 use desk_policy::{Denial, Policy, Row, Verdict, act_as, decide, verdict_text};
 use desk_tables::{FileSystems, FsId, credential};
-use desk_text::{Addr, Path};
+use desk_text::{Addr, LineFault, Path, ReadError};
 use std::alloc::{AllocError, Global};
 
 /// Answers a question on the policy, or one that sets it.
@@ -70,13 +70,25 @@ fn set(
     let Some(known) = &site.filesystems else {
         return Ok(false);
     };
-    match read_whole(alloc, text, &tables(site, known)) {
-        Ok(entries) => {
-            site.policy = Some(Policy::of_entries(alloc, filesystems, entries)?);
+    match policy_of(alloc, &tables(site, known), filesystems, text) {
+        Ok(policy) => {
+            site.policy = Some(policy);
             say_read(out)
         }
         Err(error) => say_fault(out, error),
     }
+}
+
+fn policy_of(
+    alloc: Global,
+    tables: &Tables,
+    filesystems: FileSystems,
+    text: &str,
+) -> Result<Policy, ReadError<LineFault<Rule>>>
+    requires { length text.now ≤ 4294967294 }
+{
+    let entries = read_whole(alloc, text, tables)?;
+    Ok(Policy::of_entries(alloc, filesystems, entries)?)
 }
 
 /// `verdict CLIENT PATH`: the verdict as it is printed.
@@ -102,7 +114,7 @@ fn not_listed(alloc: Global, policy: &Policy, out: &mut String, text: &str) -> A
 
 fn fs_and_line(text: &str) -> Option<(FsId, u32)> {
     let (fs, line) = text.split_once(' ')?;
-    Some((fs_id(fs)?, line.parse().ok()?))
+    Some((fs_id(fs)?, number(line)?))
 }
 
 /// `rows FS`: the lines of the file system with this number, each its number, the addresses of its names, and `;`.
@@ -140,8 +152,16 @@ fn row_has(policy: &Policy, out: &mut String, text: &str) -> Asked {
 fn row_and_behind<'a, 'b>(policy: &'a Policy, text: &'b str) -> Option<(&'a Row, &'b str)> {
     let (numbers, behind) = text.rsplit_once(' ')?;
     let (fs, line) = fs_and_line(numbers)?;
-    let row = policy.rows(fs).iter().find(|row| row.entry.line == line)?;
-    Some((row, behind))
+    Some((row_of(policy.rows(fs), line)?, behind))
+}
+
+fn row_of(rows: &[Row], line: u32) -> Option<&Row> {
+    for row in rows {
+        if row.entry.line == line {
+            return Some(row);
+        }
+    }
+    None
 }
 
 /// `acts_as FS LINE CREDENTIAL`: the credential that a client with this one acts as under the terms of the line.

@@ -44,20 +44,23 @@ fn words_part(line: &str) -> Option<&str> {
 
 /// The standard input of a command, if it can be read.
 fn input_of(rt: &HostRuntime, line: &str, here: &str) -> Result<Option<Vec<u8>>, AllocError> {
-    let alloc = rt.alloc();
     if line.ends_with(HERE) {
-        let mut input = here.as_bytes().to_vec(alloc)?;
-        input.push(b'\n')?;
-        return Ok(Some(input));
+        return Ok(Some(lines_below(rt.alloc(), here)?));
     }
     if let Some(piped) = line.strip_prefix("$ printf '") {
         let (text, _) = piped.split_once("' | ").unwrap_or((piped, ""));
-        return escapes::bytes(alloc, text);
+        return escapes::bytes(rt.alloc(), text);
     }
     match line.split_once(" < ") {
         Some((_, file)) => Ok(fs::read(rt, file).ok()),
-        None => Ok(Some(Vec::new(alloc))),
+        None => Ok(Some(Vec::new(rt.alloc()))),
     }
+}
+
+fn lines_below(alloc: Global, here: &str) -> Result<Vec<u8>, AllocError> {
+    let mut lines = here.as_bytes().to_vec(alloc)?;
+    lines.push(b'\n')?;
+    Ok(lines)
 }
 
 /// The words of a line: what stands between single quotes, and elsewhere between blanks.
@@ -84,17 +87,22 @@ fn push_words<'a>(words: &mut Vec<&'a [u8]>, line: &'a [u8]) -> Result<(), Alloc
     Ok(())
 }
 
-/// Runs the command of these words. What it prints is UTF-8.
+/// Runs the command of these words.
 fn run_words(rt: &HostRuntime, shown: &mut String, words: &[&[u8]], input: &[u8]) -> Asked {
     let mut input = input;
     let mut out = Vec::new(rt.alloc());
     let mut err = Vec::new(rt.alloc());
     let status = desk_command::run(rt, words, &mut input, &mut out, &mut err);
-    let (Ok(out), Ok(err)) = (String::from_utf8(out), String::from_utf8(err)) else {
+    show(shown, out.as_slice(), err.as_slice(), status)
+}
+
+/// Adds what a command printed, which is UTF-8, and its status.
+fn show(shown: &mut String, out: &[u8], err: &[u8], status: u8) -> Asked {
+    let (Ok(out), Ok(err)) = (str::from_utf8(out), str::from_utf8(err)) else {
         return Ok(false);
     };
-    push_lines(shown, "", out.as_str())?;
-    push_lines(shown, "!", err.as_str())?;
+    push_lines(shown, "", out)?;
+    push_lines(shown, "!", err)?;
     write!(shown, "[{status}]\n")?;
     Ok(true)
 }
@@ -105,15 +113,19 @@ fn push_lines(shown: &mut String, mark: &str, text: &str) -> Result<(), AllocErr
         return Ok(());
     }
     for line in text.strip_suffix('\n').unwrap_or(text).split('\n') {
-        let blank = if mark.is_empty() || line.is_empty() {
-            ""
-        } else {
-            " "
-        };
-        write!(shown, "{mark}{blank}{line}\n")?;
+        push_line(shown, mark, line)?;
     }
     if !text.ends_with('\n') {
         shown.push_str("\\ no line end\n")?;
     }
     Ok(())
+}
+
+fn push_line(shown: &mut String, mark: &str, line: &str) -> Result<(), AllocError> {
+    let blank = if mark.is_empty() || line.is_empty() {
+        ""
+    } else {
+        " "
+    };
+    write!(shown, "{mark}{blank}{line}\n")
 }
