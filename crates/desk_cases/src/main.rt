@@ -25,7 +25,7 @@ mod site;
 mod terminal;
 
 use crate::report::Report;
-use std::alloc::AllocError;
+use std::alloc::{AllocError, Global};
 use std::process::ExitCode;
 use std::{fs, io};
 
@@ -53,14 +53,18 @@ fn main(rt: HostRuntime) -> io::Result<ExitCode> {
 fn file_names(rt: &HostRuntime) -> io::Result<Vec<String>> {
     let mut names = Vec::new(rt.alloc());
     for entry in fs::read_dir(rt, ".")? {
-        let entry = entry?;
-        let name = entry.file_name();
-        if name.ends_with(".cases") || name.ends_with(".commands") {
-            names.push(String::from_str(rt.alloc(), name)?)?;
-        }
+        add_name(rt.alloc(), &mut names, entry?.file_name())?;
     }
     names.sort_unstable();
     Ok(names)
+}
+
+/// Adds the name of a file, if it has cases.
+fn add_name(alloc: Global, names: &mut Vec<String>, name: &str) -> Result<(), AllocError> {
+    if name.ends_with(".cases") || name.ends_with(".commands") {
+        names.push(String::from_str(alloc, name)?)?;
+    }
+    Ok(())
 }
 
 /// What came of the file with this name.

@@ -96,15 +96,24 @@ fn run_words(rt: &HostRuntime, shown: &mut String, words: &[&[u8]], input: &[u8]
     show(shown, out.as_slice(), err.as_slice(), status)
 }
 
-/// Adds what a command printed, which is UTF-8, and its status.
+/// Adds what a command printed, and its status.
 fn show(shown: &mut String, out: &[u8], err: &[u8], status: u8) -> Asked {
-    let (Ok(out), Ok(err)) = (str::from_utf8(out), str::from_utf8(err)) else {
+    if !push_printed(shown, "", out)? || !push_printed(shown, "!", err)? {
         return Ok(false);
-    };
-    push_lines(shown, "", out)?;
-    push_lines(shown, "!", err)?;
+    }
     write!(shown, "[{status}]\n")?;
     Ok(true)
+}
+
+/// Adds what a command printed, with a mark before each line. Tells whether it is UTF-8.
+fn push_printed(shown: &mut String, mark: &str, printed: &[u8]) -> Asked {
+    match str::from_utf8(printed) {
+        Ok(text) => {
+            push_lines(shown, mark, text)?;
+            Ok(true)
+        }
+        Err(_) => Ok(false),
+    }
 }
 
 /// Adds lines, with a mark before each. A last line without a line end is told apart.
