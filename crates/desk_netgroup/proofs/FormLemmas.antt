@@ -13,7 +13,7 @@ use Rattle.desk_text.specs.Views.{line_of_part}
 use Rattle.desk_text.specs.declared.lines.Part.{Part}
 use Rattle.desk_netgroup.specs.Faults.{has_unclosed, is_close}
 use Rattle.desk_netgroup.specs.GroupLine.{followed_by, host_member, members}
-use Rattle.desk_netgroup.specs.Line.{behind_close, behind_comma, behind_field, behind_triple, host_field, is_open_behind}
+use Rattle.desk_netgroup.specs.PrivateLine.{behind_close, behind_comma, behind_field, behind_triple, host_field, is_open_behind}
 use Rattle.desk_netgroup.specs.Token.{tokens}
 use Rattle.desk_netgroup.specs.declared.group_line.Member.{Member}
 use Rattle.desk_netgroup.specs.declared.token.Token.{Token}

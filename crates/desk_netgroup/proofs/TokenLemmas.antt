@@ -9,7 +9,7 @@ use Rattle.std.proofs.lemmas.List.Sums.{prefix_len-le-length, prefix_len_stops}
 use Rattle.std.proofs.lemmas.Str.{IsCharBoundary-before_ascii, IsCharBoundary-end}
 use Rattle.desk_text.specs.Bytes.{is_blank}
 use Rattle.desk_netgroup.specs.Laws.{TokensAreTheText, ends_with_word, token_text}
-use Rattle.desk_netgroup.specs.Line.{mark_tokens}
+use Rattle.desk_netgroup.specs.PrivateLine.{mark_tokens}
 use Rattle.desk_netgroup.specs.Token.{begins_with_word, is_of_word, tokens, with_character}
 use Rattle.desk_netgroup.specs.declared.token.Token.{Token}
 use Rattle.desk_netgroup.specs.declared.token.Token.TheVariants.{Open, Close, Comma, Word}

@@ -15,7 +15,7 @@ use Rattle.desk_netgroup.specs.declared.group_line.Member.TheVariants.{Group, Ho
 use Rattle.desk_netgroup.specs.GroupLine.{group_named}
 use Rattle.desk_netgroup.specs.Laws.{is_host, is_group, Leads}
 use Rattle.desk_netgroup.specs.Netgroups.{is_among, members_of, hosts_of}
-use Rattle.desk_netgroup.specs.Walk.{Enters}
+use Rattle.desk_netgroup.specs.PrivateWalk.{Enters}
 use Rattle.desk_netgroup.proofs.Closing.{closed, chain_of}
 
 -- how far a walk from a group has come: which groups were entered, which members are pending, which hosts were met

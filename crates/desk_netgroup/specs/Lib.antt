@@ -1,8 +1,8 @@
 pub mod Token
-pub mod Line
+pub mod PrivateLine
 pub mod GroupLine
 pub mod Faults
 pub mod Netgroups
 pub mod Laws
-pub mod Index
-pub mod Walk
+pub mod PrivateIndex
+pub mod PrivateWalk

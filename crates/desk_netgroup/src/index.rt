@@ -2,7 +2,7 @@
 
 ghost use Rattle.std.specs.Prelude.{◌≡◌, OnOk, option_and_then, slice_get};
 ghost use Rattle.std.specs.Option.{option_copied};
-ghost use Rattle.desk_netgroup.specs.Index.{AddsFirst};
+ghost use Rattle.desk_netgroup.specs.PrivateIndex.{AddsFirst};
 
 use crate::group_line::GroupLine;
 use std::alloc::{AllocError, Global};

@@ -8,7 +8,7 @@ ghost use Rattle.desk_text.specs.declared.reading.ReadError.TheVariants.{Fault};
 ghost use Rattle.desk_netgroup.specs.Faults.{behind_first_word, fault_on, has_unclosed, is_comment, is_long, is_word};
 ghost use Rattle.desk_netgroup.specs.GroupLine as form;
 ghost use Rattle.desk_netgroup.specs.Netgroups.{unless_fault};
-ghost use Rattle.desk_netgroup.specs.Line.{behind_close, behind_comma, behind_field, behind_triple, host_field, is_open_behind};
+ghost use Rattle.desk_netgroup.specs.PrivateLine.{behind_close, behind_comma, behind_field, behind_triple, host_field, is_open_behind};
 
 use crate::faults::{GroupFault, GroupRule};
 use crate::group_line::{GroupLine, Member};

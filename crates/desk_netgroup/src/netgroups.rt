@@ -25,7 +25,7 @@ pub struct Netgroups {
 
 impl Model for Netgroups {
     ghost use Rattle.std.specs.Prelude.{List};
-    ghost use Rattle.desk_netgroup.specs.Index.{HasNames};
+    ghost use Rattle.desk_netgroup.specs.PrivateIndex.{HasNames};
     ghost use Rattle.desk_netgroup.specs.declared.group_line.GroupLine.{GroupLine};
 
     ghost Value = { List GroupLine };

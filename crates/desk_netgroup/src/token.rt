@@ -3,7 +3,7 @@
 ghost use Rattle.std.specs.Prelude.{◌≡◌, ◌++◌, IfOk, OnOk};
 ghost use Rattle.std.specs.List.{prefix_len};
 ghost use Rattle.desk_netgroup.specs.Token as spec;
-ghost use Rattle.desk_netgroup.specs.Line.{mark_tokens};
+ghost use Rattle.desk_netgroup.specs.PrivateLine.{mark_tokens};
 
 use desk_text::Text;
 use std::alloc::{AllocError, Global};

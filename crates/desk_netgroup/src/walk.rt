@@ -4,7 +4,7 @@ ghost use Rattle.std.specs.Prelude.{◌≡◌, ◌++◌, [], IfOk, OnOk, map, re
 ghost use Rattle.std.specs.BTreeSet.{contains_text};
 ghost use Rattle.desk_netgroup.specs.GroupLine.{group_named};
 ghost use Rattle.desk_netgroup.specs.Netgroups.{AreHostsOf};
-ghost use Rattle.desk_netgroup.specs.Walk.{AddsNew, Enters, new_texts};
+ghost use Rattle.desk_netgroup.specs.PrivateWalk.{AddsNew, Enters, new_texts};
 
 use crate::group_line::Member;
 use crate::netgroups::Netgroups;

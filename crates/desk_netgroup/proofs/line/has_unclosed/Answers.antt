@@ -1,7 +1,7 @@
 use Rattle.std.proofs.Common.{◌∙◌, ap}
 use Rattle.std.proofs.lemmas.List.{take_all}
 use Rattle.desk_netgroup.specs.Faults.{has_unclosed}
-use Rattle.desk_netgroup.specs.Line.{is_open_behind}
+use Rattle.desk_netgroup.specs.PrivateLine.{is_open_behind}
 use Rattle.desk_netgroup.proofs.FormLemmas.{unclosed_at}
 use Rattle.desk_netgroup.proofs.line.has_unclosed.Goals as goal
 

@@ -7,7 +7,7 @@ use Rattle.std.specs.Str.{bytes_eq}
 use Rattle.std.proofs.lemmas.Bool.{cond-false}
 use Rattle.std.proofs.lemmas.Map.Text.{btree_set_updates_text}
 use Rattle.desk_netgroup.specs.GroupLine.{group_named}
-use Rattle.desk_netgroup.specs.Walk.{Enters}
+use Rattle.desk_netgroup.specs.PrivateWalk.{Enters}
 use Rattle.desk_netgroup.specs.declared.group_line.GroupLine.{GroupLine}
 use Rattle.desk_netgroup.specs.declared.group_line.Member.{Member}
 use Rattle.desk_netgroup.proofs.SetLemmas.{added, flip}
