@@ -1,4 +1,15 @@
 //! Netgroup files: the groups, their members, and the hosts of each. (netgroup(5))
+//!
+//! What this crate promises: a file is its groups in the order of their lines, or the first faulty line with the first rule
+//! that it breaks; and the hosts of a group are those of its own triples and of its member groups at any depth, each once.
+//!
+//! For example, with the lines `staff (a,,) admins` and `admins (b,,) staff`:
+//!
+//! ```text
+//! let netgroups = Netgroups::read(alloc, text)?;
+//! netgroups.hosts_of(alloc, "staff")?       // Some of `a` and `b`: a group that is met again adds nothing
+//! netgroups.hosts_of(alloc, "a")?           // None: no line defines it
+//! ```
 #![tactic(auto)]
 
 pub mod faults;
