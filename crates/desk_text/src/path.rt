@@ -194,7 +194,7 @@ fn has_dots(text: &str) -> bool
 fn printed(alloc: Global, text: &str) -> Result<String, AllocError>
     ensures { IfOk result (λ s. string_bytes s ≡ path_text (components text.now)) }
 {
-    let mut out = String::new(alloc);
+    let mut out = String::with_capacity(alloc, text.len())?;
     for part in text.split('/') {
         if !part.is_empty() {
             out.push('/')?;

@@ -6,7 +6,7 @@
 ghost use Rattle.std.specs.Prelude.{◌≡◌, ℕ, ◌+◌, ◌<◌, ◌≤◌, ◌^◌, ◌++◌, IsTrue, IfOk, OnOk, IfSome, IfNone, map, not, length, List, true, false, slice_index};
 ghost use Rattle.std.specs.String.{string_bytes};
 ghost use Rattle.desk_text.specs.Bytes.{is_blank};
-ghost use Rattle.desk_text.specs.Word.{read_words, word_value, words_at, has_open_quote, is_quote};
+ghost use Rattle.desk_text.specs.Word.{has_marks, read_words, word_value, words_at, has_open_quote, is_quote};
 ghost use Rattle.desk_text.specs.Views.{line_of_part, word_of};
 ghost use Rattle.desk_text.specs.Reading.{ReadsAs};
 ghost use Rattle.desk_text.specs.PrivateWord.{IsAtomLen, IsWordLen, is_mark};
@@ -45,14 +45,44 @@ pub fn words<'a>(alloc: Global, line: &Line<'a>) -> Result<Vec<Word<'a>>, ReadEr
     Ok(words)
 }
 
+impl<'a> Word<'a> {
+    /// Lends the text of a word that is written without quotes and escapes: it stands for just that.
+    pub fn plain(&self) -> Option<&'a str>
+        ensures value { IfSome result (λ text. text.now ≡ word_value self.now.raw.now) }
+        ensures marked { IfNone result (has_marks self.now.raw.now ≡ true) }
+    {
+        if has_marks(self.raw) {
+            return None;
+        }
+        Some(self.raw)
+    }
+}
+
+/// Tests whether a quote or a backslash stands in a raw word.
+fn has_marks(raw: &str) -> bool
+    ensures { result ≡ has_marks raw.now }
+{
+    raw.as_bytes().iter().any(|b| is_quote(*b) || *b == b'\\')
+}
+
 /// Returns what a word stands for: its text without its quotes and escapes.
 pub fn unquote(alloc: Global, word: &Word) -> Result<String, AllocError>
     ensures { IfOk result (λ s. string_bytes s ≡ word_value word.now.raw.now) }
 {
-    let mut value = String::new(alloc);
+    match word.plain() {
+        Some(text) => String::from_str(alloc, text),
+        None => without_marks(alloc, word.raw),
+    }
+}
+
+/// Copies a raw word without its quotes and escapes.
+fn without_marks(alloc: Global, raw: &str) -> Result<String, AllocError>
+    ensures { IfOk result (λ s. string_bytes s ≡ word_value raw.now) }
+{
+    let mut value = String::with_capacity(alloc, raw.len())?;
     let mut quote = None;
     let mut escaped = false;
-    for c in word.raw.chars() {
+    for c in raw.chars() {
         if escaped {
             escaped = false;
             value.push(c)?;
