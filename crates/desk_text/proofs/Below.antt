@@ -1,10 +1,14 @@
 -- A path is under another where its printed form goes on behind the other's.
-use Rattle.std.proofs.Common.{◌≡◌, ◌≢◌, ◌⊎◌, inl, inr, ℕ, Bool, true, false, ◌&&◌, eqb, eq-eqb, List, [], ◌∷◌, ◌++◌, refl, sym, ap, ◌∙◌}
-use Rattle.std.specs.List.{flat_map, AllByRecursion}
+use Rattle.std.proofs.Common.{◌≡◌, ◌≢◌, ◌⊎◌, inl, inr, ℕ, ◌≤◌, Bool, true, false, ◌&&◌, ◌||◌, eqb, ltb, eq-eqb, List, [], ◌∷◌, ◌++◌, length, length-append, get_or, drop, refl, sym, ap, ◌∙◌, arith}
+use Rattle.std.specs.List.{flat_map, starts_with, AllByRecursion}
 use Rattle.std.specs.Str.{bytes_eq}
-use Rattle.std.proofs.lemmas.Bool.{cases_Bool, eqb-true, eqb-false, ne_eqb, true≢false}
+use Rattle.std.proofs.lemmas.Bool.{and_right, cases_Bool, cases_lt, eqb-true, eqb-false, lt-ltb, ne_eqb, true≢false}
+use Rattle.std.proofs.lemmas.Bool.Decides.{Decides-eqb}
+use Rattle.std.proofs.lemmas.List.{drop_all, drop_more}
+use Rattle.std.proofs.lemmas.Slice.Eq.{starts_is}
+use Rattle.std.proofs.Math.Bool.{and-true}
 use Rattle.desk_text.specs.Path.{components, path_text, is_under}
-use Rattle.desk_text.specs.PrivatePath.{ends_component, goes_below}
+use Rattle.desk_text.specs.PrivatePath.{ends_before, ends_component, goes_below}
 use Rattle.desk_text.proofs.Slashes.{IsComponent, NoSlash, are_components, slashes}
 
 abbrev slashed : List (List ℕ) → List ℕ
@@ -75,4 +79,34 @@ goes_below-none (b ∷ path) (a ∷ above) h =
     elim cases [
       | inl e ↦ ap (λ t. t && goes_below path above) e ∙ goes_below-none path above (λ rest same. h rest (ap (λ x. x ∷ path) (eqb-true b a e) ∙ ap (λ t. a ∷ t) same))
       | inr e ↦ ap (λ t. t && goes_below path above) e
+    ]
+
+-- a text that is long enough ends at a place just if its rest from there on ends a component
+ends-drop : (path : List ℕ) (place : ℕ) → place ≤ length path → ends_before path place ≡ ends_component (drop place path)
+ends-drop path place le =
+    elim (cases_lt place (length path)) [
+      | inl lt ↦
+          let apart : eqb place (length path) ≡ false = ne_eqb place (length path) (λ e. omega arith) in
+          ap (λ b. b || (ltb place (length path) && eqb (get_or path place 0) 47)) apart
+          ∙ ap (λ b. b && eqb (get_or path place 0) 47) (lt-ltb place (length path) lt)
+          ∙ ap ends_component (sym (drop_more path place 0 lt))
+      | inr ge ↦
+          ap (λ b. b || (ltb place (length path) && eqb (get_or path place 0) 47)) (eq-eqb place (length path) (omega arith))
+          ∙ ap ends_component (sym (drop_all place path ge))
+    ]
+
+-- the byte behind the other path, and then the other path itself
+pub below-is : (path above : List ℕ) → (ends_before path (length above) && starts_with eqb path above) ≡ goes_below path above
+below-is path above =
+    let tells = starts_is Decides-eqb path above (starts_with eqb path above) refl in
+    let cases : (starts_with eqb path above ≡ true) ⊎ (starts_with eqb path above ≡ false) = cases_Bool (starts_with eqb path above) in
+    elim cases [
+      | inl here ↦
+          let rest = drop (length above) path in
+          let whole : path ≡ above ++ rest = tells.0 here in
+          let long : length above ≤ length path = omega (arith, ap length whole, length-append above rest) in
+          ap (λ b. ends_before path (length above) && b) here ∙ and-true (ends_before path (length above)) ∙ ends-drop path (length above) long
+          ∙ sym (goes_below-front above rest) ∙ ap (λ t. goes_below t above) (sym whole)
+      | inr apart ↦
+          and_right _ _ apart ∙ sym (goes_below-none path above (λ rest same. true≢false (sym (tells.1 rest same) ∙ apart)))
     ]

@@ -17,6 +17,7 @@ pub mod Slashes
 pub mod GroupsAreUnique
 pub mod WordValue
 pub mod Below
+pub mod PathParts
 pub mod AtomLaws
 pub mod LineLaws
 pub mod WordLaws

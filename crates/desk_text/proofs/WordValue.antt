@@ -2,13 +2,13 @@
 use Rattle.std.proofs.Common.{◌≡◌, ◌⊎◌, inl, inr, ℕ, ◌+◌, ◌<◌, ◌≤◌, drop, Bool, true, false, ◌||◌, cond, eqb, Option, Some, None, is_some, List, [], ◌∷◌, ◌++◌, length, get_or, refl, sym, ap, subst, ◌∙◌, append_assoc, arith}
 use Rattle.std.specs.List.{flat_map, AllByRecursion}
 use Rattle.std.specs.Prelude.{encode_utf8, encode_utf8_all}
-use Rattle.std.proofs.lemmas.Bool.{cases_Bool, cases_lt, cond-true, cond-false, eqb-true, ne_eqb, or_cases, false≢true, true≢false}
+use Rattle.std.proofs.lemmas.Bool.{cases_Bool, cases_lt, cond-true, cond-false, eqb-true, ne_eqb, or_cases, or_parts, false≢true, true≢false}
 use Rattle.std.proofs.lemmas.List.{append-nil, drop_more}
 use Rattle.std.proofs.lemmas.List.Concat.{flat_map-append}
 use Rattle.std.proofs.lemmas.Str.{encode_ascii, inside_one, length-encode, len_utf8_bounds, encodes-chars}
 use Rattle.std.specs.Str.{IsUtf8, chars}
 use Rattle.std.proofs.lemmas.List.Elements.{recursion_from_All, All-from_get_or}
-use Rattle.desk_text.specs.Word.{Character, Bare, Escaped, Lone, Single, Quoted, characters, atoms_of, quoted, atoms, is_quote, character_value, atom_value, word_value}
+use Rattle.desk_text.specs.Word.{Character, Bare, Escaped, Lone, Single, Quoted, characters, atoms_of, quoted, atoms, is_quote, character_value, atom_value, word_value, has_marks}
 use Rattle.desk_text.specs.PrivateWord.{is_mark}
 use Rattle.desk_text.proofs.Atoms.{characters-bare}
 
@@ -183,3 +183,14 @@ module _ (q : Option ℕ) (e : Bool) (c : ℕ) (t : List ℕ) where
 
   pub by_open : e ≡ false → eqb c 92 ≡ false → is_mark q c ≡ true → is_some q ≡ false → value_from q e (c ∷ t) ≡ value_from (Some c) e t
   by_open h s m k = ap (λ b. value_from q b (c ∷ t)) h ∙ value-open q c t s m k ∙ ap (λ b. value_from (Some c) b t) (sym h)
+
+-- a word without quotes and backslashes stands for itself
+unmarked : (raw : List ℕ) → has_marks raw ≡ false → value_from None false raw ≡ raw
+unmarked [] h = refl
+unmarked (c ∷ t) h =
+    let here : (is_quote c || eqb c 92 ≡ false) × (has_marks t ≡ false) = or_parts _ _ h in
+    let no_mark : (is_quote c ≡ false) × (eqb c 92 ≡ false) = or_parts _ _ here.0 in
+    value-plain None c t no_mark.1 no_mark.0 ∙ ap (λ v. c ∷ v) (unmarked t here.1)
+
+pub word_value-unmarked : (raw : List ℕ) → has_marks raw ≡ false → word_value raw ≡ raw
+word_value-unmarked raw h = word_value-from raw ∙ unmarked raw h

@@ -1,5 +1,5 @@
 -- What the private contracts of the paths cite: being under another path, by the printed forms.
-use Rattle.std.specs.Prelude.{ℕ, ◌==◌, ◌&&◌, Bool, true, false, List, [], ◌∷◌}
+use Rattle.std.specs.Prelude.{ℕ, ◌==◌, ◌&&◌, ◌||◌, nat_lt, Bool, true, false, List, [], ◌∷◌, length, slice_index}
 
 -- a text ends here, or goes on with a slash
 abbrev pub ends_component : List ℕ → Bool
@@ -11,3 +11,11 @@ abbrev pub goes_below : List ℕ → List ℕ → Bool
 goes_below path [] = ends_component path
 goes_below [] (a ∷ above) = false
 goes_below (b ∷ path) (a ∷ above) = b == a && goes_below path above
+
+-- a text ends at this place, or has a slash there
+abbrev pub ends_before : List ℕ → ℕ → Bool
+ends_before path place = (place == length path) || (nat_lt place (length path) && slice_index path place == 47)
+
+-- a part between two slashes that is no component
+abbrev pub is_empty : List ℕ → Bool
+is_empty part = length part == 0

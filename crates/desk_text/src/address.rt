@@ -1,15 +1,11 @@
 //! IPv4 addresses, in a strict form: inet(3) also reads octal and hexadecimal numbers and fewer than four of them, so that
 //! one text can be two addresses to two programs. None of these is accepted here.
 
-ghost use Rattle.std.specs.Prelude.{◌≡◌, ℕ, ◌<◌, ◌≤◌, ◌^◌, ◌*◌, ◌-◌, min, Some, IsTrue, IfOk, length};
-ghost use Rattle.std.specs.Char.{digit_value};
-ghost use Rattle.std.specs.List.{list_all, list_any};
+ghost use Rattle.std.specs.Prelude.{◌≡◌, ℕ, ◌<◌, ◌≤◌, ◌^◌, ◌*◌, ◌-◌, Some, IfOk, length};
 ghost use Rattle.std.specs.Result.{result_map_both};
-ghost use Rattle.std.specs.Str.Parse.{digits_value};
-ghost use Rattle.desk_text.specs.Bytes.{has_leading_zero, is_digits};
-ghost use Rattle.desk_text.specs.Address.{addr_fault_number, addr_text, dotted_parts, is_byte, is_dotted, number_of, parts_value, read_addr, read_parts, read_short};
+ghost use Rattle.desk_text.specs.Address.{addr_fault_number, addr_text, dotted_parts, is_dotted, number_of, read_addr, read_parts, read_short};
+ghost use Rattle.desk_text.specs.PrivateAddress.{first_fault, read_octet, with_octet};
 
-use crate::bytes::{has_leading_zero, is_digits};
 use std::fmt;
 use thiserror::Error;
 
@@ -62,10 +58,11 @@ impl Addr {
     pub fn read(text: &str) -> Result<Addr, AddrFault>
         ensures { result_map_both number_of (λ fault. fault) result ≡ read_addr text.now }
     {
-        if part_count(text) != 4 {
+        let parts = read_parts(text);
+        if parts.count != 4 {
             return Err(AddrFault::Parts);
         }
-        let number = read_parts(text)?;
+        let number = parts.number?;
         Ok(Addr { number })
     }
 
@@ -74,11 +71,11 @@ impl Addr {
     pub fn read_short(text: &str) -> Result<Addr, AddrFault>
         ensures { result_map_both number_of (λ fault. fault) result ≡ read_short text.now }
     {
-        let count = part_count(text);
-        if count > 4 {
+        let parts = read_parts(text);
+        if parts.count > 4 {
             return Err(AddrFault::Parts);
         }
-        let number = filled(read_parts(text)?, count);
+        let number = filled(parts.number?, parts.count);
         Ok(Addr { number })
     }
 }
@@ -98,79 +95,75 @@ fn filled(number: u32, count: usize) -> u32
     }
 }
 
-fn part_count(text: &str) -> usize
-    ensures { result ≡ length (dotted_parts text.now) }
-{
-    text.split('.').count()
+/// What the parts of a text between its dots come to: how many there are, and the number that they write or their first
+/// fault. The number is that of the last four.
+#[derive(Clone, Copy)]
+struct DottedParts {
+    count: usize,
+    number: Result<u32, AddrFault>,
 }
 
-/// Reads the parts of an address, of which there are at most four.
-fn read_parts(text: &str) -> Result<u32, AddrFault>
-    requires { length (dotted_parts text.now) ≤ 4 }
-    ensures value { result ≡ read_parts (dotted_parts text.now) }
-    ensures small { IfOk result (λ number. number < 256 ^ length (dotted_parts text.now)) }
+/// Reads the parts of a text between its dots, in one walk.
+fn read_parts(text: &str) -> DottedParts
+    ensures count { result.count ≡ length (dotted_parts text.now) }
+    ensures number { result.count ≤ 4 → result.number ≡ read_parts (dotted_parts text.now) }
+    ensures small { result.count ≤ 4 → IfOk result.number (λ number. number < 256 ^ result.count) }
 {
-    if !all_digits(text) {
-        return Err(AddrFault::Digits);
+    let mut count = 0;
+    let mut number = Ok(0);
+    for part in text.as_bytes().split(|b| *b == b'.') {
+        number = with_octet(number, read_octet(part));
+        count += 1;
     }
-    if !all_bytes(text) {
-        return Err(AddrFault::Range);
+    DottedParts { count, number }
+}
+
+/// Adds one more octet to a number. Of two faults the first is kept, in the order in which they are reported.
+fn with_octet(
+    number: Result<u32, AddrFault>,
+    octet: Result<u32, AddrFault>,
+) -> Result<u32, AddrFault>
+    ensures { result ≡ with_octet number octet }
+{
+    match (number, octet) {
+        (Ok(number), Ok(octet)) => Ok(number.wrapping_mul(256).wrapping_add(octet)),
+        (Ok(_), Err(fault)) | (Err(fault), Ok(_)) => Err(fault),
+        (Err(fault), Err(other)) => Err(first_fault(fault, other)),
     }
-    if any_leading_zero(text) {
-        return Err(AddrFault::LeadingZero);
+}
+
+/// Returns that of two faults which is reported.
+fn first_fault(fault: AddrFault, other: AddrFault) -> AddrFault
+    ensures { result ≡ first_fault fault other }
+{
+    if fault.number() <= other.number() {
+        fault
+    } else {
+        other
     }
-    Ok(parts_value(text))
 }
 
-fn all_digits(text: &str) -> bool
-    ensures { result ≡ list_all is_digits (dotted_parts text.now) }
+/// Reads a decimal of 0 to 255. The digits are counted up to 256 only, so that any number of them fits.
+fn read_octet(part: &[u8]) -> Result<u32, AddrFault>
+    ensures value { result ≡ read_octet part.now }
+    ensures small { IfOk result (λ octet. octet < 256) }
 {
-    text.split('.').all(|part| is_digits(part))
-}
-
-fn all_bytes(text: &str) -> bool
-    ensures { result ≡ list_all is_byte (dotted_parts text.now) }
-{
-    text.split('.').all(|part| capped_value(part) <= 255)
-}
-
-fn any_leading_zero(text: &str) -> bool
-    ensures { result ≡ list_any has_leading_zero (dotted_parts text.now) }
-{
-    text.split('.').any(|part| has_leading_zero(part))
-}
-
-fn parts_value(text: &str) -> u32
-    requires few { length (dotted_parts text.now) ≤ 4 }
-    requires bytes { IsTrue (list_all is_byte (dotted_parts text.now)) }
-    ensures value { result ≡ parts_value (dotted_parts text.now) }
-    ensures small { result < 256 ^ length (dotted_parts text.now) }
-{
-    let mut number = 0;
-    for part in text.split('.') {
-        let value = capped_value(part);
-        number = number * 256 + value;
-    }
-    number
-}
-
-/// Returns the number that the digits write, or 256 if it is greater than 255.
-fn capped_value(part: &str) -> u32
-    ensures { result ≡ min 256 (digits_value 10 part.now) }
-{
-    let bytes = part.as_bytes();
     let mut value = 0;
-    for b in bytes {
-        value = (value * 10 + digit_value(*b)).min(256);
+    for b in part {
+        if !b.is_ascii_digit() {
+            return Err(AddrFault::Digits);
+        }
+        value = (value * 10 + u32::from(*b - b'0')).min(256);
     }
-    value
-}
-
-/// Returns the value of a digit; another byte has one that is greater than any digit's.
-fn digit_value(byte: u8) -> u32
-    ensures { result ≡ digit_value byte }
-{
-    char::from(byte).to_digit(36).unwrap_or(36)
+    if part.is_empty() {
+        Err(AddrFault::Digits)
+    } else if value > 255 {
+        Err(AddrFault::Range)
+    } else if part.len() > 1 && part[0] == b'0' {
+        Err(AddrFault::LeadingZero)
+    } else {
+        Ok(value)
+    }
 }
 
 /// Tests whether a text has only digits and dots. The empty text has, too.

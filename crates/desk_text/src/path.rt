@@ -6,7 +6,7 @@ ghost use Rattle.std.specs.String.{string_bytes};
 ghost use Rattle.std.specs.Bool.{◌==◌};
 ghost use Rattle.desk_text.specs.Path.{IsPath, components, is_absolute, is_dot_component, is_under, path_fault_number, path_text, read_path, same_path};
 ghost use Rattle.desk_text.specs.Reading.{Reads};
-ghost use Rattle.desk_text.specs.PrivatePath.{ends_component, goes_below};
+ghost use Rattle.desk_text.specs.PrivatePath.{ends_before, goes_below, is_empty};
 
 use crate::reading::ReadError;
 use std::alloc::{AllocError, Global};
@@ -132,7 +132,8 @@ impl Path {
         if bytes.is_empty() || bytes[0] != b'/' {
             return Err(ReadError::Fault(PathFault::NotAbsolute));
         }
-        if has_dots(text) {
+        let parts = look_at_parts(&bytes[1..]);
+        if parts.has_dots {
             return Err(ReadError::Fault(PathFault::DotComponent));
         }
         if text.len() > LONGEST_PATH {
@@ -141,7 +142,11 @@ impl Path {
         if bytes.contains(&0) {
             return Err(ReadError::Fault(PathFault::NulByte));
         }
-        let text = printed(alloc, text)?;
+        let text = if parts.has_empty {
+            printed(alloc, text)?
+        } else {
+            String::from_str(alloc, text)?
+        };
         Ok(Path { text })
     }
 
@@ -149,8 +154,8 @@ impl Path {
     pub fn is_under(&self, above: &Path) -> bool
         ensures { result ≡ is_under self.now above.now }
     {
-        let (path, above) = (self.text.as_str(), above.text.as_str());
-        above == "/" || goes_below(path, above)
+        let above = above.text.as_str();
+        above == "/" || goes_below(self.text.as_bytes(), above.as_bytes())
     }
 
     /// Returns the path as it is printed.
@@ -162,39 +167,56 @@ impl Path {
     }
 }
 
-/// Tests whether a printed path is another one, or goes on behind it with a slash.
-fn goes_below(path: &str, above: &str) -> bool
+/// Tests whether a printed path is another one, or goes on behind it with a slash. The byte behind the other one is asked
+/// first: mostly it tells.
+fn goes_below(path: &[u8], above: &[u8]) -> bool
     ensures { result ≡ goes_below path.now above.now }
 {
-    match path.strip_prefix(above) {
-        Some(rest) => ends_component(rest),
-        None => false,
+    ends_component(path, above.len()) && path.starts_with(above)
+}
+
+/// Tests whether a component of a printed path ends before this place.
+fn ends_component(path: &[u8], place: usize) -> bool
+    ensures { result ≡ ends_before path.now place }
+{
+    place == path.len() || place < path.len() && path[place] == b'/'
+}
+
+/// What stands between the slashes of a text.
+#[derive(Clone, Copy)]
+struct PathParts {
+    has_dots: bool,
+    has_empty: bool,
+}
+
+/// Looks at the parts between the slashes of a text, in one walk.
+fn look_at_parts(text: &[u8]) -> PathParts
+    ensures dots { result.has_dots ≡ list_any is_dot_component (slice_split (λ b. b == 47) text.now) }
+    ensures empty { result.has_empty ≡ list_any is_empty (slice_split (λ b. b == 47) text.now) }
+{
+    let mut has_dots = false;
+    let mut has_empty = false;
+    for part in text.split(|b| *b == b'/') {
+        has_dots |= is_dot_component(part);
+        has_empty |= part.is_empty();
+    }
+    PathParts {
+        has_dots,
+        has_empty,
     }
 }
 
-fn ends_component(text: &str) -> bool
-    ensures { result ≡ ends_component text.now }
-{
-    text.is_empty() || text.as_bytes()[0] == b'/'
-}
-
-fn is_dot_component(part: &str) -> bool
+fn is_dot_component(part: &[u8]) -> bool
     ensures { result ≡ is_dot_component part.now }
 {
-    part == "." || part == ".."
-}
-
-fn has_dots(text: &str) -> bool
-    ensures { result ≡ list_any is_dot_component (slice_split (λ b. b == 47) text.now) }
-{
-    text.split('/').any(|part| is_dot_component(part))
+    part == b".".as_slice() || part == b"..".as_slice()
 }
 
 /// Writes the components with a slash before each, or one slash if there are none.
 fn printed(alloc: Global, text: &str) -> Result<String, AllocError>
     ensures { IfOk result (λ s. string_bytes s ≡ path_text (components text.now)) }
 {
-    let mut out = String::new(alloc);
+    let mut out = String::with_capacity(alloc, text.len())?;
     for part in text.split('/') {
         if !part.is_empty() {
             out.push('/')?;

@@ -6,7 +6,7 @@
 ghost use Rattle.std.specs.Prelude.{◌≡◌, ℕ, ◌+◌, ◌<◌, ◌≤◌, ◌^◌, ◌++◌, IsTrue, IfOk, OnOk, IfSome, IfNone, map, not, length, List, true, false, slice_index};
 ghost use Rattle.std.specs.String.{string_bytes};
 ghost use Rattle.desk_text.specs.Bytes.{is_blank};
-ghost use Rattle.desk_text.specs.Word.{read_words, word_value, words_at, has_open_quote, is_quote};
+ghost use Rattle.desk_text.specs.Word.{has_marks, is_special, read_words, word_value, words_at, has_open_quote, is_quote};
 ghost use Rattle.desk_text.specs.Views.{line_of_part, word_of};
 ghost use Rattle.desk_text.specs.Reading.{ReadsAs};
 ghost use Rattle.desk_text.specs.PrivateWord.{IsAtomLen, IsWordLen, is_mark};
@@ -31,12 +31,15 @@ pub struct Word<'a> {
 #[error("a quote does not close on its line")]
 pub struct OpenQuote;
 
+/// Room for the words of a usual line, so that the list of them does not have to grow.
+const USUAL_WORDS: usize = 8;
+
 /// Cuts a line into its words, in order. What separates them are spaces and tabs outside quotes and not behind a
 /// backslash.
 pub fn words<'a>(alloc: Global, line: &Line<'a>) -> Result<Vec<Word<'a>>, ReadError<OpenQuote>>
     ensures { ReadsAs (λ v. map word_of v.items) result (read_words line.now) }
 {
-    let mut words = Vec::new(alloc);
+    let mut words = Vec::with_capacity(alloc, USUAL_WORDS)?;
     for part in line.parts() {
         if !push_words(&mut words, part.start, part.text)? {
             return Err(ReadError::Fault(OpenQuote));
@@ -45,14 +48,44 @@ pub fn words<'a>(alloc: Global, line: &Line<'a>) -> Result<Vec<Word<'a>>, ReadEr
     Ok(words)
 }
 
+impl<'a> Word<'a> {
+    /// Lends the text of a word that is written without quotes and escapes: it stands for just that.
+    pub fn plain(&self) -> Option<&'a str>
+        ensures value { IfSome result (λ text. text.now ≡ word_value self.now.raw.now) }
+        ensures marked { IfNone result (has_marks self.now.raw.now ≡ true) }
+    {
+        if has_marks(self.raw) {
+            return None;
+        }
+        Some(self.raw)
+    }
+}
+
+/// Tests whether a quote or a backslash stands in a raw word.
+fn has_marks(raw: &str) -> bool
+    ensures { result ≡ has_marks raw.now }
+{
+    raw.as_bytes().iter().any(|b| is_quote(*b) || *b == b'\\')
+}
+
 /// Returns what a word stands for: its text without its quotes and escapes.
 pub fn unquote(alloc: Global, word: &Word) -> Result<String, AllocError>
     ensures { IfOk result (λ s. string_bytes s ≡ word_value word.now.raw.now) }
 {
-    let mut value = String::new(alloc);
+    match word.plain() {
+        Some(text) => String::from_str(alloc, text),
+        None => without_marks(alloc, word.raw),
+    }
+}
+
+/// Copies a raw word without its quotes and escapes.
+fn without_marks(alloc: Global, raw: &str) -> Result<String, AllocError>
+    ensures { IfOk result (λ s. string_bytes s ≡ word_value raw.now) }
+{
+    let mut value = String::with_capacity(alloc, raw.len())?;
     let mut quote = None;
     let mut escaped = false;
-    for c in word.raw.chars() {
+    for c in raw.chars() {
         if escaped {
             escaped = false;
             value.push(c)?;
@@ -117,6 +150,13 @@ fn is_quote(b: u8) -> bool
     b == b'"' || b == b'\''
 }
 
+/// Tests whether a byte is a quote or a backslash. Every other one that is not a blank stands for itself.
+fn is_special(b: u8) -> bool
+    ensures { result ≡ is_special b }
+{
+    is_quote(b) || b == b'\\'
+}
+
 /// Returns how long the quoted run is with which the text begins, if it ends.
 fn quoted_len(text: &[u8]) -> Option<usize>
     requires some { 0 < length text.now }
@@ -136,19 +176,17 @@ fn quoted_len(text: &[u8]) -> Option<usize>
     None
 }
 
-/// Returns how long the atom is with which the text begins: a character, an escaped one, or a quoted run.
+/// Returns how long the atom is with which the text begins: an escaped character, or a quoted run.
 fn atom_len(text: &[u8]) -> Option<usize>
-    requires { 0 < length text.now }
+    requires some { 0 < length text.now }
+    requires special { IsTrue (is_special (slice_index text.now 0)) }
     ensures len { IfSome result (IsAtomLen text.now) }
     ensures open { IfNone result (has_open_quote text.now ≡ true) }
 {
-    let b = text[0];
-    if b == b'\\' {
+    if text[0] == b'\\' {
         Some(text.len().min(2))
-    } else if is_quote(b) {
-        quoted_len(text)
     } else {
-        Some(1)
+        quoted_len(text)
     }
 }
 
@@ -161,7 +199,11 @@ fn word_len(text: &[u8]) -> Option<usize>
 {
     let mut n = 0;
     while n < text.len() && !is_blank(text[n]) {
-        n += atom_len(&text[n..])?;
+        n += if is_special(text[n]) {
+            atom_len(&text[n..])?
+        } else {
+            1
+        };
     }
     Some(n)
 }

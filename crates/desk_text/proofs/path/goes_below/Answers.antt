@@ -1,13 +1,17 @@
-use Rattle.std.proofs.Common.{◌≡◌, ◌++◌, sym, ap, ◌∙◌}
-use Rattle.desk_text.specs.PrivatePath.{goes_below}
-use Rattle.desk_text.proofs.Below.{goes_below-front, goes_below-none}
+use Rattle.std.proofs.Common.{◌∙◌, ◌&&◌, eqb, sym, ap}
+use Rattle.std.specs.List.{starts_with}
+use Rattle.std.proofs.lemmas.Bool.{and_left}
+use Rattle.desk_text.proofs.Below.{below-is}
 use Rattle.desk_text.proofs.path.goes_below.Goals as goal
 
-pub returns-in-Some : goal.returns-in-Some
-returns-in-Some c =
-    let cut = c.in-Some.ensures.cases in
-    let whole : c.args.path.now ≡ c.args.above.now ++ c.in-Some.rest.now = cut.1.1 ∙ ap (λ t. c.args.above.now ++ t) (sym cut.2) in
-    c.ends_component.ensures ∙ sym (goes_below-front c.args.above.now c.in-Some.rest.now) ∙ ap (λ t. goes_below t c.args.above.now) (sym whole)
+pub returns-then-ends_component : goal.returns-then-ends_component
+returns-then-ends_component c =
+    let path = c.args.path.now in
+    let above = c.args.above.now in
+    c.starts_with.ensures.value ∙ ap (λ b. b && starts_with eqb path above) (sym c.if-ends_component.true ∙ c.ends_component.ensures) ∙ below-is path above
 
-pub returns-in-None : goal.returns-in-None
-returns-in-None c = sym (goes_below-none c.args.path.now c.args.above.now c.in-None.ensures.cases)
+pub returns-else-ends_component : goal.returns-else-ends_component
+returns-else-ends_component c =
+    let path = c.args.path.now in
+    let above = c.args.above.now in
+    c.if-ends_component.false ∙ sym (and_left _ (starts_with eqb path above) (sym c.ends_component.ensures ∙ c.if-ends_component.false)) ∙ below-is path above

@@ -24,9 +24,9 @@ loop-part-preserved c =
     let empty = c.if-not-is_empty.ensures in
     rw length_push (print_empty (slice_split (λ b. eqb b 47) c.args.text.now) (length c.loop-part.yielded) c.in-Some.part.now (turn s) (string_bytes c.loop-part.out) [] c.loop-part.invariant (sym empty))
 
-pub loop-part-preserved-in-Continue-branch-2 : goal.loop-part-preserved-in-Continue-branch-2
-loop-part-preserved-in-Continue-branch-2 c =
-    let s = (goal.at.loop-part-preserved-in-Continue-branch-2 c).In-Some in
+pub loop-part-preserved-in-Continue-branch-3 : goal.loop-part-preserved-in-Continue-branch-3
+loop-part-preserved-in-Continue-branch-3 c =
+    let s = (goal.at.loop-part-preserved-in-Continue-branch-3 c).In-Some in
     let empty = c.if-not-is_empty.ensures in
     let slash = c.in_ok-push.ensures in
     let new = c.in_ok-push_str.ensures.bytes ∙ ap (λ t. t ++ c.in-Some.part.now) (slash.bytes ∙ ap (λ t. string_bytes c.loop-part.out ++ t) (slash.ascii (lit< tt))) in

@@ -8,9 +8,8 @@ use Rattle.desk_text.proofs.path.Path.is_under.Goals as goal
 
 pub returns-else-eq : goal.returns-else-eq
 returns-else-eq c =
-    let path = c.as_str-path.ensures.value in
     let above = c.as_str-above.ensures.value in
     let other : string_bytes c.above.inside.text ≢ 47 ∷ [] = λ same. other_text c.as_str-above.result.now (47 ∷ []) c.if-eq.ensures (above ∙ same) in
-    c.goes_below.ensures ∙ ap (λ t. goes_below t c.as_str-above.result.now) path ∙ ap (goes_below (string_bytes c.self.inside.text)) above
+    c.goes_below.ensures ∙ ap (λ t. goes_below t c.as_bytes-else-eq.result.now) c.as_bytes.ensures.value ∙ ap (goes_below (string_bytes c.self.inside.text)) (c.as_bytes-else-eq.ensures.value ∙ above)
     ∙ under_printed (string_bytes c.self.inside.text) (string_bytes c.above.inside.text) c.self.invariant c.above.invariant other
     ∙ ap (λ p. is_under p (components (string_bytes c.above.inside.text))) c.self.view_is ∙ ap (is_under c.args.self.now) c.above.view_is

@@ -1,9 +1,0 @@
-use Rattle.std.proofs.Common.{rules, tests, lit<}
-use Rattle.std.proofs.lemmas.Iterator.Splits.{YieldsList-from_str_split}
-use Rattle.std.proofs.lemmas.Iterator.Search.{any_from_yields_List}
-use Rattle.desk_text.specs.Path.{is_dot_component}
-use Rattle.desk_text.proofs.path.has_dots.Goals as goal
-
-pub returns : goal.returns
-returns c =
-    any_from_yields_List is_dot_component _ _ _ c.any.ensures.ran (YieldsList-from_str_split 47 c.args.text.now (lit< tt) c.split.ensures.text c.split.ensures.has_more c.split.ensures.pattern) (λ x b q k. search (rules, tests))
