@@ -10,7 +10,7 @@ ghost use Rattle.desk_exports.specs.PrivateGrammar.{pieces_before};
 
 use crate::few::Few;
 use crate::options::{Setting, wants_value};
-use desk_text::{Path, PathFault, ReadError, Sequence, Text, Word, split_at, unquote};
+use desk_text::{Path, PathFault, ReadError, Text, Word, split_at, unquote};
 use std::alloc::{AllocError, Global};
 
 /// A word: whether its first raw character is `-`, whether that is `#`, and its value, in which quotes
@@ -63,7 +63,7 @@ pub struct GrammarLine {
     /// The leading words that begin with a slash, each with its path or that path's fault.
     pub directories: Few<Result<Path, PathFault>>,
     /// The options of the dashed words, with their values.
-    pub settings: Sequence<Setting>,
+    pub settings: Few<Setting>,
     /// The words that are neither directories, dashed nor values.
     pub names: Few<Text>,
 }
@@ -138,10 +138,10 @@ fn read_path(alloc: Global, text: &str) -> Result<Result<Path, PathFault>, Alloc
     ReadError::split(Path::read(alloc, text))
 }
 
-fn settings(alloc: Global, words: &[GrammarWord]) -> Result<Sequence<Setting>, AllocError>
+fn settings(alloc: Global, words: &[GrammarWord]) -> Result<Few<Setting>, AllocError>
     ensures { IfOk result (λ settings. settings ≡ spec.settings words.now) }
 {
-    let mut settings = Sequence::new(alloc);
+    let mut settings = Few::new();
     for (index, word) in words.iter().enumerate() {
         push_word(alloc, &mut settings, word, &words[index + 1..])?;
     }
@@ -151,7 +151,7 @@ fn settings(alloc: Global, words: &[GrammarWord]) -> Result<Sequence<Setting>, A
 /// Adds the options of a word, behind which the others stand.
 fn push_word(
     alloc: Global,
-    settings: &mut Sequence<Setting>,
+    settings: &mut Few<Setting>,
     word: &GrammarWord,
     others: &[GrammarWord],
 ) -> Result<(), AllocError>
@@ -177,7 +177,7 @@ fn offered(words: &[GrammarWord]) -> Option<&str>
 /// Adds the option of each piece of a text; the last one alone is offered a value.
 fn push_pieces(
     alloc: Global,
-    settings: &mut Sequence<Setting>,
+    settings: &mut Few<Setting>,
     offer: Option<&str>,
     text: &str,
 ) -> Result<(), AllocError>
@@ -186,7 +186,7 @@ fn push_pieces(
 {
     let (others, last) = without_last(text);
     push_without_offer(alloc, settings, others)?;
-    settings.push(Setting::read(alloc, offer, last)?)?;
+    settings.push(alloc, Setting::read(alloc, offer, last)?)?;
     Ok(())
 }
 
@@ -203,7 +203,7 @@ fn without_last(text: &str) -> (Option<&str>, &str)
 /// Adds the option of each piece of a text, if there is one.
 fn push_without_offer(
     alloc: Global,
-    settings: &mut Sequence<Setting>,
+    settings: &mut Few<Setting>,
     text: Option<&str>,
 ) -> Result<(), AllocError>
     ensures { OnOk result
@@ -214,7 +214,7 @@ fn push_without_offer(
     };
     let pieces = split_at(alloc, text, ',')?;
     for piece in &pieces {
-        settings.push(Setting::read(alloc, None, piece)?)?;
+        settings.push(alloc, Setting::read(alloc, None, piece)?)?;
     }
     Ok(())
 }

@@ -12,7 +12,7 @@ returns c =
     let before : List Setting = c.args.settings.now in
     let others : List (List ℕ) = pieces_before (option_copied c.without_last.result.0) in
     let last : List ℕ = c.without_last.result.1.now in
-    c.in_ok-push.ensures.added
+    c.in_ok-push.ensures
     ∙ ap (λ s. s ++ c.in_ok-read.field-0 ∷ []) c.in_ok-push_without_offer.ensures
     ∙ ap (λ v. (before ++ map (setting None) others) ++ v ∷ []) c.in_ok-read.ensures
     ∙ append_assoc before (map (setting None) others) (setting offer last ∷ [])
