@@ -6,10 +6,11 @@ ghost use Rattle.std.specs.Option.{option_copied};
 ghost use Rattle.desk_text.specs.Path.{is_absolute, read_path};
 ghost use Rattle.desk_text.specs.Views.{word_of};
 ghost use Rattle.desk_exports.specs.Grammar as spec;
+ghost use Rattle.desk_exports.specs.Options.{has_option};
 ghost use Rattle.desk_exports.specs.PrivateGrammar.{pieces_before};
 
 use crate::few::Few;
-use crate::options::{Setting, wants_value};
+use crate::options::{Keyword, Setting, has_option, wants_value};
 use desk_text::{Path, PathFault, ReadError, Text, Word, split_at, unquote};
 use std::alloc::{AllocError, Global};
 
@@ -84,6 +85,36 @@ impl GrammarLine {
             settings,
             names,
         })
+    }
+}
+
+impl GrammarLine {
+    /// Lends the directories.
+    pub(crate) fn directories(&self) -> &[Result<Path, PathFault>]
+        ensures { result.now ≡ self.now.directories }
+    {
+        self.directories.as_slice()
+    }
+
+    /// Lends the options.
+    pub(crate) fn settings(&self) -> &[Setting]
+        ensures { result.now ≡ self.now.settings }
+    {
+        self.settings.as_slice()
+    }
+
+    /// Lends the names.
+    pub(crate) fn names(&self) -> &[Text]
+        ensures { result.now ≡ self.now.names }
+    {
+        self.names.as_slice()
+    }
+
+    /// Whether an option is written.
+    pub(crate) fn has(&self, keyword: Keyword) -> bool
+        ensures { result ≡ has_option keyword self.now.settings }
+    {
+        has_option(self.settings(), keyword)
     }
 }
 
