@@ -7,7 +7,7 @@ ghost use Rattle.desk_exports.specs.Files.{EntriesAscend, whole_answer};
 ghost use Rattle.desk_exports.specs.Tables.{only_filesystems};
 ghost use Rattle.desk_command.specs.TryText.{answer_of, try_answer};
 
-use desk_exports::{Entry, Rule, Tables, read_whole};
+use desk_exports::{Boxed, Entry, Rule, Tables, read_whole};
 use desk_policy::{Policy, Verdict, decide, verdict_text};
 use desk_tables::{FileSystems, FsId, Groups, Networks, Users};
 use desk_text::{Addr, LineFault, Path, ReadError, Sequence};
@@ -47,7 +47,7 @@ fn read_with_mounts(
     alloc: Global,
     text: &str,
     filesystems: &FileSystems,
-) -> Result<Sequence<(FsId, Entry)>, ReadError<LineFault<Rule>>>
+) -> Result<Sequence<(FsId, Boxed<Entry>)>, ReadError<LineFault<Rule>>>
     requires { length text.now ≤ 4294967294 }
     ensures read { Reads result (whole_answer (only_filesystems filesystems.now) text.now) }
     ensures ascending { IfOk result EntriesAscend }

@@ -11,3 +11,6 @@ pub mod Prints
 pub mod Laws
 pub mod PrivateFiles
 pub mod PrivateFlavours
+pub mod PrivateFew
+pub mod PrivateGrammar
+pub mod PrivateMapping

@@ -6,10 +6,12 @@ ghost use Rattle.std.specs.Option.{option_copied, option_map};
 ghost use Rattle.desk_text.specs.Address.{number_of};
 ghost use Rattle.desk_exports.specs.Clients as spec;
 
+use crate::boxed::Boxed;
 use crate::entry::Clients;
+use crate::few::Few;
 use crate::options::{Keyword, Setting, has_option, value_of};
 use desk_tables::Networks;
-use desk_text::{Addr, Net, Prefix, Sequence, Text, is_ipv6};
+use desk_text::{Addr, Net, Prefix, Text, is_ipv6};
 use std::alloc::{AllocError, Global};
 
 pub(crate) fn has_slash(value: &str) -> bool
@@ -143,11 +145,12 @@ fn classful_value(
     alloc: Global,
     settings: &[Setting],
     value: &str,
-) -> Result<Option<Text>, AllocError>
+) -> Result<Option<Boxed<Text>>, AllocError>
     ensures { IfOk result (λ noted. noted ≡ spec.classful_value settings.now value.now) }
 {
     if is_classful(settings, value) {
-        return Ok(Some(Text::copy(alloc, value)?));
+        let noted = Boxed::new(alloc, Text::copy(alloc, value)?)?;
+        return Ok(Some(noted));
     }
     Ok(None)
 }
@@ -158,7 +161,7 @@ pub(crate) fn read_clients(
     alloc: Global,
     networks: &Networks,
     settings: &[Setting],
-    names: Sequence<Text>,
+    names: Few<Text>,
 ) -> Result<Option<Clients>, AllocError>
     ensures { IfOk result (λ clients. clients ≡ spec.clients_of networks.now settings.now names) }
 {

@@ -1,14 +1,17 @@
 //! The words of a line by what they are: directories, options with their values, and names. (exports(5))
 
-ghost use Rattle.std.specs.Prelude.{◌≡◌, ◌≤◌, ◌++◌, ◌==◌, IfOk, None, OnOk, drop, false, length, map, slice_index};
-ghost use Rattle.std.specs.List.{list_any, prefix_len};
+ghost use Rattle.std.specs.Prelude.{◌≡◌, ◌≤◌, ◌++◌, ◌==◌, ◌∷◌, [], IfOk, None, OnOk, drop, false, length, map, slice_index};
+ghost use Rattle.std.specs.List.{list_any, prefix_len, slice_split};
 ghost use Rattle.std.specs.Option.{option_copied};
 ghost use Rattle.desk_text.specs.Path.{is_absolute, read_path};
 ghost use Rattle.desk_text.specs.Views.{word_of};
 ghost use Rattle.desk_exports.specs.Grammar as spec;
+ghost use Rattle.desk_exports.specs.Options.{has_option};
+ghost use Rattle.desk_exports.specs.PrivateGrammar.{pieces_before};
 
-use crate::options::{Setting, wants_value};
-use desk_text::{Path, PathFault, ReadError, Sequence, Text, Word, split_at, unquote};
+use crate::few::Few;
+use crate::options::{Keyword, Setting, has_option, wants_value};
+use desk_text::{Path, PathFault, ReadError, Text, Word, split_at, unquote};
 use std::alloc::{AllocError, Global};
 
 /// A word: whether its first raw character is `-`, whether that is `#`, and its value, in which quotes
@@ -44,7 +47,7 @@ fn begins_with_hash(raw: &str) -> bool
 pub fn grammar_words(alloc: Global, words: &[Word]) -> Result<Vec<GrammarWord>, AllocError>
     ensures { IfOk result (λ v. v.items ≡ map spec.grammar_word (map word_of words.now)) }
 {
-    let mut read = Vec::new(alloc);
+    let mut read = Vec::with_capacity(alloc, words.len())?;
     for word in words {
         read.push(GrammarWord::read(alloc, word)?)?;
     }
@@ -59,11 +62,11 @@ pub struct GrammarLine {
     /// Whether a word after the first begins with a raw `#`.
     pub has_stray_comment: bool,
     /// The leading words that begin with a slash, each with its path or that path's fault.
-    pub directories: Sequence<Result<Path, PathFault>>,
+    pub directories: Few<Result<Path, PathFault>>,
     /// The options of the dashed words, with their values.
-    pub settings: Sequence<Setting>,
+    pub settings: Few<Setting>,
     /// The words that are neither directories, dashed nor values.
-    pub names: Sequence<Text>,
+    pub names: Few<Text>,
 }
 
 impl GrammarLine {
@@ -82,6 +85,36 @@ impl GrammarLine {
             settings,
             names,
         })
+    }
+}
+
+impl GrammarLine {
+    /// Lends the directories.
+    pub(crate) fn directories(&self) -> &[Result<Path, PathFault>]
+        ensures { result.now ≡ self.now.directories }
+    {
+        self.directories.as_slice()
+    }
+
+    /// Lends the options.
+    pub(crate) fn settings(&self) -> &[Setting]
+        ensures { result.now ≡ self.now.settings }
+    {
+        self.settings.as_slice()
+    }
+
+    /// Lends the names.
+    pub(crate) fn names(&self) -> &[Text]
+        ensures { result.now ≡ self.now.names }
+    {
+        self.names.as_slice()
+    }
+
+    /// Whether an option is written.
+    pub(crate) fn has(&self, keyword: Keyword) -> bool
+        ensures { result ≡ has_option keyword self.now.settings }
+    {
+        has_option(self.settings(), keyword)
     }
 }
 
@@ -119,15 +152,12 @@ fn has_stray_comment(words: &[GrammarWord]) -> bool
     words.iter().skip(1).any(|word| word.begins_with_hash)
 }
 
-fn paths(
-    alloc: Global,
-    words: &[GrammarWord],
-) -> Result<Sequence<Result<Path, PathFault>>, AllocError>
+fn paths(alloc: Global, words: &[GrammarWord]) -> Result<Few<Result<Path, PathFault>>, AllocError>
     ensures { IfOk result (λ paths. paths ≡ map (λ w. read_path w.value) words.now) }
 {
-    let mut paths = Sequence::new(alloc);
+    let mut paths = Few::new();
     for word in words {
-        paths.push(read_path(alloc, word.value.as_str())?)?;
+        paths.push(alloc, read_path(alloc, word.value.as_str())?)?;
     }
     Ok(paths)
 }
@@ -139,10 +169,10 @@ fn read_path(alloc: Global, text: &str) -> Result<Result<Path, PathFault>, Alloc
     ReadError::split(Path::read(alloc, text))
 }
 
-fn settings(alloc: Global, words: &[GrammarWord]) -> Result<Sequence<Setting>, AllocError>
+fn settings(alloc: Global, words: &[GrammarWord]) -> Result<Few<Setting>, AllocError>
     ensures { IfOk result (λ settings. settings ≡ spec.settings words.now) }
 {
-    let mut settings = Sequence::new(alloc);
+    let mut settings = Few::new();
     for (index, word) in words.iter().enumerate() {
         push_word(alloc, &mut settings, word, &words[index + 1..])?;
     }
@@ -152,15 +182,15 @@ fn settings(alloc: Global, words: &[GrammarWord]) -> Result<Sequence<Setting>, A
 /// Adds the options of a word, behind which the others stand.
 fn push_word(
     alloc: Global,
-    settings: &mut Sequence<Setting>,
+    settings: &mut Few<Setting>,
     word: &GrammarWord,
     others: &[GrammarWord],
 ) -> Result<(), AllocError>
     ensures { OnOk result (settings.new ≡ settings.old ++ spec.settings_at word.now others.now) }
 {
     if word.dashed {
-        let pieces = split_at(alloc, after_dash(word.value.as_str()), ',')?;
-        push_pieces(alloc, settings, offered(others), pieces.as_slice())?;
+        let text = after_dash(word.value.as_str());
+        push_pieces(alloc, settings, offered(others), text)?;
     }
     Ok(())
 }
@@ -175,34 +205,47 @@ fn offered(words: &[GrammarWord]) -> Option<&str>
     }
 }
 
-/// Adds the option of each piece; the last one alone is offered a value.
+/// Adds the option of each piece of a text; the last one alone is offered a value.
 fn push_pieces(
     alloc: Global,
-    settings: &mut Sequence<Setting>,
+    settings: &mut Few<Setting>,
     offer: Option<&str>,
-    pieces: &[&str],
+    text: &str,
 ) -> Result<(), AllocError>
     ensures { OnOk result
-        (settings.new ≡ settings.old ++ spec.settings_of (option_copied offer.entry) (map (λ piece. piece.now) pieces.now)) }
+        (settings.new ≡ settings.old ++ spec.settings_of (option_copied offer.entry) (slice_split (λ b. b == 44) text.now)) }
 {
-    if let Some((last, others)) = pieces.split_last() {
-        push_without_offer(alloc, settings, others)?;
-        settings.push(Setting::read(alloc, offer, last)?)?;
-    }
+    let (others, last) = without_last(text);
+    push_without_offer(alloc, settings, others)?;
+    settings.push(alloc, Setting::read(alloc, offer, last)?)?;
     Ok(())
 }
 
-/// Adds the option of each piece.
+/// Cuts the last piece off a text. Nothing is before it if it is the only one.
+fn without_last(text: &str) -> (Option<&str>, &str)
+    ensures { slice_split (λ b. b == 44) text.now ≡ pieces_before (option_copied result.0) ++ result.1.now ∷ [] }
+{
+    match text.rsplit_once(',') {
+        Some((others, last)) => (Some(others), last),
+        None => (None, text),
+    }
+}
+
+/// Adds the option of each piece of a text, if there is one.
 fn push_without_offer(
     alloc: Global,
-    settings: &mut Sequence<Setting>,
-    pieces: &[&str],
+    settings: &mut Few<Setting>,
+    text: Option<&str>,
 ) -> Result<(), AllocError>
     ensures { OnOk result
-        (settings.new ≡ settings.old ++ map (λ piece. spec.setting None piece.now) pieces.now) }
+        (settings.new ≡ settings.old ++ map (spec.setting None) (pieces_before (option_copied text.entry))) }
 {
-    for piece in pieces {
-        settings.push(Setting::read(alloc, None, piece)?)?;
+    let Some(text) = text else {
+        return Ok(());
+    };
+    let pieces = split_at(alloc, text, ',')?;
+    for piece in &pieces {
+        settings.push(alloc, Setting::read(alloc, None, piece)?)?;
     }
     Ok(())
 }
@@ -214,36 +257,31 @@ fn after_dash(text: &str) -> &str
     text.strip_prefix('-').unwrap_or(text)
 }
 
-fn names(alloc: Global, words: &[GrammarWord]) -> Result<Sequence<Text>, AllocError>
+fn names(alloc: Global, words: &[GrammarWord]) -> Result<Few<Text>, AllocError>
     ensures { IfOk result (λ names. names ≡ spec.names false words.now) }
 {
-    let mut names = Sequence::new(alloc);
+    let mut names = Few::new();
     let mut taken = false;
     for word in words {
         if !word.dashed && !taken {
-            names.push(Text::copy(alloc, word.value.as_str())?)?;
+            names.push(alloc, Text::copy(alloc, word.value.as_str())?)?;
         }
-        taken = takes_next(alloc, word)?;
+        taken = takes_next(word);
     }
     Ok(names)
 }
 
 /// Whether a word takes the next one, where that is not dashed, as a value.
-fn takes_next(alloc: Global, word: &GrammarWord) -> Result<bool, AllocError>
-    ensures { IfOk result (λ takes. takes ≡ spec.takes_next word.now) }
+fn takes_next(word: &GrammarWord) -> bool
+    ensures { result ≡ spec.takes_next word.now }
 {
-    if !word.dashed {
-        return Ok(false);
-    }
-    let pieces = split_at(alloc, after_dash(word.value.as_str()), ',')?;
-    Ok(last_wants(pieces.as_slice()))
+    word.dashed && last_wants(after_dash(word.value.as_str()))
 }
 
-fn last_wants(pieces: &[&str]) -> bool
-    ensures { result ≡ spec.last_wants (map (λ piece. piece.now) pieces.now) }
+/// Whether the last piece of a text wants a value.
+fn last_wants(text: &str) -> bool
+    ensures { result ≡ spec.last_wants (slice_split (λ b. b == 44) text.now) }
 {
-    match pieces.split_last() {
-        Some((last, _)) => wants_value(last),
-        None => false,
-    }
+    let (_, last) = without_last(text);
+    wants_value(last)
 }

@@ -15,8 +15,10 @@
 //! ```
 #![tactic(auto)]
 
+pub mod boxed;
 mod clients;
 pub mod entry;
+pub mod few;
 pub mod files;
 mod flavours;
 pub mod grammar;
@@ -27,7 +29,9 @@ pub mod prints;
 pub mod rules;
 pub mod tables;
 
-pub use entry::{Clients, Entry, Flavour, Mapping, Terms};
+pub use boxed::Boxed;
+pub use entry::{BoxedMapping, Clients, Entry, Flavour, Mapping, Terms};
+pub use few::Few;
 pub use files::{Scope, read_file, read_whole};
 pub use grammar::{GrammarLine, GrammarWord};
 pub use lines::{fs_of_line, read_line};

@@ -5,7 +5,7 @@ ghost use Rattle.desk_policy.specs.Policy.{EachFileAscends, content_of, rows_of}
 ghost use Rattle.desk_policy.specs.PrivatePolicy.{with_row};
 
 use crate::row::Row;
-use desk_exports::Entry;
+use desk_exports::{Boxed, Entry};
 use desk_tables::{FileSystems, FsId};
 use desk_text::Sequence;
 use std::alloc::{AllocError, Global};
@@ -35,7 +35,7 @@ impl Policy {
     pub fn of_entries(
         alloc: Global,
         filesystems: FileSystems,
-        entries: Sequence<(FsId, Entry)>,
+        entries: Sequence<(FsId, Boxed<Entry>)>,
     ) -> Result<Policy, AllocError>
         requires { EachFileAscends entries }
         ensures { IfOk result (λ policy. policy ≡ content_of filesystems entries) }

@@ -5,21 +5,21 @@ ghost use Rattle.std.specs.List.{flat_map};
 ghost use Rattle.desk_text.specs.Address.{number_of, read_addr};
 ghost use Rattle.desk_policy.specs.Row.{addresses_of_names, names_of, number_read, row_of};
 
-use desk_exports::{Clients, Entry};
+use desk_exports::{Boxed, Clients, Entry};
 use desk_text::{Addr, AddrSet, Text};
 use std::alloc::{AllocError, Global};
 
 /// A line of an exports file, with the addresses for which its written names stand.
 #[derive(Drop)]
 pub struct Row {
-    pub entry: Entry,
+    pub entry: Boxed<Entry>,
     pub addrs: AddrSet,
 }
 
 impl Row {
     /// Makes the line in force of an entry. No table of hosts or groups is listed, so a written address stands for
     /// itself, and any other name for nothing.
-    pub fn of_entry(alloc: Global, entry: Entry) -> Result<Row, AllocError>
+    pub fn of_entry(alloc: Global, entry: Boxed<Entry>) -> Result<Row, AllocError>
         ensures { IfOk result (λ row. row ≡ row_of entry) }
     {
         let addrs = addresses_of(alloc, &entry.clients)?;

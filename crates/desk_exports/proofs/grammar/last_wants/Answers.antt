@@ -1,10 +1,12 @@
-use Rattle.std.proofs.Common.{◌∙◌, ap, sym, map, List, ℕ, Bor}
+use Rattle.std.proofs.Common.{◌∙◌, ap, sym}
+use Rattle.std.specs.Option.{option_copied}
 use Rattle.desk_exports.specs.Grammar.{last_wants}
+use Rattle.desk_exports.specs.PrivateGrammar.{pieces_before}
 use Rattle.desk_exports.proofs.WordLemmas.{last_wants-last}
 use Rattle.desk_exports.proofs.grammar.last_wants.Goals as goal
 
-pub returns-in-Some : goal.returns-in-Some
-returns-in-Some c =
+pub returns : goal.returns
+returns c =
     c.wants_value.ensures
-    ∙ sym (last_wants-last c.in-Some.field-0-1.now c.in-Some.last.now)
-    ∙ ap (λ (ps : List (Bor (List ℕ))). last_wants (map (λ x. x.now) ps)) (sym c.in-Some.ensures.cases.0)
+    ∙ sym (last_wants-last (pieces_before (option_copied c.without_last.result.0)) c.without_last.result.1.now)
+    ∙ ap last_wants (sym c.without_last.ensures)

@@ -8,11 +8,11 @@ returns-in_default c =
 
 pub returns-in-Some-first_listing : goal.returns-in-Some-first_listing
 returns-in-Some-first_listing c =
-    sym (scan_listed c.args.fs _ c.args.rows.now c.args.address.number c.in-Some.weight c.in-Some.ensures c.in-Some-first_listing.row.now (sym c.in-Some-first_listing.ensures))
+    rw (c.deref.ensures, c.deref-in-Some-first_listing.ensures) (sym (scan_listed c.args.fs _ c.args.rows.now c.args.address.number c.in-Some.weight c.in-Some.ensures c.in-Some-first_listing.row.now (sym c.in-Some-first_listing.ensures)))
 
 pub returns-in-Some-first_with : goal.returns-in-Some-first_with
 returns-in-Some-first_with c =
-    sym (scan_unlisted c.args.fs _ c.args.rows.now c.args.address.number c.in-Some.weight c.in-Some.ensures c.in-Some-first_with.row.now (sym c.in-None.ensures) (sym c.in-Some-first_with.ensures))
+    rw c.deref-in-Some-first_with.ensures (sym (scan_unlisted c.args.fs _ c.args.rows.now c.args.address.number c.in-Some.weight c.in-Some.ensures c.in-Some-first_with.row.now (sym c.in-None.ensures) (sym c.in-Some-first_with.ensures)))
 
 pub returns-in-None-first_with : goal.returns-in-None-first_with
 returns-in-None-first_with c =
