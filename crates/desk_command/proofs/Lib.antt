@@ -1,3 +1,4 @@
+pub mod ClapAnswers
 pub mod FirstBad
 pub mod KnownAnswers
 pub mod KnownBytes

@@ -1,9 +1,20 @@
--- The words of a command. (this project's own)
-use Rattle.std.specs.Prelude.{◌≡◌, ℕ, Bool, not, List, Option, Some}
+-- What the program answers to the words of a command, and how it ends. (this project's own)
+use Rattle.std.specs.Prelude.{◌≡◌, ◌≢◌, ◌⊎◌, ℕ, Bool, not, List, [], ◌∷◌, take, Option, Some, IfSome, Result, Ok, Err, IsErrAnd}
+use Rattle.std.specs.Io.BufRead.{take_through}
 use Rattle.std.specs.List.{position_from}
 use Rattle.std.specs.Str.{is_utf8}
+use Rattle.clap.specs.declared.error.ErrorKind.{ErrorKind}
+use Rattle.clap.specs.declared.error.ErrorKind.TheVariants.{DisplayHelp, DisplayVersion, OutOfMemory}
+use Rattle.desk_command.specs.CommandLine.{AskForHelp, faults_of, try_words}
+use Rattle.desk_command.specs.Input.{first_line, words_of}
+use Rattle.desk_command.specs.Output.{printed, status_of}
+use Rattle.desk_command.specs.TryCommand.{AnswersFound, IsSystem}
 use Rattle.desk_command.specs.declared.failure.Failure.{Failure}
-use Rattle.desk_command.specs.declared.failure.Failure.TheVariants.{Memory, Word}
+use Rattle.desk_command.specs.declared.failure.Failure.TheVariants.{FirstLine, Memory, Usage, Word}
+use Rattle.desk_command.specs.declared.failure.ReadFailure.TheVariants.{Text}
+use Rattle.desk_command.specs.declared.input.TextFault.{TextFault}
+use Rattle.desk_command.specs.declared.output.Output.{Output}
+use Rattle.desk_command.specs.declared.output.Output.TheVariants.{Help}
 
 -- bytes that are not UTF-8
 abbrev pub is_not_utf8 : List ℕ → Bool
@@ -18,3 +29,56 @@ abbrev pub IsBadWord : List (List ℕ) → Failure → Type 0
 IsBadWord words (Word place) = bad_word words ≡ Some place
 IsBadWord words Memory = Unit {0}
 IsBadWord words failure = ⊥
+
+-- an error of clap is help for the two kinds that are asked for, and else a failure; out of memory says nothing
+abbrev pub IsSaid : ErrorKind → Result Output Failure → Type 0
+IsSaid kind (Ok (Help text)) = (kind ≡ DisplayHelp) ⊎ (kind ≡ DisplayVersion)
+IsSaid kind (Err (Usage text)) = kind ≢ OutOfMemory
+IsSaid kind (Err Memory) = Unit {0}
+IsSaid kind result = ⊥
+
+-- Help is printed only if the words ask for it, and words are refused only if clap or UTF-8 refuses them; out of memory
+-- says nothing.
+abbrev pub IsNoCommand : List (List ℕ) → Result Output Failure → Type 0
+IsNoCommand words (Ok (Help text)) = AskForHelp words
+IsNoCommand words (Ok output) = ⊥
+IsNoCommand words (Err (Usage text)) = faults_of words ≢ []
+IsNoCommand words (Err failure) = IsBadWord words failure
+
+-- the answer to words: that they are no command, or that of `try`, over an input that has these bytes, if a contract can
+-- name them
+abbrev pub AnswersCommand : List (List ℕ) → Option (List ℕ) → Result Output Failure → Type 0
+AnswersCommand words known result = IsNoCommand words result ⊎ AnswersFound (try_words words) known result
+
+-- the answer to the first line: that to its words, over the rest of the input; or its fault
+abbrev pub AnswersLine : Result (List ℕ) TextFault → Option (List ℕ) → Result Output Failure → Type 0
+AnswersLine (Ok line) rest result = (result ≡ Err Memory) ⊎ AnswersCommand (words_of line) rest result
+AnswersLine (Err fault) rest result = result ≡ Err (FirstLine (Text fault))
+
+-- the failure says that the system could not read the first line; out of memory says nothing
+abbrev pub IsUnreadLine : Failure → Type 0
+IsUnreadLine (FirstLine reason) = IsSystem reason
+IsUnreadLine Memory = Unit {0}
+IsUnreadLine failure = ⊥
+
+-- the answer to the first line of an input; what stands behind that line is left to the reader
+pub record AnswersInput (known : Option (List ℕ)) (result : Result Output Failure) : Type 0 where
+  pub line : List ℕ
+  pub first : IfSome known (λ given. line ≡ take_through 10 (take 16777218 given))
+  pub rest : Option (List ℕ)
+  pub answers : AnswersLine (first_line line) rest result
+
+abbrev pub AnswersFirstLine : Option (List ℕ) → Result Output Failure → Type 0
+AnswersFirstLine known result = IsErrAnd result IsUnreadLine ⊎ AnswersInput known result
+
+-- the answer to the words of the program; without words the input's first line has them
+abbrev pub AnswersProgram : List (List ℕ) → Option (List ℕ) → Result Output Failure → Type 0
+AnswersProgram [] known result = AnswersFirstLine known result
+AnswersProgram (word ∷ words) known result = AnswersCommand (word ∷ words) known result
+
+-- a run: some answer to the words, whose status is returned, and of which just this is printed; or the status 4
+pub record Runs (words : List (List ℕ)) (known : Option (List ℕ)) (exit : ℕ) (Prints : List ℕ → Type 0) : Type 0 where
+  pub answer : Result Output Failure
+  pub answers : AnswersProgram words known answer
+  pub status : (exit ≡ status_of answer) ⊎ (exit ≡ 4)
+  pub prints : exit ≢ 4 → Prints (printed answer)

@@ -8,7 +8,7 @@ use Rattle.desk_text.specs.Bytes.{is_blank}
 use Rattle.desk_command.specs.declared.input.TextFault.{TextFault}
 use Rattle.desk_command.specs.declared.input.TextFault.TheVariants.{TooLong, NotUtf8}
 
--- the most bytes of a file, and of the first line of standard input
+-- the most bytes of a file, and of the first line of standard input without its line end
 abbrev pub longest_text : ℕ
 longest_text = 16777216
 
@@ -43,6 +43,6 @@ without_line_end line = if ends_with_byte 10 line then strip_last 13 (strip_last
 abbrev pub first_line : List ℕ → Result (List ℕ) TextFault
 first_line line = if nat_lt longest_text (length (without_line_end line)) then Err TooLong else Ok (without_line_end line)
 
--- the words of a line: what stands between its blanks, if it is not empty
+-- the words of a line: what is between its blanks, if it is not empty
 abbrev pub words_of : List ℕ → List (List ℕ)
 words_of line = filter (λ word. not (length word == 0)) (slice_split is_blank line)

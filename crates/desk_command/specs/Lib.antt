@@ -1,4 +1,5 @@
 pub mod Arguments
+pub mod CommandLine
 pub mod Commands
 pub mod Input
 pub mod Output

@@ -16,7 +16,12 @@ status_of (Err Memory) = 4
 status_of (Err failure) = 2
 
 -- what is printed of an output: help as it is, else one line
-abbrev pub printed : Output → List ℕ
-printed (Help text) = string_bytes text
-printed (Tried tried) = string_bytes tried.line ++ 10 ∷ []
-printed (Faulty fault) = fault_line fault ++ 10 ∷ []
+abbrev pub output_text : Output → List ℕ
+output_text (Help text) = string_bytes text
+output_text (Tried tried) = string_bytes tried.line ++ 10 ∷ []
+output_text (Faulty fault) = fault_line fault ++ 10 ∷ []
+
+-- what is printed of an answer: of a failure nothing
+abbrev pub printed : Result Output Failure → List ℕ
+printed (Ok output) = output_text output
+printed (Err failure) = []

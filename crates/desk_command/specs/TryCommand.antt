@@ -1,15 +1,16 @@
 -- The output of `try` by the bytes of FILE. (this project's own)
-use Rattle.std.specs.Prelude.{◌≡◌, ◌⊎◌, ℕ, List, Result, Ok, Err}
+use Rattle.std.specs.Prelude.{◌≡◌, ◌⊎◌, ℕ, List, Option, Some, None, IfSome, Result, Ok, Err, IsErrAnd, codes}
 use Rattle.std.specs.String.{string_bytes}
 use Rattle.desk_text.specs.Address.{number_of, read_addr}
 use Rattle.desk_text.specs.Path.{read_path}
 use Rattle.desk_text.specs.declared.reading.LineFault.{LineFault}
 use Rattle.desk_exports.specs.declared.rules.Rule.{Rule}
 use Rattle.desk_command.specs.Arguments.{IsBadArgument, IsRequest}
+use Rattle.desk_command.specs.CommandLine.{TryWords}
 use Rattle.desk_command.specs.Input.{text_of}
 use Rattle.desk_command.specs.TryText.{Answer, answer_of, try_answer}
 use Rattle.desk_command.specs.declared.failure.Failure.{Failure}
-use Rattle.desk_command.specs.declared.failure.Failure.TheVariants.{File, Memory}
+use Rattle.desk_command.specs.declared.failure.Failure.TheVariants.{File, Memory, Missing}
 use Rattle.desk_command.specs.declared.failure.ReadFailure.{ReadFailure}
 use Rattle.desk_command.specs.declared.failure.ReadFailure.TheVariants.{System, Text}
 use Rattle.desk_command.specs.declared.input.TextFault.{TextFault}
@@ -60,3 +61,23 @@ AnswersWords file host dir mounts bytes (Ok output) = AnswersBytes file host dir
 AnswersWords file host dir mounts bytes (Err failure) =
     AnswersBytes file host dir mounts bytes (Err failure)
     ⊎ (IsBadArgument host (read_addr host) dir (read_path dir) mounts failure ⊎ IsUnread file failure)
+
+-- the bytes of FILE: of `-` all that the input has, if a contract can name these; of another file some
+abbrev pub IsContents : List ℕ → Option (List ℕ) → List ℕ → Type 0
+IsContents file known bytes = file ≡ codes "-" → IfSome known (λ given. bytes ≡ given)
+
+-- the answer of `try` to its words by the bytes of FILE
+pub record AnswersFile (words : TryWords) (known : Option (List ℕ)) (result : Result Output Failure) : Type 0 where
+  pub bytes : List ℕ
+  pub contents : IsContents words.file known bytes
+  pub answers : AnswersWords words.file words.host words.dir words.mounts bytes result
+
+-- the failure says that a word is missing
+abbrev pub IsMissing : Failure → Type 0
+IsMissing (Missing name) = Unit {0}
+IsMissing failure = ⊥
+
+-- the answer to what clap finds: that of `try`, or that a word is missing
+abbrev pub AnswersFound : Option TryWords → Option (List ℕ) → Result Output Failure → Type 0
+AnswersFound (Some words) known result = AnswersFile words known result
+AnswersFound None known result = IsErrAnd result IsMissing

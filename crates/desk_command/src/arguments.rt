@@ -104,6 +104,7 @@ fn read_mounts(alloc: Global, words: &[&str]) -> Result<FileSystems, Failure>
     }
 }
 
+/// Parses each MOUNT, in order.
 fn read_mount_points(alloc: Global, words: &[&str]) -> Result<Vec<Path>, Failure>
     ensures { let given = map (λ word. word.now) words.now in
         MatchResult result (λ paths. (first_bad_path given ≡ None) × (paths.items ≡ paths_of given)) (IsBadMount given) }
@@ -116,7 +117,7 @@ fn read_mount_points(alloc: Global, words: &[&str]) -> Result<Vec<Path>, Failure
     Ok(mount_points)
 }
 
-/// The failure of an argument that cannot be parsed.
+/// Returns the failure of an argument that cannot be parsed.
 fn bad_argument(alloc: Global, argument: Argument, word: &str, fault: ArgumentFault) -> Failure
     ensures { IsRefusal argument word.now fault result }
 {

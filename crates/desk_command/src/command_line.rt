@@ -1,10 +1,17 @@
 //! The command line, as `clap` parses it.
 
+ghost use Rattle.std.specs.Prelude.{◌≡◌, false, IfOk, codes};
+ghost use Rattle.clap.specs.Words.{app_of, rule_of};
+ghost use Rattle.clap.specs.declared.builder.Command.TheViews.{out-Command};
+ghost use Rattle.desk_command.specs.CommandLine as spec;
+
 use clap::{Arg, ArgAction, Command};
 use std::alloc::{AllocError, Global};
 
 /// Makes the program's command line: one subcommand.
-pub fn command<'a>(alloc: Global) -> Result<Command<'a>, AllocError> {
+pub fn command<'a>(alloc: Global) -> Result<Command<'a>, AllocError>
+    ensures { IfOk result (λ command. app_of command ≡ spec.command_line) }
+{
     Command::new(alloc, "exportdesk")
         .version("0.1.0")
         .about("Decides who may mount what, by the exports files of mountd(8)")
@@ -20,7 +27,10 @@ pub fn command<'a>(alloc: Global) -> Result<Command<'a>, AllocError> {
 }
 
 /// Makes the command line of `try FILE HOST DIR MOUNT...`
-fn try_command<'a>(alloc: Global) -> Result<Command<'a>, AllocError> {
+fn try_command<'a>(alloc: Global) -> Result<Command<'a>, AllocError>
+    ensures shape { IfOk result (λ command. app_of command ≡ spec.try_command) }
+    ensures local { IfOk result (λ command. (out-Command command).has_globals ≡ false) }
+{
     let mounts = word(alloc, "MOUNT", "The mount points of the file systems").num_args(1..);
     Command::new(alloc, "try")
         .about("Decides one mount request by an exports file")
@@ -35,7 +45,10 @@ fn try_command<'a>(alloc: Global) -> Result<Command<'a>, AllocError> {
 }
 
 /// Makes an argument that is required, and taken as it is.
-fn word<'a>(alloc: Global, name: &'a str, help: &'a str) -> Arg<'a> {
+fn word<'a>(alloc: Global, name: &'a str, help: &'a str) -> Arg<'a>
+    ensures rule { rule_of result ≡ spec.word name.entry.now }
+    ensures local { result.global ≡ false }
+{
     Arg::new(alloc, name)
         .required(true)
         .action(ArgAction::Set)

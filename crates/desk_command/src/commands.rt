@@ -1,7 +1,9 @@
 //! From words to what the program prints.
 
 ghost use Rattle.std.specs.Prelude.{◌≡◌, ◌∷◌, MatchResult, codes, map};
-ghost use Rattle.desk_command.specs.Commands.{IsBadWord};
+ghost use Rattle.clap.specs.Words.{kind_of};
+ghost use Rattle.desk_command.specs.Commands.{AnswersCommand, AnswersFirstLine, AnswersLine, IsBadWord, IsSaid};
+ghost use Rattle.desk_command.specs.Input as spec;
 
 use crate::command_line::command;
 use crate::failure::{Failure, ReadFailure};
@@ -15,15 +17,26 @@ use std::io::BufRead;
 use std::str;
 
 /// Runs the command on the first line of standard input.
-pub fn run_first_line<I: BufRead>(rt: &HostRuntime, input: &mut I) -> Result<Output, Failure> {
-    let alloc = rt.alloc();
-    let bytes = match read_line(alloc, input) {
-        Ok(bytes) => bytes,
-        Err(error) => return Err(Failure::FirstLine(ReadFailure::of_error(error)?)),
+pub fn run_first_line<I: BufRead>(rt: &HostRuntime, input: &mut I) -> Result<Output, Failure>
+    ensures { AnswersFirstLine (I.remaining input.old) result }
+{
+    match read_line(rt.alloc(), input) {
+        Ok(bytes) => run_line(rt, bytes.as_slice(), input),
+        Err(error) => Err(Failure::of_first_line(error)),
+    }
+}
+
+/// Runs the command whose words a first line has.
+fn run_line<I: BufRead>(rt: &HostRuntime, bytes: &[u8], input: &mut I) -> Result<Output, Failure>
+    ensures { AnswersLine (spec.first_line bytes.now) (I.remaining input.old) result }
+{
+    let line = match first_line(bytes) {
+        Ok(line) => line,
+        Err(fault) => return Err(Failure::FirstLine(ReadFailure::Text(fault))),
     };
-    match first_line(bytes.as_slice()) {
-        Ok(line) => run_words(rt, words_of(alloc, line)?.as_slice(), input),
-        Err(fault) => Err(Failure::FirstLine(ReadFailure::Text(fault))),
+    match words_of(rt.alloc(), line) {
+        Ok(words) => run_words(rt, words.as_slice(), input),
+        Err(_) => Err(Failure::Memory),
     }
 }
 
@@ -32,19 +45,21 @@ pub fn run_words<S: AsSlice<u8>, I: BufRead>(
     rt: &HostRuntime,
     words: &[S],
     input: &mut I,
-) -> Result<Output, Failure> {
+) -> Result<Output, Failure>
+    ensures { AnswersCommand (map S.items words.now) (I.remaining input.old) result }
+{
     let alloc = rt.alloc();
     let line = command_words(alloc, words)?;
     match command(alloc)?.try_get_matches_from(line.as_slice()) {
-        Ok(matches) => match matches.subcommand() {
-            Some(("try", words)) => run_try(rt, words, input),
-            _ => Err(Failure::Missing("the command")),
+        Ok(matches) => match matches.subcommand_matches("try") {
+            Some(words) => run_try(rt, words, input),
+            None => Err(Failure::Missing("the command")),
         },
         Err(error) => clap_output(alloc, &error),
     }
 }
 
-/// The texts of words, behind the program's name; or the place of the first that is not UTF-8.
+/// Returns the texts of words behind the program's name, or the place of the first that is not UTF-8.
 fn command_words<'a, S: AsSlice<u8>>(alloc: Global, words: &'a [S]) -> Result<Vec<&'a str>, Failure>
     ensures { let given = map S.items words.now in
         MatchResult result (λ line. map (λ word. word.now) line.items ≡ codes "exportdesk" ∷ given) (IsBadWord given) }
@@ -60,8 +75,10 @@ fn command_words<'a, S: AsSlice<u8>>(alloc: Global, words: &'a [S]) -> Result<Ve
     Ok(line)
 }
 
-/// What `clap` says in place of a command: help or the version, or what is wrong with the words.
-fn clap_output(alloc: Global, error: &clap::Error) -> Result<Output, Failure> {
+/// Returns what `clap` says in place of a command: help or the version, or what is wrong with the words.
+fn clap_output(alloc: Global, error: &clap::Error) -> Result<Output, Failure>
+    ensures { IsSaid (kind_of error.now) result }
+{
     if matches!(error.kind(), ErrorKind::OutOfMemory) {
         return Err(Failure::Memory);
     }

@@ -1,6 +1,7 @@
 //! Why a command has no answer.
 
 ghost use Rattle.std.specs.Prelude.{◌≡◌, MatchResult};
+ghost use Rattle.desk_command.specs.Commands.{IsUnreadLine};
 ghost use Rattle.desk_command.specs.TryCommand.{IsFileFailure, IsSystem};
 ghost use Rattle.desk_command.specs.declared.failure.Failure.TheVariants.{Memory};
 
@@ -68,7 +69,7 @@ impl<T: Drop> From<AllocFailed<T>> for Failure {
 }
 
 impl Failure {
-    /// The failure to read the file that a word names.
+    /// Returns the failure to read the file that a word names.
     pub fn of_file(alloc: Global, file: &str, failure: ReadFailure) -> Failure
         ensures { IsFileFailure file.now failure result }
     {
@@ -77,10 +78,20 @@ impl Failure {
             Err(_) => Failure::Memory,
         }
     }
+
+    /// Returns the failure to read the first line of standard input.
+    pub fn of_first_line(error: io::Error) -> Failure
+        ensures { IsUnreadLine result }
+    {
+        match ReadFailure::of_error(error) {
+            Ok(failure) => Failure::FirstLine(failure),
+            Err(failure) => failure,
+        }
+    }
 }
 
 impl ReadFailure {
-    /// Why the system could not read; or that memory ran out.
+    /// Returns why the system could not read, or that memory ran out.
     pub fn of_error(error: io::Error) -> Result<ReadFailure, Failure>
         ensures { MatchResult result IsSystem (λ failure. failure ≡ Memory) }
     {
@@ -91,7 +102,7 @@ impl ReadFailure {
     }
 }
 
-/// The message on a failure, in whole lines.
+/// Writes the message on a failure, in whole lines.
 pub fn message(alloc: Global, origin: Origin, failure: &Failure) -> Result<String, AllocError> {
     match (origin, failure) {
         (Origin::Arguments, Failure::Usage(text)) => text.clone(),

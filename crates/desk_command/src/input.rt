@@ -11,7 +11,7 @@ use std::alloc::{AllocError, Global};
 use std::io::{BufRead, Read};
 use std::{io, str};
 
-/// The most bytes of a file, and of the first line of standard input.
+/// The most bytes of a file, and of the first line of standard input without its line end.
 const LONGEST_TEXT: usize = 16_777_216;
 
 /// Why bytes are not taken as a text.
@@ -33,13 +33,13 @@ pub fn read_bytes<R: Read + Drop>(alloc: Global, reader: R) -> io::Result<Vec<u8
     Ok(bytes)
 }
 
-/// Reads the first line that a reader gives, with its line end, and stops behind the most bytes of a text.
+/// Reads the first line that a reader gives, with its line end, and stops behind the most bytes of a text and CR LF.
 pub fn read_line<I: BufRead>(alloc: Global, input: &mut I) -> io::Result<Vec<u8>>
     ensures { IfSome (I.remaining input.old)
-        (λ given. IfOk result (λ line. line.items ≡ take_through 10 (take 16777217 given))) }
+        (λ given. IfOk result (λ line. line.items ≡ take_through 10 (take 16777218 given))) }
 {
     let mut bytes = Vec::new(alloc);
-    let mut input = input.take(LONGEST_TEXT as u64 + 1);
+    let mut input = input.take(LONGEST_TEXT as u64 + 2);
     input.read_until(b'\n', &mut bytes)?;
     Ok(bytes)
 }
@@ -55,7 +55,7 @@ pub fn first_line(bytes: &[u8]) -> Result<&[u8], TextFault>
     Ok(line)
 }
 
-/// The line without its line end: LF, or CR LF.
+/// Returns a line without its line end, LF or CR LF.
 fn without_line_end(line: &[u8]) -> &[u8]
     ensures { result.now ≡ spec.without_line_end line.now }
 {
@@ -66,7 +66,7 @@ fn without_line_end(line: &[u8]) -> &[u8]
     }
 }
 
-/// The line without its last byte, if it is this one.
+/// Returns a line without its last byte, if it is this one.
 fn strip_last(line: &[u8], byte: u8) -> &[u8]
     ensures { result.now ≡ strip_last byte line.now }
 {
@@ -89,7 +89,7 @@ pub fn text_of(bytes: &[u8]) -> Result<&str, TextFault>
     }
 }
 
-/// The fault of bytes that are UTF-8 just as far as this.
+/// Returns the fault of bytes that are UTF-8 just as far as this.
 fn not_utf8_behind(front: &[u8]) -> TextFault
     requires { length front.now ≤ 16777216 }
     ensures { result ≡ spec.not_utf8_behind front.now }
@@ -105,7 +105,7 @@ fn not_utf8_behind(front: &[u8]) -> TextFault
     }
 }
 
-/// The bytes behind the last line end.
+/// Returns the bytes behind the last line end.
 fn last_line(front: &[u8]) -> &[u8]
     ensures { result.now ≡ after_last (λ b. b == 10) front.now }
 {
@@ -116,14 +116,14 @@ fn last_line(front: &[u8]) -> &[u8]
     &front[start..]
 }
 
-/// Whether a byte is the first of a character.
+/// Tests whether a byte is the first of a character.
 fn begins_character(byte: u8) -> bool
     ensures { result ≡ spec.begins_character byte }
 {
     byte < 128 || 192 <= byte
 }
 
-/// The words of a line: what stands between its blanks.
+/// Splits a line into its words, at blanks.
 pub fn words_of(alloc: Global, line: &[u8]) -> Result<Vec<&[u8]>, AllocError>
     ensures { IfOk result (λ words. map (λ word. word.now) words.items ≡ spec.words_of line.now) }
 {

@@ -10,6 +10,10 @@ mod output;
 mod try_command;
 pub mod try_text;
 
+ghost use Rattle.std.specs.Prelude.{map};
+ghost use Rattle.std.specs.Io.KnownBytes.{Appends};
+ghost use Rattle.desk_command.specs.Commands.{Runs};
+
 use crate::commands::{run_first_line, run_words};
 use crate::failure::Origin;
 use crate::output::report;
@@ -26,6 +30,7 @@ where
     I: BufRead,
     O: Write,
     E: Write,
+    ensures { Runs (map S.items words.now) (I.remaining input.old) result (Appends (O.contents out.old) (O.contents out.new)) }
 {
     if words.is_empty() {
         let answer = run_first_line(rt, input);

@@ -33,7 +33,7 @@ pub fn report<O: Write, E: Write>(
     err: &mut E,
 ) -> u8
     ensures status { (result ≡ spec.status_of answer) ⊎ (result ≡ 4) }
-    ensures printed { IfOk answer (λ output. result ≢ 4 → Appends (O.contents out.old) (O.contents out.new) (spec.printed output)) }
+    ensures printed { result ≢ 4 → Appends (O.contents out.old) (O.contents out.new) (spec.printed answer) }
 {
     let status = status_of(&answer);
     match answer {
@@ -52,7 +52,7 @@ pub fn report<O: Write, E: Write>(
     }
 }
 
-/// The exit status of an answer, if it can be printed.
+/// Returns the exit status of an answer, if it can be printed.
 fn status_of(answer: &Result<Output, Failure>) -> u8
     ensures { result ≡ spec.status_of answer.now }
 {
@@ -65,9 +65,9 @@ fn status_of(answer: &Result<Output, Failure>) -> u8
     }
 }
 
-/// What is printed of an output, in whole lines.
+/// Writes what is printed of an output, in whole lines.
 fn output_text(alloc: Global, output: Output) -> Result<String, AllocError>
-    ensures { IfOk result (λ text. string_bytes text ≡ spec.printed output) }
+    ensures { IfOk result (λ text. string_bytes text ≡ spec.output_text output) }
 {
     let mut line = match output {
         Output::Help(text) => return Ok(text),
@@ -99,6 +99,7 @@ fn print<O: Write, E: Write>(text: &str, status: u8, out: &mut O, err: &mut E) -
     }
 }
 
+/// Writes a text and flushes the writer.
 fn write<O: Write>(text: &str, out: &mut O) -> io::Result<()>
     ensures { OnOk result (Appends (O.contents out.old) (O.contents out.new) text.now) }
 {

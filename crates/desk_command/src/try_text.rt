@@ -42,7 +42,7 @@ pub fn try_text(
     Ok(Tried { granted, line })
 }
 
-/// The entries of a text, read with these file systems and no row of another table.
+/// Reads the entries of a text with these file systems and no row of another table.
 fn read_with_mounts(
     alloc: Global,
     text: &str,

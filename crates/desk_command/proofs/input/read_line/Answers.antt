@@ -5,5 +5,5 @@ use Rattle.desk_command.proofs.input.read_line.Goals as goal
 
 pub returns : goal.returns
 returns g c =
-    read_front (take_through 10) (g.I.Read.remaining c.args.input.now) 16777217 c.new-bytes.result.items _ c.new-bytes.ensures.items
+    read_front (take_through 10) (g.I.Read.remaining c.args.input.now) 16777218 c.new-bytes.result.items _ c.new-bytes.ensures.items
     (rw (c.take-input.ensures.limit, c.take-input.ensures.inner) at c.in_ok-read_until.ensures.bytes)

@@ -1,0 +1,72 @@
+-- The command line, as `clap` reads it. (this project's own)
+use Rattle.std.specs.Prelude.{◌⊎◌, ℕ, true, List, ◌∷◌, Option, Some, None, codes, if◌then◌else◌, option_and_then}
+use Rattle.std.specs.Str.{bytes_eq}
+use Rattle.clap.specs.Lexer.{usize_max}
+use Rattle.clap.specs.Words.{App, IsAmong, Kinds, Row, Rule, all_of, fault_of, first_of, new_app, new_rule, subcommand_of, with_rule, with_subcommand}
+use Rattle.clap.specs.declared.builder.ArgAction.TheVariants.{Set}
+use Rattle.clap.specs.declared.error.ErrorKind.TheVariants.{DisplayHelp, DisplayVersion}
+
+-- an argument that is required, and taken as it is
+abbrev pub word : List ℕ → Rule
+word name = record (new_rule name) { required = true; action = Some Set }
+
+-- MOUNT.., one word or more
+abbrev pub mount_words : Rule
+mount_words = record (word (codes "MOUNT")) { range = Some (record { start_inclusive = 1; end_inclusive = usize_max }) }
+
+-- `try FILE HOST DIR MOUNT..`
+abbrev pub try_command : App
+try_command = with_rule (with_rule (with_rule (with_rule (new_app (codes "try")) (word (codes "FILE"))) (word (codes "HOST"))) (word (codes "DIR"))) mount_words
+
+-- the program without its subcommand
+abbrev pub program : App
+program = record (new_app (codes "exportdesk")) {
+  top = record (new_app (codes "exportdesk")).top {
+    has_version = true;
+    disable_help_subcommand = true;
+    subcommand_required = true;
+  };
+}
+
+-- the program's command line: one subcommand
+abbrev pub command_line : App
+command_line = with_subcommand program try_command.top
+
+-- the words behind the program's name, as clap is given them
+abbrev pub line_of : List (List ℕ) → List (List ℕ)
+line_of words = codes "exportdesk" ∷ words
+
+-- the kinds of error that clap may find in the words
+abbrev pub faults_of : List (List ℕ) → Kinds
+faults_of words = fault_of command_line (line_of words)
+
+-- the words ask for help or for the version
+abbrev pub AskForHelp : List (List ℕ) → Type 0
+AskForHelp words = IsAmong DisplayHelp (faults_of words) ⊎ IsAmong DisplayVersion (faults_of words)
+
+-- the words of `try`
+pub record TryWords : Type 0 where
+  pub file : List ℕ
+  pub host : List ℕ
+  pub dir : List ℕ
+  pub mounts : List (List ℕ)
+
+abbrev pub words_of_try : List ℕ → List ℕ → List ℕ → List (List ℕ) → TryWords
+words_of_try file host dir mounts = record { file = file; host = host; dir = dir; mounts = mounts }
+
+-- the words of `try` by those of FILE, HOST, DIR and MOUNT.., if none is missing
+abbrev pub try_words_from : Option (List ℕ) → Option (List ℕ) → Option (List ℕ) → Option (List (List ℕ)) → Option TryWords
+try_words_from (Some file) (Some host) (Some dir) (Some mounts) = Some (words_of_try file host dir mounts)
+try_words_from file host dir mounts = None
+
+-- the words of `try` among the arguments that clap finds
+abbrev pub try_words_in : List Row → Option TryWords
+try_words_in rows =
+    try_words_from (first_of (codes "FILE") rows) (first_of (codes "HOST") rows) (first_of (codes "DIR") rows) (all_of (codes "MOUNT") rows)
+
+-- the words of `try`, if that is the subcommand which clap finds
+abbrev pub try_words_of : Option (List ℕ × List Row) → Option TryWords
+try_words_of found = option_and_then (λ command. if bytes_eq command.0 (codes "try") then try_words_in command.1 else None) found
+
+abbrev pub try_words : List (List ℕ) → Option TryWords
+try_words words = try_words_of (subcommand_of command_line (line_of words))
