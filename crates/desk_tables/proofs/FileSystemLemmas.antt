@@ -2,12 +2,15 @@
 use Rattle.std.proofs.Common.{ℕ, ◌≡◌, ◌<◌, ◌≤◌, Bool, true, false, not, ◌&&◌, ◌||◌, List, [], ◌∷◌, ◌++◌, Some, None, cond, length, get_or, position, refl, ap, sym, ◌∙◌, arith, inl, inr, suc, nat_cmp, nat_le}
 use Rattle.std.specs.Prelude.{All, MatchOption, Option, nat_lt}
 use Rattle.std.specs.List.{list_all, position_or_len}
-use Rattle.std.specs.Ordering.{is_lt, ordering_then}
+use Rattle.std.specs.declared.cmp.Ordering.{Ordering}
+use Rattle.std.specs.declared.cmp.Ordering.TheVariants.{Less, Equal, Greater}
+use Rattle.std.specs.List.Sorted.{IsPartitionedBy}
+use Rattle.std.specs.Ordering.{is_gt, is_le, is_lt, ordering_reverse, ordering_then}
 use Rattle.std.specs.Cmp.Lexicographic.{slice_cmp}
 use Rattle.std.specs.Str.{bytes_eq}
-use Rattle.std.proofs.lemmas.Bool.{cases_lt, cases_Bool, lt-ltb, le-leb}
+use Rattle.std.proofs.lemmas.Bool.{cases_lt, cases_Bool, lt-ltb, le-leb, true≢false}
 use Rattle.std.proofs.lemmas.Bool.Decides.{nat_tests}
-use Rattle.std.proofs.lemmas.Cmp.{tied_itself, nat_cmp_total}
+use Rattle.std.proofs.lemmas.Cmp.{tied_itself, nat_cmp_total, nat_list_cmp_total, upto}
 use Rattle.std.proofs.lemmas.List.{append-nil}
 use Rattle.std.proofs.lemmas.List.Folds.{list_all_at}
 use Rattle.std.proofs.lemmas.List.Sums.{position_or_len_is}
@@ -160,3 +163,59 @@ module _ (table : List Mount) (p : List (List ℕ)) (d : Mount) (up : AreAscendi
   pub fs_of-found : (found : Option ℕ) → MatchOption found (All (λ mount. is_under p mount.path ≡ false) table) (IsLastAbove table p) → found ≡ fs_of table p
   fs_of-found None h = sym (fs_of-none (λ k l. h k d l))
   fs_of-found (Some i) h = sym (fs_of-last i h.inside (h.above d) (λ k less l. h.last k d less l))
+
+-- what is above a path is not behind it in byte order
+lt_not_gt : (o : Ordering) → is_lt o ≡ true → is_gt o ≡ false
+lt_not_gt Less h = refl
+lt_not_gt Equal h = refl
+lt_not_gt Greater h = sym h
+
+le_not_gt : (o : Ordering) → is_le o ≡ true → is_gt o ≡ false
+le_not_gt Less h = refl
+le_not_gt Equal h = refl
+le_not_gt Greater h = sym h
+
+not_gt_le : (o : Ordering) → is_gt o ≡ false → is_le o ≡ true
+not_gt_le Less h = refl
+not_gt_le Equal h = refl
+not_gt_le Greater h = sym h
+
+back_le : (o : Ordering) → is_lt o ≡ false → is_le (ordering_reverse o) ≡ true
+back_le Less h = sym h
+back_le Equal h = refl
+back_le Greater h = refl
+
+under_self : (p : List (List ℕ)) → is_under p p ≡ true
+under_self [] = refl
+under_self (x ∷ p) = ap (λ b. b && is_under p p) ((bytes_eq-Decides x x).1 refl) ∙ under_self p
+
+under_shorter : (p m : List (List ℕ)) → is_under p m ≡ true → length m ≤ length p
+under_shorter p [] h = omega arith
+under_shorter [] (y ∷ m) h = absurd (cc)
+under_shorter (q ∷ p) (y ∷ m) h =
+    let rest : (bytes_eq q y ≡ true) × (is_under p m ≡ true) = both _ _ h in
+    let le = under_shorter p m rest.1 in
+    omega arith
+
+abbrev pub up_to : List (List ℕ) → Mount → Bool
+up_to p mount = is_le (slice_cmp nat_cmp (path_text mount.path) (path_text p))
+
+above_up_to : (p : List (List ℕ)) (mount : Mount) → is_under p mount.path ≡ true → up_to p mount ≡ true
+above_up_to p mount above =
+    let not_so : is_before p mount.path ≡ false = not_before p p mount.path (under_self p) above (under_shorter p mount.path above) in
+    ap is_le (nat_list_cmp_total.antisymm (path_text mount.path) (path_text p)) ∙ back_le _ not_so
+
+module _ (table : List Mount) (p : List (List ℕ)) (up : AreAscending table) where
+  pub up_to-partitioned : IsPartitionedBy (up_to p) table
+  up_to-partitioned i j d le below here =
+      elim (cases_lt i j) [
+        | inl less ↦ not_gt_le _ (upto nat_list_cmp_total (path_text (get_or table i d).path) (path_text (get_or table j d).path) (path_text p) (lt_not_gt _ (up i j d less below)) (le_not_gt _ here))
+        | inr ge ↦ let same : j ≡ i = omega arith in ap (λ n. up_to p (get_or table n d)) (sym same) ∙ here
+      ]
+
+  pub behind_apart : (k : ℕ) (d : Mount) → up_to p (get_or table k d) ≡ false → is_under p (get_or table k d).path ≡ false
+  behind_apart k d behind =
+      elim (cases_Bool (is_under p (get_or table k d).path)) [
+        | inl above ↦ absurd (true≢false (sym (above_up_to p (get_or table k d) above) ∙ behind))
+        | inr apart ↦ apart
+      ]

@@ -133,11 +133,14 @@ fn is_among(names: &[Text], name: &str) -> bool
     names.iter().any(|other| name == other.as_str())
 }
 
-/// Finds the place of the last mount point that the path is under.
+/// Finds the place of the last mount point that the path is under. What is above a path does not come behind it in byte
+/// order, so only the mount points up to the path are asked, the last one first.
 fn last_above(mounts: &[Mount], path: &Path) -> Option<usize>
+    requires { AreAscending mounts.now }
     ensures { MatchOption result (All (λ mount. is_under path.now mount.path ≡ false) mounts.now) (IsLastAbove mounts.now path.now) }
 {
-    for index in (0..mounts.len()).rev() {
+    let end = mounts.partition_point(|mount| mount.path <= *path);
+    for index in (0..end).rev() {
         if path.is_under(&mounts[index].path) {
             return Some(index);
         }
