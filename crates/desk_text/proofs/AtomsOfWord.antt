@@ -8,7 +8,7 @@ use Rattle.desk_text.specs.Word.{Bare, Escaped, Lone, Atom, Single, atoms, is_qu
 use Rattle.desk_text.specs.PrivateWord.{IsAtomLen, IsOfWord, IsRun}
 use Rattle.desk_text.proofs.Atoms.{atoms-plain}
 
-pub IsAtomLen-plain : (text : List ℕ) → 0 < length text → eqb (get_or text 0 0) 92 ≡ false → is_quote (get_or text 0 0) ≡ false → IsAtomLen text 1
+IsAtomLen-plain : (text : List ℕ) → 0 < length text → eqb (get_or text 0 0) 92 ≡ false → is_quote (get_or text 0 0) ≡ false → IsAtomLen text 1
 IsAtomLen-plain [] h e q = absurd (omega arith)
 IsAtomLen-plain (c ∷ cs) h e q = record {
   atom = Single (Bare c);
@@ -19,6 +19,13 @@ IsAtomLen-plain (c ∷ cs) h e q = record {
   some = omega arith;
   within = omega arith;
 }
+
+-- the same at a place
+pub plain_at : (text : List ℕ) (n : ℕ) → n < length text → eqb (get_or text n 0) 92 ≡ false → is_quote (get_or text n 0) ≡ false → IsAtomLen (drop n text) 1
+plain_at text n lt e q =
+    let add : n + 0 ≡ n = omega arith in
+    let first : get_or (drop n text) 0 0 ≡ get_or text n 0 = get_or-drop n text 0 0 ∙ ap (λ k. get_or text k 0) add in
+    IsAtomLen-plain (drop n text) (omega (arith, length-drop n text)) (ap (λ b. eqb b 92) first ∙ e) (ap is_quote first ∙ q)
 
 pub IsAtomLen-escaped : (text : List ℕ) (n : ℕ) → 0 < length text → get_or text 0 0 ≡ 92 → n ≡ min (length text) 2 → IsAtomLen text n
 IsAtomLen-escaped [] n h e m = absurd (omega arith)

@@ -126,6 +126,10 @@ read_words line = if line_has_open_quote line then Err (record {}) else Ok (line
 abbrev pub word_value : List ℕ → List ℕ
 word_value raw = flat_map atom_value (atoms raw)
 
+-- a quote, or the backslash
+abbrev pub is_special : ℕ → Bool
+is_special b = is_quote b || b == 92
+
 -- a quote or a backslash stands in a raw word
 abbrev pub has_marks : List ℕ → Bool
-has_marks raw = list_any (λ b. is_quote b || b == 92) raw
+has_marks raw = list_any is_special raw

@@ -6,7 +6,7 @@
 ghost use Rattle.std.specs.Prelude.{◌≡◌, ℕ, ◌+◌, ◌<◌, ◌≤◌, ◌^◌, ◌++◌, IsTrue, IfOk, OnOk, IfSome, IfNone, map, not, length, List, true, false, slice_index};
 ghost use Rattle.std.specs.String.{string_bytes};
 ghost use Rattle.desk_text.specs.Bytes.{is_blank};
-ghost use Rattle.desk_text.specs.Word.{has_marks, read_words, word_value, words_at, has_open_quote, is_quote};
+ghost use Rattle.desk_text.specs.Word.{has_marks, is_special, read_words, word_value, words_at, has_open_quote, is_quote};
 ghost use Rattle.desk_text.specs.Views.{line_of_part, word_of};
 ghost use Rattle.desk_text.specs.Reading.{ReadsAs};
 ghost use Rattle.desk_text.specs.PrivateWord.{IsAtomLen, IsWordLen, is_mark};
@@ -147,6 +147,13 @@ fn is_quote(b: u8) -> bool
     b == b'"' || b == b'\''
 }
 
+/// Tests whether a byte is a quote or a backslash. Every other one that is not a blank stands for itself.
+fn is_special(b: u8) -> bool
+    ensures { result ≡ is_special b }
+{
+    is_quote(b) || b == b'\\'
+}
+
 /// Returns how long the quoted run is with which the text begins, if it ends.
 fn quoted_len(text: &[u8]) -> Option<usize>
     requires some { 0 < length text.now }
@@ -166,19 +173,17 @@ fn quoted_len(text: &[u8]) -> Option<usize>
     None
 }
 
-/// Returns how long the atom is with which the text begins: a character, an escaped one, or a quoted run.
+/// Returns how long the atom is with which the text begins: an escaped character, or a quoted run.
 fn atom_len(text: &[u8]) -> Option<usize>
-    requires { 0 < length text.now }
+    requires some { 0 < length text.now }
+    requires special { IsTrue (is_special (slice_index text.now 0)) }
     ensures len { IfSome result (IsAtomLen text.now) }
     ensures open { IfNone result (has_open_quote text.now ≡ true) }
 {
-    let b = text[0];
-    if b == b'\\' {
+    if text[0] == b'\\' {
         Some(text.len().min(2))
-    } else if is_quote(b) {
-        quoted_len(text)
     } else {
-        Some(1)
+        quoted_len(text)
     }
 }
 
@@ -191,7 +196,11 @@ fn word_len(text: &[u8]) -> Option<usize>
 {
     let mut n = 0;
     while n < text.len() && !is_blank(text[n]) {
-        n += atom_len(&text[n..])?;
+        n += if is_special(text[n]) {
+            atom_len(&text[n..])?
+        } else {
+            1
+        };
     }
     Some(n)
 }
