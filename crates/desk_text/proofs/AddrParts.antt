@@ -1,6 +1,6 @@
 -- One more part of an address.
 use Rattle.std.proofs.Common.{◌≡◌, ℕ, suc, zero, ◌+◌, ◌*◌, ◌^◌, ◌<◌, ◌≤◌, ◌%◌, Bool, ◌&&◌, ◌||◌, not, cond, Result, Ok, Err, IfOk, List, [], ◌∷◌, ◌++◌, length, get_or, take, true, false, arith, refl, sym, ap, subst, ◌∙◌}
-use Rattle.std.specs.List.{list_all, list_any, fold}
+use Rattle.std.specs.List.{list_all, list_any}
 use Rattle.std.proofs.lemmas.List.{take_more}
 use Rattle.std.proofs.lemmas.List.Sums.{fold_push}
 use Rattle.std.proofs.lemmas.List.Recursion.{and_push, or_push}

@@ -1,4 +1,4 @@
-use Rattle.std.proofs.Common.{◌≡◌, ◌<◌, ◌+◌, drop, ◌∙◌, sym, ap, length, get_or, rules, arith, true, false, Some, None, ◌++◌}
+use Rattle.std.proofs.Common.{◌≡◌, ◌<◌, ◌+◌, drop, ◌∙◌, sym, ap, length, get_or, arith, true, false, Some, None, ◌++◌}
 use Rattle.std.specs.Prelude.{encode_utf8_all}
 use Rattle.std.proofs.lemmas.Bool.{ne_eqb}
 use Rattle.std.specs.Str.{IsUtf8, chars}
