@@ -31,12 +31,15 @@ pub struct Word<'a> {
 #[error("a quote does not close on its line")]
 pub struct OpenQuote;
 
+/// Room for the words of a usual line, so that the list of them does not have to grow.
+const USUAL_WORDS: usize = 8;
+
 /// Cuts a line into its words, in order. What separates them are spaces and tabs outside quotes and not behind a
 /// backslash.
 pub fn words<'a>(alloc: Global, line: &Line<'a>) -> Result<Vec<Word<'a>>, ReadError<OpenQuote>>
     ensures { ReadsAs (λ v. map word_of v.items) result (read_words line.now) }
 {
-    let mut words = Vec::new(alloc);
+    let mut words = Vec::with_capacity(alloc, USUAL_WORDS)?;
     for part in line.parts() {
         if !push_words(&mut words, part.start, part.text)? {
             return Err(ReadError::Fault(OpenQuote));
