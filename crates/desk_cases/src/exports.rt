@@ -7,7 +7,7 @@ use crate::answers::{Asked, end_list};
 use crate::entries::add_entry;
 use crate::filesystems::fs_id;
 use crate::site::Site;
-use desk_exports::{Entry, Rule, Tables, read_file, read_whole};
+use desk_exports::{Boxed, Entry, Rule, Tables, read_file, read_whole};
 use desk_tables::{FileSystems, FsId};
 use desk_text::{LineFault, ReadError, Sequence};
 use std::alloc::{AllocError, Global};
@@ -39,7 +39,7 @@ pub fn tables<'a>(site: &'a Site, filesystems: &'a FileSystems) -> Tables<'a> {
 }
 
 /// What a text for all file systems has: its entries, each with its file system, or its first fault.
-type Whole = Result<Sequence<(FsId, Entry)>, ReadError<LineFault<Rule>>>;
+type Whole = Result<Sequence<(FsId, Boxed<Entry>)>, ReadError<LineFault<Rule>>>;
 
 /// `entries TEXT`: each entry of a text for all file systems, on a line: the number of its file system, the number of its
 /// line, its directories, `alldirs`, its terms, and whom it is for. Or `none`, or the fault.
