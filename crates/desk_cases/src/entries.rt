@@ -1,6 +1,6 @@
 //! Entries of exports files as answers.
 
-use desk_exports::{Clients, Entry};
+use desk_exports::{Boxed, Clients, Entry};
 use desk_text::{Net, Path, Text};
 use std::alloc::AllocError;
 
@@ -47,7 +47,7 @@ fn add_names(out: &mut String, names: &[Text]) -> Result<(), AllocError> {
     Ok(())
 }
 
-fn add_net(out: &mut String, net: Net, noted: &Option<Text>) -> Result<(), AllocError> {
+fn add_net(out: &mut String, net: Net, noted: &Option<Boxed<Text>>) -> Result<(), AllocError> {
     let (first, bits) = (net.first(), net.prefix().get());
     write!(out, " {first}/{bits}")?;
     if let Some(value) = noted {

@@ -7,7 +7,7 @@ use crate::answers::{Asked, end_list};
 use crate::entries::add_entry;
 use crate::filesystems::fs_id;
 use crate::site::Site;
-use desk_exports::{Entry, Rule, Tables, read_file, read_whole};
+use desk_exports::{Boxed, Entry, Rule, Tables, read_file, read_whole};
 use desk_tables::{FileSystems, FsId};
 use desk_text::{LineFault, ReadError};
 use std::alloc::{AllocError, Global};
@@ -52,7 +52,7 @@ fn entries(alloc: Global, tables: &Tables, out: &mut String, text: &str) -> Aske
     }
 }
 
-fn add_whole(out: &mut String, entries: &[(FsId, Entry)]) -> Result<(), AllocError> {
+fn add_whole(out: &mut String, entries: &[(FsId, Boxed<Entry>)]) -> Result<(), AllocError> {
     for (fs, entry) in entries {
         let fs = fs.0;
         write!(out, "{fs} ")?;
