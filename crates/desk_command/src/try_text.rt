@@ -14,7 +14,7 @@ use desk_text::{Addr, LineFault, Path, ReadError, Sequence};
 use std::alloc::Global;
 
 /// The answer of `try` to a text without a fault.
-#[derive(Debug, Drop)]
+#[derive(Drop)]
 pub struct Tried {
     /// Whether the mount is granted.
     pub granted: bool,
