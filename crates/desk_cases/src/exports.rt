@@ -61,7 +61,7 @@ fn add_whole(out: &mut String, entries: &[(FsId, Boxed<Entry>)]) -> Result<(), A
     Ok(())
 }
 
-fn add_entries(out: &mut String, entries: &[Entry]) -> Result<(), AllocError> {
+fn add_entries(out: &mut String, entries: &[Boxed<Entry>]) -> Result<(), AllocError> {
     for entry in entries {
         add_entry(out, entry)?;
     }
