@@ -7,7 +7,7 @@ use std::marker::Model;
 use std::ops::Deref;
 
 /// A value in a box, so that what has one is small. Contracts see the value.
-#[derive(Debug, Drop)]
+#[derive(Drop)]
 pub struct Boxed<T> {
     inner: Box<T>,
 }

@@ -10,12 +10,12 @@ use std::marker::Model;
 use std::{mem, slice};
 
 /// A list that mostly has one value, which then lies in the list itself.
-#[derive(Debug, Drop)]
+#[derive(Drop)]
 pub struct Few<T> {
     values: Values<T>,
 }
 
-#[derive(Debug, Drop)]
+#[derive(Drop)]
 enum Values<T> {
     Nothing,
     One(T),

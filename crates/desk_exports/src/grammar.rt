@@ -16,7 +16,7 @@ use std::alloc::{AllocError, Global};
 
 /// A word: whether its first raw character is `-`, whether that is `#`, and its value, in which quotes
 /// and escapes are resolved.
-#[derive(Clone, Debug, Drop)]
+#[derive(Drop)]
 pub struct GrammarWord {
     pub dashed: bool,
     pub begins_with_hash: bool,
@@ -55,7 +55,7 @@ pub fn grammar_words(alloc: Global, words: &[Word]) -> Result<Vec<GrammarWord>, 
 }
 
 /// The words of a line by what they are.
-#[derive(Debug, Drop)]
+#[derive(Drop)]
 pub struct GrammarLine {
     /// Whether the first word is `V4:`, so that the line takes no part.
     pub is_v4: bool,
