@@ -5,6 +5,7 @@ ghost use Rattle.std.specs.List.{list_any, prefix_len, slice_split};
 ghost use Rattle.std.specs.Option.{option_copied};
 ghost use Rattle.desk_text.specs.Path.{is_absolute, read_path};
 ghost use Rattle.desk_text.specs.Views.{word_of};
+ghost use Rattle.desk_text.specs.Word.{word_value};
 ghost use Rattle.desk_exports.specs.Grammar as spec;
 ghost use Rattle.desk_exports.specs.Options.{has_option};
 ghost use Rattle.desk_exports.specs.PrivateGrammar.{pieces_before};
@@ -13,25 +14,61 @@ use crate::few::Few;
 use crate::options::{Keyword, Setting, has_option, wants_value};
 use desk_text::{Path, PathFault, ReadError, Text, Word, split_at, unquote};
 use std::alloc::{AllocError, Global};
+use std::borrow::CowStr;
+use std::marker::Model;
 
-/// A word: whether its first raw character is `-`, whether that is `#`, and its value, in which quotes
-/// and escapes are resolved.
+/// The value of a word, in which quotes and escapes are resolved. A word that has none of them is borrowed.
 #[derive(Drop)]
-pub struct GrammarWord {
-    pub dashed: bool,
-    pub begins_with_hash: bool,
-    pub value: Text,
+pub struct WordText<'a> {
+    text: CowStr<'a>,
 }
 
-impl GrammarWord {
+impl<'a> Model for WordText<'a> {
+    ghost use Rattle.std.specs.Cow.{cow_str_bytes};
+    ghost use Rattle.std.specs.Prelude.{List, ℕ};
+
+    ghost Value = { List ℕ };
+
+    ghost view = { λ value. cow_str_bytes value.text };
+}
+
+impl<'a> WordText<'a> {
+    /// Reads the value of a raw word.
+    pub fn read(alloc: Global, word: &Word<'a>) -> Result<WordText<'a>, AllocError>
+        ensures { IfOk result (λ value. value ≡ word_value word.now.raw.now) }
+    {
+        let text = match word.plain() {
+            Some(text) => CowStr::Borrowed(text),
+            None => CowStr::Owned(unquote(alloc, word)?),
+        };
+        Ok(WordText { text })
+    }
+
+    /// Lends the value.
+    pub fn as_str(&self) -> &str
+        ensures { result.now ≡ self.now }
+    {
+        self.text.as_str()
+    }
+}
+
+/// A word: whether its first raw character is `-`, whether that is `#`, and its value.
+#[derive(Drop)]
+pub struct GrammarWord<'a> {
+    pub dashed: bool,
+    pub begins_with_hash: bool,
+    pub value: WordText<'a>,
+}
+
+impl<'a> GrammarWord<'a> {
     /// Reads a raw word.
-    pub fn read(alloc: Global, word: &Word) -> Result<GrammarWord, AllocError>
+    pub fn read(alloc: Global, word: &Word<'a>) -> Result<GrammarWord<'a>, AllocError>
         ensures { IfOk result (λ w. w ≡ spec.grammar_word (word_of word.now)) }
     {
         Ok(GrammarWord {
             dashed: word.dashed,
             begins_with_hash: begins_with_hash(word.raw),
-            value: Text::from_string(unquote(alloc, word)?),
+            value: WordText::read(alloc, word)?,
         })
     }
 }
@@ -44,7 +81,10 @@ fn begins_with_hash(raw: &str) -> bool
 }
 
 /// Reads raw words, in order.
-pub fn grammar_words(alloc: Global, words: &[Word]) -> Result<Vec<GrammarWord>, AllocError>
+pub fn grammar_words<'a>(
+    alloc: Global,
+    words: &[Word<'a>],
+) -> Result<Vec<GrammarWord<'a>>, AllocError>
     ensures { IfOk result (λ v. v.items ≡ map spec.grammar_word (map word_of words.now)) }
 {
     let mut read = Vec::with_capacity(alloc, words.len())?;
@@ -196,7 +236,7 @@ fn push_word(
 }
 
 /// The next word, if there is one and it is not dashed.
-fn offered(words: &[GrammarWord]) -> Option<&str>
+fn offered<'a>(words: &'a [GrammarWord<'_>]) -> Option<&'a str>
     ensures { option_copied result ≡ spec.offered words.now }
 {
     match words {

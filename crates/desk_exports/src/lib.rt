@@ -33,7 +33,7 @@ pub use boxed::Boxed;
 pub use entry::{BoxedMapping, Clients, Entry, Flavour, Mapping, Terms};
 pub use few::Few;
 pub use files::{Scope, read_file, read_whole};
-pub use grammar::{GrammarLine, GrammarWord};
+pub use grammar::{GrammarLine, GrammarWord, WordText};
 pub use lines::{fs_of_line, read_line};
 pub use options::{Keyword, Setting};
 pub use prints::fault_text;
