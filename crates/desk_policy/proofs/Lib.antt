@@ -5,3 +5,9 @@ pub mod GreatestWeight
 pub mod VerdictLines
 pub mod LeastLines
 pub mod AscendingRows
+pub mod Conflicts
+pub mod Contradicting
+pub mod ByKeys
+pub mod Places
+pub mod KeyClashes
+pub mod KeyPlaces

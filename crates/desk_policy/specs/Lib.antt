@@ -1,3 +1,5 @@
+pub mod Names
+pub mod PrivateNames
 pub mod Row
 pub mod Policy
 pub mod Weights
@@ -6,3 +8,5 @@ pub mod Prints
 pub mod Acting
 pub mod PrivatePolicy
 pub mod PrivateWeights
+pub mod Contradiction
+pub mod PrivateFirstLines

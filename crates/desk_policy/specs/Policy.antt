@@ -26,9 +26,9 @@ pub record IsContent (content : Content) : Type 0 where
 abbrev pub rows_of : Content → ℕ → List Row
 rows_of content fs = slice_index_or content.rows fs []
 
--- the lines in force of the entries that are placed in this file system, in their order
+-- the lines in force of the entries that are placed in this file system, in their order; no group and no host is listed
 abbrev pub rows_placed : List (FsId × Entry) → ℕ → List Row
-rows_placed placed fs = map (λ pair. row_of pair.1) (filter (λ pair. pair.0.0 == fs) placed)
+rows_placed placed fs = map (λ pair. row_of [] [] pair.1) (filter (λ pair. pair.0.0 == fs) placed)
 
 -- of two entries in one file system the later one has the greater line number; each file system may count its own lines
 abbrev pub EachFileAscends : List (FsId × Entry) → Type 0

@@ -12,18 +12,24 @@
 #![tactic(auto)]
 
 pub mod acting;
+pub mod contradiction;
+mod first_lines;
 pub mod laws;
+pub mod names;
 pub mod policy;
 pub mod prints;
 pub mod row;
+mod terms;
 pub mod verdict;
 mod weights;
 
 pub use acting::act_as;
+pub use contradiction::{Contradiction, contradiction_in};
 pub use laws::{
     addresses_are_unique, ascending_entries_ascend_in_each_file, each_has_its_lines,
     least_lines_are_named,
 };
+pub use names::addresses_of;
 pub use policy::Policy;
 pub use prints::verdict_text;
 pub use row::Row;

@@ -31,7 +31,8 @@ impl Model for Policy {
 impl Policy {
     /// Makes the policy with these file systems and the lines of these entries, each in the file system that is given
     /// with it. The lines of each file system come in the order of their numbers; file systems may each number their own
-    /// lines from 1, or share the numbers of one text. An entry of a file system that is not in the table is in none.
+    /// lines from 1, or share the numbers of one text. An entry of a file system that is not in the table is in none. No group and no
+    /// host is listed, so a written address stands for itself, and any other name for nothing.
     pub fn of_entries(
         alloc: Global,
         filesystems: FileSystems,
@@ -42,7 +43,7 @@ impl Policy {
     {
         let mut rows = empty_lists(alloc, &filesystems)?;
         for (fs, entry) in entries.into_vec() {
-            let row = Row::of_entry(alloc, entry)?;
+            let row = Row::without_tables(alloc, entry)?;
             add_row(&mut rows, fs, row)?;
         }
         Ok(Policy { filesystems, rows })

@@ -29,13 +29,13 @@ lists-length lists done n h = ap length h ∙ length-map-range_with_len (rows_pl
 
 module _ (lists : List (List Row)) (done : List (FsId × Entry)) (n : ℕ) (h : lists ≡ map (rows_placed done) (range_with_len 0 n)) (fs : FsId) (entry : Entry) where
   -- the list of the entry's file system, if there is one, gains its line
-  gains : (row : Row) → row ≡ row_of entry → with_row lists fs.0 row ≡ map (rows_placed (done ++ (fs, entry) ∷ [])) (range_with_len 0 n)
+  gains : (row : Row) → row ≡ row_of [] [] entry → with_row lists fs.0 row ≡ map (rows_placed (done ++ (fs, entry) ∷ [])) (range_with_len 0 n)
   gains row is = elim (cases_lt fs.0 (length lists)) [
     | inl lt ↦
         let below : fs.0 < n = omega (arith, lists-length lists done n h) in
         cond-true (ltb fs.0 (length lists)) _ _ (lt-ltb _ _ lt)
         ∙ ap (λ r. set lists fs.0 (get_or lists fs.0 [] ++ r ∷ [])) is
-        ∙ ap (λ ls. set ls fs.0 (get_or ls fs.0 [] ++ row_of entry ∷ [])) h
+        ∙ ap (λ ls. set ls fs.0 (get_or ls fs.0 [] ++ row_of [] [] entry ∷ [])) h
         ∙ sym (placed_within done (fs, entry) 0 n fs.0 [] below (zero-add fs.0))
     | inr over ↦
         cond-false (ltb fs.0 (length lists)) _ _ (le-ltb _ _ over)
