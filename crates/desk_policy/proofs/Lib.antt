@@ -11,3 +11,4 @@ pub mod ByKeys
 pub mod Places
 pub mod KeyClashes
 pub mod KeyPlaces
+pub mod Lesser

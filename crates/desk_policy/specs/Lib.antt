@@ -2,6 +2,7 @@ pub mod Names
 pub mod PrivateNames
 pub mod Row
 pub mod Policy
+pub mod Warning
 pub mod Weights
 pub mod Verdict
 pub mod Prints
@@ -10,3 +11,6 @@ pub mod PrivatePolicy
 pub mod PrivateWeights
 pub mod Contradiction
 pub mod PrivateFirstLines
+pub mod Unlisted
+pub mod Site
+pub mod SiteFault
