@@ -12,3 +12,5 @@ pub mod Places
 pub mod KeyClashes
 pub mod KeyPlaces
 pub mod Lesser
+pub mod FilesRead
+pub mod Chain

@@ -14,3 +14,5 @@ pub mod PrivateFirstLines
 pub mod Unlisted
 pub mod Site
 pub mod SiteFault
+pub mod Parsing
+pub mod PrivateParsing

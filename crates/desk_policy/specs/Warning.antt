@@ -1,5 +1,5 @@
 -- What the texts of a site are warned of: words that are accepted, but odd. (this project's own)
-use Rattle.std.specs.Prelude.{ℕ, ◌==◌, Bool, List, [], ◌∷◌, Option, Some, None, codes, is_some, length, if◌then◌else◌}
+use Rattle.std.specs.Prelude.{ℕ, ◌==◌, List, [], ◌∷◌, Option, Some, None, codes, is_some, length, if◌then◌else◌}
 use Rattle.std.specs.List.{flat_map}
 use Rattle.desk_text.specs.Address.{is_address, is_dotted}
 use Rattle.desk_text.specs.Bytes.{is_ipv6}

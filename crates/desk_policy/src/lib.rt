@@ -16,6 +16,7 @@ pub mod contradiction;
 mod first_lines;
 pub mod laws;
 pub mod names;
+pub mod parsing;
 pub mod policy;
 pub mod prints;
 pub mod row;
@@ -34,6 +35,7 @@ pub use laws::{
     least_lines_are_named,
 };
 pub use names::addresses_of;
+pub use parsing::{parse, parse_whole};
 pub use policy::Policy;
 pub use prints::verdict_text;
 pub use row::Row;

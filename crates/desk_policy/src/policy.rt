@@ -1,21 +1,23 @@
-//! A policy: the table of file systems, and the lines in force of each.
+//! A policy: the table of file systems, the lines in force of each, and the warnings of their texts.
 
 ghost use Rattle.std.specs.Prelude.{◌≡◌, List, [], IfOk, OnOk, length, replicate};
-ghost use Rattle.desk_policy.specs.Policy.{EachFileAscends, content_of, rows_of};
+ghost use Rattle.desk_policy.specs.Policy.{EachFileAscends, IsContent, content_of, rows_of};
 ghost use Rattle.desk_policy.specs.PrivatePolicy.{with_row};
 
 use crate::row::Row;
+use crate::warning::{Warning, push_whole};
 use desk_exports::Entry;
 use desk_tables::{FileSystems, FsId};
 use desk_text::Sequence;
 use std::alloc::{AllocError, Global};
 use std::marker::Model;
 
-/// The table of file systems, and the lines of each, in the order of their entries.
+/// The table of file systems, the lines of each, in the order of their entries, and the warnings of their texts.
 #[derive(Drop)]
 pub struct Policy {
     filesystems: FileSystems,
     rows: Vec<Sequence<Row>>,
+    warnings: Sequence<Warning>,
 }
 
 impl Model for Policy {
@@ -23,9 +25,9 @@ impl Model for Policy {
 
     ghost Value = { Content };
 
-    ghost view = { λ p. record { table = p.filesystems; rows = p.rows.items } };
+    ghost view = { λ p. record { table = p.filesystems; rows = p.rows.items; warnings = p.warnings } };
 
-    ghost invariant = { λ p. IsContent (record { table = p.filesystems; rows = p.rows.items }) };
+    ghost invariant = { λ p. IsContent (record { table = p.filesystems; rows = p.rows.items; warnings = p.warnings }) };
 }
 
 impl Policy {
@@ -42,11 +44,33 @@ impl Policy {
         ensures { IfOk result (λ policy. policy ≡ content_of filesystems entries) }
     {
         let mut rows = empty_lists(alloc, &filesystems)?;
+        let mut warnings = Sequence::new(alloc);
         for (fs, entry) in entries.into_vec() {
+            push_whole(alloc, &entry, &mut warnings)?;
             let row = Row::without_tables(alloc, entry)?;
             add_row(&mut rows, fs, row)?;
         }
-        Ok(Policy { filesystems, rows })
+        Ok(Policy {
+            filesystems,
+            rows,
+            warnings,
+        })
+    }
+
+    /// Makes the policy of these parts.
+    pub(crate) fn of_parts(
+        filesystems: FileSystems,
+        rows: Vec<Sequence<Row>>,
+        warnings: Sequence<Warning>,
+    ) -> Policy
+        requires { IsContent (record { table = filesystems; rows = rows.items; warnings = warnings }) }
+        ensures { result ≡ record { table = filesystems; rows = rows.items; warnings = warnings } }
+    {
+        Policy {
+            filesystems,
+            rows,
+            warnings,
+        }
     }
 
     /// Lends the lines of a file system, none if there is no such file system.
@@ -57,6 +81,14 @@ impl Policy {
             Some(list) => list.as_slice(),
             None => &[],
         }
+    }
+
+    /// Lends the warnings of the texts: those of the netgroup file, and then those of the exports files by mount point; of a
+    /// file in the order of its lines and of the words of each.
+    pub fn warnings(&self) -> &[Warning]
+        ensures { result.now ≡ self.now.warnings }
+    {
+        self.warnings.as_slice()
     }
 
     /// Lends the table of file systems.

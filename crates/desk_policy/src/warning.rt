@@ -1,6 +1,6 @@
 //! What the texts of a site are warned of: words that are accepted, but odd.
 
-ghost use Rattle.std.specs.Prelude.{◌≡◌, ◌++◌, IfOk, None, OnOk, Some, if◌then◌else◌};
+ghost use Rattle.std.specs.Prelude.{◌≡◌, [], ◌++◌, IfOk, None, OnOk, Some, codes, if◌then◌else◌};
 ghost use Rattle.std.specs.List.{flat_map};
 ghost use Rattle.desk_policy.specs.Warning as spec;
 ghost use Rattle.desk_policy.specs.declared.warning.WarningKind.TheVariants.{UnknownHost};
@@ -156,6 +156,19 @@ pub fn push_entry(
         ),
         Clients::Net(_, None) | Clients::World => Ok(()),
     }
+}
+
+/// Adds the warnings of the line of an entry in a whole exports text, with no group and no host listed.
+pub fn push_whole(
+    alloc: Global,
+    entry: &Entry,
+    warnings: &mut Sequence<Warning>,
+) -> Result<(), AllocError>
+    ensures { OnOk result (warnings.new ≡ warnings.old ++ spec.entry_warnings [] [] (codes "exports") entry.now) }
+{
+    let groups = Netgroups::new(alloc);
+    let hosts = Hosts::new(alloc);
+    push_entry(alloc, &groups, &hosts, "exports", entry, warnings)
 }
 
 /// Adds the warnings of the written names of a line.

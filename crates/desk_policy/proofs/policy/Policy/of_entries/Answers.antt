@@ -1,5 +1,7 @@
 use Rattle.std.proofs.Common.{◌≡◌, ◌<◌, ◌++◌, inl, inr, ℕ, ltb, List, [], ◌∷◌, length, get_or, set, map, sym, subst, ◌∙◌, ap, zero-add, arith}
+use Rattle.std.specs.Prelude.{codes}
 use Rattle.std.specs.List.{All, range_with_len}
+use Rattle.std.proofs.lemmas.Grind.{flat_map-append}
 use Rattle.std.proofs.lemmas.Bool.{cases_lt, cond-true, cond-false, lt-ltb, le-ltb}
 use Rattle.std.proofs.lemmas.List.{append_assoc, append-nil, nil_from_length}
 use Rattle.std.proofs.lemmas.List.FromFn.{length-map-range_with_len}
@@ -7,7 +9,9 @@ use Rattle.desk_tables.specs.declared.filesystems.FsId.{FsId}
 use Rattle.desk_exports.specs.declared.entry.Entry.{Entry}
 use Rattle.desk_policy.specs.declared.row.Row.{Row}
 use Rattle.desk_policy.specs.Policy.{AreAscending, Content, content_of, rows_placed}
+use Rattle.desk_policy.specs.declared.warning.Warning.{Warning}
 use Rattle.desk_policy.specs.Row.{row_of}
+use Rattle.desk_policy.specs.Warning.{entry_warnings, whole_warnings}
 use Rattle.desk_policy.proofs.AscendingRows.{each_ascends}
 use Rattle.desk_policy.specs.PrivatePolicy.{with_row}
 use Rattle.desk_policy.proofs.EntriesByFileSystem.{none_placed, placed_beyond, placed_within}
@@ -17,6 +21,7 @@ use Rattle.desk_policy.proofs.policy.Policy.of_entries.Goals.{After-drop-fs-iter
 pub loop-fs-init : goal.loop-fs-init
 loop-fs-init c = record {
   entries = c.into_iter-fs-iterator.ensures.into_iter_gives.0 ∙ c.into_vec-fs-items.ensures;
+  warned = c.new-warnings.ensures;
   lists = c.in_ok-rows.ensures ∙ none_placed 0 (length c.args.filesystems);
 }
 
@@ -42,19 +47,28 @@ module _ (lists : List (List Row)) (done : List (FsId × Entry)) (n : ℕ) (h : 
         ∙ h ∙ sym (placed_beyond done (fs, entry) 0 n (inr (omega (arith, lists-length lists done n h))))
   ]
 
+warned_more : (done : List (FsId × Entry)) (pair : FsId × Entry) → whole_warnings (done ++ pair ∷ []) ≡ whole_warnings done ++ entry_warnings [] [] (codes "exports") pair.1
+warned_more done pair =
+    flat_map-append (λ (p : FsId × Entry). entry_warnings [] [] (codes "exports") p.1) done (pair ∷ [])
+    ∙ ap (λ ws. whole_warnings done ++ ws) (append-nil (entry_warnings [] [] (codes "exports") pair.1))
+
 pub loop-fs-preserved : goal.loop-fs-preserved
 loop-fs-preserved c =
     let keeps = c.loop-fs.invariant in
     record {
       entries = one_more c.loop-fs.yielded _ c.next.new.self.rest.items _ (c.in-Some.fs, c.in-Some.entry) c.in-Some.ensures.steps.0 keeps.entries;
       lists = c.in_ok-add_row.ensures ∙ gains c.loop-fs.rows.items c.loop-fs.yielded (length c.args.filesystems) keeps.lists c.in-Some.fs c.in-Some.entry c.in_ok-row.row c.in_ok-row.ensures;
+      warned = c.in_ok-push_whole.ensures ∙ ap (λ ws. ws ++ entry_warnings [] [] (codes "exports") c.in-Some.entry) keeps.warned ∙ sym (warned_more c.loop-fs.yielded (c.in-Some.fs, c.in-Some.entry));
     }
+
+all_done : (c : After-drop-fs-iterator-2) → c.loop-fs.yielded ≡ c.args.entries
+all_done c =
+    let left = nil_from_length c.loop-fs.fs-iterator.rest.items (sym c.loop-fs.fs-iterator.rest.ok.0 ∙ c.in-None.ensures.steps.0) in
+    sym (append-nil c.loop-fs.yielded) ∙ ap (λ xs. c.loop-fs.yielded ++ xs) (sym left) ∙ c.loop-fs.invariant.entries
 
 all_lists : (c : After-drop-fs-iterator-2) → c.loop-fs.rows.items ≡ map (rows_placed c.args.entries) (range_with_len 0 (length c.args.filesystems))
 all_lists c =
-    let left = nil_from_length c.loop-fs.fs-iterator.rest.items (sym c.loop-fs.fs-iterator.rest.ok.0 ∙ c.in-None.ensures.steps.0) in
-    let done : c.loop-fs.yielded ≡ c.args.entries = sym (append-nil c.loop-fs.yielded) ∙ ap (λ xs. c.loop-fs.yielded ++ xs) (sym left) ∙ c.loop-fs.invariant.entries in
-    c.loop-fs.invariant.lists ∙ ap (λ (entries : List (FsId × Entry)). map (rows_placed entries) (range_with_len 0 (length c.args.filesystems))) done
+    c.loop-fs.invariant.lists ∙ ap (λ (entries : List (FsId × Entry)). map (rows_placed entries) (range_with_len 0 (length c.args.filesystems))) (all_done c)
 
 pub invariant_of-result : goal.invariant_of-result
 invariant_of-result c = record {
@@ -64,4 +78,6 @@ invariant_of-result c = record {
 
 pub returns : goal.returns
 unfolding content_of
-returns c = let P : List (List Row) → Content = λ rows. record { table = c.args.filesystems; rows = rows } in ap P (all_lists c)
+returns c =
+    let P : List (List Row) → List Warning → Content = λ rows warnings. record { table = c.args.filesystems; rows = rows; warnings = warnings } in
+    ap (λ rows. P rows c.loop-fs.warnings) (all_lists c) ∙ ap (P _) (c.loop-fs.invariant.warned ∙ ap whole_warnings (all_done c))
