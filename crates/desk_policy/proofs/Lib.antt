@@ -14,3 +14,5 @@ pub mod KeyPlaces
 pub mod Lesser
 pub mod FilesRead
 pub mod Chain
+pub mod Compiling
+pub mod SlotLemmas

@@ -16,3 +16,4 @@ pub mod Site
 pub mod SiteFault
 pub mod Parsing
 pub mod PrivateParsing
+pub mod View

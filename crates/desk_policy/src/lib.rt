@@ -25,6 +25,7 @@ pub mod site_fault;
 mod terms;
 pub mod unlisted;
 pub mod verdict;
+pub mod view;
 pub mod warning;
 mod weights;
 
@@ -43,4 +44,5 @@ pub use site::Site;
 pub use site_fault::{SiteFault, SiteRule};
 pub use unlisted::unlisted_line;
 pub use verdict::{Denial, Verdict, decide};
+pub use view::{Plain, PolicyView, compile, least_contradiction};
 pub use warning::{Warning, WarningKind};

@@ -183,7 +183,7 @@ fn push_file(
 }
 
 /// Makes the name of the exports file of a mount point.
-fn exports_name(alloc: Global, mount: &Path) -> Result<String, AllocError>
+pub(crate) fn exports_name(alloc: Global, mount: &Path) -> Result<String, AllocError>
     ensures { IfOk result (λ name. string_bytes name ≡ exports_name mount.now) }
 {
     let mount = mount.text();

@@ -1,7 +1,7 @@
 //! A policy: the table of file systems, the lines in force of each, and the warnings of their texts.
 
-ghost use Rattle.std.specs.Prelude.{◌≡◌, List, [], IfOk, OnOk, length, replicate};
-ghost use Rattle.desk_policy.specs.Policy.{EachFileAscends, IsContent, content_of, rows_of};
+ghost use Rattle.std.specs.Prelude.{◌≡◌, All, List, [], IfOk, OnOk, length, replicate};
+ghost use Rattle.desk_policy.specs.Policy.{AreAscending, EachFileAscends, IsContent, content_of, rows_of};
 ghost use Rattle.desk_policy.specs.PrivatePolicy.{with_row};
 
 use crate::row::Row;
@@ -81,6 +81,15 @@ impl Policy {
             Some(list) => list.as_slice(),
             None => &[],
         }
+    }
+
+    /// Lends the lines of each file system, in the order of the table.
+    pub fn lists(&self) -> &[Sequence<Row>]
+        ensures lists { result.now ≡ self.now.rows }
+        ensures each { length result.now ≡ length self.now.table }
+        ensures ascending { All AreAscending result.now }
+    {
+        self.rows.as_slice()
     }
 
     /// Lends the warnings of the texts: those of the netgroup file, and then those of the exports files by mount point; of a
