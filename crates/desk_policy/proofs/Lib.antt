@@ -16,3 +16,4 @@ pub mod FilesRead
 pub mod Chain
 pub mod Compiling
 pub mod SlotLemmas
+mod SiteExamples
