@@ -5,3 +5,15 @@ pub mod GreatestWeight
 pub mod VerdictLines
 pub mod LeastLines
 pub mod AscendingRows
+pub mod Conflicts
+pub mod Contradicting
+pub mod ByKeys
+pub mod Places
+pub mod KeyClashes
+pub mod KeyPlaces
+pub mod Lesser
+pub mod FilesRead
+pub mod Chain
+pub mod Compiling
+pub mod SlotLemmas
+mod SiteExamples

@@ -8,14 +8,14 @@ use Rattle.desk_exports.specs.declared.entry.Clients.{Clients}
 use Rattle.desk_exports.specs.declared.entry.Clients.TheVariants.{Hosts, World}
 use Rattle.desk_exports.specs.declared.entry.Flavour.TheVariants.{Sys}
 use Rattle.desk_exports.specs.declared.entry.Mapping.TheVariants.{Root}
-use Rattle.desk_policy.specs.Row.{addresses_of_names}
+use Rattle.desk_policy.specs.Names.{addresses_of_names}
 use Rattle.desk_policy.specs.Policy.{Content, content_of}
 use Rattle.desk_policy.specs.Weights.{selected}
 use Rattle.desk_policy.specs.Verdict.{verdict_of}
 use Rattle.desk_policy.specs.Prints.{verdict_line}
 
 -- numbers put into order, each once
-ordered_once : addresses_of_names (codes "0.0.1.0" ∷ codes "oldhost" ∷ codes "0.0.0.9" ∷ codes "0.0.1.0" ∷ codes "0.0.0.09" ∷ codes "fe80::1" ∷ []) ≡ 9 ∷ 256 ∷ []
+ordered_once : addresses_of_names [] [] (codes "0.0.1.0" ∷ codes "oldhost" ∷ codes "0.0.0.9" ∷ codes "0.0.1.0" ∷ codes "0.0.0.09" ∷ codes "fe80::1" ∷ []) ≡ 9 ∷ 256 ∷ []
 ordered_once = refl
 
 abbrev mount : List (List ℕ) → Mount

@@ -1,4 +1,4 @@
--- What a policy has in force: the table of file systems, and the lines of each.
+-- What a policy has in force: the table of file systems, the lines of each, and what its texts are warned of.
 use Rattle.std.specs.Prelude.{◌≡◌, ℕ, ◌<◌, ◌==◌, List, [], nat_lt, length, map, filter, slice_index_or, if◌then◌else◌}
 use Rattle.std.specs.List.{All, AllPairs, range_with_len}
 use Rattle.desk_tables.specs.declared.filesystems.FsId.{FsId}
@@ -6,12 +6,14 @@ use Rattle.desk_tables.specs.declared.filesystems.Mount.{Mount}
 use Rattle.desk_exports.specs.Files.{EntriesAscend}
 use Rattle.desk_exports.specs.declared.entry.Entry.{Entry}
 use Rattle.desk_policy.specs.declared.row.Row.{Row}
+use Rattle.desk_policy.specs.declared.warning.Warning.{Warning}
 use Rattle.desk_policy.specs.Row.{row_of}
 
--- the table of file systems, and the lines of each file system
+-- the table of file systems, the lines of each file system, and the warnings of their texts
 pub record Content : Type 0 where
   pub table : List Mount
   pub rows : List (List Row)
+  pub warnings : List Warning
 
 -- lines in the order of their numbers, each number once
 abbrev pub AreAscending : List Row → Type 0
@@ -26,9 +28,9 @@ pub record IsContent (content : Content) : Type 0 where
 abbrev pub rows_of : Content → ℕ → List Row
 rows_of content fs = slice_index_or content.rows fs []
 
--- the lines in force of the entries that are placed in this file system, in their order
+-- the lines in force of the entries that are placed in this file system, in their order; no group and no host is listed
 abbrev pub rows_placed : List (FsId × Entry) → ℕ → List Row
-rows_placed placed fs = map (λ pair. row_of pair.1) (filter (λ pair. pair.0.0 == fs) placed)
+rows_placed placed fs = map (λ pair. row_of [] [] pair.1) (filter (λ pair. pair.0.0 == fs) placed)
 
 -- of two entries in one file system the later one has the greater line number; each file system may count its own lines
 abbrev pub EachFileAscends : List (FsId × Entry) → Type 0
@@ -38,9 +40,13 @@ EachFileAscends placed = AllPairs (λ pair later. pair.0.0 ≡ later.0.0 → pai
 abbrev pub AscendingEntriesAscendInEachFile : Type 0
 AscendingEntriesAscendInEachFile = (placed : List (FsId × Entry)) → EntriesAscend placed → EachFileAscends placed
 
--- each file system has the lines of the entries that are placed in it
+-- each file system has the lines of the entries that are placed in it; nothing is warned of
 unfoldable pub content_of : List Mount → List (FsId × Entry) → Content
-content_of table placed = record { table = table; rows = map (rows_placed placed) (range_with_len 0 (length table)) }
+content_of table placed = record { table = table; rows = map (rows_placed placed) (range_with_len 0 (length table)); warnings = [] }
+
+-- the same lines, with these warnings
+abbrev pub with_warnings : Content → List Warning → Content
+with_warnings content warnings = record { table = content.table; rows = content.rows; warnings = warnings }
 
 -- the lines in force of a file system of the table are those placed in it, and there are none beyond the table
 abbrev pub EachHasItsLines : Type 0

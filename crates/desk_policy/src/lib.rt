@@ -12,19 +12,37 @@
 #![tactic(auto)]
 
 pub mod acting;
+pub mod contradiction;
+mod first_lines;
 pub mod laws;
+pub mod names;
+pub mod parsing;
 pub mod policy;
 pub mod prints;
 pub mod row;
+pub mod site;
+pub mod site_fault;
+mod terms;
+pub mod unlisted;
 pub mod verdict;
+pub mod view;
+pub mod warning;
 mod weights;
 
 pub use acting::act_as;
+pub use contradiction::{Contradiction, contradiction_in};
 pub use laws::{
     addresses_are_unique, ascending_entries_ascend_in_each_file, each_has_its_lines,
     least_lines_are_named,
 };
+pub use names::addresses_of;
+pub use parsing::{parse, parse_whole};
 pub use policy::Policy;
 pub use prints::verdict_text;
 pub use row::Row;
+pub use site::Site;
+pub use site_fault::{SiteFault, SiteRule};
+pub use unlisted::unlisted_line;
 pub use verdict::{Denial, Verdict, decide};
+pub use view::{Plain, PolicyView, compile, least_contradiction};
+pub use warning::{Warning, WarningKind};

@@ -1,21 +1,23 @@
-//! A policy: the table of file systems, and the lines in force of each.
+//! A policy: the table of file systems, the lines in force of each, and the warnings of their texts.
 
-ghost use Rattle.std.specs.Prelude.{◌≡◌, List, [], IfOk, OnOk, length, replicate};
-ghost use Rattle.desk_policy.specs.Policy.{EachFileAscends, content_of, rows_of};
+ghost use Rattle.std.specs.Prelude.{◌≡◌, All, List, [], IfOk, OnOk, length, replicate};
+ghost use Rattle.desk_policy.specs.Policy.{AreAscending, EachFileAscends, IsContent, content_of, rows_of, with_warnings};
 ghost use Rattle.desk_policy.specs.PrivatePolicy.{with_row};
 
 use crate::row::Row;
+use crate::warning::Warning;
 use desk_exports::{Boxed, Entry};
 use desk_tables::{FileSystems, FsId};
 use desk_text::Sequence;
 use std::alloc::{AllocError, Global};
 use std::marker::Model;
 
-/// The table of file systems, and the lines of each, in the order of their entries.
+/// The table of file systems, the lines of each, in the order of their entries, and the warnings of their texts.
 #[derive(Drop)]
 pub struct Policy {
     filesystems: FileSystems,
     rows: Vec<Sequence<Row>>,
+    warnings: Sequence<Warning>,
 }
 
 impl Model for Policy {
@@ -23,15 +25,17 @@ impl Model for Policy {
 
     ghost Value = { Content };
 
-    ghost view = { λ p. record { table = p.filesystems; rows = p.rows.items } };
+    ghost view = { λ p. record { table = p.filesystems; rows = p.rows.items; warnings = p.warnings } };
 
-    ghost invariant = { λ p. IsContent (record { table = p.filesystems; rows = p.rows.items }) };
+    ghost invariant = { λ p. IsContent (record { table = p.filesystems; rows = p.rows.items; warnings = p.warnings }) };
 }
 
 impl Policy {
     /// Makes the policy with these file systems and the lines of these entries, each in the file system that is given
     /// with it. The lines of each file system come in the order of their numbers; file systems may each number their own
-    /// lines from 1, or share the numbers of one text. An entry of a file system that is not in the table is in none.
+    /// lines from 1, or share the numbers of one text. An entry of a file system that is not in the table is in none. No
+    /// group and no host is listed, so a written address stands for itself, and any other name for nothing. There are no
+    /// warnings.
     pub fn of_entries(
         alloc: Global,
         filesystems: FileSystems,
@@ -42,10 +46,47 @@ impl Policy {
     {
         let mut rows = empty_lists(alloc, &filesystems)?;
         for (fs, entry) in entries.into_vec() {
-            let row = Row::of_entry(alloc, entry)?;
+            let row = Row::without_tables(alloc, entry)?;
             add_row(&mut rows, fs, row)?;
         }
-        Ok(Policy { filesystems, rows })
+        let warnings = Sequence::new(alloc);
+        Ok(Policy {
+            filesystems,
+            rows,
+            warnings,
+        })
+    }
+
+    /// Makes the policy with these warnings in place of its own.
+    pub(crate) fn with_warnings(self, warnings: Sequence<Warning>) -> Policy
+        ensures { result ≡ with_warnings self warnings }
+    {
+        let Policy {
+            filesystems,
+            rows,
+            ..
+        } = self;
+        Policy {
+            filesystems,
+            rows,
+            warnings,
+        }
+    }
+
+    /// Makes the policy of these parts.
+    pub(crate) fn of_parts(
+        filesystems: FileSystems,
+        rows: Vec<Sequence<Row>>,
+        warnings: Sequence<Warning>,
+    ) -> Policy
+        requires { IsContent (record { table = filesystems; rows = rows.items; warnings = warnings }) }
+        ensures { result ≡ record { table = filesystems; rows = rows.items; warnings = warnings } }
+    {
+        Policy {
+            filesystems,
+            rows,
+            warnings,
+        }
     }
 
     /// Lends the lines of a file system, none if there is no such file system.
@@ -56,6 +97,23 @@ impl Policy {
             Some(list) => list.as_slice(),
             None => &[],
         }
+    }
+
+    /// Lends the lines of each file system, in the order of the table.
+    pub fn lists(&self) -> &[Sequence<Row>]
+        ensures lists { result.now ≡ self.now.rows }
+        ensures each { length result.now ≡ length self.now.table }
+        ensures ascending { All AreAscending result.now }
+    {
+        self.rows.as_slice()
+    }
+
+    /// Lends the warnings of the texts: those of the netgroup file, and then those of the exports files by mount point; of a
+    /// file in the order of its lines and of the words of each.
+    pub fn warnings(&self) -> &[Warning]
+        ensures { result.now ≡ self.now.warnings }
+    {
+        self.warnings.as_slice()
     }
 
     /// Lends the table of file systems.

@@ -1,12 +1,14 @@
 //! The lines in force: an entry, and the addresses for which its written names stand.
 
-ghost use Rattle.std.specs.Prelude.{◌≡◌, IfOk, map};
-ghost use Rattle.std.specs.List.{flat_map};
-ghost use Rattle.desk_text.specs.Address.{number_of, read_addr};
-ghost use Rattle.desk_policy.specs.Row.{addresses_of_names, names_of, number_read, row_of};
+ghost use Rattle.std.specs.Prelude.{◌≡◌, [], IfOk};
+ghost use Rattle.desk_policy.specs.Names.{addresses_of_names};
+ghost use Rattle.desk_policy.specs.Row.{names_of, row_of};
 
+use crate::names::addresses_of_names;
 use desk_exports::{Boxed, Clients, Entry};
-use desk_text::{Addr, AddrSet, Text};
+use desk_netgroup::Netgroups;
+use desk_tables::Hosts;
+use desk_text::AddrSet;
 use std::alloc::{AllocError, Global};
 
 /// A line of an exports file, with the addresses for which its written names stand.
@@ -17,35 +19,41 @@ pub struct Row {
 }
 
 impl Row {
-    /// Makes the line in force of an entry. No table of hosts or groups is listed, so a written address stands for
-    /// itself, and any other name for nothing.
-    pub fn of_entry(alloc: Global, entry: Boxed<Entry>) -> Result<Row, AllocError>
-        ensures { IfOk result (λ row. row ≡ row_of entry) }
+    /// Makes the line in force of an entry.
+    pub fn of_entry(
+        alloc: Global,
+        groups: &Netgroups,
+        hosts: &Hosts,
+        entry: Boxed<Entry>,
+    ) -> Result<Row, AllocError>
+        ensures { IfOk result (λ row. row ≡ row_of groups.now hosts.now entry) }
     {
-        let addrs = addresses_of(alloc, &entry.clients)?;
+        let addrs = addresses_of_clients(alloc, groups, hosts, &entry.clients)?;
         Ok(Row { entry, addrs })
+    }
+
+    /// Makes the line in force of an entry if no group and no host is listed: a written address stands for itself, and any
+    /// other name for nothing.
+    pub fn without_tables(alloc: Global, entry: Boxed<Entry>) -> Result<Row, AllocError>
+        ensures { IfOk result (λ row. row ≡ row_of [] [] entry) }
+    {
+        let groups = Netgroups::new(alloc);
+        let hosts = Hosts::new(alloc);
+        Row::of_entry(alloc, &groups, &hosts, entry)
     }
 }
 
 /// Finds the addresses for which the written names of these clients stand.
-fn addresses_of(alloc: Global, clients: &Clients) -> Result<AddrSet, AllocError>
-    ensures { IfOk result (λ addrs. addrs ≡ addresses_of_names (names_of clients.now)) }
+fn addresses_of_clients(
+    alloc: Global,
+    groups: &Netgroups,
+    hosts: &Hosts,
+    clients: &Clients,
+) -> Result<AddrSet, AllocError>
+    ensures { IfOk result (λ addresses. addresses ≡ addresses_of_names groups.now hosts.now (names_of clients.now)) }
 {
     match clients {
-        Clients::Hosts(names) => Ok(AddrSet::from_vec(written_addresses(alloc, names.as_slice())?)),
+        Clients::Hosts(names) => addresses_of_names(alloc, groups, hosts, names.as_slice()),
         Clients::Net(_, _) | Clients::Net6(_) | Clients::World => Ok(AddrSet::new(alloc)),
     }
-}
-
-/// Finds the addresses that the names write, in the order of the names.
-fn written_addresses(alloc: Global, names: &[Text]) -> Result<Vec<Addr>, AllocError>
-    ensures { IfOk result (λ v. map number_of v.items ≡ flat_map (λ name. number_read (read_addr name)) names.now) }
-{
-    let mut addresses = Vec::new(alloc);
-    for name in names {
-        if let Ok(address) = Addr::read(name.as_str()) {
-            addresses.push(address)?;
-        }
-    }
-    Ok(addresses)
 }

@@ -7,12 +7,13 @@ use Rattle.desk_tables.specs.declared.filesystems.FsId.{FsId}
 use Rattle.desk_exports.specs.declared.entry.Entry.{Entry}
 use Rattle.desk_policy.specs.declared.row.Row.{Row}
 use Rattle.desk_policy.specs.Policy.{AreAscending, Content, content_of, rows_placed}
+use Rattle.desk_policy.specs.declared.warning.Warning.{Warning}
 use Rattle.desk_policy.specs.Row.{row_of}
 use Rattle.desk_policy.proofs.AscendingRows.{each_ascends}
 use Rattle.desk_policy.specs.PrivatePolicy.{with_row}
 use Rattle.desk_policy.proofs.EntriesByFileSystem.{none_placed, placed_beyond, placed_within}
 use Rattle.desk_policy.proofs.policy.Policy.of_entries.Goals as goal
-use Rattle.desk_policy.proofs.policy.Policy.of_entries.Goals.{After-drop-fs-iterator-2}
+use Rattle.desk_policy.proofs.policy.Policy.of_entries.Goals.{After-new-warnings}
 
 pub loop-fs-init : goal.loop-fs-init
 loop-fs-init c = record {
@@ -29,13 +30,13 @@ lists-length lists done n h = ap length h ∙ length-map-range_with_len (rows_pl
 
 module _ (lists : List (List Row)) (done : List (FsId × Entry)) (n : ℕ) (h : lists ≡ map (rows_placed done) (range_with_len 0 n)) (fs : FsId) (entry : Entry) where
   -- the list of the entry's file system, if there is one, gains its line
-  gains : (row : Row) → row ≡ row_of entry → with_row lists fs.0 row ≡ map (rows_placed (done ++ (fs, entry) ∷ [])) (range_with_len 0 n)
+  gains : (row : Row) → row ≡ row_of [] [] entry → with_row lists fs.0 row ≡ map (rows_placed (done ++ (fs, entry) ∷ [])) (range_with_len 0 n)
   gains row is = elim (cases_lt fs.0 (length lists)) [
     | inl lt ↦
         let below : fs.0 < n = omega (arith, lists-length lists done n h) in
         cond-true (ltb fs.0 (length lists)) _ _ (lt-ltb _ _ lt)
         ∙ ap (λ r. set lists fs.0 (get_or lists fs.0 [] ++ r ∷ [])) is
-        ∙ ap (λ ls. set ls fs.0 (get_or ls fs.0 [] ++ row_of entry ∷ [])) h
+        ∙ ap (λ ls. set ls fs.0 (get_or ls fs.0 [] ++ row_of [] [] entry ∷ [])) h
         ∙ sym (placed_within done (fs, entry) 0 n fs.0 [] below (zero-add fs.0))
     | inr over ↦
         cond-false (ltb fs.0 (length lists)) _ _ (le-ltb _ _ over)
@@ -50,11 +51,14 @@ loop-fs-preserved c =
       lists = c.in_ok-add_row.ensures ∙ gains c.loop-fs.rows.items c.loop-fs.yielded (length c.args.filesystems) keeps.lists c.in-Some.fs c.in-Some.entry c.in_ok-row.row c.in_ok-row.ensures;
     }
 
-all_lists : (c : After-drop-fs-iterator-2) → c.loop-fs.rows.items ≡ map (rows_placed c.args.entries) (range_with_len 0 (length c.args.filesystems))
-all_lists c =
+all_done : (c : After-new-warnings) → c.loop-fs.yielded ≡ c.args.entries
+all_done c =
     let left = nil_from_length c.loop-fs.fs-iterator.rest.items (sym c.loop-fs.fs-iterator.rest.ok.0 ∙ c.in-None.ensures.steps.0) in
-    let done : c.loop-fs.yielded ≡ c.args.entries = sym (append-nil c.loop-fs.yielded) ∙ ap (λ xs. c.loop-fs.yielded ++ xs) (sym left) ∙ c.loop-fs.invariant.entries in
-    c.loop-fs.invariant.lists ∙ ap (λ (entries : List (FsId × Entry)). map (rows_placed entries) (range_with_len 0 (length c.args.filesystems))) done
+    sym (append-nil c.loop-fs.yielded) ∙ ap (λ xs. c.loop-fs.yielded ++ xs) (sym left) ∙ c.loop-fs.invariant.entries
+
+all_lists : (c : After-new-warnings) → c.loop-fs.rows.items ≡ map (rows_placed c.args.entries) (range_with_len 0 (length c.args.filesystems))
+all_lists c =
+    c.loop-fs.invariant.lists ∙ ap (λ (entries : List (FsId × Entry)). map (rows_placed entries) (range_with_len 0 (length c.args.filesystems))) (all_done c)
 
 pub invariant_of-result : goal.invariant_of-result
 invariant_of-result c = record {
@@ -64,4 +68,6 @@ invariant_of-result c = record {
 
 pub returns : goal.returns
 unfolding content_of
-returns c = let P : List (List Row) → Content = λ rows. record { table = c.args.filesystems; rows = rows } in ap P (all_lists c)
+returns c =
+    let P : List (List Row) → List Warning → Content = λ rows warnings. record { table = c.args.filesystems; rows = rows; warnings = warnings } in
+    ap (λ rows. P rows c.new-warnings.result) (all_lists c) ∙ ap (P _) c.new-warnings.ensures

@@ -1,0 +1,130 @@
+-- The exports files that were read so far, and the ones behind them.
+use Rattle.std.proofs.Common.{◌≡◌, ◌<◌, ◌+◌, ℕ, suc, List, [], ◌∷◌, ◌++◌, All, Result, Ok, Err, add-one, ap, append_assoc, arith, drop, get_or, length, length-append, map, refl, subst, sym, ◌∙◌}
+use Rattle.std.specs.List.{flat_map}
+use Rattle.std.proofs.Math.Seq.{drop-cons}
+use Rattle.std.proofs.lemmas.Grind.{flat_map-append}
+use Rattle.std.proofs.lemmas.List.{append-nil, get_or-map, length-map, map-append}
+use Rattle.std.proofs.lemmas.List.Elements.{All-push}
+use Rattle.desk_tables.specs.declared.filesystems.Mount.{Mount}
+use Rattle.desk_tables.specs.declared.hosts.HostRow.{HostRow}
+use Rattle.desk_netgroup.specs.declared.group_line.GroupLine.{GroupLine}
+use Rattle.desk_exports.specs.Files.{FileAscends}
+use Rattle.desk_exports.specs.declared.entry.Entry.{Entry}
+use Rattle.desk_policy.specs.Parsing.{content_with, ExportsFile, read_exports, read_files, then_read}
+use Rattle.desk_policy.specs.Policy.{AreAscending, Content, IsContent}
+use Rattle.desk_policy.specs.PrivateParsing.{AddsFile, AddsFiles}
+use Rattle.desk_policy.specs.Row.{row_of}
+use Rattle.desk_policy.specs.Site.{SiteTexts}
+use Rattle.desk_policy.specs.Warning.{netgroup_warnings}
+use Rattle.desk_policy.specs.declared.parsing.Listed.{Listed}
+use Rattle.desk_policy.specs.declared.row.Row.{Row}
+use Rattle.desk_policy.specs.declared.site_fault.SiteFault.{SiteFault}
+use Rattle.desk_policy.specs.declared.warning.Warning.{Warning}
+
+-- the lines of entries that ascend do so
+pub file_ascends : (groups : List GroupLine) (hosts : List HostRow) (entries : List Entry) → FileAscends entries → AreAscending (map (row_of groups hosts) entries)
+file_ascends groups hosts [] up i j d less below = absurd (omega arith)
+file_ascends groups hosts (first ∷ others) up i j d less below =
+    let all : List Entry = first ∷ others in
+    let within : j < length all = omega (arith, length-map all (row_of groups hosts)) in
+    let before = up i j first less within in
+    let earlier = ap (λ (row : Row). row.entry.line) (get_or-map (row_of groups hosts) all i first d (omega arith)) in
+    let later = ap (λ (row : Row). row.entry.line) (get_or-map (row_of groups hosts) all j first d within) in
+    omega arith
+
+abbrev pub and_then_more : List ExportsFile → List ExportsFile → Result (List ExportsFile) SiteFault
+and_then_more files more = Ok (files ++ more)
+
+-- so many files were read and added, and what all give hangs on the ones behind them
+pub record FilesRead (texts : SiteTexts) (table : List Mount) (listed : Listed) (count : ℕ) (rows rows' : List (List Row)) (warnings warnings' : List Warning) : Type 0 where
+  pub files : List ExportsFile
+  pub is : read_files texts table listed 0 table ≡ then_read (read_files texts table listed count (drop count table)) (and_then_more files)
+  pub each : length files ≡ count
+  pub lines : rows' ≡ rows ++ map (λ file. file.rows) files
+  pub warned : warnings' ≡ warnings ++ flat_map (λ file. file.warnings) files
+  pub ascending : All (λ file. AreAscending file.rows) files
+
+joined : (files : List ExportsFile) (file : ExportsFile) (rest : Result (List ExportsFile) SiteFault)
+    → then_read (then_read rest (λ more. Ok (file ∷ more))) (and_then_more files) ≡ then_read rest (and_then_more (files ++ file ∷ []))
+joined files file (Ok more) = ap Ok (sym (append_assoc files (file ∷ []) more))
+joined files file (Err fault) = refl
+
+nothing_more : (rest : Result (List ExportsFile) SiteFault) → rest ≡ then_read rest (and_then_more [])
+nothing_more (Ok more) = refl
+nothing_more (Err fault) = refl
+
+module _ (texts : SiteTexts) (table : List Mount) (listed : Listed) where
+  abbrev one : ℕ → Mount → Result ExportsFile SiteFault
+  one place mount = read_exports texts table listed place mount.path
+
+  pub none_read : (rows : List (List Row)) (warnings : List Warning) → FilesRead texts table listed 0 rows rows warnings warnings
+  none_read rows warnings = record {
+    files = [];
+    is = nothing_more (read_files texts table listed 0 table);
+    each = refl;
+    lines = sym (append-nil rows);
+    warned = sym (append-nil warnings);
+    ascending = λ i d below. absurd (omega arith);
+  }
+
+  module _ (i : ℕ) (mount : Mount) (below : i < length table) (at : mount ≡ get_or table i mount) where
+    behind : drop i table ≡ mount ∷ drop (i + 1) table
+    behind = drop-cons table i mount below ∙ ap (λ m. m ∷ drop (suc i) table) (sym at) ∙ ap (λ n. mount ∷ drop n table) (sym (add-one i))
+
+    pub one_read : (rows rows' rows'' : List (List Row)) (warnings warnings' warnings'' : List Warning) → FilesRead texts table listed i rows rows' warnings warnings'
+        → AddsFile (one i mount) rows' rows'' warnings' warnings'' → FilesRead texts table listed (i + 1) rows rows'' warnings warnings''
+    one_read rows rows' rows'' warnings warnings' warnings'' so_far adds = record {
+      files = so_far.files ++ adds.file ∷ [];
+      is = so_far.is
+          ∙ ap (λ mounts. then_read (read_files texts table listed i mounts) (and_then_more so_far.files)) behind
+          ∙ ap (λ file. then_read (then_read file (λ f. then_read (read_files texts table listed (i + 1) (drop (i + 1) table)) (λ more. Ok (f ∷ more)))) (and_then_more so_far.files)) adds.is
+          ∙ joined so_far.files adds.file (read_files texts table listed (i + 1) (drop (i + 1) table));
+      each = length-append so_far.files (adds.file ∷ []) ∙ ap (λ n. n + 1) so_far.each;
+      lines = adds.lines ∙ ap (λ rs. rs ++ adds.file.rows ∷ []) so_far.lines ∙ append_assoc rows (map (λ (f : ExportsFile). f.rows) so_far.files) (adds.file.rows ∷ [])
+          ∙ ap (λ rs. rows ++ rs) (sym (map-append (λ (f : ExportsFile). f.rows) so_far.files (adds.file ∷ [])));
+      warned = adds.warned ∙ ap (λ ws. ws ++ adds.file.warnings) so_far.warned ∙ append_assoc warnings (flat_map (λ (f : ExportsFile). f.warnings) so_far.files) adds.file.warnings
+          ∙ ap (λ ws. warnings ++ ws) (ap (λ ws. flat_map (λ (f : ExportsFile). f.warnings) so_far.files ++ ws) (sym (append-nil adds.file.warnings)) ∙ sym (flat_map-append (λ (f : ExportsFile). f.warnings) so_far.files (adds.file ∷ [])));
+      ascending = All-push (λ (f : ExportsFile). AreAscending f.rows) so_far.files adds.file so_far.ascending adds.ascending;
+    }
+
+    pub one_faulty : (rows rows' : List (List Row)) (warnings warnings' : List Warning) (fault : SiteFault) → FilesRead texts table listed i rows rows' warnings warnings'
+        → one i mount ≡ Err fault → read_files texts table listed 0 table ≡ Err fault
+    one_faulty rows rows' warnings warnings' fault so_far e =
+        so_far.is
+        ∙ ap (λ mounts. then_read (read_files texts table listed i mounts) (and_then_more so_far.files)) behind
+        ∙ ap (λ file. then_read (then_read file (λ f. then_read (read_files texts table listed (i + 1) (drop (i + 1) table)) (λ more. Ok (f ∷ more)))) (and_then_more so_far.files)) e
+
+  pub all_read : (i : ℕ) → i ≡ length table → drop i table ≡ [] → (rows rows' : List (List Row)) (warnings warnings' : List Warning) → FilesRead texts table listed i rows rows' warnings warnings'
+      → AddsFiles (read_files texts table listed 0 table) (length table) rows rows' warnings warnings'
+  all_read i end none rows rows' warnings warnings' so_far = record {
+    files = so_far.files;
+    is = so_far.is ∙ ap (λ mounts. then_read (read_files texts table listed i mounts) (and_then_more so_far.files)) none ∙ ap Ok (append-nil so_far.files);
+    each = so_far.each ∙ end;
+    lines = so_far.lines;
+    warned = so_far.warned;
+    ascending = so_far.ascending;
+  }
+
+all_mapped : (files : List ExportsFile) → All (λ (f : ExportsFile). AreAscending f.rows) files → All AreAscending (map (λ (f : ExportsFile). f.rows) files)
+all_mapped files up i d below =
+    let file : ExportsFile = record { rows = d; warnings = [] } in
+    let within : i < length files = omega (arith, length-map files (λ (f : ExportsFile). f.rows)) in
+    subst AreAscending (sym (get_or-map (λ (f : ExportsFile). f.rows) files i file d within)) (up i file within)
+
+-- the files of all file systems make a policy
+pub is_content : (table : List Mount) (read : Result (List ExportsFile) SiteFault) (rows rows' : List (List Row)) (warnings warnings' : List Warning) → rows ≡ []
+    → AddsFiles read (length table) rows rows' warnings warnings' → IsContent (record { table = table; rows = rows'; warnings = warnings' })
+is_content table read rows rows' warnings warnings' empty adds =
+    let is : rows' ≡ map (λ (f : ExportsFile). f.rows) adds.files = adds.lines ∙ ap (λ rs. rs ++ map (λ (f : ExportsFile). f.rows) adds.files) empty in
+    record {
+      each = ap length is ∙ length-map adds.files (λ (f : ExportsFile). f.rows) ∙ adds.each;
+      ascending = subst (λ rs. All AreAscending rs) (sym is) (all_mapped adds.files adds.ascending);
+    }
+
+-- and it is the one that the files write
+pub content_is : (table : List Mount) (listed : Listed) (read : Result (List ExportsFile) SiteFault) (rows rows' : List (List Row)) (warnings warnings' : List Warning) → rows ≡ [] → warnings ≡ netgroup_warnings listed.netgroups listed.hosts
+    → (adds : AddsFiles read (length table) rows rows' warnings warnings') → content_with table listed adds.files ≡ record { table = table; rows = rows'; warnings = warnings' }
+content_is table listed read rows rows' warnings warnings' empty of_groups adds =
+    let P : List (List Row) → List Warning → Content = λ rs ws. record { table = table; rows = rs; warnings = ws } in
+    ap (λ rs. P rs (content_with table listed adds.files).warnings) (sym (adds.lines ∙ ap (λ rs. rs ++ map (λ (f : ExportsFile). f.rows) adds.files) empty))
+    ∙ ap (P rows') (sym (adds.warned ∙ ap (λ ws. ws ++ flat_map (λ (f : ExportsFile). f.warnings) adds.files) of_groups))

@@ -1,0 +1,14 @@
+-- The lines so far do not contradict each other, and the first of them stand under their keys.
+use Rattle.std.proofs.Common.{take, ℕ}
+use Rattle.std.specs.List.{All}
+use Rattle.desk_policy.specs.declared.row.Row.{Row}
+use Rattle.desk_policy.specs.Contradiction.{Contradicts}
+use Rattle.desk_policy.specs.PrivateFirstLines.{AreFirsts}
+use Rattle.desk_policy.specs.PrivateFirstLines.{HasBlock}
+use Rattle.desk_policy.proofs.contradiction.contradiction_in.Given as goal
+
+abbrev pub invariant-loop-i : goal.invariant-loop-i
+invariant-loop-i l =
+    ((later earlier address : ℕ) → Contradicts (take l.i l.rows) later earlier address → ⊥)
+    × AreFirsts l.firsts (take l.i l.rows)
+    × All (λ (row : Row). HasBlock row.entry.clients) (take l.i l.rows)

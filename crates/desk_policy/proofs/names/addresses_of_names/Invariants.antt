@@ -1,0 +1,9 @@
+-- The addresses for which the names so far stand.
+use Rattle.std.proofs.Common.{[], take}
+use Rattle.std.specs.List.{list_any}
+use Rattle.desk_policy.specs.Names.{stands_for}
+use Rattle.desk_policy.specs.PrivateNames.{Gains}
+use Rattle.desk_policy.proofs.names.addresses_of_names.Given as goal
+
+abbrev pub invariant-loop-name : goal.invariant-loop-name
+invariant-loop-name l = Gains [] l.addresses.items (λ address. list_any (λ name. stands_for l.groups l.hosts name address) (take l.name-index l.names))

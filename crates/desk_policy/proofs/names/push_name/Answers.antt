@@ -1,0 +1,18 @@
+use Rattle.std.proofs.Common.{ap, ◌||◌, ◌∙◌, map, subst, sym}
+use Rattle.std.specs.Prelude.{string_bytes}
+use Rattle.desk_text.specs.Address.{number_of}
+use Rattle.desk_text.specs.AddrSet.{is_among}
+use Rattle.desk_netgroup.specs.Netgroups.{AreHostsOf}
+use Rattle.desk_policy.proofs.KeyPlaces.{on_ok}
+use Rattle.desk_policy.proofs.RowAddresses.{group_stands}
+use Rattle.desk_policy.proofs.names.push_name.Goals as goal
+
+pub returns-in-Some : goal.returns-in-Some
+returns-in-Some c =
+    let members = map string_bytes c.as_slice.result.now in
+    let unlike = sym c.is_number_like.ensures ∙ c.if-is_number_like.false in
+    let some = rw c.in-Some.is at c.in_ok-members.ensures.defined in
+    let given = rw c.in-Some.is at c.in_ok-members.ensures.hosts in
+    let are : AreHostsOf c.args.groups.now c.args.name.now members = subst (λ texts. AreHostsOf c.args.groups.now c.args.name.now (map string_bytes texts)) (sym c.as_slice.ensures.value) given in
+    on_ok c.push_hosts.result (λ gains a. gains a
+    ∙ ap (λ b. is_among a (map number_of c.args.addresses.now.items) || b) (group_stands c.args.groups.now c.args.hosts.now c.args.name.now members unlike some are a)) c.push_hosts.ensures

@@ -1,0 +1,61 @@
+use Rattle.std.proofs.Common.{◌≤◌, Err, List, Result, IfOk, length, subst, ℕ}
+use Rattle.std.specs.Prelude.{codes}
+use Rattle.std.proofs.lemmas.Result.{err_from_is_err_and}
+use Rattle.desk_text.specs.Reading.{Reads}
+use Rattle.desk_text.specs.declared.reading.ReadError.{ReadError}
+use Rattle.desk_tables.specs.Custodians.{read_custodians}
+use Rattle.desk_tables.specs.FileSystemsText.{read_filesystems}
+use Rattle.desk_tables.specs.Rules.{TableFault}
+use Rattle.desk_tables.specs.declared.custodians.Custodian.{Custodian}
+use Rattle.desk_tables.specs.declared.filesystems.Mount.{Mount}
+use Rattle.desk_policy.specs.Parsing.{if_listed, in_file, read_behind, read_site, then_read}
+use Rattle.desk_policy.specs.Policy.{Content}
+use Rattle.desk_policy.specs.Site.{SiteTexts, texts_of}
+use Rattle.desk_policy.specs.SiteFault.{table_fault}
+use Rattle.desk_policy.specs.declared.site_fault.SiteFault.{SiteFault}
+use Rattle.desk_policy.proofs.Chain.{goes_on, refused}
+use Rattle.desk_policy.proofs.parsing.parse.Goals as goal
+
+module _ (texts : SiteTexts) where
+  abbrev custodians_in : Result (List Custodian) SiteFault
+  custodians_in = in_file (table_fault (codes "custodians")) (read_custodians texts.custodians)
+
+  abbrev filesystems_in : List Custodian → Result (List Mount) SiteFault
+  filesystems_in custodians = in_file (table_fault (codes "filesystems")) (if_listed custodians (read_filesystems texts.filesystems))
+
+  abbrev after_custodians : List Custodian → Result Content SiteFault
+  after_custodians custodians = then_read (filesystems_in custodians) (read_behind texts)
+
+pub returns-in_err-custodians : goal.returns-in_err-custodians
+unfolding read_site
+returns-in_err-custodians c =
+    let texts = texts_of c.args.site.now in
+    let p = err_from_is_err_and c.from_residual.result c.from_residual.ensures.1 in
+    rw (p.1, p.2) (refused c.in_err-custodians.field-0.0 (custodians_in texts) (after_custodians texts)
+    (c.in_err-custodians.ensures.read (read_custodians texts.custodians) (subst (λ (t : List ℕ). Reads c.read.result (read_custodians t)) c.as_str.ensures c.read.ensures)))
+
+pub returns-in_err-filesystems : goal.returns-in_err-filesystems
+unfolding read_site
+returns-in_err-filesystems c =
+    let texts = texts_of c.args.site.now in
+    let custodians = c.in_ok-custodians.ensures.read (read_custodians texts.custodians) (subst (λ (t : List ℕ). Reads c.read.result (read_custodians t)) c.as_str.ensures c.read.ensures) in
+    let rows = c.in_ok-custodians.custodians in
+    let p = err_from_is_err_and c.from_residual-in_err-filesystems.result c.from_residual-in_err-filesystems.ensures.1 in
+    rw (p.1, p.2) (goes_on (custodians_in texts) (after_custodians texts) rows (Err c.in_err-filesystems.field-0.0) custodians (refused c.in_err-filesystems.field-0.0 (filesystems_in texts rows) (read_behind texts)
+    (c.in_err-filesystems.ensures.read (if_listed rows (read_filesystems texts.filesystems))
+    (subst (λ (t : List ℕ). Reads c.read_filesystems-filesystems.result (if_listed rows (read_filesystems t))) c.as_str-2.ensures c.read_filesystems-filesystems.ensures.read))))
+
+pub read_behind-requires-clause-few : goal.read_behind-requires-clause-few
+read_behind-requires-clause-few c =
+    let R : Result (List Mount) (ReadError TableFault) → Type 0 = λ r. IfOk r (λ (table : List Mount). length table ≤ 256) in
+    subst R c.in_ok-filesystems.ensures.kept c.read_filesystems-filesystems.ensures.few
+
+pub returns : goal.returns
+unfolding read_site
+returns c =
+    let texts = texts_of c.args.site.now in
+    let custodians = c.in_ok-custodians.ensures.read (read_custodians texts.custodians) (subst (λ (t : List ℕ). Reads c.read.result (read_custodians t)) c.as_str.ensures c.read.ensures) in
+    let rows = c.in_ok-custodians.custodians in
+    let table = c.in_ok-filesystems.ensures.read (if_listed rows (read_filesystems texts.filesystems))
+    (subst (λ (t : List ℕ). Reads c.read_filesystems-filesystems.result (if_listed rows (read_filesystems t))) c.as_str-2.ensures c.read_filesystems-filesystems.ensures.read) in
+    goes_on (custodians_in texts) (after_custodians texts) rows _ custodians (goes_on (filesystems_in texts rows) (read_behind texts) c.in_ok-filesystems.filesystems _ table c.read_behind.ensures)

@@ -1,0 +1,7 @@
+-- The files so far were read and added.
+use Rattle.desk_policy.specs.Site.{texts_of}
+use Rattle.desk_policy.proofs.FilesRead.{FilesRead}
+use Rattle.desk_policy.proofs.parsing.push_files.Given as goal
+
+abbrev pub invariant-loop-place : goal.invariant-loop-place
+invariant-loop-place l = FilesRead (texts_of l.site) l.filesystems l.listed l.place l.initial.rows.items l.rows.items l.initial.warnings l.warnings

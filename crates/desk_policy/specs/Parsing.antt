@@ -1,0 +1,114 @@
+-- The policy that the texts of a site write. (this project's own)
+use Rattle.std.specs.Prelude.{ℕ, ◌+◌, List, [], ◌∷◌, ◌++◌, Option, Some, None, Result, Ok, Err, codes, map}
+use Rattle.std.specs.List.{flat_map}
+use Rattle.desk_text.specs.Path.{path_text}
+use Rattle.desk_tables.specs.Custodians.{read_custodians}
+use Rattle.desk_tables.specs.FileSystemsText.{read_filesystems}
+use Rattle.desk_tables.specs.Groups.{read_groups}
+use Rattle.desk_tables.specs.Hosts.{read_hosts}
+use Rattle.desk_tables.specs.Networks.{read_networks}
+use Rattle.desk_tables.specs.Rules.{TableFault}
+use Rattle.desk_tables.specs.Users.{read_users}
+use Rattle.desk_tables.specs.declared.custodians.Custodian.{Custodian}
+use Rattle.desk_tables.specs.declared.filesystems.FsId.{FsId}
+use Rattle.desk_tables.specs.declared.filesystems.Mount.{Mount}
+use Rattle.desk_tables.specs.declared.rules.TableRule.TheVariants as table_rule
+use Rattle.desk_netgroup.specs.Netgroups.{read_netgroups}
+use Rattle.desk_exports.specs.Files.{file_answer, whole_answer}
+use Rattle.desk_exports.specs.Tables.{only_filesystems, TableRows}
+use Rattle.desk_exports.specs.declared.entry.Entry.{Entry}
+use Rattle.desk_policy.specs.Policy.{Content, content_of, with_warnings}
+use Rattle.desk_policy.specs.Row.{row_of}
+use Rattle.desk_policy.specs.Site.{SiteTexts}
+use Rattle.desk_policy.specs.SiteFault.{exports_name, group_fault, line_fault, table_fault}
+use Rattle.desk_policy.specs.Unlisted.{unlisted_line}
+use Rattle.desk_policy.specs.Warning.{entry_warnings, netgroup_warnings, whole_warnings}
+use Rattle.desk_policy.specs.declared.parsing.Listed.{Listed}
+use Rattle.desk_policy.specs.declared.row.Row.{Row}
+use Rattle.desk_policy.specs.declared.site_fault.SiteFault.{SiteFault}
+use Rattle.desk_policy.specs.declared.warning.Warning.{Warning}
+
+-- what a file says, its fault as one of the site
+abbrev pub in_file : {X F : Type 0} → (F → SiteFault) → Result X F → Result X SiteFault
+in_file fault_of (Ok value) = Ok value
+in_file fault_of (Err fault) = Err (fault_of fault)
+
+-- what comes next is read if there is no fault before it
+abbrev pub then_read : {X Y : Type 0} → Result X SiteFault → (X → Result Y SiteFault) → Result Y SiteFault
+then_read (Ok value) next = next value
+then_read (Err fault) next = Err fault
+
+abbrev pub unless_unlisted : List Mount → Option ℕ → Result (List Mount) TableFault
+unless_unlisted table None = Ok table
+unless_unlisted table (Some line) = Err (record { line = line; rule = table_rule.Custodian })
+
+-- a table of file systems whose custodians are listed
+abbrev pub if_listed : List Custodian → Result (List Mount) TableFault → Result (List Mount) TableFault
+if_listed custodians (Ok table) = unless_unlisted table (unlisted_line custodians table)
+if_listed custodians (Err fault) = Err fault
+
+-- The tables behind the file systems, in the order in which they are read.
+abbrev pub read_listed : SiteTexts → Result Listed SiteFault
+read_listed texts =
+    then_read (in_file (table_fault (codes "hosts")) (read_hosts texts.hosts)) (λ hosts.
+    then_read (in_file (table_fault (codes "networks")) (read_networks texts.networks)) (λ networks.
+    then_read (in_file (table_fault (codes "passwd")) (read_users texts.passwd)) (λ users.
+    then_read (in_file (table_fault (codes "group")) (read_groups texts.group)) (λ groups.
+    then_read (in_file group_fault (read_netgroups texts.netgroup)) (λ netgroups.
+    Ok (record { hosts = hosts; networks = networks; users = users; groups = groups; netgroups = netgroups }))))))
+
+-- the tables with which an exports file is read
+abbrev pub rows_with : List Mount → Listed → TableRows
+rows_with table listed = record { filesystems = table; networks = listed.networks; users = listed.users; groups = listed.groups }
+
+-- what an exports file gives: its lines in force, and its warnings
+pub record ExportsFile : Type 0 where
+  pub rows : List Row
+  pub warnings : List Warning
+
+-- what the entries of the file of this name give
+abbrev pub file_with : Listed → List ℕ → List Entry → ExportsFile
+file_with listed name entries = record {
+  rows = map (row_of listed.netgroups listed.hosts) entries;
+  warnings = flat_map (entry_warnings listed.netgroups listed.hosts name) entries;
+}
+
+-- what the exports file of the file system with this number and mount point gives
+abbrev pub read_exports : SiteTexts → List Mount → Listed → ℕ → List (List ℕ) → Result ExportsFile SiteFault
+read_exports texts table listed fs mount =
+    then_read (in_file (line_fault (exports_name mount)) (file_answer (rows_with table listed) (record { 0 = fs }) (texts.exports (path_text mount))))
+    (λ entries. Ok (file_with listed (exports_name mount) entries))
+
+-- what the exports files of these file systems give, of which the first has this number
+abbrev pub read_files : SiteTexts → List Mount → Listed → ℕ → List Mount → Result (List ExportsFile) SiteFault
+read_files texts table listed fs [] = Ok []
+read_files texts table listed fs (mount ∷ more) =
+    then_read (read_exports texts table listed fs mount.path) (λ file. then_read (read_files texts table listed (fs + 1) more) (λ files. Ok (file ∷ files)))
+
+-- the policy of these file systems, tables and exports files
+abbrev pub content_with : List Mount → Listed → List ExportsFile → Content
+content_with table listed files = record {
+  table = table;
+  rows = map (λ file. file.rows) files;
+  warnings = netgroup_warnings listed.netgroups listed.hosts ++ flat_map (λ file. file.warnings) files;
+}
+
+-- what the files behind the file systems say
+abbrev pub read_behind : SiteTexts → List Mount → Result Content SiteFault
+read_behind texts table =
+    then_read (read_listed texts) (λ listed. then_read (read_files texts table listed 0 table) (λ files. Ok (content_with table listed files)))
+
+-- the policy that the texts write, or the fault of the first faulty file, in the order in which they are read
+unfoldable pub read_site : SiteTexts → Result Content SiteFault
+read_site texts =
+    then_read (in_file (table_fault (codes "custodians")) (read_custodians texts.custodians)) (λ custodians.
+    then_read (in_file (table_fault (codes "filesystems")) (if_listed custodians (read_filesystems texts.filesystems))) (λ table.
+    read_behind texts table))
+
+-- the policy of the entries of a whole exports text
+abbrev pub whole_policy : List Mount → List (FsId × Entry) → Result Content SiteFault
+whole_policy table placed = Ok (with_warnings (content_of table placed) (whole_warnings placed))
+
+-- the policy that a whole exports text writes, with these file systems and no other table, or its fault
+abbrev pub read_whole_policy : List Mount → List ℕ → Result Content SiteFault
+read_whole_policy table text = then_read (in_file (line_fault (codes "exports")) (whole_answer (only_filesystems table) text)) (whole_policy table)

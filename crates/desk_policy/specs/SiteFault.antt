@@ -1,0 +1,46 @@
+-- The faults of a site: of a file, or of the lines of an exports file against each other. (this project's own)
+use Rattle.std.specs.Prelude.{ℕ, List, None, Some, ◌++◌, codes}
+use Rattle.desk_text.specs.Path.{path_text}
+use Rattle.desk_text.specs.declared.reading.LineFault.{LineFault}
+use Rattle.desk_tables.specs.Rules as tables
+use Rattle.desk_tables.specs.Rules.{TableFault}
+use Rattle.desk_netgroup.specs.Faults as groups
+use Rattle.desk_netgroup.specs.declared.faults.GroupFault.{GroupFault}
+use Rattle.desk_exports.specs.Rules as lines
+use Rattle.desk_exports.specs.declared.rules.Rule.{Rule}
+use Rattle.desk_policy.specs.declared.contradiction.Contradiction.{Contradiction}
+use Rattle.desk_policy.specs.declared.site_fault.SiteFault.{SiteFault}
+use Rattle.desk_policy.specs.declared.site_fault.SiteRule.{SiteRule}
+use Rattle.desk_policy.specs.declared.site_fault.SiteRule.TheVariants as rule
+
+-- the number of a rule among those of its file
+abbrev pub rule_number : SiteRule → ℕ
+rule_number (rule.Table broken) = tables.rule_number broken
+rule_number (rule.Group broken) = groups.rule_number broken
+rule_number (rule.Line broken) = lines.rule_number broken
+rule_number rule.Contradiction = 26
+
+-- the name of a rule
+abbrev pub rule_name : SiteRule → List ℕ
+rule_name (rule.Table broken) = tables.rule_name broken
+rule_name (rule.Group broken) = groups.rule_name broken
+rule_name (rule.Line broken) = lines.rule_name broken
+rule_name rule.Contradiction = codes "Contradiction"
+
+-- the name of the exports file of a mount point
+abbrev pub exports_name : List (List ℕ) → List ℕ
+exports_name mount = codes "exports:" ++ path_text mount
+
+-- the fault of a table's file, of the netgroup file, and of an exports file
+abbrev pub table_fault : List ℕ → TableFault → SiteFault
+table_fault file fault = record { file = file; line = fault.line; rule = rule.Table fault.rule; other = None; address = None }
+
+abbrev pub group_fault : GroupFault → SiteFault
+group_fault fault = record { file = codes "netgroup"; line = fault.line; rule = rule.Group fault.rule; other = fault.other; address = None }
+
+abbrev pub line_fault : List ℕ → LineFault Rule → SiteFault
+line_fault file fault = record { file = file; line = fault.line; rule = rule.Line fault.rule; other = None; address = None }
+
+-- the fault of a contradiction in an exports file: the later line, and with it the earlier one and the address
+abbrev pub contradiction_fault : List ℕ → Contradiction → SiteFault
+contradiction_fault file found = record { file = file; line = found.line; rule = rule.Contradiction; other = Some found.other; address = Some found.address }

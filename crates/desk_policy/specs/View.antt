@@ -1,0 +1,47 @@
+-- What a view of a policy is built of, when it is refused, and when a site is consistent. (this project's own)
+use Rattle.std.specs.Prelude.{◌≡◌, ℕ, ◌<◌, Option, Some, None, Result, Ok, Err, slice_get}
+use Rattle.std.specs.Option.{option_map}
+use Rattle.desk_text.specs.Address.{number_of}
+use Rattle.desk_text.specs.declared.reading.ReadError.{ReadError}
+use Rattle.desk_text.specs.declared.reading.ReadError.TheVariants.{Fault, Memory}
+use Rattle.desk_policy.specs.Contradiction.{AreConsistent, HasNoContradiction, IsLeastIn}
+use Rattle.desk_policy.specs.Parsing.{read_site}
+use Rattle.desk_policy.specs.Policy.{Content, rows_of}
+use Rattle.desk_policy.specs.Site.{SiteTexts}
+use Rattle.desk_policy.specs.SiteFault.{contradiction_fault, exports_name}
+use Rattle.desk_policy.specs.declared.contradiction.Contradiction.{Contradiction}
+use Rattle.desk_policy.specs.declared.site_fault.SiteFault.{SiteFault}
+
+-- a fault names the least contradiction of a policy: by mount point, later line, earlier line and address
+pub record IsLeastContradiction (content : Content) (fault : SiteFault) : Type 0 where
+  pub fs : ℕ
+  pub found : Contradiction
+  pub named : option_map (λ mount. contradiction_fault (exports_name mount.path) found) (slice_get content.table fs) ≡ Some fault
+  pub here : IsLeastIn (rows_of content fs) found.line found.other (number_of found.address)
+  pub before : (place : ℕ) → place < fs → AreConsistent (rows_of content place)
+
+-- the least contradiction of a policy, or none where there is none
+abbrev pub IsLeastOrNone : Content → Option SiteFault → Type 0
+IsLeastOrNone content None = HasNoContradiction content
+IsLeastOrNone content (Some fault) = IsLeastContradiction content fault
+
+-- a view keeps the policy, which has no contradiction, or the policy's least one is named; out of memory says nothing
+abbrev pub Builds : {V : Type 0} → (V → Content) → Content → Result V (ReadError SiteFault) → Type 0
+Builds in_force policy (Ok view) = (in_force view ≡ policy) × HasNoContradiction policy
+Builds in_force policy (Err (Fault fault)) = IsLeastContradiction policy fault
+Builds in_force policy (Err Memory) = Unit {0}
+
+abbrev pub IsFaultOf : Result Content SiteFault → SiteFault → Type 0
+IsFaultOf (Ok policy) fault = IsLeastContradiction policy fault
+IsFaultOf (Err first) fault = fault ≡ first
+
+-- this is the fault of a site: that of the first faulty file, or else the least contradiction
+abbrev pub HasFault : SiteTexts → SiteFault → Type 0
+HasFault texts fault = IsFaultOf (read_site texts) fault
+
+-- a view keeps the policy that the texts write, which has no contradiction, or the site's fault is named; out of memory
+-- says nothing
+abbrev pub Compiles : {V : Type 0} → (V → Content) → SiteTexts → Result V (ReadError SiteFault) → Type 0
+Compiles in_force texts (Ok view) = (read_site texts ≡ Ok (in_force view)) × HasNoContradiction (in_force view)
+Compiles in_force texts (Err (Fault fault)) = HasFault texts fault
+Compiles in_force texts (Err Memory) = Unit {0}

@@ -1,0 +1,82 @@
+-- What the texts of a site are warned of: words that are accepted, but odd. (this project's own)
+use Rattle.std.specs.Prelude.{ℕ, ◌==◌, List, [], ◌∷◌, Option, Some, None, codes, is_some, length, if◌then◌else◌}
+use Rattle.std.specs.List.{flat_map}
+use Rattle.desk_text.specs.Address.{is_address, is_dotted}
+use Rattle.desk_text.specs.Bytes.{is_ipv6}
+use Rattle.desk_tables.specs.Hosts.{addresses_of_host}
+use Rattle.desk_tables.specs.declared.filesystems.FsId.{FsId}
+use Rattle.desk_tables.specs.declared.hosts.HostRow.{HostRow}
+use Rattle.desk_netgroup.specs.GroupLine.{group_named}
+use Rattle.desk_netgroup.specs.declared.group_line.GroupLine.{GroupLine}
+use Rattle.desk_netgroup.specs.declared.group_line.Member.{Member}
+use Rattle.desk_netgroup.specs.declared.group_line.Member.TheVariants.{Group, Host}
+use Rattle.desk_exports.specs.declared.entry.Clients.{Clients}
+use Rattle.desk_exports.specs.declared.entry.Clients.TheVariants as clients
+use Rattle.desk_exports.specs.declared.entry.Entry.{Entry}
+use Rattle.desk_policy.specs.Names.{is_number_like}
+use Rattle.desk_policy.specs.declared.warning.Warning.{Warning}
+use Rattle.desk_policy.specs.declared.warning.WarningKind.{WarningKind}
+use Rattle.desk_policy.specs.declared.warning.WarningKind.TheVariants.{ClassMask, Ipv6, UnknownHost, UnknownMember}
+
+-- the name of a kind
+abbrev pub kind_name : WarningKind → List ℕ
+kind_name ClassMask = codes "ClassMask"
+kind_name Ipv6 = codes "Ipv6"
+kind_name UnknownHost = codes "UnknownHost"
+kind_name UnknownMember = codes "UnknownMember"
+
+-- of a host's text: it is of IPv6; it has digits and dots alone and is not an address; or it is no name of the hosts file,
+-- which gives each of its names an address
+abbrev pub host_kind : List HostRow → List ℕ → Option WarningKind
+host_kind hosts name =
+    if is_ipv6 name then Some Ipv6
+    else if is_dotted name then (if is_address name then None else Some UnknownHost)
+    else if length (addresses_of_host hosts name) == 0 then Some UnknownHost
+    else None
+
+-- of a written name, which may be a group's
+abbrev pub name_kind : List GroupLine → List HostRow → List ℕ → Option WarningKind
+name_kind groups hosts name =
+    if is_number_like name then host_kind hosts name
+    else if is_some (group_named groups name) then None
+    else host_kind hosts name
+
+-- of a member of a group: a group that is not defined, or a host's text
+abbrev pub member_kind : List GroupLine → List HostRow → Member → Option WarningKind
+member_kind groups hosts (Group name) = if is_some (group_named groups name) then None else Some UnknownMember
+member_kind groups hosts (Host name) = host_kind hosts name
+
+-- the word of a member
+abbrev pub member_word : Member → List ℕ
+member_word (Group name) = name
+member_word (Host name) = name
+
+-- the warning of a word in a line, if there is one
+abbrev pub warning_if : List ℕ → ℕ → List ℕ → Option WarningKind → List Warning
+warning_if file line word None = []
+warning_if file line word (Some kind) = record { file = file; line = line; kind = kind; word = word } ∷ []
+
+-- of a netgroup line: by its members, in order
+abbrev pub group_warnings : List GroupLine → List HostRow → GroupLine → List Warning
+group_warnings groups hosts line =
+    flat_map (λ member. warning_if (codes "netgroup") line.line (member_word member) (member_kind groups hosts member)) line.members
+
+-- of the netgroup file
+abbrev pub netgroup_warnings : List GroupLine → List HostRow → List Warning
+netgroup_warnings groups hosts = flat_map (group_warnings groups hosts) groups
+
+-- of the clients of a line: its names, in order; or its network, if its class counts or it is of IPv6
+abbrev pub clients_warnings : List GroupLine → List HostRow → List ℕ → ℕ → Clients → List Warning
+clients_warnings groups hosts file line (clients.Hosts names) = flat_map (λ name. warning_if file line name (name_kind groups hosts name)) names
+clients_warnings groups hosts file line (clients.Net net None) = []
+clients_warnings groups hosts file line (clients.Net net (Some value)) = warning_if file line value (Some ClassMask)
+clients_warnings groups hosts file line (clients.Net6 value) = warning_if file line value (Some Ipv6)
+clients_warnings groups hosts file line clients.World = []
+
+-- of the line of an entry
+abbrev pub entry_warnings : List GroupLine → List HostRow → List ℕ → Entry → List Warning
+entry_warnings groups hosts file entry = clients_warnings groups hosts file entry.line entry.clients
+
+-- of a whole exports text, with no group and no host listed
+abbrev pub whole_warnings : List (FsId × Entry) → List Warning
+whole_warnings placed = flat_map (λ pair. entry_warnings [] [] (codes "exports") pair.1) placed

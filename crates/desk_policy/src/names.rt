@@ -1,0 +1,120 @@
+//! The addresses for which written names stand. (exports(5), netgroup(5), hosts(5))
+
+ghost use Rattle.std.specs.Prelude.{◌≡◌, ◌∷◌, [], IfOk, OnOk, map, string_bytes};
+ghost use Rattle.std.specs.List.{list_any};
+ghost use Rattle.desk_text.specs.Address.{number_of, read_addr};
+ghost use Rattle.desk_policy.specs.Names.{addresses_of_names, host_stands_for, is_number_like, is_read_as, stands_for};
+ghost use Rattle.desk_policy.specs.PrivateNames.{Gains};
+
+use desk_netgroup::Netgroups;
+use desk_tables::Hosts;
+use desk_text::laws::sorted_sets_are_unique;
+use desk_text::{Addr, AddrSet, Text, is_dotted, is_ipv6};
+use std::alloc::{AllocError, Global};
+
+/// Lists the addresses for which a written name stands, ascending, each once. A dot address stands for itself, and a text
+/// with `:`, or of other digits and dots, for none. Any other name stands for the addresses of the hosts of its group if it
+/// is a group's, and else for those of the host of that name. The hosts of a group are never taken for groups.
+pub fn addresses_of(
+    alloc: Global,
+    groups: &Netgroups,
+    hosts: &Hosts,
+    name: &str,
+) -> Result<Vec<Addr>, AllocError>
+    ensures { IfOk result (λ v. map number_of v.items ≡ addresses_of_names groups.now hosts.now (name.now ∷ [])) }
+{
+    let mut addresses = Vec::new(alloc);
+    push_name(alloc, groups, hosts, name, &mut addresses)?;
+    // Sets are equal that have the same addresses.
+    sorted_sets_are_unique();
+    Ok(AddrSet::from_vec(addresses).into_vec())
+}
+
+/// Finds the addresses for which some of the names stands.
+pub fn addresses_of_names(
+    alloc: Global,
+    groups: &Netgroups,
+    hosts: &Hosts,
+    names: &[Text],
+) -> Result<AddrSet, AllocError>
+    ensures { IfOk result (λ addresses. addresses ≡ addresses_of_names groups.now hosts.now names.now) }
+{
+    let mut addresses = Vec::new(alloc);
+    for name in names {
+        push_name(alloc, groups, hosts, name.as_str(), &mut addresses)?;
+    }
+    // Sets are equal that have the same addresses.
+    sorted_sets_are_unique();
+    Ok(AddrSet::from_vec(addresses))
+}
+
+/// Adds the addresses for which a written name stands.
+fn push_name(
+    alloc: Global,
+    groups: &Netgroups,
+    hosts: &Hosts,
+    name: &str,
+    addresses: &mut Vec<Addr>,
+) -> Result<(), AllocError>
+    ensures { OnOk result (Gains addresses.old.items addresses.new.items (stands_for groups.now hosts.now name.now)) }
+{
+    if is_number_like(name) {
+        return push_host(alloc, hosts, name, addresses);
+    }
+    match groups.hosts_of(alloc, name)? {
+        Some(members) => push_hosts(alloc, hosts, members.as_slice(), addresses),
+        None => push_host(alloc, hosts, name, addresses),
+    }
+}
+
+/// Tests whether a name is never taken for a group's.
+pub fn is_number_like(name: &str) -> bool
+    ensures { result ≡ is_number_like name.now }
+{
+    is_ipv6(name) || is_dotted(name)
+}
+
+/// Adds the addresses for which the texts of hosts stand.
+fn push_hosts(
+    alloc: Global,
+    hosts: &Hosts,
+    names: &[String],
+    addresses: &mut Vec<Addr>,
+) -> Result<(), AllocError>
+    ensures { OnOk result (Gains addresses.old.items addresses.new.items
+        (λ address. list_any (λ name. host_stands_for hosts.now name address) (map string_bytes names.now))) }
+{
+    for name in names {
+        push_host(alloc, hosts, name.as_str(), addresses)?;
+    }
+    Ok(())
+}
+
+/// Adds the addresses for which a host's text stands.
+fn push_host(
+    alloc: Global,
+    hosts: &Hosts,
+    name: &str,
+    addresses: &mut Vec<Addr>,
+) -> Result<(), AllocError>
+    ensures { OnOk result (Gains addresses.old.items addresses.new.items (host_stands_for hosts.now name.now)) }
+{
+    if is_ipv6(name) {
+        return Ok(());
+    }
+    if is_dotted(name) {
+        return push_written(name, addresses);
+    }
+    let listed = hosts.addresses(alloc, name)?;
+    addresses.extend_from_slice(listed.as_slice())
+}
+
+/// Adds the address that a text writes, if it writes one.
+fn push_written(text: &str, addresses: &mut Vec<Addr>) -> Result<(), AllocError>
+    ensures { OnOk result (Gains addresses.old.items addresses.new.items (is_read_as (read_addr text.now))) }
+{
+    if let Ok(address) = Addr::read(text) {
+        addresses.push(address)?;
+    }
+    Ok(())
+}

@@ -1,0 +1,333 @@
+//! The policy that the texts of a site write.
+//!
+//! The files are read in this order: custodians, filesystems, hosts, networks, passwd, group, netgroup, and then the
+//! exports files by mount point. The first faulty one is refused, with its first faulty line.
+
+ghost use Rattle.std.specs.Prelude.{◌≡◌, ◌≤◌, [], ◌++◌, IfOk, List, Ok, OnOk, Result, length, map, unwrap_or};
+ghost use Rattle.std.specs.BTreeMap.{get_by_text};
+ghost use Rattle.std.specs.List.{flat_map};
+ghost use Rattle.std.specs.String.{string_bytes};
+ghost use Rattle.desk_text.specs.Path.{path_text};
+ghost use Rattle.desk_text.specs.Reading.{Reads};
+ghost use Rattle.desk_tables.specs.FileSystemsText as filesystems;
+ghost use Rattle.desk_tables.specs.Rules as tables;
+ghost use Rattle.desk_netgroup.specs.declared.faults.GroupFault.{GroupFault};
+ghost use Rattle.desk_netgroup.specs.declared.group_line.GroupLine.{GroupLine};
+ghost use Rattle.desk_exports.specs.Files.{EntriesAscend, whole_answer};
+ghost use Rattle.desk_exports.specs.Tables.{only_filesystems};
+ghost use Rattle.desk_exports.specs.declared.rules.Rule.{Rule};
+ghost use Rattle.desk_text.specs.declared.reading.LineFault.{LineFault};
+ghost use Rattle.desk_policy.specs.Parsing as spec;
+ghost use Rattle.desk_policy.specs.PrivateParsing.{PushesFile, PushesFiles};
+ghost use Rattle.desk_policy.specs.Row.{row_of};
+ghost use Rattle.desk_policy.specs.Site.{HaveReadableLengths, texts_of};
+ghost use Rattle.desk_policy.specs.SiteFault.{exports_name, group_fault, line_fault, table_fault};
+ghost use Rattle.desk_policy.specs.Warning.{entry_warnings};
+
+use crate::policy::Policy;
+use crate::row::Row;
+use crate::site::Site;
+use crate::site_fault::{SiteFault, SiteRule};
+use crate::unlisted::unlisted_line;
+use crate::warning::{Warning, push_entry, push_netgroup, whole_warnings};
+use desk_exports::{Boxed, Entry, Rule, Tables, read_file, read_whole};
+use desk_netgroup::{GroupFault, Netgroups};
+use desk_tables::{
+    Custodians, FileSystems, FsId, Groups, Hosts, Mount, Networks, TableFault, TableRule, Users,
+};
+use desk_text::{LineFault, Path, ReadError, Sequence, Text};
+use std::alloc::{AllocError, Global};
+
+/// The tables of a site behind its file systems.
+#[derive(Drop)]
+struct Listed {
+    hosts: Hosts,
+    networks: Networks,
+    users: Users,
+    groups: Groups,
+    netgroups: Netgroups,
+}
+
+/// Reads the policy that the texts of a site write, or the fault of the first faulty file. Whether its lines contradict each
+/// other is not looked at. Each text has at most 4,294,967,294 bytes.
+pub fn parse(alloc: Global, site: &Site) -> Result<Policy, ReadError<SiteFault>>
+    requires { HaveReadableLengths (texts_of site.now) }
+    ensures { Reads result (spec.read_site (texts_of site.now)) }
+{
+    let custodians = in_table(
+        alloc,
+        "custodians",
+        Custodians::read(alloc, site.custodians.as_str()),
+    )?;
+    let filesystems = read_filesystems(alloc, site.filesystems.as_str(), &custodians);
+    let filesystems = in_table(alloc, "filesystems", filesystems)?;
+    read_behind(alloc, site, filesystems)
+}
+
+/// Reads the file systems, whose custodians have to be listed. That is asked once no line breaks another rule.
+fn read_filesystems(
+    alloc: Global,
+    text: &str,
+    custodians: &Custodians,
+) -> Result<FileSystems, ReadError<TableFault>>
+    requires { length text.now ≤ 4294967294 }
+    ensures read { Reads result (spec.if_listed custodians.now (filesystems.read_filesystems text.now)) }
+    ensures few { IfOk result (λ table. length table ≤ 256) }
+{
+    let filesystems = FileSystems::read(alloc, text)?;
+    match unlisted_line(custodians, &filesystems) {
+        None => Ok(filesystems),
+        Some(line) => Err(ReadError::Fault(LineFault {
+            line,
+            rule: TableRule::Custodian,
+        })),
+    }
+}
+
+/// Reads the files behind the file systems.
+fn read_behind(
+    alloc: Global,
+    site: &Site,
+    filesystems: FileSystems,
+) -> Result<Policy, ReadError<SiteFault>>
+    requires lengths { HaveReadableLengths (texts_of site.now) }
+    requires few { length filesystems ≤ 256 }
+    ensures { Reads result (spec.read_behind (texts_of site.now) filesystems) }
+{
+    let listed = read_listed(alloc, site)?;
+    let mut rows = Vec::new(alloc);
+    let mut warnings = Sequence::new(alloc);
+    push_netgroup(alloc, &listed.netgroups, &listed.hosts, &mut warnings)?;
+    push_files(alloc, site, &filesystems, &listed, &mut rows, &mut warnings)?;
+    Ok(Policy::of_parts(filesystems, rows, warnings))
+}
+
+/// Reads the tables behind the file systems.
+fn read_listed(alloc: Global, site: &Site) -> Result<Listed, ReadError<SiteFault>>
+    requires { HaveReadableLengths (texts_of site.now) }
+    ensures { Reads result (spec.read_listed (texts_of site.now)) }
+{
+    let hosts = in_table(alloc, "hosts", Hosts::read(alloc, site.hosts.as_str()))?;
+    let networks = in_table(
+        alloc,
+        "networks",
+        Networks::read(alloc, site.networks.as_str()),
+    )?;
+    let users = in_table(alloc, "passwd", Users::read(alloc, site.passwd.as_str()))?;
+    let groups = in_table(alloc, "group", Groups::read(alloc, site.group.as_str()))?;
+    let netgroups = in_netgroup(alloc, Netgroups::read(alloc, site.netgroup.as_str()))?;
+    Ok(Listed {
+        hosts,
+        networks,
+        users,
+        groups,
+        netgroups,
+    })
+}
+
+/// Reads the exports file of each file system, and adds its lines and its warnings.
+fn push_files(
+    alloc: Global,
+    site: &Site,
+    filesystems: &FileSystems,
+    listed: &Listed,
+    rows: &mut Vec<Sequence<Row>>,
+    warnings: &mut Sequence<Warning>,
+) -> Result<(), ReadError<SiteFault>>
+    requires lengths { HaveReadableLengths (texts_of site.now) }
+    requires few { length filesystems.now ≤ 256 }
+    ensures { PushesFiles result (spec.read_files (texts_of site.now) filesystems.now listed.now 0 filesystems.now) (length filesystems.now)
+        rows.old.items rows.new.items warnings.old warnings.new }
+{
+    for (place, mount) in filesystems.as_slice().iter().enumerate() {
+        push_file(
+            alloc,
+            site,
+            filesystems,
+            listed,
+            FsId(place as u32),
+            &mount.path,
+            rows,
+            warnings,
+        )?;
+    }
+    Ok(())
+}
+
+/// Reads the exports file of a file system, and adds its lines and its warnings.
+fn push_file(
+    alloc: Global,
+    site: &Site,
+    filesystems: &FileSystems,
+    listed: &Listed,
+    fs: FsId,
+    mount: &Path,
+    rows: &mut Vec<Sequence<Row>>,
+    warnings: &mut Sequence<Warning>,
+) -> Result<(), ReadError<SiteFault>>
+    requires { HaveReadableLengths (texts_of site.now) }
+    ensures { PushesFile result (spec.read_exports (texts_of site.now) filesystems.now listed.now fs.0 mount.now)
+        rows.old.items rows.new.items warnings.old warnings.new }
+{
+    let name = exports_name(alloc, mount)?;
+    let tables = Tables {
+        networks: &listed.networks,
+        users: &listed.users,
+        groups: &listed.groups,
+        filesystems,
+    };
+    let entries = read_file(alloc, exports_text(site, mount), &tables, fs);
+    let entries = in_exports(alloc, name.as_str(), entries)?;
+    rows.push(lines_in_force(alloc, listed, name.as_str(), entries, warnings)?)?;
+    Ok(())
+}
+
+/// Makes the name of the exports file of a mount point.
+pub(crate) fn exports_name(alloc: Global, mount: &Path) -> Result<String, AllocError>
+    ensures { IfOk result (λ name. string_bytes name ≡ exports_name mount.now) }
+{
+    let mount = mount.text();
+    format!(in alloc; "exports:{mount}")
+}
+
+/// Lends the exports file of a mount point.
+fn exports_text<'a>(site: &'a Site, mount: &Path) -> &'a str
+    ensures { result.now ≡ unwrap_or (get_by_text site.now.exports (path_text mount.now)) [] }
+{
+    match site.exports.get(mount.text()) {
+        Some(text) => text.as_str(),
+        None => "",
+    }
+}
+
+/// Makes the lines in force of the entries of the exports file of this name, and adds its warnings.
+fn lines_in_force(
+    alloc: Global,
+    listed: &Listed,
+    name: &str,
+    entries: Sequence<Boxed<Entry>>,
+    warnings: &mut Sequence<Warning>,
+) -> Result<Sequence<Row>, AllocError>
+    ensures rows { IfOk result (λ rows. rows ≡ map (row_of listed.now.netgroups listed.now.hosts) entries) }
+    ensures warnings { OnOk result (warnings.new
+        ≡ warnings.old ++ flat_map (entry_warnings listed.now.netgroups listed.now.hosts name.now) entries) }
+{
+    let mut rows = Sequence::new(alloc);
+    for entry in entries.into_vec() {
+        push_entry(
+            alloc,
+            &listed.netgroups,
+            &listed.hosts,
+            name,
+            &entry,
+            warnings,
+        )?;
+        rows.push(Row::of_entry(alloc, &listed.netgroups, &listed.hosts, entry)?)?;
+    }
+    Ok(rows)
+}
+
+/// Names the file of a table's fault.
+fn in_table<T>(
+    alloc: Global,
+    file: &str,
+    answer: Result<T, ReadError<TableFault>>,
+) -> Result<T, ReadError<SiteFault>>
+    ensures read { (read : Result T tables.TableFault) → Reads answer read → Reads result (spec.in_file (table_fault file.now) read) }
+    ensures kept { IfOk result (λ value. answer ≡ Ok value) }
+{
+    match answer {
+        Ok(value) => Ok(value),
+        Err(ReadError::Memory) => Err(ReadError::Memory),
+        Err(ReadError::Fault(fault)) => Err(ReadError::Fault(SiteFault {
+            file: Text::copy(alloc, file)?,
+            line: fault.line,
+            rule: SiteRule::Table(fault.rule),
+            other: None,
+            address: None,
+        })),
+    }
+}
+
+/// Names the netgroup file in its fault.
+fn in_netgroup(
+    alloc: Global,
+    answer: Result<Netgroups, ReadError<GroupFault>>,
+) -> Result<Netgroups, ReadError<SiteFault>>
+    ensures { (read : Result (List GroupLine) GroupFault) → Reads answer read → Reads result (spec.in_file group_fault read) }
+{
+    match answer {
+        Ok(groups) => Ok(groups),
+        Err(ReadError::Memory) => Err(ReadError::Memory),
+        Err(ReadError::Fault(fault)) => Err(ReadError::Fault(SiteFault {
+            file: Text::copy(alloc, "netgroup")?,
+            line: fault.line,
+            rule: SiteRule::Group(fault.rule),
+            other: fault.other,
+            address: None,
+        })),
+    }
+}
+
+/// Names the exports file of a fault.
+fn in_exports<T>(
+    alloc: Global,
+    file: &str,
+    answer: Result<T, ReadError<LineFault<Rule>>>,
+) -> Result<T, ReadError<SiteFault>>
+    ensures read { (read : Result T (LineFault Rule)) → Reads answer read → Reads result (spec.in_file (line_fault file.now) read) }
+    ensures kept { IfOk result (λ value. answer ≡ Ok value) }
+{
+    match answer {
+        Ok(value) => Ok(value),
+        Err(ReadError::Memory) => Err(ReadError::Memory),
+        Err(ReadError::Fault(fault)) => Err(ReadError::Fault(SiteFault {
+            file: Text::copy(alloc, file)?,
+            line: fault.line,
+            rule: SiteRule::Line(fault.rule),
+            other: None,
+            address: None,
+        })),
+    }
+}
+
+/// Reads the policy that a whole exports text writes, with these file systems and no other table. Its faults and warnings
+/// are of the file `exports`.
+pub fn parse_whole(
+    alloc: Global,
+    text: &str,
+    filesystems: FileSystems,
+) -> Result<Policy, ReadError<SiteFault>>
+    requires { length text.now ≤ 4294967294 }
+    ensures { Reads result (spec.read_whole_policy filesystems text.now) }
+{
+    let entries = in_exports(
+        alloc,
+        "exports",
+        read_with_mounts(alloc, text, &filesystems),
+    )?;
+    let warnings = whole_warnings(alloc, entries.as_slice())?;
+    Ok(Policy::of_entries(alloc, filesystems, entries)?.with_warnings(warnings))
+}
+
+/// Reads the entries of a whole exports text with these file systems and no row of another table.
+fn read_with_mounts(
+    alloc: Global,
+    text: &str,
+    filesystems: &FileSystems,
+) -> Result<Sequence<(FsId, Boxed<Entry>)>, ReadError<LineFault<Rule>>>
+    requires { length text.now ≤ 4294967294 }
+    ensures read { Reads result (whole_answer (only_filesystems filesystems.now) text.now) }
+    ensures ascending { IfOk result EntriesAscend }
+{
+    let networks = Networks::new(alloc);
+    let users = Users::new(alloc);
+    let groups = Groups::new(alloc);
+    let tables = Tables {
+        networks: &networks,
+        users: &users,
+        groups: &groups,
+        filesystems,
+    };
+    read_whole(alloc, text, &tables)
+}

@@ -1,0 +1,256 @@
+//! What the texts of a site are warned of: words that are accepted, but odd.
+
+ghost use Rattle.std.specs.Prelude.{◌≡◌, [], ◌++◌, IfOk, None, OnOk, Some, codes, if◌then◌else◌};
+ghost use Rattle.std.specs.List.{flat_map};
+ghost use Rattle.desk_policy.specs.Warning as spec;
+ghost use Rattle.desk_policy.specs.declared.warning.WarningKind.TheVariants.{UnknownHost};
+
+use crate::names::is_number_like;
+use desk_exports::{Boxed, Clients, Entry};
+use desk_netgroup::{GroupLine, Member, Netgroups};
+use desk_tables::{FsId, Hosts};
+use desk_text::{Addr, Sequence, Text, is_dotted, is_ipv6};
+use std::alloc::{AllocError, Global};
+
+/// What is odd about a word.
+#[derive(Clone, Copy, Debug, PartialEq, Eq)]
+pub enum WarningKind {
+    /// A network has neither a prefix nor a mask, so that its class counts.
+    ClassMask,
+    /// A name or a network is of IPv6, and matches nobody.
+    Ipv6,
+    /// A name is not an address, a netgroup or a host.
+    UnknownHost,
+    /// A member of a netgroup is not defined.
+    UnknownMember,
+}
+
+impl WarningKind {
+    /// Gives the name of the kind.
+    pub fn name(self) -> &'static str
+        ensures { result.now ≡ spec.kind_name self }
+    {
+        match self {
+            WarningKind::ClassMask => "ClassMask",
+            WarningKind::Ipv6 => "Ipv6",
+            WarningKind::UnknownHost => "UnknownHost",
+            WarningKind::UnknownMember => "UnknownMember",
+        }
+    }
+}
+
+/// A word of a line of a file that is accepted, but odd. Exports files are named `exports:` and their mount point, and a
+/// whole exports text `exports`.
+#[derive(Clone, Debug, Drop)]
+pub struct Warning {
+    pub file: Text,
+    pub line: u32,
+    pub kind: WarningKind,
+    pub word: Text,
+}
+
+/// Adds the warnings of the netgroup file, in the order of its lines and of the members of each.
+pub fn push_netgroup(
+    alloc: Global,
+    groups: &Netgroups,
+    hosts: &Hosts,
+    warnings: &mut Sequence<Warning>,
+) -> Result<(), AllocError>
+    ensures { OnOk result (warnings.new ≡ warnings.old ++ spec.netgroup_warnings groups.now hosts.now) }
+{
+    for line in groups.lines() {
+        push_group(alloc, groups, hosts, line, warnings)?;
+    }
+    Ok(())
+}
+
+/// Adds the warnings of a netgroup line.
+fn push_group(
+    alloc: Global,
+    groups: &Netgroups,
+    hosts: &Hosts,
+    line: &GroupLine,
+    warnings: &mut Sequence<Warning>,
+) -> Result<(), AllocError>
+    ensures { OnOk result (warnings.new ≡ warnings.old ++ spec.group_warnings groups.now hosts.now line.now) }
+{
+    for member in line.members.as_slice() {
+        let kind = member_kind(alloc, groups, hosts, member)?;
+        push_if(
+            alloc,
+            warnings,
+            "netgroup",
+            line.line,
+            member_word(member),
+            kind,
+        )?;
+    }
+    Ok(())
+}
+
+/// Gives the word of a member.
+fn member_word(member: &Member) -> &str
+    ensures { result.now ≡ spec.member_word member.now }
+{
+    match member {
+        Member::Group(name) | Member::Host(name) => name.as_str(),
+    }
+}
+
+/// Tells what is odd about a member of a group, if anything is.
+fn member_kind(
+    alloc: Global,
+    groups: &Netgroups,
+    hosts: &Hosts,
+    member: &Member,
+) -> Result<Option<WarningKind>, AllocError>
+    ensures { IfOk result (λ kind. kind ≡ spec.member_kind groups.now hosts.now member.now) }
+{
+    match member {
+        Member::Host(name) => host_kind(alloc, hosts, name.as_str()),
+        Member::Group(name) => {
+            if groups.group(name.as_str()).is_some() {
+                return Ok(None);
+            }
+            Ok(Some(WarningKind::UnknownMember))
+        }
+    }
+}
+
+/// Adds the warnings of the line of an entry in this file.
+pub fn push_entry(
+    alloc: Global,
+    groups: &Netgroups,
+    hosts: &Hosts,
+    file: &str,
+    entry: &Entry,
+    warnings: &mut Sequence<Warning>,
+) -> Result<(), AllocError>
+    ensures { OnOk result (warnings.new ≡ warnings.old ++ spec.entry_warnings groups.now hosts.now file.now entry.now) }
+{
+    match &entry.clients {
+        Clients::Hosts(names) => push_names(
+            alloc,
+            groups,
+            hosts,
+            file,
+            entry.line,
+            names.as_slice(),
+            warnings,
+        ),
+        Clients::Net(_, Some(value)) => push_if(
+            alloc,
+            warnings,
+            file,
+            entry.line,
+            value.as_str(),
+            Some(WarningKind::ClassMask),
+        ),
+        Clients::Net6(value) => push_if(
+            alloc,
+            warnings,
+            file,
+            entry.line,
+            value.as_str(),
+            Some(WarningKind::Ipv6),
+        ),
+        Clients::Net(_, None) | Clients::World => Ok(()),
+    }
+}
+
+/// Lists the warnings of a whole exports text, with no group and no host listed.
+pub fn whole_warnings(
+    alloc: Global,
+    entries: &[(FsId, Boxed<Entry>)],
+) -> Result<Sequence<Warning>, AllocError>
+    ensures { IfOk result (λ warnings. warnings ≡ spec.whole_warnings entries.now) }
+{
+    let groups = Netgroups::new(alloc);
+    let hosts = Hosts::new(alloc);
+    let mut warnings = Sequence::new(alloc);
+    for (_, entry) in entries {
+        push_entry(alloc, &groups, &hosts, "exports", entry, &mut warnings)?;
+    }
+    Ok(warnings)
+}
+
+/// Adds the warnings of the written names of a line.
+fn push_names(
+    alloc: Global,
+    groups: &Netgroups,
+    hosts: &Hosts,
+    file: &str,
+    line: u32,
+    names: &[Text],
+    warnings: &mut Sequence<Warning>,
+) -> Result<(), AllocError>
+    ensures { OnOk result (warnings.new
+        ≡ warnings.old ++ flat_map (λ name. spec.warning_if file.now line name (spec.name_kind groups.now hosts.now name)) names.now) }
+{
+    for name in names {
+        let kind = name_kind(alloc, groups, hosts, name.as_str())?;
+        push_if(alloc, warnings, file, line, name.as_str(), kind)?;
+    }
+    Ok(())
+}
+
+/// Tells what is odd about a written name, if anything is.
+fn name_kind(
+    alloc: Global,
+    groups: &Netgroups,
+    hosts: &Hosts,
+    name: &str,
+) -> Result<Option<WarningKind>, AllocError>
+    ensures { IfOk result (λ kind. kind ≡ spec.name_kind groups.now hosts.now name.now) }
+{
+    if !is_number_like(name) && groups.group(name).is_some() {
+        return Ok(None);
+    }
+    host_kind(alloc, hosts, name)
+}
+
+/// Tells what is odd about a host's text, if anything is.
+fn host_kind(alloc: Global, hosts: &Hosts, name: &str) -> Result<Option<WarningKind>, AllocError>
+    ensures { IfOk result (λ kind. kind ≡ spec.host_kind hosts.now name.now) }
+{
+    if is_ipv6(name) {
+        return Ok(Some(WarningKind::Ipv6));
+    }
+    if is_dotted(name) {
+        return Ok(unknown_unless(Addr::read(name).is_ok()));
+    }
+    Ok(unknown_unless(!hosts.addresses(alloc, name)?.is_empty()))
+}
+
+/// Warns of an unknown host, unless it is known.
+fn unknown_unless(is_known: bool) -> Option<WarningKind>
+    ensures { result ≡ (if is_known then None else Some UnknownHost) }
+{
+    if is_known {
+        None
+    } else {
+        Some(WarningKind::UnknownHost)
+    }
+}
+
+/// Adds the warning of a word, if there is one.
+fn push_if(
+    alloc: Global,
+    warnings: &mut Sequence<Warning>,
+    file: &str,
+    line: u32,
+    word: &str,
+    kind: Option<WarningKind>,
+) -> Result<(), AllocError>
+    ensures { OnOk result (warnings.new ≡ warnings.old ++ spec.warning_if file.now line word.now kind) }
+{
+    if let Some(kind) = kind {
+        warnings.push(Warning {
+            file: Text::copy(alloc, file)?,
+            line,
+            kind,
+            word: Text::copy(alloc, word)?,
+        })?;
+    }
+    Ok(())
+}
