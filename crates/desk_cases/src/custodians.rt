@@ -2,9 +2,10 @@
 
 ghost use Rattle.std.specs.Prelude.{◌≤◌, length};
 
-use crate::answers::{Asked, end_list, say};
+use crate::answers::{Asked, end_list, say, say_found};
 use crate::site::{Site, say_fault, say_read};
-use desk_tables::Custodians;
+use desk_policy::unlisted_line;
+use desk_tables::{Custodians, FileSystems};
 use std::alloc::Global;
 
 /// Answers a question on the custodians file.
@@ -15,6 +16,7 @@ pub fn answer(alloc: Global, site: &mut Site, out: &mut String, question: &str, 
         ("custodians", _) => read(alloc, site, out, text),
         ("digest", Some(table)) => digest(alloc, table, out, text),
         ("custodian_names", Some(table)) => names(table, out),
+        ("unlisted", Some(table)) => unlisted(table, &site.filesystems, out),
         _ => Ok(false),
     }
 }
@@ -37,6 +39,14 @@ fn digest(alloc: Global, table: &Custodians, out: &mut String, name: &str) -> As
     match table.digest_of(name) {
         Some(digest) => say(out, hex::encode(alloc, digest.as_slice())?.as_str()),
         None => Ok(true),
+    }
+}
+
+/// `unlisted`: the first line of the file systems with a custodian who is not listed, or `none`.
+fn unlisted(table: &Custodians, filesystems: &Option<FileSystems>, out: &mut String) -> Asked {
+    match filesystems {
+        Some(filesystems) => say_found(out, unlisted_line(table, filesystems)),
+        None => Ok(false),
     }
 }
 

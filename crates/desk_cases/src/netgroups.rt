@@ -5,6 +5,8 @@ ghost use Rattle.std.specs.Prelude.{◌≤◌, length};
 use crate::answers::{Asked, end_list, say, say_each};
 use crate::site::{Site, say_read};
 use desk_netgroup::{GroupFault, GroupLine, Member, Netgroups, Token};
+use desk_policy::addresses_of;
+use desk_tables::Hosts;
 use desk_text::ReadError;
 use std::alloc::{AllocError, Global};
 
@@ -16,6 +18,7 @@ pub fn answer(alloc: Global, site: &mut Site, out: &mut String, question: &str, 
         "netgroups" => read(alloc, site, out, text),
         "groups_of" => lines(site.netgroups.lines(), out),
         "hosts_of" => hosts_of(alloc, &site.netgroups, out, text),
+        "stands_for" => stands_for(alloc, &site.netgroups, &site.hosts, out, text),
         "tokens" => tokens(alloc, out, text),
         _ => Ok(false),
     }
@@ -82,6 +85,17 @@ fn hosts_of(alloc: Global, netgroups: &Netgroups, out: &mut String, name: &str) 
         return say(out, "no hosts");
     }
     say_each(out, hosts.as_slice())
+}
+
+/// `stands_for NAME`: the addresses for which a written name stands by the groups and the hosts, or `none`.
+fn stands_for(
+    alloc: Global,
+    netgroups: &Netgroups,
+    hosts: &Hosts,
+    out: &mut String,
+    name: &str,
+) -> Asked {
+    say_each(out, addresses_of(alloc, netgroups, hosts, name)?.as_slice())
 }
 
 /// The tokens of a text, with a blank between them.
