@@ -34,7 +34,7 @@ pub fn say_whether(out: &mut String, holds: bool) -> Asked {
     say(out, if holds { "yes" } else { "no" })
 }
 
-/// The number that a text writes, if it is one.
+/// Returns the number that a text writes, if it is one.
 pub fn number(text: &str) -> Option<u32> {
     match text.parse() {
         Ok(number) => Some(number),

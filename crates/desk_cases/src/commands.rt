@@ -50,7 +50,7 @@ fn add_line(
     Ok(())
 }
 
-/// Whether a line is a status in brackets.
+/// Tests whether a line is a status in brackets.
 fn is_status(line: &str) -> bool {
     match line.strip_prefix('[') {
         Some(line) => match line.strip_suffix(']') {

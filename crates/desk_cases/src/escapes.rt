@@ -5,7 +5,8 @@
 use crate::answers::number;
 use std::alloc::{AllocError, Global};
 
-/// The bytes for which a text with escapes stands; none if it has an unknown escape, or a repetition that is not one.
+/// Returns the bytes for which a text with escapes stands; none if it has an unknown escape, or a repetition that is not
+/// one.
 pub fn bytes(alloc: Global, text: &str) -> Result<Option<Vec<u8>>, AllocError> {
     let mut out = Vec::new(alloc);
     let (first, repetitions) = match text.split_once("\\[") {
@@ -21,7 +22,7 @@ pub fn bytes(alloc: Global, text: &str) -> Result<Option<Vec<u8>>, AllocError> {
     Ok(if is_good { Some(out) } else { None })
 }
 
-/// The text for which a text with escapes stands; none where `bytes` has none, or they are not UTF-8.
+/// Returns the text for which a text with escapes stands; none where `bytes` has none, or they are not UTF-8.
 pub fn text(alloc: Global, text: &str) -> Result<Option<String>, AllocError> {
     match bytes(alloc, text)? {
         Some(bytes) => Ok(String::from_utf8(bytes).ok()),
@@ -121,7 +122,7 @@ fn push_plain(out: &mut Vec<u8>, text: &str) -> Result<bool, AllocError> {
     Ok(matches!(state, State::Plain))
 }
 
-/// The next state, and the byte that is complete.
+/// Returns the next state, and the byte that is complete.
 fn step(state: State, byte: u8) -> (State, Option<u8>) {
     match state {
         State::Plain if byte == b'\\' => (State::Backslash, None),
@@ -143,7 +144,7 @@ fn step(state: State, byte: u8) -> (State, Option<u8>) {
     }
 }
 
-/// The byte for which a byte behind a backslash stands.
+/// Returns the byte for which a byte behind a backslash stands.
 fn escaped(byte: u8) -> Option<u8> {
     match byte {
         b'n' => Some(b'\n'),

@@ -28,7 +28,7 @@ pub fn answer(alloc: Global, site: &Site, out: &mut String, question: &str, text
     }
 }
 
-/// The tables of a site with these file systems.
+/// Returns the tables of a site with these file systems.
 pub fn tables<'a>(site: &'a Site, filesystems: &'a FileSystems) -> Tables<'a> {
     Tables {
         networks: &site.networks,

@@ -49,7 +49,7 @@ fn of_mounts(alloc: Global, site: &mut Site, out: &mut String, text: &str) -> As
     }
 }
 
-/// The paths that words write.
+/// Returns the paths that words write.
 pub fn paths(alloc: Global, text: &str) -> Result<Vec<Path>, ReadError<PathFault>> {
     let mut paths = Vec::new(alloc);
     for path in text.split_whitespace() {
@@ -58,7 +58,7 @@ pub fn paths(alloc: Global, text: &str) -> Result<Vec<Path>, ReadError<PathFault
     Ok(paths)
 }
 
-/// The file system with the number that a text writes.
+/// Returns the file system with the number that a text writes.
 pub fn fs_id(text: &str) -> Option<FsId> {
     Some(FsId(number(text)?))
 }

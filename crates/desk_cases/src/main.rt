@@ -49,7 +49,7 @@ fn main(rt: HostRuntime) -> io::Result<ExitCode> {
     })
 }
 
-/// The names of the files of cases where the program runs, in byte order.
+/// Returns the names of the files of cases where the program runs, in byte order.
 fn file_names(rt: &HostRuntime) -> io::Result<Vec<String>> {
     let mut names = Vec::new(rt.alloc());
     for entry in fs::read_dir(rt, ".")? {
@@ -67,7 +67,7 @@ fn add_name(alloc: Global, names: &mut Vec<String>, name: &str) -> Result<(), Al
     Ok(())
 }
 
-/// What came of the file with this name.
+/// Returns what came of the file with this name.
 fn report_of(rt: &HostRuntime, name: &str) -> Result<Report, AllocError> {
     match fs::read_to_string(rt, name) {
         Ok(text) if name.ends_with(".commands") => commands::report_of(rt, text.as_str()),

@@ -98,7 +98,7 @@ fn stands_for(
     say_each(out, addresses_of(alloc, netgroups, hosts, name)?.as_slice())
 }
 
-/// The tokens of a text, with a blank between them.
+/// `tokens TEXT`: its tokens, with a blank between them.
 fn tokens(alloc: Global, out: &mut String, text: &str) -> Asked {
     add_tokens(out, desk_netgroup::tokens(alloc, text)?.as_slice())?;
     end_list(out)

@@ -56,7 +56,7 @@ fn network_text(out: &mut String, text: &str) -> Asked {
     }
 }
 
-/// The network that a text with a prefix writes.
+/// Returns the network that a text with a prefix writes.
 fn read_net(text: &str) -> Option<Net> {
     let written = NetText::read(text).ok()?;
     Some(Net::new(written.addr, written.prefix?))

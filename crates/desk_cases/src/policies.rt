@@ -148,7 +148,8 @@ fn row_has(policy: &Policy, out: &mut String, text: &str) -> Asked {
     }
 }
 
-/// The line with the numbers that a text begins with, of its file system and its own, and what stands behind them.
+/// Returns the line with the numbers that a text begins with, of its file system and its own, and what stands behind
+/// them.
 fn row_and_behind<'a, 'b>(policy: &'a Policy, text: &'b str) -> Option<(&'a Row, &'b str)> {
     let (numbers, behind) = text.rsplit_once(' ')?;
     let (fs, line) = fs_and_line(numbers)?;

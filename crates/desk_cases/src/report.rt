@@ -14,7 +14,7 @@ pub struct Report {
 }
 
 impl Report {
-    /// The report of a file without cases.
+    /// Returns the report of a file without cases.
     pub fn new(alloc: Global) -> Report {
         Report {
             cases: 0,
@@ -24,7 +24,7 @@ impl Report {
         }
     }
 
-    /// The report of a file that cannot be read.
+    /// Returns the report of a file that cannot be read.
     pub fn unread(alloc: Global, error: &io::Error) -> Result<Report, AllocError> {
         let mut report = Report::new(alloc);
         report.begin_case(0);
@@ -46,7 +46,7 @@ impl Report {
         write!(self.differences, "\n  line {line}: {case}\n  {found}")
     }
 
-    /// Whether there are cases, and none differs.
+    /// Tests whether there are cases, and none differs.
     pub fn is_right(&self) -> bool {
         self.cases > 0 && self.differing == 0
     }

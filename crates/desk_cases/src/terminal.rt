@@ -27,7 +27,7 @@ pub fn run(rt: &HostRuntime, shown: &mut String, line: &str, here: &str) -> Aske
     run_words(rt, shown, words.as_slice(), input.as_slice())
 }
 
-/// The words of a command, behind the name of the program.
+/// Returns the words of a command, behind the name of the program.
 fn words_part(line: &str) -> Option<&str> {
     let line = line.strip_prefix("$ ")?;
     let line = match line.strip_prefix("printf '") {
@@ -42,7 +42,7 @@ fn words_part(line: &str) -> Option<&str> {
     line.strip_prefix("exportdesk")
 }
 
-/// The standard input of a command, if it can be read.
+/// Returns the standard input of a command, if it can be read.
 fn input_of(rt: &HostRuntime, line: &str, here: &str) -> Result<Option<Vec<u8>>, AllocError> {
     if line.ends_with(HERE) {
         return Ok(Some(lines_below(rt.alloc(), here)?));
@@ -63,7 +63,7 @@ fn lines_below(alloc: Global, here: &str) -> Result<Vec<u8>, AllocError> {
     Ok(lines)
 }
 
-/// The words of a line: what stands between single quotes, and elsewhere between blanks.
+/// Returns the words of a line: what stands between single quotes, and elsewhere between blanks.
 fn words_in(alloc: Global, line: &[u8]) -> Result<Vec<&[u8]>, AllocError> {
     let mut words = Vec::new(alloc);
     let mut is_quoted = false;

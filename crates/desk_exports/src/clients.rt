@@ -20,7 +20,7 @@ pub(crate) fn has_slash(value: &str) -> bool
     value.as_bytes().iter().any(|byte| *byte == b'/')
 }
 
-/// What stands before the first slash.
+/// Returns what stands before the first slash.
 fn network_text(value: &str) -> &str
     ensures { result.now ≡ spec.network_text value.now }
 {
@@ -30,7 +30,7 @@ fn network_text(value: &str) -> &str
     }
 }
 
-/// What stands behind the first slash.
+/// Returns what stands behind the first slash.
 pub(crate) fn prefix_text(value: &str) -> &str
     ensures { result.now ≡ spec.prefix_text value.now }
 {
@@ -57,7 +57,7 @@ fn begins_with_digit(text: &str) -> bool
     !bytes.is_empty() && bytes[0].is_ascii_digit()
 }
 
-/// The address of a network, host bits and all.
+/// Returns the address of a network, host bits and all.
 pub(crate) fn network_address(networks: &Networks, value: &str) -> Option<Addr>
     ensures { option_map number_of result ≡ spec.network_number_of networks.now value.now }
 {
@@ -74,7 +74,7 @@ pub(crate) fn mask_prefix(networks: &Networks, mask: &str) -> Option<Prefix>
     }
 }
 
-/// The prefix of the class of an address.
+/// Returns the prefix of the class of an address.
 pub(crate) fn class_prefix(address: Addr) -> Option<Prefix>
     ensures { result ≡ spec.class_prefix (number_of address) }
 {
@@ -90,14 +90,14 @@ pub(crate) fn class_prefix(address: Addr) -> Option<Prefix>
     }
 }
 
-/// Whether neither a prefix nor a mask is written.
+/// Tests whether neither a prefix nor a mask is written.
 fn is_classful(settings: &[Setting], value: &str) -> bool
     ensures { result ≡ spec.is_classful settings.now value.now }
 {
     !has_slash(value) && !has_option(settings, Keyword::Mask)
 }
 
-/// The prefix of the network with this address.
+/// Returns the prefix of the network with this address.
 fn prefix_of(
     networks: &Networks,
     settings: &[Setting],

@@ -110,7 +110,7 @@ pub struct GrammarLine {
 }
 
 impl GrammarLine {
-    /// The parts of the line that words make.
+    /// Returns the parts of the line that words make.
     pub fn read(alloc: Global, words: &[GrammarWord]) -> Result<GrammarLine, AllocError>
         ensures { IfOk result (λ line. line ≡ spec.grammar_line words.now) }
     {
@@ -150,7 +150,7 @@ impl GrammarLine {
         self.names.as_slice()
     }
 
-    /// Whether an option is written.
+    /// Tests whether an option is written.
     pub(crate) fn has(&self, keyword: Keyword) -> bool
         ensures { result ≡ has_option keyword self.now.settings }
     {
@@ -158,7 +158,7 @@ impl GrammarLine {
     }
 }
 
-/// Whether the first word is `V4:`.
+/// Tests whether the first word is `V4:`.
 fn is_v4(words: &[GrammarWord]) -> bool
     ensures { result ≡ spec.is_v4 words.now }
 {
@@ -178,7 +178,7 @@ fn count_absolute(words: &[GrammarWord]) -> usize
         .count()
 }
 
-/// Whether a text begins with a slash.
+/// Tests whether a text begins with a slash.
 pub(crate) fn is_absolute(text: &str) -> bool
     ensures { result ≡ is_absolute text.now }
 {
@@ -202,7 +202,7 @@ fn paths(alloc: Global, words: &[GrammarWord]) -> Result<Few<Result<Path, PathFa
     Ok(paths)
 }
 
-/// The path that a text writes, or its fault.
+/// Returns the path that a text writes, or its fault.
 fn read_path(alloc: Global, text: &str) -> Result<Result<Path, PathFault>, AllocError>
     ensures { IfOk result (λ path. path ≡ read_path text.now) }
 {
@@ -235,7 +235,7 @@ fn push_word(
     Ok(())
 }
 
-/// The next word, if there is one and it is not dashed.
+/// Returns the next word, if there is one and it is not dashed.
 fn offered<'a>(words: &'a [GrammarWord<'_>]) -> Option<&'a str>
     ensures { option_copied result ≡ spec.offered words.now }
 {
@@ -290,7 +290,7 @@ fn push_without_offer(
     Ok(())
 }
 
-/// A text behind the dash that it begins with.
+/// Returns a text behind the dash that it begins with.
 fn after_dash(text: &str) -> &str
     ensures { result.now ≡ spec.after_dash text.now }
 {
@@ -311,14 +311,14 @@ fn names(alloc: Global, words: &[GrammarWord]) -> Result<Few<Text>, AllocError>
     Ok(names)
 }
 
-/// Whether a word takes the next one, where that is not dashed, as a value.
+/// Tests whether a word takes the next one, where that is not dashed, as a value.
 fn takes_next(word: &GrammarWord) -> bool
     ensures { result ≡ spec.takes_next word.now }
 {
     word.dashed && last_wants(after_dash(word.value.as_str()))
 }
 
-/// Whether the last piece of a text wants a value.
+/// Tests whether the last piece of a text wants a value.
 fn last_wants(text: &str) -> bool
     ensures { result ≡ spec.last_wants (slice_split (λ b. b == 44) text.now) }
 {

@@ -24,7 +24,7 @@ fn main(rt: HostRuntime) -> ExitCode {
     ExitCode::from(run(&rt, words.as_slice(), &mut input, &mut out, &mut err))
 }
 
-/// The words behind the program's name, as bytes.
+/// Returns the words behind the program's name, as bytes.
 fn program_words(rt: &HostRuntime) -> Result<Vec<Vec<u8>>, AllocError> {
     let mut words = Vec::new(rt.alloc());
     for place in 1..usize::MAX {
@@ -36,7 +36,7 @@ fn program_words(rt: &HostRuntime) -> Result<Vec<Vec<u8>>, AllocError> {
     Ok(words)
 }
 
-/// The word at a place of the command line, if there is one. Place 0 has the program's name.
+/// Returns the word at a place of the command line, if there is one. Place 0 has the program's name.
 fn program_word(rt: &HostRuntime, place: usize) -> Result<Option<Vec<u8>>, AllocError> {
     let mut room = 256;
     for _ in 0..usize::BITS {

@@ -10,21 +10,21 @@ use crate::grammar::is_absolute;
 use desk_tables::{FileSystems, FsId};
 use desk_text::{Path, PathFault, Text};
 
-/// Whether a name begins with `/`.
+/// Tests whether a name begins with `/`.
 pub(crate) fn has_late_directory(names: &[Text]) -> bool
     ensures { result ≡ list_any is_absolute names.now }
 {
     names.iter().any(|name| is_absolute(name.as_str()))
 }
 
-/// Whether a directory is not a valid path.
+/// Tests whether a directory is not a valid path.
 pub(crate) fn has_bad_path(directories: &[Result<Path, PathFault>]) -> bool
     ensures { result ≡ list_any is_err directories.now }
 {
     directories.iter().any(|directory| directory.is_err())
 }
 
-/// Whether a directory is not in this file system.
+/// Tests whether a directory is not in this file system.
 pub(crate) fn has_directory_elsewhere(
     filesystems: &FileSystems,
     own_fs: Option<FsId>,
@@ -57,7 +57,7 @@ fn is_elsewhere(
     }
 }
 
-/// Whether a directory is not the mount point of this file system.
+/// Tests whether a directory is not the mount point of this file system.
 pub(crate) fn has_other_directory(
     filesystems: &FileSystems,
     own_fs: Option<FsId>,

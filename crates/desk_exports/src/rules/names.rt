@@ -7,7 +7,7 @@ ghost use Rattle.desk_exports.specs.Rules as spec;
 
 use desk_text::{Addr, Text, is_dotted};
 
-/// Whether a name is neither a name nor an address.
+/// Tests whether a name is neither a name nor an address.
 pub(crate) fn has_bad_name(names: &[Text]) -> bool
     ensures { result ≡ list_any spec.is_bad_name names.now }
 {

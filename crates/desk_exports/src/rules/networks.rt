@@ -14,7 +14,7 @@ use crate::options::{Keyword, Setting, value_of};
 use desk_tables::Networks;
 use desk_text::{Addr, Prefix, is_ipv6};
 
-/// Whether the network is one of IPv6.
+/// Tests whether the network is one of IPv6.
 pub(crate) fn has_ipv6_network(settings: &[Setting]) -> bool
     ensures { result ≡ of_value keyword.Network is_ipv6 settings.now }
 {
@@ -24,7 +24,7 @@ pub(crate) fn has_ipv6_network(settings: &[Setting]) -> bool
     }
 }
 
-/// Whether the network's first part is neither an address nor a known network.
+/// Tests whether the network's first part is neither an address nor a known network.
 pub(crate) fn has_bad_network(networks: &Networks, settings: &[Setting]) -> bool
     ensures { result ≡ of_value keyword.Network (spec.is_bad_network networks.now) settings.now }
 {
@@ -34,7 +34,7 @@ pub(crate) fn has_bad_network(networks: &Networks, settings: &[Setting]) -> bool
     }
 }
 
-/// Whether the network has a prefix.
+/// Tests whether the network has a prefix.
 pub(crate) fn network_has_prefix(settings: &[Setting]) -> bool
     ensures { result ≡ of_value keyword.Network spec.has_prefix settings.now }
 {
@@ -50,7 +50,7 @@ fn has_prefix(value: &str) -> bool
     !is_ipv6(value) && has_slash(value)
 }
 
-/// Whether the network's prefix is not a decimal of 0 to 32.
+/// Tests whether the network's prefix is not a decimal of 0 to 32.
 pub(crate) fn has_bad_prefix(settings: &[Setting]) -> bool
     ensures { result ≡ of_value keyword.Network spec.is_bad_prefix settings.now }
 {
@@ -60,7 +60,7 @@ pub(crate) fn has_bad_prefix(settings: &[Setting]) -> bool
     }
 }
 
-/// Whether the mask is unreadable, unknown or not contiguous.
+/// Tests whether the mask is unreadable, unknown or not contiguous.
 pub(crate) fn has_bad_mask(networks: &Networks, settings: &[Setting]) -> bool
     ensures { result ≡ of_value keyword.Mask (spec.is_bad_mask networks.now) settings.now }
 {
@@ -70,7 +70,7 @@ pub(crate) fn has_bad_mask(networks: &Networks, settings: &[Setting]) -> bool
     }
 }
 
-/// Whether the network has no prefix, and its address has no class.
+/// Tests whether the network has no prefix, and its address has no class.
 pub(crate) fn has_classless_network(networks: &Networks, settings: &[Setting]) -> bool
     ensures { result ≡ of_value keyword.Network (spec.has_no_class networks.now) settings.now }
 {

@@ -15,7 +15,7 @@ use crate::options::{Keyword, Setting, value_of};
 use crate::tables::Tables;
 use desk_tables::{CredFault, has_fault};
 
-/// Whether an option is unknown, or has a value and takes none.
+/// Tests whether an option is unknown, or has a value and takes none.
 pub(crate) fn has_unknown_option(settings: &[Setting]) -> bool
     ensures { result ≡ list_any spec.is_unknown settings.now }
 {
@@ -29,7 +29,7 @@ fn is_unknown(setting: &Setting) -> bool
         || (setting.keyword.takes_no_value() && setting.value.is_some())
 }
 
-/// Whether an option that takes a value has none, or an empty one.
+/// Tests whether an option that takes a value has none, or an empty one.
 pub(crate) fn has_option_without_value(settings: &[Setting]) -> bool
     ensures { result ≡ list_any spec.lacks_value settings.now }
 {
@@ -48,7 +48,7 @@ fn lacks_value(setting: &Setting) -> bool
     }
 }
 
-/// Whether an option that takes a value is given twice.
+/// Tests whether an option that takes a value is given twice.
 pub(crate) fn has_repeated_option(settings: &[Setting]) -> bool
     ensures { result ≡ list_any (spec.stands_twice settings.now) spec.options_once }
 {
@@ -69,7 +69,7 @@ fn stands_twice(settings: &[Setting], keyword: Keyword) -> bool
         > 1
 }
 
-/// Whether a flavour is empty or unknown.
+/// Tests whether a flavour is empty or unknown.
 pub(crate) fn has_unknown_flavour(settings: &[Setting]) -> bool
     ensures { result ≡ of_value keyword.Sec has_bad_flavour settings.now }
 {
@@ -79,7 +79,7 @@ pub(crate) fn has_unknown_flavour(settings: &[Setting]) -> bool
     }
 }
 
-/// Whether a credential of the line has this fault, whatever other faults it has.
+/// Tests whether a credential of the line has this fault, whatever other faults it has.
 pub(crate) fn has_cred_fault(tables: &Tables, settings: &[Setting], fault: CredFault) -> bool
     ensures { result ≡ spec.cred_has (table_rows tables.now) fault settings.now }
 {
