@@ -15,5 +15,6 @@ pub mod Lesser
 pub mod FilesRead
 pub mod Chain
 pub mod Compiling
+pub mod ReadableTexts
 pub mod SlotLemmas
 mod SiteExamples

@@ -13,6 +13,7 @@ pub mod Contradiction
 pub mod PrivateFirstLines
 pub mod Unlisted
 pub mod Site
+pub mod PrivateSite
 pub mod SiteFault
 pub mod Parsing
 pub mod PrivateParsing
