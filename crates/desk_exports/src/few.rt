@@ -33,7 +33,7 @@ impl<T> Model for Few<T> {
 
 impl<T> Few<T> {
     /// Makes the empty list.
-    pub fn new() -> Few<T>
+    pub(crate) fn new() -> Few<T>
         ensures { result ≡ [] }
     {
         Few {
@@ -55,8 +55,8 @@ impl<T> Few<T> {
 }
 
 impl<T: Drop> Few<T> {
-    /// Adds a value at the end.
-    pub fn push(&mut self, alloc: Global, value: T) -> Result<(), AllocError>
+    /// Adds a value at the end. If there is no memory for it, the list is lost.
+    pub(crate) fn push(&mut self, alloc: Global, value: T) -> Result<(), AllocError>
         ensures { OnOk result (self.new ≡ self.old ++ value ∷ []) }
     {
         self.values = match mem::replace(&mut self.values, Values::Nothing) {
@@ -73,7 +73,7 @@ impl<T: Drop> Few<T> {
 
 impl<T: Drop, F: Drop> Few<Result<T, F>> {
     /// Keeps the values of those results that have one.
-    pub fn into_oks(self, alloc: Global) -> Result<Few<T>, AllocError>
+    pub(crate) fn into_oks(self, alloc: Global) -> Result<Few<T>, AllocError>
         ensures { IfOk result (λ few. few ≡ filter_map result_ok self) }
     {
         let Few { values } = self;

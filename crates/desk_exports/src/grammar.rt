@@ -126,9 +126,7 @@ impl GrammarLine {
             names,
         })
     }
-}
 
-impl GrammarLine {
     /// Lends the directories.
     pub(crate) fn directories(&self) -> &[Result<Path, PathFault>]
         ensures { result.now ≡ self.now.directories }

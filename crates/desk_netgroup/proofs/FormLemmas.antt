@@ -13,7 +13,7 @@ use Rattle.desk_text.specs.Views.{line_of_part}
 use Rattle.desk_text.specs.declared.lines.Part.{Part}
 use Rattle.desk_netgroup.specs.Faults.{has_unclosed, is_close}
 use Rattle.desk_netgroup.specs.GroupLine.{followed_by, host_member, members}
-use Rattle.desk_netgroup.specs.PrivateLine.{behind_close, behind_comma, behind_field, behind_triple, host_field, is_open_behind}
+use Rattle.desk_netgroup.specs.PrivateLine.{after_close, after_comma, after_field, after_triple, host_field, is_open_after}
 use Rattle.desk_netgroup.specs.Token.{tokens}
 use Rattle.desk_netgroup.specs.declared.group_line.Member.{Member}
 use Rattle.desk_netgroup.specs.declared.token.Token.{Token}
@@ -31,10 +31,10 @@ followed_by_none None = refl
 followed_by_none (Some others) = refl
 
 -- a triple by its parts
-abbrev behind_open : List Token → Option (List Member)
-behind_open ts = option_and_then (λ more. followed_by (host_member (host_field ts)) (members more)) (behind_triple ts)
+abbrev after_open : List Token → Option (List Member)
+after_open ts = option_and_then (λ more. followed_by (host_member (host_field ts)) (members more)) (after_triple ts)
 
-open_is : (ts : List Token) → members (Open ∷ ts) ≡ behind_open ts
+open_is : (ts : List Token) → members (Open ∷ ts) ≡ after_open ts
 open_is (Comma ∷ Comma ∷ Close ∷ more) = followed_by_none (members more)
 open_is (Comma ∷ Comma ∷ Word domain ∷ Close ∷ more) = followed_by_none (members more)
 open_is (Comma ∷ Word user ∷ Comma ∷ Close ∷ more) = followed_by_none (members more)
@@ -45,36 +45,36 @@ open_is (Word host ∷ Comma ∷ Word user ∷ Comma ∷ Close ∷ more) = refl
 open_is (Word host ∷ Comma ∷ Word user ∷ Comma ∷ Word domain ∷ Close ∷ more) = refl
 open_is _ = refl
 
-pub open_none : (ts : List Token) → behind_triple ts ≡ None → members (Open ∷ ts) ≡ None
+pub open_none : (ts : List Token) → after_triple ts ≡ None → members (Open ∷ ts) ≡ None
 open_none ts e = open_is ts ∙ ap (option_and_then (λ more. followed_by (host_member (host_field ts)) (members more))) e
 
-pub open_some : (ts more : List Token) → behind_triple ts ≡ Some more → members (Open ∷ ts) ≡ followed_by (host_member (host_field ts)) (members more)
+pub open_some : (ts more : List Token) → after_triple ts ≡ Some more → members (Open ∷ ts) ≡ followed_by (host_member (host_field ts)) (members more)
 open_some ts more e = open_is ts ∙ ap (option_and_then (λ rest. followed_by (host_member (host_field ts)) (members rest))) e
 
 -- what reading a triple answers
-pub open_read : (rest : Option (Bor (List Token))) (old new : List Member) (token : Token) (ts : List Token) → token ≡ Open → option_copied rest ≡ behind_triple ts → new ≡ old ++ host_member (host_field ts)
-    → MatchOption rest (members (token ∷ ts) ≡ None) (λ behind. followed_by old (members (token ∷ ts)) ≡ followed_by new (members behind.now))
+pub open_read : (rest : Option (Bor (List Token))) (old new : List Member) (token : Token) (ts : List Token) → token ≡ Open → option_copied rest ≡ after_triple ts → new ≡ old ++ host_member (host_field ts)
+    → MatchOption rest (members (token ∷ ts) ≡ None) (λ after. followed_by old (members (token ∷ ts)) ≡ followed_by new (members after.now))
 open_read None old new token ts is triple more = ap (λ t. members (t ∷ ts)) is ∙ open_none ts (sym triple)
-open_read (Some behind) old new token ts is triple more =
-    ap (λ t. followed_by old (members (t ∷ ts))) is ∙ ap (followed_by old) (open_some ts behind.now (sym triple))
-    ∙ followed_twice old (host_member (host_field ts)) (members behind.now) ∙ ap (λ ms. followed_by ms (members behind.now)) (sym more)
+open_read (Some after) old new token ts is triple more =
+    ap (λ t. followed_by old (members (t ∷ ts))) is ∙ ap (followed_by old) (open_some ts after.now (sym triple))
+    ∙ followed_twice old (host_member (host_field ts)) (members after.now) ∙ ap (λ ms. followed_by ms (members after.now)) (sym more)
 
--- what stands behind a triple is shorter
-field_short : (ts : List Token) → length (behind_field ts) ≤ length ts
+-- what stands after a triple is shorter
+field_short : (ts : List Token) → length (after_field ts) ≤ length ts
 field_short [] = omega arith
 field_short (Word word ∷ ts) = omega arith
 field_short (Open ∷ ts) = omega arith
 field_short (Close ∷ ts) = omega arith
 field_short (Comma ∷ ts) = omega arith
 
-comma_short : (ts more : List Token) → behind_comma ts ≡ Some more → length more ≤ length ts
+comma_short : (ts more : List Token) → after_comma ts ≡ Some more → length more ≤ length ts
 comma_short [] more e = absurd (cc)
 comma_short (Word word ∷ ts) more e = absurd (cc)
 comma_short (Open ∷ ts) more e = absurd (cc)
 comma_short (Close ∷ ts) more e = absurd (cc)
 comma_short (Comma ∷ ts) more e = (let same : ts ≡ more = cc in let l = ap (λ (xs : List Token). length xs) same in omega arith)
 
-close_short : (ts more : List Token) → behind_close ts ≡ Some more → length more ≤ length ts
+close_short : (ts more : List Token) → after_close ts ≡ Some more → length more ≤ length ts
 close_short [] more e = absurd (cc)
 close_short (Word word ∷ ts) more e = absurd (cc)
 close_short (Open ∷ ts) more e = absurd (cc)
@@ -86,13 +86,13 @@ then_short : (o : Option (List Token)) (f : List Token → Option (List Token)) 
 then_short None f n more first next e = absurd (cc)
 then_short (Some ts) f n more first next e = (let a = first ts refl in let b = next ts more e in omega arith)
 
-pub triple_short : (ts more : List Token) → behind_triple ts ≡ Some more → length more ≤ length ts
+pub triple_short : (ts more : List Token) → after_triple ts ≡ Some more → length more ≤ length ts
 triple_short ts more e =
-    then_short (behind_comma (behind_field ts)) (λ user. option_and_then (λ domain. behind_close (behind_field domain)) (behind_comma (behind_field user))) (length ts) more
-    (λ user h. let a = comma_short (behind_field ts) user h in let b = field_short ts in omega arith)
-    (λ user rest h. then_short (behind_comma (behind_field user)) (λ domain. behind_close (behind_field domain)) (length user) rest
-    (λ domain k. let a = comma_short (behind_field user) domain k in let b = field_short user in omega arith)
-    (λ domain last k. let a = close_short (behind_field domain) last k in let b = field_short domain in omega arith)
+    then_short (after_comma (after_field ts)) (λ user. option_and_then (λ domain. after_close (after_field domain)) (after_comma (after_field user))) (length ts) more
+    (λ user h. let a = comma_short (after_field ts) user h in let b = field_short ts in omega arith)
+    (λ user rest h. then_short (after_comma (after_field user)) (λ domain. after_close (after_field domain)) (length user) rest
+    (λ domain k. let a = comma_short (after_field user) domain k in let b = field_short user in omega arith)
+    (λ domain last k. let a = close_short (after_field domain) last k in let b = field_short domain in omega arith)
     h)
     e
 
@@ -134,13 +134,13 @@ other_last (Close ∷ ts) t e u = other_last ts t e u
 other_last (Comma ∷ ts) t e u = other_last ts t e u
 other_last (Word word ∷ ts) t e u = other_last ts t e u
 
-unclosed_last : (ts : List Token) (t : Token) → is_open_behind (has_unclosed ts) t ≡ has_unclosed (ts ++ t ∷ [])
+unclosed_last : (ts : List Token) (t : Token) → is_open_after (has_unclosed ts) t ≡ has_unclosed (ts ++ t ∷ [])
 unclosed_last ts Open = sym (open_last ts)
 unclosed_last ts Close = sym (closed_last ts)
 unclosed_last ts Comma = sym (other_last ts Comma refl refl)
 unclosed_last ts (Word word) = sym (other_last ts (Word word) refl refl)
 
-pub unclosed_at : (ts : List Token) (i : ℕ) (t : Token) → i < length ts → t ≡ get_or ts i t → is_open_behind (has_unclosed (take i ts)) t ≡ has_unclosed (take (i + 1) ts)
+pub unclosed_at : (ts : List Token) (i : ℕ) (t : Token) → i < length ts → t ≡ get_or ts i t → is_open_after (has_unclosed (take i ts)) t ≡ has_unclosed (take (i + 1) ts)
 unclosed_at ts i t within is =
     unclosed_last (take i ts) t ∙ ap (λ x. has_unclosed (take i ts ++ x ∷ [])) is ∙ ap has_unclosed (sym (take_more ts i t within))
 

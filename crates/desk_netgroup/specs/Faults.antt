@@ -18,10 +18,10 @@ is_word Open = false
 is_word Close = false
 is_word Comma = false
 
--- what stands behind the first word
-abbrev pub behind_first_word : List Token → List Token
-behind_first_word [] = []
-behind_first_word (token ∷ more) = if is_word token then more else behind_first_word more
+-- what stands after the first word
+abbrev pub after_first_word : List Token → List Token
+after_first_word [] = []
+after_first_word (token ∷ more) = if is_word token then more else after_first_word more
 
 -- a word that begins a comment
 abbrev pub is_comment : Token → Bool
@@ -47,7 +47,7 @@ is_close Open = false
 is_close Comma = false
 is_close (Word word) = false
 
--- some `(` has no `)` behind it
+-- some `(` has no `)` after it
 abbrev pub has_unclosed : List Token → Bool
 has_unclosed [] = false
 has_unclosed (Open ∷ more) = not (list_any is_close more) || has_unclosed more
@@ -59,12 +59,12 @@ has_unclosed (Word word ∷ more) = has_unclosed more
 abbrev pub earlier_line : List GroupLine → LogicalLine → Option ℕ
 earlier_line earlier line = option_and_then (λ group. option_map (λ other. other.line) (group_named earlier group.name)) (group_on line)
 
--- whether a line breaks a rule, behind lines that define these groups
+-- whether a line breaks a rule, after lines that define these groups
 abbrev pub breaks : List GroupLine → LogicalLine → GroupRule → Bool
 breaks earlier line rule.BadTriple = is_none (group_on line) || list_any is_long (tokens_of line)
 breaks earlier line rule.Unclosed = has_unclosed (tokens_of line)
 breaks earlier line rule.Duplicate = is_some (earlier_line earlier line)
-breaks earlier line rule.StrayComment = list_any is_comment (behind_first_word (tokens_of line))
+breaks earlier line rule.StrayComment = list_any is_comment (after_first_word (tokens_of line))
 
 -- the order in which a broken rule is named
 abbrev pub rules_in_order : List GroupRule
@@ -80,7 +80,7 @@ other_of rule.Unclosed earlier = None
 other_of rule.Duplicate earlier = earlier
 other_of rule.StrayComment earlier = None
 
--- the fault of a line, behind lines that define these groups
+-- the fault of a line, after lines that define these groups
 abbrev pub fault_on : List GroupLine → LogicalLine → Option GroupFault
 fault_on earlier line =
     option_map (λ rule. record { line = line.number; rule = rule; other = other_of rule (earlier_line earlier line) }) (first_broken_rule earlier line)

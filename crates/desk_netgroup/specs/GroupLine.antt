@@ -1,4 +1,4 @@
--- The form of a netgroup line: a name, and members behind it. (netgroup(5); that a host field that is empty or `-` adds no
+-- The form of a netgroup line: a name, and members after it. (netgroup(5); that a host field that is empty or `-` adds no
 -- host is this project's own)
 use Rattle.std.specs.Prelude.{ℕ, List, [], ◌∷◌, ◌++◌, Option, Some, None, find, if◌then◌else◌}
 use Rattle.std.specs.List.{filter_map}
@@ -17,7 +17,7 @@ abbrev pub host_member : List ℕ → List Member
 host_member [] = []
 host_member (c ∷ host) = if bytes_eq (c ∷ host) (45 ∷ []) then [] else Host (c ∷ host) ∷ []
 
--- members, and further ones behind them
+-- members, and further ones after them
 abbrev pub followed_by : List Member → Option (List Member) → Option (List Member)
 followed_by first others = option_map (λ members. first ++ members) others
 
@@ -37,7 +37,7 @@ members (Open ∷ Word host ∷ Comma ∷ Word user ∷ Comma ∷ Close ∷ more
 members (Open ∷ Word host ∷ Comma ∷ Word user ∷ Comma ∷ Word domain ∷ Close ∷ more) = followed_by (host_member host) (members more)
 members _ = None
 
--- the group that the tokens of the line with this number define: a name, and members behind it
+-- the group that the tokens of the line with this number define: a name, and members after it
 abbrev pub group_of : ℕ → List Token → Option GroupLine
 group_of number (Word name ∷ more) = option_map (λ members. record { line = number; name = name; members = members }) (members more)
 group_of number _ = None

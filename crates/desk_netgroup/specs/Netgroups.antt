@@ -12,7 +12,7 @@ use Rattle.desk_netgroup.specs.declared.group_line.GroupLine.{GroupLine}
 use Rattle.desk_netgroup.specs.declared.group_line.Member.{Member}
 use Rattle.desk_netgroup.specs.declared.group_line.Member.TheVariants.{Group, Host}
 
--- the fault of the first faulty one of these lines, which stand behind others
+-- the fault of the first faulty one of these lines, which stand after others
 abbrev pub first_fault : List LogicalLine → List LogicalLine → Option GroupFault
 first_fault before [] = None
 first_fault before (line ∷ more) = option_or (fault_on (groups_on before) line) (first_fault (before ++ line ∷ []) more)

@@ -17,7 +17,7 @@ abbrev pub new_texts : List (List ℕ) → List (List ℕ) → List (List ℕ)
 new_texts before [] = []
 new_texts before (text ∷ texts) = (if is_among text before then [] else text ∷ []) ++ new_texts (before ++ text ∷ []) texts
 
--- a text that was not seen is seen then, and kept behind the others
+-- a text that was not seen is seen then, and kept after the others
 abbrev pub AddsNew : List ℕ → (List ℕ → Bool) → (List ℕ → Bool) → List (List ℕ) → List (List ℕ) → Type 0
 AddsNew text old new kept kept' =
     ((other : List ℕ) → new other ≡ (old other || bytes_eq other text)) × (kept' ≡ (if old text then kept else kept ++ text ∷ []))

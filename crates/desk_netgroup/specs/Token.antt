@@ -13,7 +13,7 @@ abbrev pub begins_with_word : List ℕ → Bool
 begins_with_word [] = false
 begins_with_word (c ∷ text) = is_of_word c
 
--- a character of a word before these tokens: it begins the word that stands right behind it, or else is a word by itself
+-- a character of a word before these tokens: it begins the word that stands right after it, or else is a word by itself
 abbrev pub with_character : ℕ → Bool → List Token → List Token
 with_character c true (Word word ∷ tokens) = Word (c ∷ word) ∷ tokens
 with_character c _ tokens = Word (c ∷ []) ∷ tokens

@@ -3,7 +3,7 @@
 use desk_text::{Sequence, Text};
 
 /// A member of a group: another group, or the host of a triple that has one.
-#[derive(Clone, Debug, Drop)]
+#[derive(Drop)]
 pub enum Member {
     Group(Text),
     Host(Text),
@@ -11,7 +11,7 @@ pub enum Member {
 
 /// A line that defines a group: the number of its first physical line, the group's name, and its
 /// members in the order written. A triple whose host is empty or `-` adds none.
-#[derive(Clone, Debug, Drop)]
+#[derive(Drop)]
 pub struct GroupLine {
     pub line: u32,
     pub name: Text,

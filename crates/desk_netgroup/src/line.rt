@@ -5,10 +5,10 @@ ghost use Rattle.std.specs.List.{list_any};
 ghost use Rattle.std.specs.Option.{option_copied};
 ghost use Rattle.desk_text.specs.Reading.{ReadsAs};
 ghost use Rattle.desk_text.specs.declared.reading.ReadError.TheVariants.{Fault};
-ghost use Rattle.desk_netgroup.specs.Faults.{behind_first_word, fault_on, has_unclosed, is_comment, is_long, is_word};
+ghost use Rattle.desk_netgroup.specs.Faults.{after_first_word, fault_on, has_unclosed, is_comment, is_long, is_word};
 ghost use Rattle.desk_netgroup.specs.GroupLine as form;
 ghost use Rattle.desk_netgroup.specs.Netgroups.{unless_fault};
-ghost use Rattle.desk_netgroup.specs.PrivateLine.{behind_close, behind_comma, behind_field, behind_triple, host_field, is_open_behind};
+ghost use Rattle.desk_netgroup.specs.PrivateLine.{after_close, after_comma, after_field, after_triple, host_field, is_open_after};
 
 use crate::faults::{GroupFault, GroupRule};
 use crate::group_line::{GroupLine, Member};
@@ -20,7 +20,7 @@ use std::alloc::{AllocError, Global};
 /// The longest word, in bytes.
 const LONGEST_WORD: usize = 255;
 
-/// Reads the group that a line defines behind earlier ones, or names the first rule that it breaks.
+/// Reads the group that a line defines after earlier ones, or names the first rule that it breaks.
 pub fn read_line(
     alloc: Global,
     line: &Line,
@@ -76,14 +76,14 @@ fn line_tokens(alloc: Global, line: &Line) -> Result<Vec<Token>, AllocError>
 
 /// Tells whether a word after the first begins with `#`.
 fn has_stray_comment(tokens: &[Token]) -> bool
-    ensures { result ≡ list_any is_comment (behind_first_word tokens.now) }
+    ensures { result ≡ list_any is_comment (after_first_word tokens.now) }
 {
-    has_comment(behind_first_word(tokens))
+    has_comment(after_first_word(tokens))
 }
 
-/// Gives what stands behind the first word.
-fn behind_first_word(tokens: &[Token]) -> &[Token]
-    ensures { result.now ≡ behind_first_word tokens.now }
+/// Gives what stands after the first word.
+fn after_first_word(tokens: &[Token]) -> &[Token]
+    ensures { result.now ≡ after_first_word tokens.now }
 {
     let mut rest = tokens;
     while let [token, more @ ..] = rest {
@@ -116,20 +116,20 @@ fn is_comment(token: &Token) -> bool
     }
 }
 
-/// Tells whether a `(` has no `)` behind it.
+/// Tells whether a `(` has no `)` after it.
 fn has_unclosed(tokens: &[Token]) -> bool
     ensures { result ≡ has_unclosed tokens.now }
 {
     let mut is_open = false;
     for token in tokens {
-        is_open = is_open_behind(is_open, token);
+        is_open = is_open_after(is_open, token);
     }
     is_open
 }
 
-/// Tells whether a `(` is open behind a token, if one is open before it.
-fn is_open_behind(was_open: bool, token: &Token) -> bool
-    ensures { result ≡ is_open_behind was_open token.now }
+/// Tells whether a `(` is open after a token, if one is open before it.
+fn is_open_after(was_open: bool, token: &Token) -> bool
+    ensures { result ≡ is_open_after was_open token.now }
 {
     match token {
         Token::Open => true,
@@ -179,15 +179,15 @@ fn read_members(alloc: Global, tokens: &[Token]) -> Result<Option<Sequence<Membe
     let mut members = Sequence::new(alloc);
     let mut rest = tokens;
     while let [token, more @ ..] = rest {
-        let Some(behind) = read_member(alloc, &mut members, token, more)? else {
+        let Some(after) = read_member(alloc, &mut members, token, more)? else {
             return Ok(None);
         };
-        rest = behind;
+        rest = after;
     }
     Ok(Some(members))
 }
 
-/// Adds the member that a token begins, if it begins one, and gives what stands behind it; None if
+/// Adds the member that a token begins, if it begins one, and gives what stands after it; None if
 /// the tokens have not the form.
 fn read_member<'a>(
     alloc: Global,
@@ -196,8 +196,8 @@ fn read_member<'a>(
     more: &'a [Token],
 ) -> Result<Option<&'a [Token]>, AllocError>
     ensures read { IfOk result (λ rest. MatchOption rest (form.members (token.now ∷ more.now) ≡ None)
-        (λ behind. form.followed_by members.old (form.members (token.now ∷ more.now)) ≡ form.followed_by members.new (form.members behind.now))) }
-    ensures shorter { IfOk result (λ rest. IfSome rest (λ behind. length behind.now ≤ length more.now)) }
+        (λ after. form.followed_by members.old (form.members (token.now ∷ more.now)) ≡ form.followed_by members.new (form.members after.now))) }
+    ensures shorter { IfOk result (λ rest. IfSome rest (λ after. length after.now ≤ length more.now)) }
 {
     match token {
         Token::Close => Ok(None),
@@ -209,7 +209,7 @@ fn read_member<'a>(
         }
         Token::Open => {
             push_host(alloc, members, host_field(more))?;
-            Ok(behind_triple(more))
+            Ok(after_triple(more))
         }
     }
 }
@@ -224,7 +224,7 @@ fn push_host(alloc: Global, members: &mut Sequence<Member>, host: &str) -> Resul
     Ok(())
 }
 
-/// Gives the host field of a triple, from what stands behind its `(`.
+/// Gives the host field of a triple, from what stands after its `(`.
 fn host_field(tokens: &[Token]) -> &str
     ensures { result.now ≡ host_field tokens.now }
 {
@@ -234,18 +234,18 @@ fn host_field(tokens: &[Token]) -> &str
     }
 }
 
-/// Gives what stands behind a triple, from what stands behind its `(`.
-fn behind_triple(tokens: &[Token]) -> Option<&[Token]>
-    ensures { option_copied result ≡ behind_triple tokens.now }
+/// Gives what stands after a triple, from what stands after its `(`.
+fn after_triple(tokens: &[Token]) -> Option<&[Token]>
+    ensures { option_copied result ≡ after_triple tokens.now }
 {
-    let rest = behind_comma(behind_field(tokens))?;
-    let rest = behind_comma(behind_field(rest))?;
-    behind_close(behind_field(rest))
+    let rest = after_comma(after_field(tokens))?;
+    let rest = after_comma(after_field(rest))?;
+    after_close(after_field(rest))
 }
 
-/// Gives what stands behind a field, which is a word or empty.
-fn behind_field(tokens: &[Token]) -> &[Token]
-    ensures { result.now ≡ behind_field tokens.now }
+/// Gives what stands after a field, which is a word or empty.
+fn after_field(tokens: &[Token]) -> &[Token]
+    ensures { result.now ≡ after_field tokens.now }
 {
     match tokens {
         [Token::Word(_), rest @ ..] => rest,
@@ -253,8 +253,8 @@ fn behind_field(tokens: &[Token]) -> &[Token]
     }
 }
 
-fn behind_comma(tokens: &[Token]) -> Option<&[Token]>
-    ensures { option_copied result ≡ behind_comma tokens.now }
+fn after_comma(tokens: &[Token]) -> Option<&[Token]>
+    ensures { option_copied result ≡ after_comma tokens.now }
 {
     match tokens {
         [Token::Comma, rest @ ..] => Some(rest),
@@ -262,8 +262,8 @@ fn behind_comma(tokens: &[Token]) -> Option<&[Token]>
     }
 }
 
-fn behind_close(tokens: &[Token]) -> Option<&[Token]>
-    ensures { option_copied result ≡ behind_close tokens.now }
+fn after_close(tokens: &[Token]) -> Option<&[Token]>
+    ensures { option_copied result ≡ after_close tokens.now }
 {
     match tokens {
         [Token::Close, rest @ ..] => Some(rest),

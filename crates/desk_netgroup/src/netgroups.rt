@@ -17,7 +17,7 @@ use std::collections::BTreeMap;
 use std::marker::Model;
 
 /// The groups that the lines of a netgroup file define, in order, with the place of each by name.
-#[derive(Debug, Drop)]
+#[derive(Drop)]
 pub struct Netgroups {
     lines: Sequence<GroupLine>,
     index: BTreeMap<String, usize>,

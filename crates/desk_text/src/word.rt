@@ -65,7 +65,7 @@ impl<'a> Word<'a> {
 fn has_marks(raw: &str) -> bool
     ensures { result ≡ has_marks raw.now }
 {
-    raw.as_bytes().iter().any(|b| is_quote(*b) || *b == b'\\')
+    raw.as_bytes().iter().any(|b| is_special(*b))
 }
 
 /// Returns what a word stands for: its text without its quotes and escapes.

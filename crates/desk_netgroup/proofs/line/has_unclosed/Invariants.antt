@@ -1,4 +1,4 @@
--- A `(` is open behind the tokens so far.
+-- A `(` is open after the tokens so far.
 use Rattle.std.proofs.Common.{◌≡◌, take}
 use Rattle.desk_netgroup.specs.Faults.{has_unclosed}
 use Rattle.desk_netgroup.proofs.line.has_unclosed.Given as goal

@@ -5,5 +5,5 @@ use Rattle.desk_netgroup.proofs.line.read_member.Goals as goal
 
 pub returns-in_ok-push_host-in-Open-clause-read : goal.returns-in_ok-push_host-in-Open-clause-read
 returns-in_ok-push_host-in-Open-clause-read c =
-    open_read c.behind_triple.result c.args.members.now c.push_host.new.members c.args.token.now _ c.in-Open.is c.behind_triple.ensures
+    open_read c.after_triple.result c.args.members.now c.push_host.new.members c.args.token.now _ c.in-Open.is c.after_triple.ensures
     (c.in_ok-push_host-in-Open.ensures ∙ ap (λ h. c.args.members.now ++ host_member h) c.host_field.ensures)
