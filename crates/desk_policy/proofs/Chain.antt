@@ -15,7 +15,7 @@ pub refused : {X Y : Type 0} (error : ReadError SiteFault) (read : Result X Site
 refused (Fault fault) read next told = ap (λ r. then_read r next) told
 refused Memory read next told = tt
 
--- behind a file that was read comes the next
+-- after a file that was read comes the next
 pub goes_on : {X Y : Type 0} (read : Result X SiteFault) (next : X → Result Y SiteFault) (value : X) (result : Result Y (ReadError SiteFault)) → read ≡ Ok value → Reads result (next value) → Reads result (then_read read next)
 goes_on read next value result is told = subst (λ r. Reads result (then_read r next)) (sym is) told
 

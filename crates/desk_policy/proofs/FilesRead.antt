@@ -1,4 +1,4 @@
--- The exports files that were read so far, and the ones behind them.
+-- The exports files that were read so far, and the ones after them.
 use Rattle.std.proofs.Common.{◌≡◌, ◌<◌, ◌+◌, ℕ, suc, List, [], ◌∷◌, ◌++◌, All, Result, Ok, Err, add-one, ap, append_assoc, arith, drop, get_or, length, length-append, map, refl, subst, sym, ◌∙◌}
 use Rattle.std.specs.List.{flat_map}
 use Rattle.std.proofs.Math.Seq.{drop-cons}
@@ -16,29 +16,29 @@ use Rattle.desk_policy.specs.PrivateParsing.{AddsFile, AddsFiles}
 use Rattle.desk_policy.specs.Row.{row_of}
 use Rattle.desk_policy.specs.Site.{SiteTexts}
 use Rattle.desk_policy.specs.Warning.{netgroup_warnings}
-use Rattle.desk_policy.specs.declared.parsing.Listed.{Listed}
+use Rattle.desk_policy.specs.declared.parsing.SiteTables.{SiteTables}
 use Rattle.desk_policy.specs.declared.row.Row.{Row}
 use Rattle.desk_policy.specs.declared.site_fault.SiteFault.{SiteFault}
 use Rattle.desk_policy.specs.declared.warning.Warning.{Warning}
 
 -- the lines of entries that ascend do so
-pub file_ascends : (groups : List GroupLine) (hosts : List HostRow) (entries : List Entry) → FileAscends entries → AreAscending (map (row_of groups hosts) entries)
-file_ascends groups hosts [] up i j d less below = absurd (omega arith)
-file_ascends groups hosts (first ∷ others) up i j d less below =
+pub file_ascends : (netgroups : List GroupLine) (hosts : List HostRow) (entries : List Entry) → FileAscends entries → AreAscending (map (row_of netgroups hosts) entries)
+file_ascends netgroups hosts [] up i j d less below = absurd (omega arith)
+file_ascends netgroups hosts (first ∷ others) up i j d less below =
     let all : List Entry = first ∷ others in
-    let within : j < length all = omega (arith, length-map all (row_of groups hosts)) in
+    let within : j < length all = omega (arith, length-map all (row_of netgroups hosts)) in
     let before = up i j first less within in
-    let earlier = ap (λ (row : Row). row.entry.line) (get_or-map (row_of groups hosts) all i first d (omega arith)) in
-    let later = ap (λ (row : Row). row.entry.line) (get_or-map (row_of groups hosts) all j first d within) in
+    let earlier = ap (λ (row : Row). row.entry.line) (get_or-map (row_of netgroups hosts) all i first d (omega arith)) in
+    let later = ap (λ (row : Row). row.entry.line) (get_or-map (row_of netgroups hosts) all j first d within) in
     omega arith
 
 abbrev pub and_then_more : List ExportsFile → List ExportsFile → Result (List ExportsFile) SiteFault
 and_then_more files more = Ok (files ++ more)
 
--- so many files were read and added, and what all give hangs on the ones behind them
-pub record FilesRead (texts : SiteTexts) (table : List Mount) (listed : Listed) (count : ℕ) (rows rows' : List (List Row)) (warnings warnings' : List Warning) : Type 0 where
+-- so many files were read and added, and what all give hangs on the ones after them
+pub record FilesRead (texts : SiteTexts) (table : List Mount) (site_tables : SiteTables) (count : ℕ) (rows rows' : List (List Row)) (warnings warnings' : List Warning) : Type 0 where
   pub files : List ExportsFile
-  pub is : read_files texts table listed 0 table ≡ then_read (read_files texts table listed count (drop count table)) (and_then_more files)
+  pub is : read_files texts table site_tables 0 table ≡ then_read (read_files texts table site_tables count (drop count table)) (and_then_more files)
   pub each : length files ≡ count
   pub lines : rows' ≡ rows ++ map (λ file. file.rows) files
   pub warned : warnings' ≡ warnings ++ flat_map (λ file. file.warnings) files
@@ -53,14 +53,14 @@ nothing_more : (rest : Result (List ExportsFile) SiteFault) → rest ≡ then_re
 nothing_more (Ok more) = refl
 nothing_more (Err fault) = refl
 
-module _ (texts : SiteTexts) (table : List Mount) (listed : Listed) where
+module _ (texts : SiteTexts) (table : List Mount) (site_tables : SiteTables) where
   abbrev one : ℕ → Mount → Result ExportsFile SiteFault
-  one place mount = read_exports texts table listed place mount.path
+  one place mount = read_exports texts table site_tables place mount.path
 
-  pub none_read : (rows : List (List Row)) (warnings : List Warning) → FilesRead texts table listed 0 rows rows warnings warnings
+  pub none_read : (rows : List (List Row)) (warnings : List Warning) → FilesRead texts table site_tables 0 rows rows warnings warnings
   none_read rows warnings = record {
     files = [];
-    is = nothing_more (read_files texts table listed 0 table);
+    is = nothing_more (read_files texts table site_tables 0 table);
     each = refl;
     lines = sym (append-nil rows);
     warned = sym (append-nil warnings);
@@ -68,17 +68,17 @@ module _ (texts : SiteTexts) (table : List Mount) (listed : Listed) where
   }
 
   module _ (i : ℕ) (mount : Mount) (below : i < length table) (at : mount ≡ get_or table i mount) where
-    behind : drop i table ≡ mount ∷ drop (i + 1) table
-    behind = drop-cons table i mount below ∙ ap (λ m. m ∷ drop (suc i) table) (sym at) ∙ ap (λ n. mount ∷ drop n table) (sym (add-one i))
+    dropped : drop i table ≡ mount ∷ drop (i + 1) table
+    dropped = drop-cons table i mount below ∙ ap (λ m. m ∷ drop (suc i) table) (sym at) ∙ ap (λ n. mount ∷ drop n table) (sym (add-one i))
 
-    pub one_read : (rows rows' rows'' : List (List Row)) (warnings warnings' warnings'' : List Warning) → FilesRead texts table listed i rows rows' warnings warnings'
-        → AddsFile (one i mount) rows' rows'' warnings' warnings'' → FilesRead texts table listed (i + 1) rows rows'' warnings warnings''
+    pub one_read : (rows rows' rows'' : List (List Row)) (warnings warnings' warnings'' : List Warning) → FilesRead texts table site_tables i rows rows' warnings warnings'
+        → AddsFile (one i mount) rows' rows'' warnings' warnings'' → FilesRead texts table site_tables (i + 1) rows rows'' warnings warnings''
     one_read rows rows' rows'' warnings warnings' warnings'' so_far adds = record {
       files = so_far.files ++ adds.file ∷ [];
       is = so_far.is
-          ∙ ap (λ mounts. then_read (read_files texts table listed i mounts) (and_then_more so_far.files)) behind
-          ∙ ap (λ file. then_read (then_read file (λ f. then_read (read_files texts table listed (i + 1) (drop (i + 1) table)) (λ more. Ok (f ∷ more)))) (and_then_more so_far.files)) adds.is
-          ∙ joined so_far.files adds.file (read_files texts table listed (i + 1) (drop (i + 1) table));
+          ∙ ap (λ mounts. then_read (read_files texts table site_tables i mounts) (and_then_more so_far.files)) dropped
+          ∙ ap (λ file. then_read (then_read file (λ f. then_read (read_files texts table site_tables (i + 1) (drop (i + 1) table)) (λ more. Ok (f ∷ more)))) (and_then_more so_far.files)) adds.is
+          ∙ joined so_far.files adds.file (read_files texts table site_tables (i + 1) (drop (i + 1) table));
       each = length-append so_far.files (adds.file ∷ []) ∙ ap (λ n. n + 1) so_far.each;
       lines = adds.lines ∙ ap (λ rs. rs ++ adds.file.rows ∷ []) so_far.lines ∙ append_assoc rows (map (λ (f : ExportsFile). f.rows) so_far.files) (adds.file.rows ∷ [])
           ∙ ap (λ rs. rows ++ rs) (sym (map-append (λ (f : ExportsFile). f.rows) so_far.files (adds.file ∷ [])));
@@ -87,18 +87,18 @@ module _ (texts : SiteTexts) (table : List Mount) (listed : Listed) where
       ascending = All-push (λ (f : ExportsFile). AreAscending f.rows) so_far.files adds.file so_far.ascending adds.ascending;
     }
 
-    pub one_faulty : (rows rows' : List (List Row)) (warnings warnings' : List Warning) (fault : SiteFault) → FilesRead texts table listed i rows rows' warnings warnings'
-        → one i mount ≡ Err fault → read_files texts table listed 0 table ≡ Err fault
+    pub one_faulty : (rows rows' : List (List Row)) (warnings warnings' : List Warning) (fault : SiteFault) → FilesRead texts table site_tables i rows rows' warnings warnings'
+        → one i mount ≡ Err fault → read_files texts table site_tables 0 table ≡ Err fault
     one_faulty rows rows' warnings warnings' fault so_far e =
         so_far.is
-        ∙ ap (λ mounts. then_read (read_files texts table listed i mounts) (and_then_more so_far.files)) behind
-        ∙ ap (λ file. then_read (then_read file (λ f. then_read (read_files texts table listed (i + 1) (drop (i + 1) table)) (λ more. Ok (f ∷ more)))) (and_then_more so_far.files)) e
+        ∙ ap (λ mounts. then_read (read_files texts table site_tables i mounts) (and_then_more so_far.files)) dropped
+        ∙ ap (λ file. then_read (then_read file (λ f. then_read (read_files texts table site_tables (i + 1) (drop (i + 1) table)) (λ more. Ok (f ∷ more)))) (and_then_more so_far.files)) e
 
-  pub all_read : (i : ℕ) → i ≡ length table → drop i table ≡ [] → (rows rows' : List (List Row)) (warnings warnings' : List Warning) → FilesRead texts table listed i rows rows' warnings warnings'
-      → AddsFiles (read_files texts table listed 0 table) (length table) rows rows' warnings warnings'
+  pub all_read : (i : ℕ) → i ≡ length table → drop i table ≡ [] → (rows rows' : List (List Row)) (warnings warnings' : List Warning) → FilesRead texts table site_tables i rows rows' warnings warnings'
+      → AddsFiles (read_files texts table site_tables 0 table) (length table) rows rows' warnings warnings'
   all_read i end none rows rows' warnings warnings' so_far = record {
     files = so_far.files;
-    is = so_far.is ∙ ap (λ mounts. then_read (read_files texts table listed i mounts) (and_then_more so_far.files)) none ∙ ap Ok (append-nil so_far.files);
+    is = so_far.is ∙ ap (λ mounts. then_read (read_files texts table site_tables i mounts) (and_then_more so_far.files)) none ∙ ap Ok (append-nil so_far.files);
     each = so_far.each ∙ end;
     lines = so_far.lines;
     warned = so_far.warned;
@@ -122,9 +122,9 @@ is_content table read rows rows' warnings warnings' empty adds =
     }
 
 -- and it is the one that the files write
-pub content_is : (table : List Mount) (listed : Listed) (read : Result (List ExportsFile) SiteFault) (rows rows' : List (List Row)) (warnings warnings' : List Warning) → rows ≡ [] → warnings ≡ netgroup_warnings listed.netgroups listed.hosts
-    → (adds : AddsFiles read (length table) rows rows' warnings warnings') → content_with table listed adds.files ≡ record { table = table; rows = rows'; warnings = warnings' }
-content_is table listed read rows rows' warnings warnings' empty of_groups adds =
+pub content_is : (table : List Mount) (site_tables : SiteTables) (read : Result (List ExportsFile) SiteFault) (rows rows' : List (List Row)) (warnings warnings' : List Warning) → rows ≡ [] → warnings ≡ netgroup_warnings site_tables.netgroups site_tables.hosts
+    → (adds : AddsFiles read (length table) rows rows' warnings warnings') → content_with table site_tables adds.files ≡ record { table = table; rows = rows'; warnings = warnings' }
+content_is table site_tables read rows rows' warnings warnings' empty of_groups adds =
     let P : List (List Row) → List Warning → Content = λ rs ws. record { table = table; rows = rs; warnings = ws } in
-    ap (λ rs. P rs (content_with table listed adds.files).warnings) (sym (adds.lines ∙ ap (λ rs. rs ++ map (λ (f : ExportsFile). f.rows) adds.files) empty))
+    ap (λ rs. P rs (content_with table site_tables adds.files).warnings) (sym (adds.lines ∙ ap (λ rs. rs ++ map (λ (f : ExportsFile). f.rows) adds.files) empty))
     ∙ ap (P rows') (sym (adds.warned ∙ ap (λ ws. ws ++ flat_map (λ (f : ExportsFile). f.warnings) adds.files) of_groups))

@@ -19,7 +19,7 @@ use Rattle.desk_netgroup.specs.GroupLine.{group_named}
 use Rattle.desk_netgroup.specs.Netgroups.{AreHostsOf, hosts_of}
 use Rattle.desk_netgroup.specs.Netgroups as netgroup
 use Rattle.desk_netgroup.specs.declared.group_line.GroupLine.{GroupLine}
-use Rattle.desk_policy.specs.Names.{addresses_by, addresses_of_names, AddressesAreUnique, AreAddressesOf, host_addresses, host_stands_for, is_number_like, is_read_as, name_addresses, number_read, stands_by, stands_for}
+use Rattle.desk_policy.specs.Names.{addresses_by, addresses_of_names, AddressesAreUnique, AreAddressesOf, host_addresses, host_stands_for, is_address_like, is_read_as, name_addresses, number_read, stands_by, stands_for}
 use Rattle.desk_policy.specs.PrivateNames.{Gains}
 
 or_false : (b : Bool) → (b || false) ≡ b
@@ -47,41 +47,41 @@ module _ (hosts : List HostRow) (a : ℕ) where
       pick a (is_ipv6 name) [] (cond (is_dotted name) (number_read (read_addr name)) (addresses_of_host hosts name)) false _ refl
       (pick a (is_dotted name) (number_read (read_addr name)) (addresses_of_host hosts name) _ _ (number_stands a (read_addr name)) refl)
 
-  module _ (groups : List GroupLine) where
-    group_among : (group : Option GroupLine) (name : List ℕ) → is_among a (addresses_by group groups hosts name) ≡ stands_by group groups hosts name a
+  module _ (netgroups : List GroupLine) where
+    group_among : (group : Option GroupLine) (name : List ℕ) → is_among a (addresses_by group netgroups hosts name) ≡ stands_by group netgroups hosts name a
     group_among None name = host_among name
-    group_among (Some line) name = flat_among a (host_addresses hosts) (λ host. host_stands_for hosts host a) host_among (hosts_of groups name)
+    group_among (Some line) name = flat_among a (host_addresses hosts) (λ host. host_stands_for hosts host a) host_among (hosts_of netgroups name)
 
-    name_among : (name : List ℕ) → is_among a (name_addresses groups hosts name) ≡ stands_for groups hosts name a
+    name_among : (name : List ℕ) → is_among a (name_addresses netgroups hosts name) ≡ stands_for netgroups hosts name a
     name_among name =
-        pick a (is_number_like name) (host_addresses hosts name) (addresses_by (group_named groups name) groups hosts name) _ _ (host_among name) (group_among (group_named groups name) name)
+        pick a (is_address_like name) (host_addresses hosts name) (addresses_by (group_named netgroups name) netgroups hosts name) _ _ (host_among name) (group_among (group_named netgroups name) name)
 
     -- an address is written exactly if some name stands for it
-    written_among : (names : List (List ℕ)) → is_among a (flat_map (name_addresses groups hosts) names) ≡ list_any (λ name. stands_for groups hosts name a) names
-    written_among names = flat_among a (name_addresses groups hosts) (λ name. stands_for groups hosts name a) name_among names
+    written_among : (names : List (List ℕ)) → is_among a (flat_map (name_addresses netgroups hosts) names) ≡ list_any (λ name. stands_for netgroups hosts name a) names
+    written_among names = flat_among a (name_addresses netgroups hosts) (λ name. stands_for netgroups hosts name a) name_among names
 
-module _ (groups : List GroupLine) (hosts : List HostRow) (names : List (List ℕ)) (addresses : List ℕ) where
+module _ (netgroups : List GroupLine) (hosts : List HostRow) (names : List (List ℕ)) (addresses : List ℕ) where
   abbrev written : List ℕ
-  written = flat_map (name_addresses groups hosts) names
+  written = flat_map (name_addresses netgroups hosts) names
 
-  of_set : IsSetOf written addresses → AreAddressesOf groups hosts names addresses
-  of_set set = record { ascend = set.ascend; each = λ a. set.each a ∙ written_among hosts a groups names }
+  of_set : IsSetOf written addresses → AreAddressesOf netgroups hosts names addresses
+  of_set set = record { ascend = set.ascend; each = λ a. set.each a ∙ written_among hosts a netgroups names }
 
-  to_set : AreAddressesOf groups hosts names addresses → IsSetOf written addresses
-  to_set are = record { ascend = are.ascend; each = λ a. are.each a ∙ sym (written_among hosts a groups names) }
+  to_set : AreAddressesOf netgroups hosts names addresses → IsSetOf written addresses
+  to_set are = record { ascend = are.ascend; each = λ a. are.each a ∙ sym (written_among hosts a netgroups names) }
 
 -- the law of sorted sets, of the addresses that the names write
 pub unique_by_sets : SortedSetsAreUnique → AddressesAreUnique
-unique_by_sets sets groups hosts names addresses =
-    let both = sets (flat_map (name_addresses groups hosts) names) addresses in
-    (λ are. both.0 (to_set groups hosts names addresses are), λ is. of_set groups hosts names addresses (both.1 is))
+unique_by_sets sets netgroups hosts names addresses =
+    let both = sets (flat_map (name_addresses netgroups hosts) names) addresses in
+    (λ are. both.0 (to_set netgroups hosts names addresses are), λ is. of_set netgroups hosts names addresses (both.1 is))
 
 -- addresses that were gathered are, in order and each once, those of the names
-pub gathered : SortedSetsAreUnique → (groups : List GroupLine) (hosts : List HostRow) (names : List (List ℕ)) (items : List Addr)
-    → Gains [] items (λ a. list_any (λ name. stands_for groups hosts name a) names) → sorted_set (map number_of items) ≡ addresses_of_names groups hosts names
-gathered sets groups hosts names items gains =
+pub gathered : SortedSetsAreUnique → (netgroups : List GroupLine) (hosts : List HostRow) (names : List (List ℕ)) (items : List Addr)
+    → Gains [] items (λ a. list_any (λ name. stands_for netgroups hosts name a) names) → sorted_set (map number_of items) ≡ addresses_of_names netgroups hosts names
+gathered sets netgroups hosts names items gains =
     let set = (sets (map number_of items) (sorted_set (map number_of items))).1 refl in
-    (unique_by_sets sets groups hosts names (sorted_set (map number_of items))).0 (record { ascend = set.ascend; each = λ a. set.each a ∙ gains a })
+    (unique_by_sets sets netgroups hosts names (sorted_set (map number_of items))).0 (record { ascend = set.ascend; each = λ a. set.each a ∙ gains a })
 
 -- what was gathered for one name
 pub gains_one : (old items : List Addr) (passes : ℕ → Bool) → old ≡ [] → Gains old items passes → Gains [] items (λ a. passes a || false)
@@ -107,16 +107,16 @@ any_among p (text ∷ texts) others sub e =
       | inr h ↦ any_among p texts others (λ t f. sub t (or_right (bytes_eq t text) _ f)) h
     ]
 
-stands_by_group : (group : Option GroupLine) (groups : List GroupLine) (hosts : List HostRow) (name : List ℕ) (a : ℕ) → IsSome group
-    → stands_by group groups hosts name a ≡ list_any (λ host. host_stands_for hosts host a) (hosts_of groups name)
-stands_by_group None groups hosts name a some = absurd (true≢false (sym some))
-stands_by_group (Some line) groups hosts name a some = refl
+stands_by_group : (group : Option GroupLine) (netgroups : List GroupLine) (hosts : List HostRow) (name : List ℕ) (a : ℕ) → IsSome group
+    → stands_by group netgroups hosts name a ≡ list_any (λ host. host_stands_for hosts host a) (hosts_of netgroups name)
+stands_by_group None netgroups hosts name a some = absurd (true≢false (sym some))
+stands_by_group (Some line) netgroups hosts name a some = refl
 
 -- the hosts of a group, in any order, stand for the addresses of its name
-pub group_stands : (groups : List GroupLine) (hosts : List HostRow) (name : List ℕ) (members : List (List ℕ)) → is_number_like name ≡ false → IsSome (group_named groups name) → AreHostsOf groups name members
-    → (a : ℕ) → list_any (λ host. host_stands_for hosts host a) members ≡ stands_for groups hosts name a
-group_stands groups hosts name members unlike some are a =
+pub group_stands : (netgroups : List GroupLine) (hosts : List HostRow) (name : List ℕ) (members : List (List ℕ)) → is_address_like name ≡ false → IsSome (group_named netgroups name) → AreHostsOf netgroups name members
+    → (a : ℕ) → list_any (λ host. host_stands_for hosts host a) members ≡ stands_for netgroups hosts name a
+group_stands netgroups hosts name members unlike some are a =
     let p : List ℕ → Bool = λ host. host_stands_for hosts host a in
-    both_ways _ _ (any_among p members (hosts_of groups name) (λ t e. sym (are t) ∙ e)) (any_among p (hosts_of groups name) members (λ t e. are t ∙ e))
-    ∙ sym (stands_by_group (group_named groups name) groups hosts name a some)
-    ∙ sym (cond-false (is_number_like name) (host_stands_for hosts name a) (stands_by (group_named groups name) groups hosts name a) unlike)
+    both_ways _ _ (any_among p members (hosts_of netgroups name) (λ t e. sym (are t) ∙ e)) (any_among p (hosts_of netgroups name) members (λ t e. are t ∙ e))
+    ∙ sym (stands_by_group (group_named netgroups name) netgroups hosts name a some)
+    ∙ sym (cond-false (is_address_like name) (host_stands_for hosts name a) (stands_by (group_named netgroups name) netgroups hosts name a) unlike)

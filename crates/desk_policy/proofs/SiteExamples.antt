@@ -11,7 +11,7 @@ use Rattle.desk_tables.specs.declared.rules.TableRule.TheVariants as table_rule
 use Rattle.desk_netgroup.specs.Netgroups.{hosts_of, read_netgroups}
 use Rattle.desk_exports.specs.declared.rules.Rule.TheVariants as line_rule
 use Rattle.desk_policy.specs.Names.{addresses_of_names}
-use Rattle.desk_policy.specs.Parsing.{if_listed, read_behind}
+use Rattle.desk_policy.specs.Parsing.{if_listed, read_after_filesystems}
 use Rattle.desk_policy.specs.Policy.{Content}
 use Rattle.desk_policy.specs.Prints.{verdict_line}
 use Rattle.desk_policy.specs.Site.{SiteTexts}
@@ -132,13 +132,13 @@ unfolding hosts_of
 group_first = refl
 
 -- the site has a policy, and one warning
-warned : (content_read (read_behind sample table)).warnings ≡ record { file = codes "exports:/a"; line = 2; kind = Ipv6; word = codes "3ffe:1ce1:1:fe80::/64" } ∷ []
+warned : (content_read (read_after_filesystems sample table)).warnings ≡ record { file = codes "exports:/a"; line = 2; kind = Ipv6; word = codes "3ffe:1ce1:1:fe80::/64" } ∷ []
 unfolding digits hosts_of prefix_of_mask
 warned = refl
 
 -- a verdict on the site as it is printed
 abbrev verdict_on : ℕ → List (List ℕ) → List ℕ
-verdict_on address path = let content = content_read (read_behind sample table) in verdict_line content (verdict_of content address path)
+verdict_on address path = let content = content_read (read_after_filesystems sample table) in verdict_line content (verdict_of content address path)
 
 named_by_address : verdict_on 2204643344 (codes "usr" ∷ []) ≡ codes "granted line 2 rw sec=sys root=1:1:5"
 unfolding digits hosts_of prefix_of_mask selected verdict_of
@@ -161,7 +161,7 @@ unlisted : if_listed [] (read_filesystems (line (codes "/a eve"))) ≡ Err (reco
 unlisted = refl
 
 -- a mount point below another one takes the other's directories away
-elsewhere : read_behind sample (rows_read (read_filesystems (filesystems_file ++ line (codes "/usr/local site"))))
+elsewhere : read_after_filesystems sample (rows_read (read_filesystems (filesystems_file ++ line (codes "/usr/local site"))))
     ≡ Err (record { file = codes "exports:/usr"; line = 1; rule = rule.Line line_rule.DirectoryElsewhere; other = None; address = None })
 unfolding digits hosts_of prefix_of_mask
 elsewhere = refl

@@ -23,7 +23,7 @@ use Rattle.desk_policy.specs.Site.{SiteTexts}
 use Rattle.desk_policy.specs.SiteFault.{exports_name, group_fault, line_fault, table_fault}
 use Rattle.desk_policy.specs.Unlisted.{unlisted_line}
 use Rattle.desk_policy.specs.Warning.{entry_warnings, netgroup_warnings, whole_warnings}
-use Rattle.desk_policy.specs.declared.parsing.Listed.{Listed}
+use Rattle.desk_policy.specs.declared.parsing.SiteTables.{SiteTables}
 use Rattle.desk_policy.specs.declared.row.Row.{Row}
 use Rattle.desk_policy.specs.declared.site_fault.SiteFault.{SiteFault}
 use Rattle.desk_policy.specs.declared.warning.Warning.{Warning}
@@ -47,9 +47,9 @@ abbrev pub if_listed : List Custodian → Result (List Mount) TableFault → Res
 if_listed custodians (Ok table) = unless_unlisted table (unlisted_line custodians table)
 if_listed custodians (Err fault) = Err fault
 
--- The tables behind the file systems, in the order in which they are read.
-abbrev pub read_listed : SiteTexts → Result Listed SiteFault
-read_listed texts =
+-- The tables after the file systems, in the order in which they are read.
+abbrev pub read_site_tables : SiteTexts → Result SiteTables SiteFault
+read_site_tables texts =
     then_read (in_file (table_fault (codes "hosts")) (read_hosts texts.hosts)) (λ hosts.
     then_read (in_file (table_fault (codes "networks")) (read_networks texts.networks)) (λ networks.
     then_read (in_file (table_fault (codes "passwd")) (read_users texts.passwd)) (λ users.
@@ -58,8 +58,8 @@ read_listed texts =
     Ok (record { hosts = hosts; networks = networks; users = users; groups = groups; netgroups = netgroups }))))))
 
 -- the tables with which an exports file is read
-abbrev pub rows_with : List Mount → Listed → TableRows
-rows_with table listed = record { filesystems = table; networks = listed.networks; users = listed.users; groups = listed.groups }
+abbrev pub rows_with : List Mount → SiteTables → TableRows
+rows_with table site_tables = record { filesystems = table; networks = site_tables.networks; users = site_tables.users; groups = site_tables.groups }
 
 -- what an exports file gives: its lines in force, and its warnings
 pub record ExportsFile : Type 0 where
@@ -67,43 +67,43 @@ pub record ExportsFile : Type 0 where
   pub warnings : List Warning
 
 -- what the entries of the file of this name give
-abbrev pub file_with : Listed → List ℕ → List Entry → ExportsFile
-file_with listed name entries = record {
-  rows = map (row_of listed.netgroups listed.hosts) entries;
-  warnings = flat_map (entry_warnings listed.netgroups listed.hosts name) entries;
+abbrev pub file_with : SiteTables → List ℕ → List Entry → ExportsFile
+file_with site_tables name entries = record {
+  rows = map (row_of site_tables.netgroups site_tables.hosts) entries;
+  warnings = flat_map (entry_warnings site_tables.netgroups site_tables.hosts name) entries;
 }
 
 -- what the exports file of the file system with this number and mount point gives
-abbrev pub read_exports : SiteTexts → List Mount → Listed → ℕ → List (List ℕ) → Result ExportsFile SiteFault
-read_exports texts table listed fs mount =
-    then_read (in_file (line_fault (exports_name mount)) (file_answer (rows_with table listed) (record { 0 = fs }) (texts.exports (path_text mount))))
-    (λ entries. Ok (file_with listed (exports_name mount) entries))
+abbrev pub read_exports : SiteTexts → List Mount → SiteTables → ℕ → List (List ℕ) → Result ExportsFile SiteFault
+read_exports texts table site_tables fs mount =
+    then_read (in_file (line_fault (exports_name mount)) (file_answer (rows_with table site_tables) (record { 0 = fs }) (texts.exports (path_text mount))))
+    (λ entries. Ok (file_with site_tables (exports_name mount) entries))
 
 -- what the exports files of these file systems give, of which the first has this number
-abbrev pub read_files : SiteTexts → List Mount → Listed → ℕ → List Mount → Result (List ExportsFile) SiteFault
-read_files texts table listed fs [] = Ok []
-read_files texts table listed fs (mount ∷ more) =
-    then_read (read_exports texts table listed fs mount.path) (λ file. then_read (read_files texts table listed (fs + 1) more) (λ files. Ok (file ∷ files)))
+abbrev pub read_files : SiteTexts → List Mount → SiteTables → ℕ → List Mount → Result (List ExportsFile) SiteFault
+read_files texts table site_tables fs [] = Ok []
+read_files texts table site_tables fs (mount ∷ more) =
+    then_read (read_exports texts table site_tables fs mount.path) (λ file. then_read (read_files texts table site_tables (fs + 1) more) (λ files. Ok (file ∷ files)))
 
 -- the policy of these file systems, tables and exports files
-abbrev pub content_with : List Mount → Listed → List ExportsFile → Content
-content_with table listed files = record {
+abbrev pub content_with : List Mount → SiteTables → List ExportsFile → Content
+content_with table site_tables files = record {
   table = table;
   rows = map (λ file. file.rows) files;
-  warnings = netgroup_warnings listed.netgroups listed.hosts ++ flat_map (λ file. file.warnings) files;
+  warnings = netgroup_warnings site_tables.netgroups site_tables.hosts ++ flat_map (λ file. file.warnings) files;
 }
 
--- what the files behind the file systems say
-abbrev pub read_behind : SiteTexts → List Mount → Result Content SiteFault
-read_behind texts table =
-    then_read (read_listed texts) (λ listed. then_read (read_files texts table listed 0 table) (λ files. Ok (content_with table listed files)))
+-- what the files after the file systems say
+abbrev pub read_after_filesystems : SiteTexts → List Mount → Result Content SiteFault
+read_after_filesystems texts table =
+    then_read (read_site_tables texts) (λ site_tables. then_read (read_files texts table site_tables 0 table) (λ files. Ok (content_with table site_tables files)))
 
 -- the policy that the texts write, or the fault of the first faulty file, in the order in which they are read
 unfoldable pub read_site : SiteTexts → Result Content SiteFault
 read_site texts =
     then_read (in_file (table_fault (codes "custodians")) (read_custodians texts.custodians)) (λ custodians.
     then_read (in_file (table_fault (codes "filesystems")) (if_listed custodians (read_filesystems texts.filesystems))) (λ table.
-    read_behind texts table))
+    read_after_filesystems texts table))
 
 -- the policy of the entries of a whole exports text
 abbrev pub whole_policy : List Mount → List (FsId × Entry) → Result Content SiteFault

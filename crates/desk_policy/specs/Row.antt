@@ -17,4 +17,4 @@ names_of World = []
 
 -- a line in force: its entry, and the addresses for which its written names stand
 abbrev pub row_of : List GroupLine → List HostRow → Entry → Row
-row_of groups hosts entry = record { entry = entry; addrs = addresses_of_names groups hosts (names_of entry.clients) }
+row_of netgroups hosts entry = record { entry = entry; addrs = addresses_of_names netgroups hosts (names_of entry.clients) }

@@ -13,7 +13,7 @@ use Rattle.desk_netgroup.specs.declared.group_line.Member.TheVariants.{Group, Ho
 use Rattle.desk_exports.specs.declared.entry.Clients.{Clients}
 use Rattle.desk_exports.specs.declared.entry.Clients.TheVariants as clients
 use Rattle.desk_exports.specs.declared.entry.Entry.{Entry}
-use Rattle.desk_policy.specs.Names.{is_number_like}
+use Rattle.desk_policy.specs.Names.{is_address_like}
 use Rattle.desk_policy.specs.declared.warning.Warning.{Warning}
 use Rattle.desk_policy.specs.declared.warning.WarningKind.{WarningKind}
 use Rattle.desk_policy.specs.declared.warning.WarningKind.TheVariants.{ClassMask, Ipv6, UnknownHost, UnknownMember}
@@ -36,15 +36,15 @@ host_kind hosts name =
 
 -- of a written name, which may be a group's
 abbrev pub name_kind : List GroupLine → List HostRow → List ℕ → Option WarningKind
-name_kind groups hosts name =
-    if is_number_like name then host_kind hosts name
-    else if is_some (group_named groups name) then None
+name_kind netgroups hosts name =
+    if is_address_like name then host_kind hosts name
+    else if is_some (group_named netgroups name) then None
     else host_kind hosts name
 
 -- of a member of a group: a group that is not defined, or a host's text
 abbrev pub member_kind : List GroupLine → List HostRow → Member → Option WarningKind
-member_kind groups hosts (Group name) = if is_some (group_named groups name) then None else Some UnknownMember
-member_kind groups hosts (Host name) = host_kind hosts name
+member_kind netgroups hosts (Group name) = if is_some (group_named netgroups name) then None else Some UnknownMember
+member_kind netgroups hosts (Host name) = host_kind hosts name
 
 -- the word of a member
 abbrev pub member_word : Member → List ℕ
@@ -58,24 +58,24 @@ warning_if file line word (Some kind) = record { file = file; line = line; kind 
 
 -- of a netgroup line: by its members, in order
 abbrev pub group_warnings : List GroupLine → List HostRow → GroupLine → List Warning
-group_warnings groups hosts line =
-    flat_map (λ member. warning_if (codes "netgroup") line.line (member_word member) (member_kind groups hosts member)) line.members
+group_warnings netgroups hosts line =
+    flat_map (λ member. warning_if (codes "netgroup") line.line (member_word member) (member_kind netgroups hosts member)) line.members
 
 -- of the netgroup file
 abbrev pub netgroup_warnings : List GroupLine → List HostRow → List Warning
-netgroup_warnings groups hosts = flat_map (group_warnings groups hosts) groups
+netgroup_warnings netgroups hosts = flat_map (group_warnings netgroups hosts) netgroups
 
 -- of the clients of a line: its names, in order; or its network, if its class counts or it is of IPv6
 abbrev pub clients_warnings : List GroupLine → List HostRow → List ℕ → ℕ → Clients → List Warning
-clients_warnings groups hosts file line (clients.Hosts names) = flat_map (λ name. warning_if file line name (name_kind groups hosts name)) names
-clients_warnings groups hosts file line (clients.Net net None) = []
-clients_warnings groups hosts file line (clients.Net net (Some value)) = warning_if file line value (Some ClassMask)
-clients_warnings groups hosts file line (clients.Net6 value) = warning_if file line value (Some Ipv6)
-clients_warnings groups hosts file line clients.World = []
+clients_warnings netgroups hosts file line (clients.Hosts names) = flat_map (λ name. warning_if file line name (name_kind netgroups hosts name)) names
+clients_warnings netgroups hosts file line (clients.Net net None) = []
+clients_warnings netgroups hosts file line (clients.Net net (Some value)) = warning_if file line value (Some ClassMask)
+clients_warnings netgroups hosts file line (clients.Net6 value) = warning_if file line value (Some Ipv6)
+clients_warnings netgroups hosts file line clients.World = []
 
 -- of the line of an entry
 abbrev pub entry_warnings : List GroupLine → List HostRow → List ℕ → Entry → List Warning
-entry_warnings groups hosts file entry = clients_warnings groups hosts file entry.line entry.clients
+entry_warnings netgroups hosts file entry = clients_warnings netgroups hosts file entry.line entry.clients
 
 -- of a whole exports text, with no group and no host listed
 abbrev pub whole_warnings : List (FsId × Entry) → List Warning

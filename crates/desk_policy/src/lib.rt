@@ -1,13 +1,16 @@
 //! The policy of a site: the lines in force, which of them are selected for a client, and who may mount what.
 //! (exports(5))
 //!
-//! Its promise: [`decide`] grants a mount exactly if, among the lines of the path's file system that match the
-//! client's address with the greatest weight, one lists the path. It names the first such line, or else says why not.
+//! Its promise: [`parse`] reads the policy that the texts of a site write, or names the first faulty file, its first faulty
+//! line and the first rule that the line breaks. [`compile`] puts that policy in force exactly if no two of its lines
+//! contradict each other, and else names the least contradiction. [`decide`] grants a mount exactly if, among the lines of
+//! the path's file system that match the client's address with the greatest weight, one lists the path. It names the first
+//! such line, or else says why not.
 //!
 //! ```text
-//! let policy = Policy::of_entries(alloc, filesystems, entries)?;
-//! let verdict = decide(&policy, address, &path);
-//! verdict_text(alloc, &policy, &verdict)?     // "granted line 2 ro sec=sys root=65534:65533"
+//! let view: Plain = compile(alloc, &site)?;    // if site.is_readable()
+//! let verdict = view.decide(address, &path);
+//! verdict_text(alloc, view.policy(), &verdict)?     // "granted line 2 ro sec=sys root=65534:65533"
 //! ```
 #![tactic(auto)]
 

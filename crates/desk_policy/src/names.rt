@@ -3,7 +3,7 @@
 ghost use Rattle.std.specs.Prelude.{◌≡◌, ◌∷◌, [], IfOk, OnOk, map, string_bytes};
 ghost use Rattle.std.specs.List.{list_any};
 ghost use Rattle.desk_text.specs.Address.{number_of, read_addr};
-ghost use Rattle.desk_policy.specs.Names.{addresses_of_names, host_stands_for, is_number_like, is_read_as, stands_for};
+ghost use Rattle.desk_policy.specs.Names.{addresses_of_names, host_stands_for, is_address_like, is_read_as, stands_for};
 ghost use Rattle.desk_policy.specs.PrivateNames.{Gains};
 
 use desk_netgroup::Netgroups;
@@ -17,31 +17,31 @@ use std::alloc::{AllocError, Global};
 /// is a group's, and else for those of the host of that name. The hosts of a group are never taken for groups.
 pub fn addresses_of(
     alloc: Global,
-    groups: &Netgroups,
+    netgroups: &Netgroups,
     hosts: &Hosts,
     name: &str,
 ) -> Result<Vec<Addr>, AllocError>
-    ensures { IfOk result (λ v. map number_of v.items ≡ addresses_of_names groups.now hosts.now (name.now ∷ [])) }
+    ensures { IfOk result (λ v. map number_of v.items ≡ addresses_of_names netgroups.now hosts.now (name.now ∷ [])) }
 {
     let mut addresses = Vec::new(alloc);
-    push_name(alloc, groups, hosts, name, &mut addresses)?;
+    push_name(alloc, netgroups, hosts, name, &mut addresses)?;
     // Sets are equal that have the same addresses.
     sorted_sets_are_unique();
     Ok(AddrSet::from_vec(addresses).into_vec())
 }
 
 /// Finds the addresses for which some of the names stands.
-pub fn addresses_of_names(
+pub(crate) fn addresses_of_names(
     alloc: Global,
-    groups: &Netgroups,
+    netgroups: &Netgroups,
     hosts: &Hosts,
     names: &[Text],
 ) -> Result<AddrSet, AllocError>
-    ensures { IfOk result (λ addresses. addresses ≡ addresses_of_names groups.now hosts.now names.now) }
+    ensures { IfOk result (λ addresses. addresses ≡ addresses_of_names netgroups.now hosts.now names.now) }
 {
     let mut addresses = Vec::new(alloc);
     for name in names {
-        push_name(alloc, groups, hosts, name.as_str(), &mut addresses)?;
+        push_name(alloc, netgroups, hosts, name.as_str(), &mut addresses)?;
     }
     // Sets are equal that have the same addresses.
     sorted_sets_are_unique();
@@ -51,25 +51,25 @@ pub fn addresses_of_names(
 /// Adds the addresses for which a written name stands.
 fn push_name(
     alloc: Global,
-    groups: &Netgroups,
+    netgroups: &Netgroups,
     hosts: &Hosts,
     name: &str,
     addresses: &mut Vec<Addr>,
 ) -> Result<(), AllocError>
-    ensures { OnOk result (Gains addresses.old.items addresses.new.items (stands_for groups.now hosts.now name.now)) }
+    ensures { OnOk result (Gains addresses.old.items addresses.new.items (stands_for netgroups.now hosts.now name.now)) }
 {
-    if is_number_like(name) {
+    if is_address_like(name) {
         return push_host(alloc, hosts, name, addresses);
     }
-    match groups.hosts_of(alloc, name)? {
+    match netgroups.hosts_of(alloc, name)? {
         Some(members) => push_hosts(alloc, hosts, members.as_slice(), addresses),
         None => push_host(alloc, hosts, name, addresses),
     }
 }
 
-/// Tests whether a name is never taken for a group's.
-pub fn is_number_like(name: &str) -> bool
-    ensures { result ≡ is_number_like name.now }
+/// Tests whether a name is written like an address, so that it is never taken for a group's.
+pub(crate) fn is_address_like(name: &str) -> bool
+    ensures { result ≡ is_address_like name.now }
 {
     is_ipv6(name) || is_dotted(name)
 }

@@ -3,7 +3,7 @@
 //! The files are read in this order: custodians, filesystems, hosts, networks, passwd, group, netgroup, and then the
 //! exports files by mount point. The first faulty one is refused, with its first faulty line.
 
-ghost use Rattle.std.specs.Prelude.{◌≡◌, ◌≤◌, [], ◌++◌, IfOk, List, Ok, OnOk, Result, length, map, unwrap_or};
+ghost use Rattle.std.specs.Prelude.{◌≡◌, ◌≤◌, [], ◌++◌, IfOk, List, None, Ok, OnOk, Result, length, map, unwrap_or};
 ghost use Rattle.std.specs.BTreeMap.{get_by_text};
 ghost use Rattle.std.specs.List.{flat_map};
 ghost use Rattle.std.specs.String.{string_bytes};
@@ -38,9 +38,9 @@ use desk_tables::{
 use desk_text::{LineFault, Path, ReadError, Sequence, Text};
 use std::alloc::{AllocError, Global};
 
-/// The tables of a site behind its file systems.
+/// The tables of a site that are read after its file systems.
 #[derive(Drop)]
-struct Listed {
+struct SiteTables {
     hosts: Hosts,
     networks: Networks,
     users: Users,
@@ -61,7 +61,7 @@ pub fn parse(alloc: Global, site: &Site) -> Result<Policy, ReadError<SiteFault>>
     )?;
     let filesystems = read_filesystems(alloc, site.filesystems.as_str(), &custodians);
     let filesystems = in_table(alloc, "filesystems", filesystems)?;
-    read_behind(alloc, site, filesystems)
+    read_after_filesystems(alloc, site, filesystems)
 }
 
 /// Reads the file systems, whose custodians have to be listed. That is asked once no line breaks another rule.
@@ -84,28 +84,28 @@ fn read_filesystems(
     }
 }
 
-/// Reads the files behind the file systems.
-fn read_behind(
+/// Reads the files after the file systems.
+fn read_after_filesystems(
     alloc: Global,
     site: &Site,
     filesystems: FileSystems,
 ) -> Result<Policy, ReadError<SiteFault>>
     requires lengths { HaveReadableLengths (texts_of site.now) }
     requires few { length filesystems ≤ 256 }
-    ensures { Reads result (spec.read_behind (texts_of site.now) filesystems) }
+    ensures { Reads result (spec.read_after_filesystems (texts_of site.now) filesystems) }
 {
-    let listed = read_listed(alloc, site)?;
+    let site_tables = read_site_tables(alloc, site)?;
     let mut rows = Vec::new(alloc);
     let mut warnings = Sequence::new(alloc);
-    push_netgroup(alloc, &listed.netgroups, &listed.hosts, &mut warnings)?;
-    push_files(alloc, site, &filesystems, &listed, &mut rows, &mut warnings)?;
+    push_netgroup(alloc, &site_tables.netgroups, &site_tables.hosts, &mut warnings)?;
+    push_files(alloc, site, &filesystems, &site_tables, &mut rows, &mut warnings)?;
     Ok(Policy::of_parts(filesystems, rows, warnings))
 }
 
-/// Reads the tables behind the file systems.
-fn read_listed(alloc: Global, site: &Site) -> Result<Listed, ReadError<SiteFault>>
+/// Reads the tables after the file systems.
+fn read_site_tables(alloc: Global, site: &Site) -> Result<SiteTables, ReadError<SiteFault>>
     requires { HaveReadableLengths (texts_of site.now) }
-    ensures { Reads result (spec.read_listed (texts_of site.now)) }
+    ensures { Reads result (spec.read_site_tables (texts_of site.now)) }
 {
     let hosts = in_table(alloc, "hosts", Hosts::read(alloc, site.hosts.as_str()))?;
     let networks = in_table(
@@ -116,7 +116,7 @@ fn read_listed(alloc: Global, site: &Site) -> Result<Listed, ReadError<SiteFault
     let users = in_table(alloc, "passwd", Users::read(alloc, site.passwd.as_str()))?;
     let groups = in_table(alloc, "group", Groups::read(alloc, site.group.as_str()))?;
     let netgroups = in_netgroup(alloc, Netgroups::read(alloc, site.netgroup.as_str()))?;
-    Ok(Listed {
+    Ok(SiteTables {
         hosts,
         networks,
         users,
@@ -130,13 +130,13 @@ fn push_files(
     alloc: Global,
     site: &Site,
     filesystems: &FileSystems,
-    listed: &Listed,
+    site_tables: &SiteTables,
     rows: &mut Vec<Sequence<Row>>,
     warnings: &mut Sequence<Warning>,
 ) -> Result<(), ReadError<SiteFault>>
     requires lengths { HaveReadableLengths (texts_of site.now) }
     requires few { length filesystems.now ≤ 256 }
-    ensures { PushesFiles result (spec.read_files (texts_of site.now) filesystems.now listed.now 0 filesystems.now) (length filesystems.now)
+    ensures { PushesFiles result (spec.read_files (texts_of site.now) filesystems.now site_tables.now 0 filesystems.now) (length filesystems.now)
         rows.old.items rows.new.items warnings.old warnings.new }
 {
     for (place, mount) in filesystems.as_slice().iter().enumerate() {
@@ -144,7 +144,7 @@ fn push_files(
             alloc,
             site,
             filesystems,
-            listed,
+            site_tables,
             FsId(place as u32),
             &mount.path,
             rows,
@@ -159,26 +159,26 @@ fn push_file(
     alloc: Global,
     site: &Site,
     filesystems: &FileSystems,
-    listed: &Listed,
+    site_tables: &SiteTables,
     fs: FsId,
     mount: &Path,
     rows: &mut Vec<Sequence<Row>>,
     warnings: &mut Sequence<Warning>,
 ) -> Result<(), ReadError<SiteFault>>
     requires { HaveReadableLengths (texts_of site.now) }
-    ensures { PushesFile result (spec.read_exports (texts_of site.now) filesystems.now listed.now fs.0 mount.now)
+    ensures { PushesFile result (spec.read_exports (texts_of site.now) filesystems.now site_tables.now fs.0 mount.now)
         rows.old.items rows.new.items warnings.old warnings.new }
 {
     let name = exports_name(alloc, mount)?;
     let tables = Tables {
-        networks: &listed.networks,
-        users: &listed.users,
-        groups: &listed.groups,
+        networks: &site_tables.networks,
+        users: &site_tables.users,
+        groups: &site_tables.groups,
         filesystems,
     };
     let entries = read_file(alloc, exports_text(site, mount), &tables, fs);
     let entries = in_exports(alloc, name.as_str(), entries)?;
-    rows.push(lines_in_force(alloc, listed, name.as_str(), entries, warnings)?)?;
+    rows.push(lines_in_force(alloc, site_tables, name.as_str(), entries, warnings)?)?;
     Ok(())
 }
 
@@ -203,26 +203,26 @@ fn exports_text<'a>(site: &'a Site, mount: &Path) -> &'a str
 /// Makes the lines in force of the entries of the exports file of this name, and adds its warnings.
 fn lines_in_force(
     alloc: Global,
-    listed: &Listed,
+    site_tables: &SiteTables,
     name: &str,
     entries: Sequence<Boxed<Entry>>,
     warnings: &mut Sequence<Warning>,
 ) -> Result<Sequence<Row>, AllocError>
-    ensures rows { IfOk result (λ rows. rows ≡ map (row_of listed.now.netgroups listed.now.hosts) entries) }
+    ensures rows { IfOk result (λ rows. rows ≡ map (row_of site_tables.now.netgroups site_tables.now.hosts) entries) }
     ensures warnings { OnOk result (warnings.new
-        ≡ warnings.old ++ flat_map (entry_warnings listed.now.netgroups listed.now.hosts name.now) entries) }
+        ≡ warnings.old ++ flat_map (entry_warnings site_tables.now.netgroups site_tables.now.hosts name.now) entries) }
 {
     let mut rows = Sequence::new(alloc);
     for entry in entries.into_vec() {
         push_entry(
             alloc,
-            &listed.netgroups,
-            &listed.hosts,
+            &site_tables.netgroups,
+            &site_tables.hosts,
             name,
             &entry,
             warnings,
         )?;
-        rows.push(Row::of_entry(alloc, &listed.netgroups, &listed.hosts, entry)?)?;
+        rows.push(Row::of_entry(alloc, &site_tables.netgroups, &site_tables.hosts, entry)?)?;
     }
     Ok(rows)
 }
@@ -239,13 +239,13 @@ fn in_table<T>(
     match answer {
         Ok(value) => Ok(value),
         Err(ReadError::Memory) => Err(ReadError::Memory),
-        Err(ReadError::Fault(fault)) => Err(ReadError::Fault(SiteFault {
-            file: Text::copy(alloc, file)?,
-            line: fault.line,
-            rule: SiteRule::Table(fault.rule),
-            other: None,
-            address: None,
-        })),
+        Err(ReadError::Fault(fault)) => Err(ReadError::Fault(fault_in(
+            alloc,
+            file,
+            fault.line,
+            SiteRule::Table(fault.rule),
+            None,
+        )?)),
     }
 }
 
@@ -259,13 +259,13 @@ fn in_netgroup(
     match answer {
         Ok(groups) => Ok(groups),
         Err(ReadError::Memory) => Err(ReadError::Memory),
-        Err(ReadError::Fault(fault)) => Err(ReadError::Fault(SiteFault {
-            file: Text::copy(alloc, "netgroup")?,
-            line: fault.line,
-            rule: SiteRule::Group(fault.rule),
-            other: fault.other,
-            address: None,
-        })),
+        Err(ReadError::Fault(fault)) => Err(ReadError::Fault(fault_in(
+            alloc,
+            "netgroup",
+            fault.line,
+            SiteRule::Group(fault.rule),
+            fault.other,
+        )?)),
     }
 }
 
@@ -281,14 +281,33 @@ fn in_exports<T>(
     match answer {
         Ok(value) => Ok(value),
         Err(ReadError::Memory) => Err(ReadError::Memory),
-        Err(ReadError::Fault(fault)) => Err(ReadError::Fault(SiteFault {
-            file: Text::copy(alloc, file)?,
-            line: fault.line,
-            rule: SiteRule::Line(fault.rule),
-            other: None,
-            address: None,
-        })),
+        Err(ReadError::Fault(fault)) => Err(ReadError::Fault(fault_in(
+            alloc,
+            file,
+            fault.line,
+            SiteRule::Line(fault.rule),
+            None,
+        )?)),
     }
+}
+
+/// Makes the fault of a line of a file.
+fn fault_in(
+    alloc: Global,
+    file: &str,
+    line: u32,
+    rule: SiteRule,
+    other: Option<u32>,
+) -> Result<SiteFault, AllocError>
+    ensures { IfOk result (λ fault. fault ≡ record { file = file.now; line = line; rule = rule; other = other; address = None }) }
+{
+    Ok(SiteFault {
+        file: Text::copy(alloc, file)?,
+        line,
+        rule,
+        other,
+        address: None,
+    })
 }
 
 /// Reads the policy that a whole exports text writes, with these file systems and no other table. Its faults and warnings

@@ -100,8 +100,8 @@ impl Policy {
     }
 
     /// Lends the lines of each file system, in the order of the table.
-    pub fn lists(&self) -> &[Sequence<Row>]
-        ensures lists { result.now ≡ self.now.rows }
+    pub fn rows_by_filesystem(&self) -> &[Sequence<Row>]
+        ensures rows { result.now ≡ self.now.rows }
         ensures each { length result.now ≡ length self.now.table }
         ensures ascending { All AreAscending result.now }
     {

@@ -22,38 +22,38 @@ impl Row {
     /// Makes the line in force of an entry.
     pub fn of_entry(
         alloc: Global,
-        groups: &Netgroups,
+        netgroups: &Netgroups,
         hosts: &Hosts,
         entry: Boxed<Entry>,
     ) -> Result<Row, AllocError>
-        ensures { IfOk result (λ row. row ≡ row_of groups.now hosts.now entry) }
+        ensures { IfOk result (λ row. row ≡ row_of netgroups.now hosts.now entry) }
     {
-        let addrs = addresses_of_clients(alloc, groups, hosts, &entry.clients)?;
+        let addrs = addresses_of_clients(alloc, netgroups, hosts, &entry.clients)?;
         Ok(Row { entry, addrs })
     }
 
     /// Makes the line in force of an entry if no group and no host is listed: a written address stands for itself, and any
     /// other name for nothing.
-    pub fn without_tables(alloc: Global, entry: Boxed<Entry>) -> Result<Row, AllocError>
+    pub(crate) fn without_tables(alloc: Global, entry: Boxed<Entry>) -> Result<Row, AllocError>
         ensures { IfOk result (λ row. row ≡ row_of [] [] entry) }
     {
-        let groups = Netgroups::new(alloc);
+        let netgroups = Netgroups::new(alloc);
         let hosts = Hosts::new(alloc);
-        Row::of_entry(alloc, &groups, &hosts, entry)
+        Row::of_entry(alloc, &netgroups, &hosts, entry)
     }
 }
 
 /// Finds the addresses for which the written names of these clients stand.
 fn addresses_of_clients(
     alloc: Global,
-    groups: &Netgroups,
+    netgroups: &Netgroups,
     hosts: &Hosts,
     clients: &Clients,
 ) -> Result<AddrSet, AllocError>
-    ensures { IfOk result (λ addresses. addresses ≡ addresses_of_names groups.now hosts.now (names_of clients.now)) }
+    ensures { IfOk result (λ addresses. addresses ≡ addresses_of_names netgroups.now hosts.now (names_of clients.now)) }
 {
     match clients {
-        Clients::Hosts(names) => addresses_of_names(alloc, groups, hosts, names.as_slice()),
+        Clients::Hosts(names) => addresses_of_names(alloc, netgroups, hosts, names.as_slice()),
         Clients::Net(_, _) | Clients::Net6(_) | Clients::World => Ok(AddrSet::new(alloc)),
     }
 }

@@ -9,7 +9,7 @@ use desk_tables::TableRule;
 use desk_text::{Addr, Text};
 
 /// What a line of a site's files breaks.
-#[derive(Clone, Copy, Debug, PartialEq, Eq)]
+#[derive(Clone, Copy, PartialEq, Eq)]
 pub enum SiteRule {
     Table(TableRule),
     Group(GroupRule),
@@ -46,7 +46,7 @@ impl SiteRule {
 
 /// The fault of a site: the file, the first faulty line in it, and the first rule that the line breaks. An exports file is
 /// named `exports:` and its mount point, and a whole exports text `exports`.
-#[derive(Debug, Drop)]
+#[derive(Drop)]
 pub struct SiteFault {
     pub file: Text,
     pub line: u32,

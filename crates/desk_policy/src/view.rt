@@ -84,9 +84,9 @@ impl PolicyView for Plain {
 pub fn least_contradiction(alloc: Global, policy: &Policy) -> Result<Option<SiteFault>, AllocError>
     ensures { IfOk result (IsLeastOrNone policy.now) }
 {
-    let lists = policy.lists();
+    let rows = policy.rows_by_filesystem();
     for (place, mount) in policy.filesystems().as_slice().iter().enumerate() {
-        if let Some(found) = contradiction_in(alloc, lists[place].as_slice())? {
+        if let Some(found) = contradiction_in(alloc, rows[place].as_slice())? {
             return Ok(Some(fault_of(alloc, &mount.path, found)?));
         }
     }

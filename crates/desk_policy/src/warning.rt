@@ -5,7 +5,7 @@ ghost use Rattle.std.specs.List.{flat_map};
 ghost use Rattle.desk_policy.specs.Warning as spec;
 ghost use Rattle.desk_policy.specs.declared.warning.WarningKind.TheVariants.{UnknownHost};
 
-use crate::names::is_number_like;
+use crate::names::is_address_like;
 use desk_exports::{Boxed, Clients, Entry};
 use desk_netgroup::{GroupLine, Member, Netgroups};
 use desk_tables::{FsId, Hosts};
@@ -13,7 +13,7 @@ use desk_text::{Addr, Sequence, Text, is_dotted, is_ipv6};
 use std::alloc::{AllocError, Global};
 
 /// What is odd about a word.
-#[derive(Clone, Copy, Debug, PartialEq, Eq)]
+#[derive(Clone, Copy, PartialEq, Eq)]
 pub enum WarningKind {
     /// A network has neither a prefix nor a mask, so that its class counts.
     ClassMask,
@@ -41,7 +41,7 @@ impl WarningKind {
 
 /// A word of a line of a file that is accepted, but odd. Exports files are named `exports:` and their mount point, and a
 /// whole exports text `exports`.
-#[derive(Clone, Debug, Drop)]
+#[derive(Drop)]
 pub struct Warning {
     pub file: Text,
     pub line: u32,
@@ -50,16 +50,16 @@ pub struct Warning {
 }
 
 /// Adds the warnings of the netgroup file, in the order of its lines and of the members of each.
-pub fn push_netgroup(
+pub(crate) fn push_netgroup(
     alloc: Global,
-    groups: &Netgroups,
+    netgroups: &Netgroups,
     hosts: &Hosts,
     warnings: &mut Sequence<Warning>,
 ) -> Result<(), AllocError>
-    ensures { OnOk result (warnings.new ≡ warnings.old ++ spec.netgroup_warnings groups.now hosts.now) }
+    ensures { OnOk result (warnings.new ≡ warnings.old ++ spec.netgroup_warnings netgroups.now hosts.now) }
 {
-    for line in groups.lines() {
-        push_group(alloc, groups, hosts, line, warnings)?;
+    for line in netgroups.lines() {
+        push_group(alloc, netgroups, hosts, line, warnings)?;
     }
     Ok(())
 }
@@ -67,15 +67,15 @@ pub fn push_netgroup(
 /// Adds the warnings of a netgroup line.
 fn push_group(
     alloc: Global,
-    groups: &Netgroups,
+    netgroups: &Netgroups,
     hosts: &Hosts,
     line: &GroupLine,
     warnings: &mut Sequence<Warning>,
 ) -> Result<(), AllocError>
-    ensures { OnOk result (warnings.new ≡ warnings.old ++ spec.group_warnings groups.now hosts.now line.now) }
+    ensures { OnOk result (warnings.new ≡ warnings.old ++ spec.group_warnings netgroups.now hosts.now line.now) }
 {
     for member in line.members.as_slice() {
-        let kind = member_kind(alloc, groups, hosts, member)?;
+        let kind = member_kind(alloc, netgroups, hosts, member)?;
         push_if(
             alloc,
             warnings,
@@ -100,16 +100,16 @@ fn member_word(member: &Member) -> &str
 /// Tells what is odd about a member of a group, if anything is.
 fn member_kind(
     alloc: Global,
-    groups: &Netgroups,
+    netgroups: &Netgroups,
     hosts: &Hosts,
     member: &Member,
 ) -> Result<Option<WarningKind>, AllocError>
-    ensures { IfOk result (λ kind. kind ≡ spec.member_kind groups.now hosts.now member.now) }
+    ensures { IfOk result (λ kind. kind ≡ spec.member_kind netgroups.now hosts.now member.now) }
 {
     match member {
         Member::Host(name) => host_kind(alloc, hosts, name.as_str()),
         Member::Group(name) => {
-            if groups.group(name.as_str()).is_some() {
+            if netgroups.group(name.as_str()).is_some() {
                 return Ok(None);
             }
             Ok(Some(WarningKind::UnknownMember))
@@ -118,20 +118,20 @@ fn member_kind(
 }
 
 /// Adds the warnings of the line of an entry in this file.
-pub fn push_entry(
+pub(crate) fn push_entry(
     alloc: Global,
-    groups: &Netgroups,
+    netgroups: &Netgroups,
     hosts: &Hosts,
     file: &str,
     entry: &Entry,
     warnings: &mut Sequence<Warning>,
 ) -> Result<(), AllocError>
-    ensures { OnOk result (warnings.new ≡ warnings.old ++ spec.entry_warnings groups.now hosts.now file.now entry.now) }
+    ensures { OnOk result (warnings.new ≡ warnings.old ++ spec.entry_warnings netgroups.now hosts.now file.now entry.now) }
 {
     match &entry.clients {
         Clients::Hosts(names) => push_names(
             alloc,
-            groups,
+            netgroups,
             hosts,
             file,
             entry.line,
@@ -159,17 +159,17 @@ pub fn push_entry(
 }
 
 /// Lists the warnings of a whole exports text, with no group and no host listed.
-pub fn whole_warnings(
+pub(crate) fn whole_warnings(
     alloc: Global,
     entries: &[(FsId, Boxed<Entry>)],
 ) -> Result<Sequence<Warning>, AllocError>
     ensures { IfOk result (λ warnings. warnings ≡ spec.whole_warnings entries.now) }
 {
-    let groups = Netgroups::new(alloc);
+    let netgroups = Netgroups::new(alloc);
     let hosts = Hosts::new(alloc);
     let mut warnings = Sequence::new(alloc);
     for (_, entry) in entries {
-        push_entry(alloc, &groups, &hosts, "exports", entry, &mut warnings)?;
+        push_entry(alloc, &netgroups, &hosts, "exports", entry, &mut warnings)?;
     }
     Ok(warnings)
 }
@@ -177,7 +177,7 @@ pub fn whole_warnings(
 /// Adds the warnings of the written names of a line.
 fn push_names(
     alloc: Global,
-    groups: &Netgroups,
+    netgroups: &Netgroups,
     hosts: &Hosts,
     file: &str,
     line: u32,
@@ -185,10 +185,10 @@ fn push_names(
     warnings: &mut Sequence<Warning>,
 ) -> Result<(), AllocError>
     ensures { OnOk result (warnings.new
-        ≡ warnings.old ++ flat_map (λ name. spec.warning_if file.now line name (spec.name_kind groups.now hosts.now name)) names.now) }
+        ≡ warnings.old ++ flat_map (λ name. spec.warning_if file.now line name (spec.name_kind netgroups.now hosts.now name)) names.now) }
 {
     for name in names {
-        let kind = name_kind(alloc, groups, hosts, name.as_str())?;
+        let kind = name_kind(alloc, netgroups, hosts, name.as_str())?;
         push_if(alloc, warnings, file, line, name.as_str(), kind)?;
     }
     Ok(())
@@ -197,13 +197,13 @@ fn push_names(
 /// Tells what is odd about a written name, if anything is.
 fn name_kind(
     alloc: Global,
-    groups: &Netgroups,
+    netgroups: &Netgroups,
     hosts: &Hosts,
     name: &str,
 ) -> Result<Option<WarningKind>, AllocError>
-    ensures { IfOk result (λ kind. kind ≡ spec.name_kind groups.now hosts.now name.now) }
+    ensures { IfOk result (λ kind. kind ≡ spec.name_kind netgroups.now hosts.now name.now) }
 {
-    if !is_number_like(name) && groups.group(name).is_some() {
+    if !is_address_like(name) && netgroups.group(name).is_some() {
         return Ok(None);
     }
     host_kind(alloc, hosts, name)

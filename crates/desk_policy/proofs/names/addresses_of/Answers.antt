@@ -5,9 +5,9 @@ use Rattle.desk_policy.proofs.names.addresses_of.Goals as goal
 
 pub returns : goal.returns
 returns c =
-    let groups = c.args.groups.now in
+    let netgroups = c.args.netgroups.now in
     let hosts = c.args.hosts.now in
     let name = c.args.name.now in
     let items = c.push_name.new.addresses.items in
     c.into_vec.ensures.value ∙ c.from_vec.ensures
-    ∙ gathered c.sorted_sets_are_unique.ensures groups hosts (name ∷ []) items (gains_one c.new-addresses.result.items items (stands_for groups hosts name) c.new-addresses.ensures.items c.in_ok-push_name.ensures)
+    ∙ gathered c.sorted_sets_are_unique.ensures netgroups hosts (name ∷ []) items (gains_one c.new-addresses.result.items items (stands_for netgroups hosts name) c.new-addresses.ensures.items c.in_ok-push_name.ensures)

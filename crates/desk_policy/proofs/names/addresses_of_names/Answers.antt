@@ -8,10 +8,10 @@ use Rattle.desk_policy.proofs.names.addresses_of_names.Goals as goal
 
 pub returns : goal.returns
 returns c =
-    let groups = c.args.groups.now in
+    let netgroups = c.args.netgroups.now in
     let hosts = c.args.hosts.now in
     let names = c.args.names.now in
     let items = c.loop-name.addresses.items in
     c.from_vec.ensures
-    ∙ gathered c.sorted_sets_are_unique.ensures groups hosts names items
-    (subst (λ (xs : List (List ℕ)). Gains [] items (λ a. list_any (λ name. stands_for groups hosts name a) xs)) (take_all c.loop-name.name-index names c.loop-name-test.false) c.loop-name.invariant)
+    ∙ gathered c.sorted_sets_are_unique.ensures netgroups hosts names items
+    (subst (λ (xs : List (List ℕ)). Gains [] items (λ a. list_any (λ name. stands_for netgroups hosts name a) xs)) (take_all c.loop-name.name-index names c.loop-name-test.false) c.loop-name.invariant)

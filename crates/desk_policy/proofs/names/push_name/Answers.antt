@@ -10,9 +10,9 @@ use Rattle.desk_policy.proofs.names.push_name.Goals as goal
 pub returns-in-Some : goal.returns-in-Some
 returns-in-Some c =
     let members = map string_bytes c.as_slice.result.now in
-    let unlike = sym c.is_number_like.ensures ∙ c.if-is_number_like.false in
+    let unlike = sym c.is_address_like.ensures ∙ c.if-is_address_like.false in
     let some = rw c.in-Some.is at c.in_ok-members.ensures.defined in
     let given = rw c.in-Some.is at c.in_ok-members.ensures.hosts in
-    let are : AreHostsOf c.args.groups.now c.args.name.now members = subst (λ texts. AreHostsOf c.args.groups.now c.args.name.now (map string_bytes texts)) (sym c.as_slice.ensures.value) given in
+    let are : AreHostsOf c.args.netgroups.now c.args.name.now members = subst (λ texts. AreHostsOf c.args.netgroups.now c.args.name.now (map string_bytes texts)) (sym c.as_slice.ensures.value) given in
     on_ok c.push_hosts.result (λ gains a. gains a
-    ∙ ap (λ b. is_among a (map number_of c.args.addresses.now.items) || b) (group_stands c.args.groups.now c.args.hosts.now c.args.name.now members unlike some are a)) c.push_hosts.ensures
+    ∙ ap (λ b. is_among a (map number_of c.args.addresses.now.items) || b) (group_stands c.args.netgroups.now c.args.hosts.now c.args.name.now members unlike some are a)) c.push_hosts.ensures

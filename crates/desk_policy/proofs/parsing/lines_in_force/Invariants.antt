@@ -7,6 +7,6 @@ use Rattle.desk_policy.proofs.parsing.lines_in_force.Given as goal
 
 abbrev pub invariant-loop-entry : goal.invariant-loop-entry
 invariant-loop-entry l = record {
-  rows : l.rows ≡ map (row_of l.listed.netgroups l.listed.hosts) l.yielded;
-  warned : l.warnings ≡ l.initial.warnings ++ flat_map (entry_warnings l.listed.netgroups l.listed.hosts l.name) l.yielded;
+  rows : l.rows ≡ map (row_of l.site_tables.netgroups l.site_tables.hosts) l.yielded;
+  warned : l.warnings ≡ l.initial.warnings ++ flat_map (entry_warnings l.site_tables.netgroups l.site_tables.hosts l.name) l.yielded;
 }

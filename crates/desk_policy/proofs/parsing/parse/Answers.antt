@@ -8,7 +8,7 @@ use Rattle.desk_tables.specs.FileSystemsText.{read_filesystems}
 use Rattle.desk_tables.specs.Rules.{TableFault}
 use Rattle.desk_tables.specs.declared.custodians.Custodian.{Custodian}
 use Rattle.desk_tables.specs.declared.filesystems.Mount.{Mount}
-use Rattle.desk_policy.specs.Parsing.{if_listed, in_file, read_behind, read_site, then_read}
+use Rattle.desk_policy.specs.Parsing.{if_listed, in_file, read_after_filesystems, read_site, then_read}
 use Rattle.desk_policy.specs.Policy.{Content}
 use Rattle.desk_policy.specs.Site.{SiteTexts, texts_of}
 use Rattle.desk_policy.specs.SiteFault.{table_fault}
@@ -24,7 +24,7 @@ module _ (texts : SiteTexts) where
   filesystems_in custodians = in_file (table_fault (codes "filesystems")) (if_listed custodians (read_filesystems texts.filesystems))
 
   abbrev after_custodians : List Custodian → Result Content SiteFault
-  after_custodians custodians = then_read (filesystems_in custodians) (read_behind texts)
+  after_custodians custodians = then_read (filesystems_in custodians) (read_after_filesystems texts)
 
 pub returns-in_err-custodians : goal.returns-in_err-custodians
 unfolding read_site
@@ -41,12 +41,12 @@ returns-in_err-filesystems c =
     let custodians = c.in_ok-custodians.ensures.read (read_custodians texts.custodians) (subst (λ (t : List ℕ). Reads c.read.result (read_custodians t)) c.as_str.ensures c.read.ensures) in
     let rows = c.in_ok-custodians.custodians in
     let p = err_from_is_err_and c.from_residual-in_err-filesystems.result c.from_residual-in_err-filesystems.ensures.1 in
-    rw (p.1, p.2) (goes_on (custodians_in texts) (after_custodians texts) rows (Err c.in_err-filesystems.field-0.0) custodians (refused c.in_err-filesystems.field-0.0 (filesystems_in texts rows) (read_behind texts)
+    rw (p.1, p.2) (goes_on (custodians_in texts) (after_custodians texts) rows (Err c.in_err-filesystems.field-0.0) custodians (refused c.in_err-filesystems.field-0.0 (filesystems_in texts rows) (read_after_filesystems texts)
     (c.in_err-filesystems.ensures.read (if_listed rows (read_filesystems texts.filesystems))
     (subst (λ (t : List ℕ). Reads c.read_filesystems-filesystems.result (if_listed rows (read_filesystems t))) c.as_str-2.ensures c.read_filesystems-filesystems.ensures.read))))
 
-pub read_behind-requires-clause-few : goal.read_behind-requires-clause-few
-read_behind-requires-clause-few c =
+pub read_after_filesystems-requires-clause-few : goal.read_after_filesystems-requires-clause-few
+read_after_filesystems-requires-clause-few c =
     let R : Result (List Mount) (ReadError TableFault) → Type 0 = λ r. IfOk r (λ (table : List Mount). length table ≤ 256) in
     subst R c.in_ok-filesystems.ensures.kept c.read_filesystems-filesystems.ensures.few
 
@@ -58,4 +58,4 @@ returns c =
     let rows = c.in_ok-custodians.custodians in
     let table = c.in_ok-filesystems.ensures.read (if_listed rows (read_filesystems texts.filesystems))
     (subst (λ (t : List ℕ). Reads c.read_filesystems-filesystems.result (if_listed rows (read_filesystems t))) c.as_str-2.ensures c.read_filesystems-filesystems.ensures.read) in
-    goes_on (custodians_in texts) (after_custodians texts) rows _ custodians (goes_on (filesystems_in texts rows) (read_behind texts) c.in_ok-filesystems.filesystems _ table c.read_behind.ensures)
+    goes_on (custodians_in texts) (after_custodians texts) rows _ custodians (goes_on (filesystems_in texts rows) (read_after_filesystems texts) c.in_ok-filesystems.filesystems _ table c.read_after_filesystems.ensures)

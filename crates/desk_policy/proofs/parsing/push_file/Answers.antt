@@ -14,22 +14,22 @@ use Rattle.desk_policy.proofs.parsing.push_file.Goals as goal
 
 pub returns : goal.returns
 returns c =
-    let listed = c.args.listed.now in
+    let site_tables = c.args.site_tables.now in
     let name : List ℕ = exports_name c.args.mount.now in
-    let rows = rows_with c.args.filesystems.now listed in
+    let rows = rows_with c.args.filesystems.now site_tables in
     let entries : List Entry = c.in_ok-entries.entries in
     let text = c.exports_text.result.now in
-    let next : List Entry → Result ExportsFile SiteFault = λ es. Ok (file_with listed name es) in
+    let next : List Entry → Result ExportsFile SiteFault = λ es. Ok (file_with site_tables name es) in
     let named = c.as_str.ensures.value ∙ c.in_ok-name.ensures in
     let again = c.as_str-2.ensures.value ∙ c.in_ok-name.ensures in
     let told = c.in_ok-entries.ensures.read (file_answer rows c.args.fs text) c.read_file-entries.ensures.read in
     let R : Result (List Entry) (ReadError (LineFault Rule)) → Type 0 = λ r. IfOk r FileAscends in
     record {
-      file = file_with listed name entries;
+      file = file_with site_tables name entries;
       is = ap (λ t. then_read (in_file (line_fault name) (file_answer rows c.args.fs t)) next) (sym c.exports_text.ensures)
           ∙ ap (λ n. then_read (in_file (line_fault n) (file_answer rows c.args.fs text)) next) (sym named)
           ∙ ap (λ r. then_read r next) told;
       lines = c.in_ok-push.ensures.items ∙ ap (λ rs. c.args.rows.now.items ++ rs ∷ []) c.in_ok-lines_in_force.ensures.rows;
-      warned = c.in_ok-lines_in_force.ensures.warnings ∙ ap (λ n. c.args.warnings.now ++ flat_map (entry_warnings listed.netgroups listed.hosts n) entries) again;
-      ascending = file_ascends listed.netgroups listed.hosts entries (subst R c.in_ok-entries.ensures.kept c.read_file-entries.ensures.ascending);
+      warned = c.in_ok-lines_in_force.ensures.warnings ∙ ap (λ n. c.args.warnings.now ++ flat_map (entry_warnings site_tables.netgroups site_tables.hosts n) entries) again;
+      ascending = file_ascends site_tables.netgroups site_tables.hosts entries (subst R c.in_ok-entries.ensures.kept c.read_file-entries.ensures.ascending);
     }

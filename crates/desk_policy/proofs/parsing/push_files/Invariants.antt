@@ -4,4 +4,4 @@ use Rattle.desk_policy.proofs.FilesRead.{FilesRead}
 use Rattle.desk_policy.proofs.parsing.push_files.Given as goal
 
 abbrev pub invariant-loop-place : goal.invariant-loop-place
-invariant-loop-place l = FilesRead (texts_of l.site) l.filesystems l.listed l.place l.initial.rows.items l.rows.items l.initial.warnings l.warnings
+invariant-loop-place l = FilesRead (texts_of l.site) l.filesystems l.site_tables l.place l.initial.rows.items l.rows.items l.initial.warnings l.warnings

@@ -1,4 +1,4 @@
--- Each table is read behind those before it.
+-- Each table is read after those before it.
 use Rattle.std.proofs.Common.{◌∙◌, Err, List, Ok, Result, ap, subst, ℕ}
 use Rattle.std.specs.Prelude.{codes}
 use Rattle.std.proofs.lemmas.Result.{err_from_is_err_and}
@@ -16,10 +16,10 @@ use Rattle.desk_netgroup.specs.declared.group_line.GroupLine.{GroupLine}
 use Rattle.desk_policy.specs.Parsing.{in_file, then_read}
 use Rattle.desk_policy.specs.Site.{SiteTexts, texts_of}
 use Rattle.desk_policy.specs.SiteFault.{group_fault, table_fault}
-use Rattle.desk_policy.specs.declared.parsing.Listed.{Listed}
+use Rattle.desk_policy.specs.declared.parsing.SiteTables.{SiteTables}
 use Rattle.desk_policy.specs.declared.site_fault.SiteFault.{SiteFault}
 use Rattle.desk_policy.proofs.Chain.{goes_on, refused}
-use Rattle.desk_policy.proofs.parsing.read_listed.Goals as goal
+use Rattle.desk_policy.proofs.parsing.read_site_tables.Goals as goal
 
 module _ (texts : SiteTexts) where
   abbrev read_hosts_in : Result (List HostRow) SiteFault
@@ -37,19 +37,19 @@ module _ (texts : SiteTexts) where
   abbrev read_netgroups_in : Result (List GroupLine) SiteFault
   read_netgroups_in = in_file (group_fault) (read_netgroups texts.netgroup)
 
-  abbrev after_netgroups : List HostRow → List NetworkName → List User → List Group → List GroupLine → Result Listed SiteFault
+  abbrev after_netgroups : List HostRow → List NetworkName → List User → List Group → List GroupLine → Result SiteTables SiteFault
   after_netgroups hosts networks users groups netgroups = Ok (record { hosts = hosts; networks = networks; users = users; groups = groups; netgroups = netgroups })
 
-  abbrev after_groups : List HostRow → List NetworkName → List User → List Group → Result Listed SiteFault
+  abbrev after_groups : List HostRow → List NetworkName → List User → List Group → Result SiteTables SiteFault
   after_groups hosts networks users groups = then_read read_netgroups_in (after_netgroups hosts networks users groups)
 
-  abbrev after_users : List HostRow → List NetworkName → List User → Result Listed SiteFault
+  abbrev after_users : List HostRow → List NetworkName → List User → Result SiteTables SiteFault
   after_users hosts networks users = then_read read_groups_in (after_groups hosts networks users)
 
-  abbrev after_networks : List HostRow → List NetworkName → Result Listed SiteFault
+  abbrev after_networks : List HostRow → List NetworkName → Result SiteTables SiteFault
   after_networks hosts networks = then_read read_users_in (after_users hosts networks)
 
-  abbrev after_hosts : List HostRow → Result Listed SiteFault
+  abbrev after_hosts : List HostRow → Result SiteTables SiteFault
   after_hosts hosts = then_read read_networks_in (after_networks hosts)
 
 pub returns-in_err-hosts : goal.returns-in_err-hosts

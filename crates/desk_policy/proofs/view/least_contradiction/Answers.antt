@@ -15,10 +15,10 @@ pub loop-place-preserved : goal.loop-place-preserved
 loop-place-preserved c = λ fs below.
     let content = c.args.policy.now in
     let i = c.loop-place.place in
-    let lists = c.lists-lists.ensures in
+    let lent = c.rows_by_filesystem-rows.ensures in
     let table : length c.as_slice-mount-items.result.now ≡ length content.table = ap (λ (ms : List Mount). length ms) (c.as_slice-mount-items.ensures ∙ c.filesystems.ensures) in
-    let within : i < length c.lists-lists.result.now = (let t = c.loop-place-test.true in let e = lists.each in omega arith) in
-    let here : rows_of content i ≡ c.as_slice.result.now = ap (λ (ls : List (List Row)). get_or ls i []) (sym lists.lists) ∙ list_there c.lists-lists.result.now i c.index-lists-place.result within c.index-lists-place.is ∙ sym c.as_slice.ensures in
+    let within : i < length c.rows_by_filesystem-rows.result.now = (let t = c.loop-place-test.true in let e = lent.each in omega arith) in
+    let here : rows_of content i ≡ c.as_slice.result.now = ap (λ (ls : List (List Row)). get_or ls i []) (sym lent.rows) ∙ list_there c.rows_by_filesystem-rows.result.now i c.index-rows-place.result within c.index-rows-place.is ∙ sym c.as_slice.ensures in
     let none : AreConsistent c.as_slice.result.now = rw c.in_default.is at c.in_ok-found.ensures in
     elim (cases_lt fs i) as (λ _. AreConsistent (rows_of content fs)) [
       | inl before ↦ c.loop-place.invariant fs before
@@ -33,12 +33,12 @@ returns-in-Some c =
     let i = c.loop-place.place in
     let found = c.in-Some.found in
     let mount = c.mount-item.result in
-    let lists = c.lists-lists.ensures in
+    let lent = c.rows_by_filesystem-rows.ensures in
     let same = c.as_slice-mount-items.ensures ∙ c.filesystems.ensures in
     let below : i < length content.table = subst (λ (ms : List Mount). i < length ms) same c.loop-place-test.true in
     let at : mount ≡ get_or content.table i mount = c.mount-item.is ∙ ap (λ (ms : List Mount). get_or ms i mount) same in
-    let within : i < length c.lists-lists.result.now = (let e = lists.each in omega arith) in
-    let here : rows_of content i ≡ c.as_slice.result.now = ap (λ (ls : List (List Row)). get_or ls i []) (sym lists.lists) ∙ list_there c.lists-lists.result.now i c.index-lists-place.result within c.index-lists-place.is ∙ sym c.as_slice.ensures in
+    let within : i < length c.rows_by_filesystem-rows.result.now = (let e = lent.each in omega arith) in
+    let here : rows_of content i ≡ c.as_slice.result.now = ap (λ (ls : List (List Row)). get_or ls i []) (sym lent.rows) ∙ list_there c.rows_by_filesystem-rows.result.now i c.index-rows-place.result within c.index-rows-place.is ∙ sym c.as_slice.ensures in
     let least : IsLeastIn c.as_slice.result.now found.line found.other (number_of found.address) = rw c.in-Some.is at c.in_ok-found.ensures in
     record {
       fs = i;
@@ -51,12 +51,12 @@ returns-in-Some c =
 pub returns : goal.returns
 returns c = λ fs later earlier address h.
     let content = c.args.policy.now in
-    let lists = c.lists-lists.ensures in
+    let lent = c.rows_by_filesystem-rows.ensures in
     elim (cases_lt fs c.loop-place.place) [
       | inl before ↦ c.loop-place.invariant fs before later earlier address h
       | inr past ↦
           let table : length c.as_slice-mount-items.result.now ≡ length content.table = ap (λ (ms : List Mount). length ms) (c.as_slice-mount-items.ensures ∙ c.filesystems.ensures) in
-          let count : length content.rows ≡ length content.table = ap (λ (ls : List (List Row)). length ls) (sym lists.lists) ∙ lists.each in
+          let count : length content.rows ≡ length content.table = ap (λ (ls : List (List Row)). length ls) (sym lent.rows) ∙ lent.each in
           let over : length content.rows ≤ fs = (let t = c.loop-place-test.false in omega arith) in
           let h' = subst (λ (rows : List Row). Contradicts rows later earlier address) (get_or_past content.rows fs [] over) h in
           absurd (let l : h'.has_row.0 < 0 = h'.has_row.1 in omega arith)

@@ -8,4 +8,4 @@ use Rattle.desk_policy.proofs.warning.push_group.Given as goal
 abbrev pub invariant-loop-member : goal.invariant-loop-member
 invariant-loop-member l =
     l.warnings ≡ l.initial.warnings
-    ++ flat_map (λ member. warning_if (codes "netgroup") l.line.line (member_word member) (member_kind l.groups l.hosts member)) (take l.member-index l.line.members)
+    ++ flat_map (λ member. warning_if (codes "netgroup") l.line.line (member_word member) (member_kind l.netgroups l.hosts member)) (take l.member-index l.line.members)
