@@ -1,5 +1,6 @@
 pub mod Closing
 pub mod Walking
+pub mod WalkOrder
 pub mod Places
 pub mod TokenLemmas
 pub mod FormLemmas

@@ -10,7 +10,7 @@ use Rattle.std.proofs.lemmas.List.Folds.{list_any-append}
 use Rattle.std.proofs.lemmas.List.Kept.{AllPairs-cons}
 use Rattle.std.proofs.lemmas.Slice.Eq.{bytes_eq-Decides}
 use Rattle.desk_netgroup.specs.Netgroups.{AreDistinct, is_among}
-use Rattle.desk_netgroup.specs.PrivateWalk.{new_texts}
+use Rattle.desk_netgroup.specs.Walk.{new_texts}
 
 or_false : (b : Bool) → (b || false) ≡ b
 or_false true = refl

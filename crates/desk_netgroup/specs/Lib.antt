@@ -3,6 +3,7 @@ pub mod PrivateLine
 pub mod GroupLine
 pub mod Faults
 pub mod Netgroups
+pub mod Walk
 pub mod Laws
 pub mod PrivateIndex
 pub mod PrivateWalk

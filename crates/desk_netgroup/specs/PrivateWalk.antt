@@ -1,7 +1,6 @@
 -- What the private contracts of the walk cite.
 use Rattle.std.specs.Prelude.{◌≡◌, ℕ, ◌||◌, Bool, List, [], ◌∷◌, ◌++◌, Option, Some, None, reverse, if◌then◌else◌}
 use Rattle.std.specs.Str.{bytes_eq}
-use Rattle.desk_netgroup.specs.Netgroups.{is_among}
 use Rattle.desk_netgroup.specs.declared.group_line.GroupLine.{GroupLine}
 use Rattle.desk_netgroup.specs.declared.group_line.Member.{Member}
 
@@ -11,11 +10,6 @@ abbrev pub Enters : Option GroupLine → List ℕ → (List ℕ → Bool) → (L
 Enters None group old new pending pending' = ((name : List ℕ) → new name ≡ old name) × (pending' ≡ pending)
 Enters (Some line) group old new pending pending' =
     ((name : List ℕ) → new name ≡ (old name || bytes_eq name group)) × (pending' ≡ (if old group then pending else pending ++ reverse line.members))
-
--- the texts that do not stand before them, each at its first place alone
-abbrev pub new_texts : List (List ℕ) → List (List ℕ) → List (List ℕ)
-new_texts before [] = []
-new_texts before (text ∷ texts) = (if is_among text before then [] else text ∷ []) ++ new_texts (before ++ text ∷ []) texts
 
 -- a text that was not seen is seen then, and kept after the others
 abbrev pub AddsNew : List ℕ → (List ℕ → Bool) → (List ℕ → Bool) → List (List ℕ) → List (List ℕ) → Type 0

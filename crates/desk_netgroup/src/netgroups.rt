@@ -5,6 +5,7 @@ ghost use Rattle.std.specs.Option.{option_copied};
 ghost use Rattle.desk_text.specs.Reading.{Reads};
 ghost use Rattle.desk_netgroup.specs.GroupLine.{group_named};
 ghost use Rattle.desk_netgroup.specs.Netgroups.{AreDistinct, AreHostsOf, read_netgroups};
+ghost use Rattle.desk_netgroup.specs.Walk.{hosts_in_order};
 
 use crate::faults::GroupFault;
 use crate::group_line::GroupLine;
@@ -69,6 +70,7 @@ impl Netgroups {
     pub fn hosts_of(&self, alloc: Global, name: &str) -> Result<Option<Vec<String>>, AllocError>
         ensures defined { IfOk result (λ answer. MatchOption answer (group_named self.now name.now ≡ None) (λ hosts. IsSome (group_named self.now name.now))) }
         ensures hosts { IfOk result (λ answer. IfSome answer (λ hosts. AreHostsOf self.now name.now (map string_bytes hosts.items))) }
+        ensures order { IfOk result (λ answer. IfSome answer (λ hosts. map string_bytes hosts.items ≡ hosts_in_order self.now name.now)) }
         ensures once { IfOk result (λ answer. IfSome answer (λ hosts. AreDistinct (map string_bytes hosts.items))) }
     {
         if self.group(name).is_none() {

@@ -1,10 +1,12 @@
 //! The walk through the members of a group.
 
-ghost use Rattle.std.specs.Prelude.{◌≡◌, ◌++◌, [], IfOk, OnOk, map, reverse, string_bytes};
+ghost use Rattle.std.specs.Prelude.{◌≡◌, ◌++◌, ◌∷◌, [], IfOk, OnOk, length, map, reverse, string_bytes, suc};
 ghost use Rattle.std.specs.BTreeSet.{contains_text};
 ghost use Rattle.desk_netgroup.specs.GroupLine.{group_named};
 ghost use Rattle.desk_netgroup.specs.Netgroups.{AreHostsOf};
-ghost use Rattle.desk_netgroup.specs.PrivateWalk.{AddsNew, Enters, new_texts};
+ghost use Rattle.desk_netgroup.specs.PrivateWalk.{AddsNew, Enters};
+ghost use Rattle.desk_netgroup.specs.Walk.{all_members, hosts_met, new_texts};
+ghost use Rattle.desk_netgroup.specs.declared.group_line.Member.TheVariants.{Group};
 
 use crate::group_line::Member;
 use crate::netgroups::Netgroups;
@@ -18,7 +20,8 @@ pub fn met_hosts<'a>(
     groups: &'a Netgroups,
     name: &str,
 ) -> Result<Vec<&'a str>, AllocError>
-    ensures { IfOk result (λ v. AreHostsOf groups.now name.now (map (λ x. x.now) v.items)) }
+    ensures hosts { IfOk result (λ v. AreHostsOf groups.now name.now (map (λ x. x.now) v.items)) }
+    ensures order { IfOk result (λ v. map (λ x. x.now) v.items ≡ hosts_met (suc (length (all_members groups.now))) groups.now (Group name.now ∷ [])) }
 {
     let mut entered = BTreeSet::new(alloc);
     let mut pending = Vec::new(alloc);

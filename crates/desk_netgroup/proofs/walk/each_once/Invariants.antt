@@ -2,7 +2,7 @@
 use Rattle.std.proofs.Common.{◌≡◌, ◌++◌, [], List, ℕ, drop, map, string_bytes, take}
 use Rattle.std.specs.BTreeSet.{contains_text}
 use Rattle.desk_netgroup.specs.Netgroups.{is_among}
-use Rattle.desk_netgroup.specs.PrivateWalk.{new_texts}
+use Rattle.desk_netgroup.specs.Walk.{new_texts}
 use Rattle.desk_netgroup.proofs.walk.each_once.Given as goal
 
 abbrev pub invariant-loop-text : goal.invariant-loop-text

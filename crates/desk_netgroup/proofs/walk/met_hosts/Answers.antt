@@ -4,6 +4,7 @@ use Rattle.std.specs.BTreeSet.{contains_text}
 use Rattle.desk_netgroup.specs.GroupLine.{group_named}
 use Rattle.desk_netgroup.specs.declared.group_line.Member.{Member}
 use Rattle.desk_netgroup.specs.declared.group_line.Member.TheVariants.{Group, Host}
+use Rattle.desk_netgroup.proofs.WalkOrder.{IsInOrder, order_begins, order_ends, order_group, order_host}
 use Rattle.desk_netgroup.proofs.Walking.{IsWalked, ends, has_begun, has_begun_more, meets_group, meets_host, enters_less, enters_start, map_append}
 use Rattle.desk_netgroup.proofs.walk.met_hosts.Goals as goal
 
@@ -23,6 +24,8 @@ loop-member-init c =
       has_begun lines name (contains_text c.enter.new.entered) (members c.enter.new.pending.items) (members c.new-pending.result.items) (contains_text c.new-entered.result) (group_named lines name) refl step,
       subst (λ (hs : List (List ℕ)). IsWalked lines name (contains_text c.enter.new.entered) (members c.enter.new.pending.items) hs) (sym hosts)
           (enters_start lines name (contains_text c.new-entered.result) (contains_text c.enter.new.entered) (members c.new-pending.result.items) (members c.enter.new.pending.items) (search rules) none step),
+      subst (λ (hs : List (List ℕ)). IsInOrder lines name (contains_text c.enter.new.entered) (members c.enter.new.pending.items) hs) (sym hosts)
+          (order_begins lines name (contains_text c.new-entered.result) (contains_text c.enter.new.entered) (members c.new-pending.result.items) (members c.enter.new.pending.items) (search rules) none step),
     )
 
 pub loop-member-preserved-in-Continue-branch-2 : goal.loop-member-preserved-in-Continue-branch-2
@@ -39,6 +42,8 @@ loop-member-preserved-in-Continue-branch-2 c =
       c.loop-member.invariant.0,
       subst (λ (hs : List (List ℕ)). IsWalked lines name entered rest hs) (sym pushed)
           (meets_host lines name entered rest met c.in-Host.host (subst (λ (ps : List Member). IsWalked lines name entered ps met) popped c.loop-member.invariant.1)),
+      subst (λ (hs : List (List ℕ)). IsInOrder lines name entered rest hs) (sym pushed)
+          (order_host lines name entered rest met c.in-Host.host (subst (λ (ps : List Member). IsInOrder lines name entered ps met) popped c.loop-member.invariant.2)),
     )
 
 pub loop-member-smaller : goal.loop-member-smaller
@@ -73,9 +78,16 @@ loop-member-preserved c =
       has_begun_more lines name (contains_text c.enter-in-Group.new.entered) (members c.enter-in-Group.new.pending.items) rest entered c.as_str-in-Group.result.now (group_named lines c.as_str-in-Group.result.now) step c.loop-member.invariant.0,
       meets_group lines name entered (contains_text c.enter-in-Group.new.entered) rest (members c.enter-in-Group.new.pending.items) met c.as_str-in-Group.result.now (group_named lines c.as_str-in-Group.result.now) refl step
           (subst (λ (ps : List Member). IsWalked lines name entered ps met) popped c.loop-member.invariant.1),
+      order_group lines name entered (contains_text c.enter-in-Group.new.entered) rest (members c.enter-in-Group.new.pending.items) met c.as_str-in-Group.result.now (group_named lines c.as_str-in-Group.result.now) refl step
+          (subst (λ (ps : List Member). IsInOrder lines name entered ps met) popped c.loop-member.invariant.2),
     )
 
-pub returns : goal.returns
-returns c =
+pub returns-clause-hosts : goal.returns-clause-hosts
+returns-clause-hosts c =
     ends c.args.groups.now c.args.name.now (contains_text c.loop-member.entered) (texts c.loop-member.met.items) c.loop-member.invariant.0
     (subst (λ (ps : List Member). IsWalked c.args.groups.now c.args.name.now (contains_text c.loop-member.entered) ps (texts c.loop-member.met.items)) (search rules) c.loop-member.invariant.1)
+
+pub returns-clause-order : goal.returns-clause-order
+returns-clause-order c =
+    order_ends c.args.groups.now c.args.name.now (contains_text c.loop-member.entered) (texts c.loop-member.met.items)
+    (subst (λ (ps : List Member). IsInOrder c.args.groups.now c.args.name.now (contains_text c.loop-member.entered) ps (texts c.loop-member.met.items)) (search rules) c.loop-member.invariant.2)
