@@ -1,6 +1,7 @@
 pub mod Closing
 pub mod Walking
 pub mod WalkOrder
+pub mod WalkMeets
 pub mod Places
 pub mod TokenLemmas
 pub mod FormLemmas

@@ -1,5 +1,5 @@
 -- A walk that enters each group once meets the hosts in their order.
-use Rattle.std.proofs.Common.{◌≡◌, ℕ, zero, suc, ◌+◌, ◌<◌, ◌≤◌, ◌||◌, Bool, true, false, cond, List, [], ◌∷◌, ◌++◌, length, length-append, Option, Some, None, refl, sym, ap, ◌∙◌, inl, inr, append_assoc, arith}
+use Rattle.std.proofs.Common.{◌≡◌, ℕ, zero, suc, ◌+◌, ◌<◌, ◌≤◌, ◌||◌, ◌⊎◌, Bool, true, false, cond, List, [], ◌∷◌, ◌++◌, length, length-append, Option, Some, None, refl, sym, ap, ◌∙◌, inl, inr, append_assoc, arith}
 use Rattle.std.specs.Prelude.{not, reverse}
 use Rattle.std.specs.Option.{option_map_or}
 use Rattle.std.specs.Str.{bytes_eq}
@@ -34,7 +34,7 @@ left_in false true line rest apart = refl
 left_in false false line rest apart = refl
 
 module _ (name : List ℕ) where
-  named_without : (lines : List GroupLine) (other : List ℕ) → group_named (without name lines) other ≡ cond (bytes_eq other name) None (group_named lines other)
+  pub named_without : (lines : List GroupLine) (other : List ℕ) → group_named (without name lines) other ≡ cond (bytes_eq other name) None (group_named lines other)
   named_without [] other = sym (both_same (bytes_eq other name) None)
   named_without (line ∷ lines) other =
       let rest = named_without lines other in
@@ -50,7 +50,7 @@ module _ (name : List ℕ) where
             ∙ left_in a b (Some line) (group_named lines other) (λ e f. true≢false (sym ((bytes_eq-Decides name line.name).1 (sym (same_name other name f) ∙ same_name other line.name e)) ∙ kept))
       ]
 
-  members_leave : (lines : List GroupLine) → length (members_of lines name) + length (all_members (without name lines)) ≤ length (all_members lines)
+  pub members_leave : (lines : List GroupLine) → length (members_of lines name) + length (all_members (without name lines)) ≤ length (all_members lines)
   members_leave [] = omega arith
   members_leave (line ∷ lines) =
       let h = members_leave lines in
@@ -86,18 +86,37 @@ positive (suc k) some = (k, refl)
 last_first : (rest : List Member) (member : Member) → reverse (rest ++ member ∷ []) ≡ member ∷ reverse rest
 last_first rest member = reverse-append rest (member ∷ [])
 
-no_members : (lines : List GroupLine) (group : List ℕ) → group_named lines group ≡ None → members_of lines group ≡ []
-no_members lines group none = ap (λ (o : Option GroupLine). option_map_or (λ (l : GroupLine). l.members) o []) none
+members_found : (lines : List GroupLine) (group : List ℕ) (found : Option GroupLine) → group_named lines group ≡ found → members_of lines group ≡ option_map_or (λ line. line.members) found []
+members_found lines group found is = ap (λ (o : Option GroupLine). option_map_or (λ (l : GroupLine). l.members) o []) is
 
-its_members : (lines : List GroupLine) (group : List ℕ) (line : GroupLine) → group_named lines group ≡ Some line → members_of lines group ≡ line.members
-its_members lines group line is = ap (λ (o : Option GroupLine). option_map_or (λ (l : GroupLine). l.members) o []) is
-
--- entered before, or the group that is entered now
-entered_more : (old same : Bool) (line : Option GroupLine) → cond same None (cond old None line) ≡ cond (old || same) None line
+-- a group that is entered is left out
+pub entered_more : (old same : Bool) (line : Option GroupLine) → cond same None (cond old None line) ≡ cond (old || same) None line
 entered_more true true line = refl
 entered_more true false line = refl
 entered_more false true line = refl
 entered_more false false line = refl
+
+module _ (lines left : List GroupLine) (entered : List ℕ → Bool) (group : List ℕ) (left_are : (other : List ℕ) → group_named left other ≡ cond (entered other) None (group_named lines other)) where
+  -- a group that is not left has no members, and another one its own
+  pub no_members : (entered group ≡ true) ⊎ (group_named lines group ≡ None) → members_of left group ≡ []
+  no_members (inl was) = members_found left group None (left_are group ∙ cond-true (entered group) None (group_named lines group) was)
+  no_members (inr none) = members_found left group None (left_are group ∙ ap (λ line. cond (entered group) None line) none ∙ both_same (entered group) None)
+
+  pub its_members : (line : GroupLine) → entered group ≡ false → group_named lines group ≡ Some line → members_of left group ≡ line.members
+  its_members line fresh is = members_found left group (Some line) (left_are group ∙ cond-false (entered group) None (group_named lines group) fresh ∙ is)
+
+-- a group that is not defined is left out
+pub passed_by : (lines : List GroupLine) (old new : List ℕ → Bool) (group : List ℕ) → group_named lines group ≡ None → ((name : List ℕ) → new name ≡ old name)
+    → (other : List ℕ) → cond (bytes_eq other group) None (cond (old other) None (group_named lines other)) ≡ cond (new other) None (group_named lines other)
+passed_by lines old new group none same_ones other =
+    elim (cases_Bool (bytes_eq other group)) [
+      | inl same ↦
+          cond-true (bytes_eq other group) None (cond (old other) None (group_named lines other)) same
+          ∙ sym (ap (λ line. cond (new other) None line) (ap (group_named lines) (same_name other group same) ∙ none) ∙ both_same (new other) None)
+      | inr apart ↦
+          cond-false (bytes_eq other group) None (cond (old other) None (group_named lines other)) apart
+          ∙ ap (λ b. cond b None (group_named lines other)) (sym (same_ones other))
+    ]
 
 module _ (lines : List GroupLine) (name : List ℕ) where
   pub order_host : (entered : List ℕ → Bool) (rest : List Member) (met : List (List ℕ)) (host : List ℕ)
@@ -148,27 +167,18 @@ module _ (lines : List GroupLine) (name : List ℕ) where
   pub order_group : (old new : List ℕ → Bool) (rest pending : List Member) (met : List (List ℕ)) (group : List ℕ) (found : Option GroupLine) → found ≡ group_named lines group
       → Enters found group old new rest pending → IsInOrder lines name old (rest ++ Group group ∷ []) met → IsInOrder lines name new pending met
   order_group old new rest pending met group None is step so_far =
-      order_entered old new rest pending met group so_far (λ other. elim (cases_Bool (bytes_eq other group)) [
-        | inl same ↦
-            let none : group_named lines other ≡ None = ap (group_named lines) (same_name other group same) ∙ sym is in
-            cond-true (bytes_eq other group) None (cond (old other) None (group_named lines other)) same
-            ∙ sym (ap (λ line. cond (new other) None line) none ∙ both_same (new other) None)
-        | inr apart ↦
-            cond-false (bytes_eq other group) None (cond (old other) None (group_named lines other)) apart
-            ∙ ap (λ b. cond b None (group_named lines other)) (sym (step.0 other))
-      ])
-      (ap reverse step.1 ∙ ap (λ ms. ms ++ reverse rest) (sym (no_members so_far.left group (so_far.named group ∙ ap (λ line. cond (old group) None line) (sym is) ∙ both_same (old group) None))))
+      order_entered old new rest pending met group so_far (passed_by lines old new group (sym is) step.0)
+      (ap reverse step.1 ∙ ap (λ ms. ms ++ reverse rest) (sym (no_members lines so_far.left old group so_far.named (inr (sym is)))))
   order_group old new rest pending met group (Some line) is step so_far =
       order_entered old new rest pending met group so_far
       (λ other. entered_more (old other) (bytes_eq other group) (group_named lines other) ∙ ap (λ b. cond b None (group_named lines other)) (sym (step.0 other)))
       (elim (cases_Bool (old group)) [
         | inl was ↦
             ap reverse (step.1 ∙ cond-true (old group) rest (rest ++ reverse line.members) was)
-            ∙ ap (λ ms. ms ++ reverse rest) (sym (no_members so_far.left group (so_far.named group ∙ cond-true (old group) None (group_named lines group) was)))
+            ∙ ap (λ ms. ms ++ reverse rest) (sym (no_members lines so_far.left old group so_far.named (inl was)))
         | inr fresh ↦
             ap reverse (step.1 ∙ cond-false (old group) rest (rest ++ reverse line.members) fresh) ∙ reverse-append rest (reverse line.members)
-            ∙ ap (λ ms. ms ++ reverse rest) (reverse-reverse line.members
-            ∙ sym (its_members so_far.left group line (so_far.named group ∙ cond-false (old group) None (group_named lines group) fresh ∙ sym is)))
+            ∙ ap (λ ms. ms ++ reverse rest) (reverse-reverse line.members ∙ sym (its_members lines so_far.left old group so_far.named line fresh (sym is)))
       ])
 
   -- the walk begins at the group alone

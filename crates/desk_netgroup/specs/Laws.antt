@@ -3,8 +3,9 @@ use Rattle.std.specs.Prelude.{◌≡◌, ◌↔◌, ℕ, ◌&&◌, Bool, true, f
 use Rattle.std.specs.List.{flat_map, list_all, list_any}
 use Rattle.std.specs.Str.{bytes_eq}
 use Rattle.desk_text.specs.Bytes.{is_blank}
-use Rattle.desk_netgroup.specs.Netgroups.{hosts_of, is_among, members_of}
+use Rattle.desk_netgroup.specs.Netgroups.{AreDistinct, AreHostsOf, hosts_of, is_among, members_of}
 use Rattle.desk_netgroup.specs.Token.{begins_with_word, is_of_word, tokens}
+use Rattle.desk_netgroup.specs.Walk.{hosts_in_order}
 use Rattle.desk_netgroup.specs.declared.group_line.GroupLine.{GroupLine}
 use Rattle.desk_netgroup.specs.declared.group_line.Member.{Member}
 use Rattle.desk_netgroup.specs.declared.group_line.Member.TheVariants.{Group, Host}
@@ -51,6 +52,11 @@ pub record AreClosed (lines : List GroupLine) (has : List ℕ → List ℕ → B
 pub record HostsAreLeast : Type 0 where
   pub closed : (lines : List GroupLine) → AreClosed lines (λ group host. is_among host (hosts_of lines group))
   pub least : (lines : List GroupLine) (has : List ℕ → List ℕ → Bool) → AreClosed lines has → (group host : List ℕ) → is_among host (hosts_of lines group) ≡ true → has group host ≡ true
+
+-- The hosts of a group in the order of the walk are just its hosts, and none stands twice.
+pub record OrderKeepsTheHosts : Type 0 where
+  pub same : (lines : List GroupLine) (name : List ℕ) → AreHostsOf lines name (hosts_in_order lines name)
+  pub once : (lines : List GroupLine) (name : List ℕ) → AreDistinct (hosts_in_order lines name)
 
 -- the groups of the chain, each a member of the one before, lead from this group to a triple with the host
 abbrev pub Leads : List GroupLine → List ℕ → List (List ℕ) → List ℕ → Type 0

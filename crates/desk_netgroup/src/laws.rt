@@ -1,6 +1,6 @@
 //! What the definitions of this crate come to, each as a function that does nothing.
 
-ghost use Rattle.desk_netgroup.specs.Laws.{HostsAreLeast, HostsAreReached, TokensAreTheText};
+ghost use Rattle.desk_netgroup.specs.Laws.{HostsAreLeast, HostsAreReached, OrderKeepsTheHosts, TokensAreTheText};
 
 /// Says that the tokens of a text are its characters without the blanks, and that two words stand
 /// side by side only with a blank between them.
@@ -18,4 +18,10 @@ pub fn hosts_are_least()
 /// to a triple with it.
 pub fn hosts_are_reached()
     ensures { HostsAreReached }
+{}
+
+/// Says that the hosts of a group, in the order in which a walk first meets them, are just its hosts,
+/// each once.
+pub fn order_keeps_the_hosts()
+    ensures { OrderKeepsTheHosts }
 {}
