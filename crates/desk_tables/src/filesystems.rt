@@ -1,8 +1,8 @@
 //! File systems by mount point. (exports(5), mount(8))
 
-ghost use Rattle.std.specs.Prelude.{◌≡◌, ◌≤◌, All, IfOk, IfSome, MatchOption, false, length, map, slice_get};
+ghost use Rattle.std.specs.Prelude.{◌≡◌, ◌≤◌, All, IfOk, IfSome, MatchOption, false, length, map, position, slice_get};
 ghost use Rattle.std.specs.Option.{option_copied, option_map};
-ghost use Rattle.desk_text.specs.Path.{is_under};
+ghost use Rattle.desk_text.specs.Path.{is_under, path_text};
 ghost use Rattle.std.specs.List.{list_any};
 ghost use Rattle.std.specs.Str.{bytes_eq};
 ghost use Rattle.desk_text.specs.Reading.{Reads};
@@ -100,6 +100,13 @@ impl FileSystems {
             .map(|mount| &mount.path)
     }
 
+    /// Finds the file system whose mount point is printed as this text.
+    pub fn printed_as(&self, text: &str) -> Option<FsId>
+        ensures { result ≡ option_map (λ i. record { 0 = i }) (position (λ mount. bytes_eq (path_text mount.path) text.now) self.now) }
+    {
+        place_printed(self.mounts.as_slice(), text).map(|index| FsId(index as u32))
+    }
+
     /// Returns how many mount points are listed.
     pub fn len(&self) -> usize
         ensures { result ≡ length self.now }
@@ -124,6 +131,13 @@ impl FileSystems {
             None => false,
         }
     }
+}
+
+/// Finds the place of the mount point that is printed as this text.
+fn place_printed(mounts: &[Mount], text: &str) -> Option<usize>
+    ensures { result ≡ position (λ mount. bytes_eq (path_text mount.path) text.now) mounts.now }
+{
+    mounts.iter().position(|mount| mount.path.text() == text)
 }
 
 /// Tests whether a name is among names.
