@@ -1,0 +1,9 @@
+pub mod HeadLemmas
+pub mod SiteLemmas
+pub mod ExportsNames
+pub mod FirstCase
+pub mod RightAnswers
+pub mod Histories
+pub mod Runs
+pub mod Accepting
+mod EditExamples

@@ -1,0 +1,129 @@
+-- The site of heads, one head after another.
+use Rattle.std.proofs.Common.{◌≡◌, ◌∙◌, sym, ap, subst, refl, ℕ, ◌+◌, ◌<◌, ◌≤◌, ◌++◌, Bool, true, false, cond, List, [], ◌∷◌, Option, Some, Result, Ok, Err, IfOk, IsOk, All, ◌-◌, length, get_or, drop, arith}
+use Rattle.std.specs.Prelude.{codes, find}
+use Rattle.std.specs.List.{AllByRecursion}
+use Rattle.std.specs.Option.{option_map_or}
+use Rattle.std.specs.Result.{result_unwrap_or}
+use Rattle.std.specs.Str.{bytes_eq}
+use Rattle.std.proofs.Math.Path.{fun_ext}
+use Rattle.std.proofs.lemmas.List.{at_drop_more}
+use Rattle.std.proofs.lemmas.List.Elements.{recursion_from_All}
+use Rattle.desk_tables.specs.Custodians.{read_custodians}
+use Rattle.desk_tables.specs.FileSystemsText.{read_filesystems}
+use Rattle.desk_tables.specs.Rules.{TableFault}
+use Rattle.desk_tables.specs.declared.custodians.Custodian.{Custodian}
+use Rattle.desk_policy.specs.Contradiction.{HasNoContradiction}
+use Rattle.desk_policy.specs.Parsing.{if_listed, in_file, read_behind, read_site, then_read}
+use Rattle.desk_policy.specs.Policy.{Content}
+use Rattle.desk_policy.specs.Site.{HaveReadableLengths, SiteTexts, longest_text}
+use Rattle.desk_policy.specs.SiteFault.{table_fault}
+use Rattle.desk_policy.specs.View.{HasFault, IsFaultOf}
+use Rattle.desk_policy.specs.declared.site_fault.SiteFault.{SiteFault}
+use Rattle.desk_core.specs.Head.{CanBeKept, Newest, newest_in, put}
+use Rattle.desk_core.specs.PrivateSite.{no_texts, with_text}
+use Rattle.desk_core.specs.Site.{IsConsistent, IsInForce, IsSound, custodians_of, policy_of, policy_read, site_by, site_in, text_in}
+use Rattle.desk_core.specs.declared.head.Head.{Head}
+
+chosen : (b : Bool) (h : Head) (o : Option Head) → cond b h.body (option_map_or (λ r. r.body) o []) ≡ option_map_or (λ r. r.body) (cond b (Some h) o) []
+chosen true h o = refl
+chosen false h o = refl
+
+-- the text of a head is that of its file
+pub site_put : (newest : Newest) (h : Head) → with_text (site_in newest) h.file h.body ≡ site_in (put newest h)
+site_put newest h = ap site_by (fun_ext (λ name. chosen (bytes_eq h.file name) h (newest name)))
+
+pub site_none : no_texts ≡ site_in (newest_in [])
+unfolding newest_in
+site_none = refl
+
+pub site_cons : (heads : List Head) (h : Head) → with_text (site_in (newest_in heads)) h.file h.body ≡ site_in (newest_in (h ∷ heads))
+unfolding newest_in
+site_cons heads h = site_put (newest_in heads) h
+
+is_ok_read : (read : Result (List Custodian) TableFault) (next : List Custodian → Result Content SiteFault) (content : Content) → then_read (in_file (table_fault (codes "custodians")) read) next ≡ Ok content → IsOk read
+is_ok_read (Ok custodians) next content e = refl
+is_ok_read (Err fault) next content e = cc
+
+-- the custodians of a site that was read were read
+pub custodians_read : (texts : SiteTexts) (content : Content) → read_site texts ≡ Ok content → IsOk (read_custodians texts.custodians)
+unfolding read_site
+custodians_read texts content e =
+    is_ok_read (read_custodians texts.custodians) (λ custodians. then_read (in_file (table_fault (codes "filesystems")) (if_listed custodians (read_filesystems texts.filesystems))) (λ table. read_behind texts table)) content e
+
+pub in_force : (texts : SiteTexts) (content : Content) → read_site texts ≡ Ok content → HasNoContradiction content → IsInForce texts content
+in_force texts content e none =
+    let is : policy_of texts ≡ content = ap policy_read e in
+    record { consistent = subst IsSound (sym e) none; lines = record { table = sym (ap (λ c. c.table) is); rows = sym (ap (λ c. c.rows) is) } }
+
+pub custodians_in_force : (texts : SiteTexts) (custodians : List Custodian) → read_custodians texts.custodians ≡ Ok custodians → custodians ≡ custodians_of texts
+custodians_in_force texts custodians e = sym (ap (λ (r : Result (List Custodian) TableFault). result_unwrap_or r []) e)
+
+apart : (read : Result Content SiteFault) (fault : SiteFault) → IsSound read → IsFaultOf read fault → ⊥
+apart (Ok policy) fault none named = none _ _ _ _ named.here.is
+apart (Err first) fault none named = none
+
+-- a consistent site has no fault
+pub consistent_or_fault : (texts : SiteTexts) (fault : SiteFault) → IsConsistent texts → HasFault texts fault → ⊥
+consistent_or_fault texts fault = apart (read_site texts) fault
+
+text_short : (heads : List Head) (name : List ℕ) → AllByRecursion CanBeKept heads → length (text_in (newest_in heads) name) ≤ longest_text
+unfolding newest_in
+text_short [] name kept = omega arith
+text_short (h ∷ hs) name kept = step (bytes_eq h.file name) kept.0.short (text_short hs name kept.1)
+  where
+    step : (b : Bool) → length h.body ≤ longest_text → length (text_in (newest_in hs) name) ≤ longest_text → length (option_map_or (λ r. r.body) (cond b (Some h) (find (λ x. bytes_eq x.file name) hs)) []) ≤ longest_text
+    step true own rest = own
+    step false own rest = rest
+
+put_short : (newest : Newest) (h : Head) (name : List ℕ) → length h.body ≤ longest_text → length (text_in newest name) ≤ longest_text → length (text_in (put newest h) name) ≤ longest_text
+put_short newest h name own rest = step (bytes_eq h.file name)
+  where
+    step : (b : Bool) → length (option_map_or (λ r. r.body) (cond b (Some h) (newest name)) []) ≤ longest_text
+    step true = own
+    step false = rest
+
+abbrev AreShort : Newest → Type 0
+AreShort newest = (name : List ℕ) → length (text_in newest name) ≤ longest_text
+
+readable : (newest : Newest) → AreShort newest → HaveReadableLengths (site_in newest)
+readable newest short = record {
+  custodians = short (codes "custodians");
+  filesystems = short (codes "filesystems");
+  hosts = short (codes "hosts");
+  networks = short (codes "networks");
+  passwd = short (codes "passwd");
+  group = short (codes "group");
+  netgroup = short (codes "netgroup");
+  exports = λ mount. short (codes "exports:" ++ mount);
+}
+
+-- texts of heads that can be kept can be read
+pub heads_readable : (heads : List Head) → All CanBeKept heads → HaveReadableLengths (site_in (newest_in heads))
+heads_readable heads kept = readable (newest_in heads) (λ name. text_short heads name (recursion_from_All CanBeKept heads kept))
+
+pub put_readable : (heads : List Head) (h : Head) → All CanBeKept heads → length h.body ≤ longest_text → HaveReadableLengths (site_in (put (newest_in heads) h))
+put_readable heads h kept own = readable (put (newest_in heads) h) (λ name. put_short (newest_in heads) h name own (text_short heads name (recursion_from_All CanBeKept heads kept)))
+
+abbrev made : List ℕ → List ℕ → List ℕ → List ℕ → List ℕ → List ℕ → List ℕ → (List ℕ → List ℕ) → SiteTexts
+made a b c d e f g x = record { custodians = a; filesystems = b; hosts = c; networks = d; passwd = e; group = f; netgroup = g; exports = x }
+
+-- texts that are equal one by one
+pub same_texts : (s t : SiteTexts) → s.custodians ≡ t.custodians → s.filesystems ≡ t.filesystems → s.hosts ≡ t.hosts → s.networks ≡ t.networks → s.passwd ≡ t.passwd → s.group ≡ t.group → s.netgroup ≡ t.netgroup → ((mount : List ℕ) → s.exports mount ≡ t.exports mount) → s ≡ t
+same_texts s t a b c d e f g x =
+    ap (λ v. made v s.filesystems s.hosts s.networks s.passwd s.group s.netgroup s.exports) a
+    ∙ ap (λ v. made t.custodians v s.hosts s.networks s.passwd s.group s.netgroup s.exports) b
+    ∙ ap (λ v. made t.custodians t.filesystems v s.networks s.passwd s.group s.netgroup s.exports) c
+    ∙ ap (λ v. made t.custodians t.filesystems t.hosts v s.passwd s.group s.netgroup s.exports) d
+    ∙ ap (λ v. made t.custodians t.filesystems t.hosts t.networks v s.group s.netgroup s.exports) e
+    ∙ ap (λ v. made t.custodians t.filesystems t.hosts t.networks t.passwd v s.netgroup s.exports) f
+    ∙ ap (λ v. made t.custodians t.filesystems t.hosts t.networks t.passwd t.group v s.exports) g
+    ∙ ap (λ v. made t.custodians t.filesystems t.hosts t.networks t.passwd t.group t.netgroup v) (fun_ext x)
+
+pub drop_back : (xs : List Head) (n : ℕ) (h : Head) → 0 < n → n ≤ length xs → h ≡ get_or xs (n - 1) h → h ∷ drop n xs ≡ drop (n - 1) xs
+drop_back xs n h from to e =
+    let next : n ≡ n - 1 + 1 = omega arith in
+    ap (λ x. x ∷ drop n xs) e ∙ ap (λ k. get_or xs (n - 1) h ∷ drop k xs) next ∙ sym (at_drop_more (λ ys. ys) xs (n - 1) h (omega arith))
+
+pub if_ok : {T E : Type 0} (P Q : T → Type 0) (r : Result T E) → ((x : T) → P x → Q x) → IfOk r P → IfOk r Q
+if_ok P Q (Ok x) f h = f x h
+if_ok P Q (Err e) f h = h

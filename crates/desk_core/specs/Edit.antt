@@ -1,0 +1,51 @@
+-- Edits, and what one may be answered. (this project's own)
+use Rattle.std.specs.Prelude.{ℕ, ◌+◌, List, codes}
+use Rattle.desk_core.specs.Head.{Revision}
+use Rattle.desk_core.specs.declared.edit.Edit.{Edit as Lent}
+use Rattle.desk_core.specs.declared.edit.Refusal.{Refusal}
+use Rattle.desk_core.specs.declared.edit.Refusal.TheVariants as refusal
+
+-- an edit: a file, the number of the revision that it follows, who asks for it, with a key, and the new text
+pub record Edit : Type 0 where
+  pub file : List ℕ
+  pub base : ℕ
+  pub caller : List ℕ
+  pub key : List ℕ
+  pub text : List ℕ
+
+-- the edit that is asked for by lent texts
+abbrev pub asked : Lent → Edit
+asked e = record { file = e.file.now; base = e.base; caller = e.caller.now; key = e.key.now; text = e.text.now }
+
+-- the revision that an edit would store
+abbrev pub revision_of : Edit → Revision
+revision_of e = record { file = e.file; rev = e.base + 1; author = e.caller; body = e.text }
+
+-- what an edit is answered: that it is stored as the revision of this number, that this revision is the edit itself, stored
+-- before, or that it is refused
+pub data Answer : Type 0 where
+  Stored : ℕ → Answer
+  Already : ℕ → Answer
+  Refused : Refusal → Answer
+
+-- the number of a refusal; 6 is that of a repeat, which is not a refusal
+abbrev pub refusal_number : Refusal → ℕ
+refusal_number refusal.UnknownCaller = 1
+refusal_number refusal.BadKey = 2
+refusal_number refusal.UnknownFile = 3
+refusal_number refusal.NotCustodian = 4
+refusal_number refusal.TooLarge = 5
+refusal_number (refusal.Stale newest) = 7
+refusal_number refusal.Full = 8
+refusal_number (refusal.Fault fault) = 9
+
+-- the name of a refusal
+abbrev pub refusal_name : Refusal → List ℕ
+refusal_name refusal.UnknownCaller = codes "UnknownCaller"
+refusal_name refusal.BadKey = codes "BadKey"
+refusal_name refusal.UnknownFile = codes "UnknownFile"
+refusal_name refusal.NotCustodian = codes "NotCustodian"
+refusal_name refusal.TooLarge = codes "TooLarge"
+refusal_name (refusal.Stale newest) = codes "Stale"
+refusal_name refusal.Full = codes "Full"
+refusal_name (refusal.Fault fault) = codes "Fault"

@@ -1,0 +1,11 @@
+pub mod Head
+pub mod Edit
+pub mod Site
+pub mod Judging
+pub mod Views
+pub mod State
+pub mod Prints
+pub mod History
+pub mod Laws
+pub mod PrivateSite
+pub mod PrivateState

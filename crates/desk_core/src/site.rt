@@ -1,0 +1,117 @@
+//! The site that the newest revisions write.
+
+ghost use Rattle.std.specs.Prelude.{◌≡◌, ◌≤◌, ◌++◌, ℕ, List, [], IfOk, IsOk, Ok, OnOk, codes, length, unwrap_or};
+ghost use Rattle.std.specs.BTreeMap.{get_by_text};
+ghost use Rattle.desk_tables.specs.Custodians.{read_custodians};
+ghost use Rattle.desk_policy.specs.Site.{longest_text, texts_of};
+ghost use Rattle.desk_core.specs.Head.{newest_in, put};
+ghost use Rattle.desk_core.specs.PrivateSite.{no_texts, text_or, with_text};
+ghost use Rattle.desk_core.specs.Site.{site_in};
+
+use crate::head::Head;
+use desk_policy::Site;
+use desk_tables::Custodians;
+use desk_text::{ReadError, Text};
+use std::alloc::{AllocError, Global};
+use std::collections::BTreeMap;
+
+/// Makes the site of the heads, if this head is that of its file.
+pub(crate) fn site_with(alloc: Global, heads: &[Head], head: &Head) -> Result<Site, AllocError>
+    ensures { IfOk result (λ site. texts_of site ≡ site_in (put (newest_in heads.now) head.now)) }
+{
+    let site = site_of(alloc, heads)?;
+    with_head(alloc, site, head)
+}
+
+/// Makes the site of the heads. They are taken from the last one to the first, so that the first of a file counts.
+pub(crate) fn site_of(alloc: Global, heads: &[Head]) -> Result<Site, AllocError>
+    ensures { IfOk result (λ site. texts_of site ≡ site_in (newest_in heads.now)) }
+{
+    let mut site = empty_site(alloc)?;
+    let mut left = heads.len();
+    while left > 0 {
+        left -= 1;
+        site = with_head(alloc, site, &heads[left])?;
+    }
+    Ok(site)
+}
+
+/// Makes a site whose files are empty.
+fn empty_site(alloc: Global) -> Result<Site, AllocError>
+    ensures { IfOk result (λ site. texts_of site ≡ no_texts) }
+{
+    Ok(Site {
+        custodians: Text::copy(alloc, "")?,
+        filesystems: Text::copy(alloc, "")?,
+        hosts: Text::copy(alloc, "")?,
+        networks: Text::copy(alloc, "")?,
+        passwd: Text::copy(alloc, "")?,
+        group: Text::copy(alloc, "")?,
+        netgroup: Text::copy(alloc, "")?,
+        exports: BTreeMap::new(alloc),
+    })
+}
+
+/// Makes the site with the text of this head. A head of a file of another name changes nothing.
+fn with_head(alloc: Global, mut site: Site, head: &Head) -> Result<Site, AllocError>
+    ensures { IfOk result (λ new. texts_of new ≡ with_text (texts_of site) head.now.file head.now.body) }
+{
+    let file = head.file.as_str();
+    let body = head.body.as_str();
+    put_text(alloc, &mut site.custodians, file, "custodians", body)?;
+    put_text(alloc, &mut site.filesystems, file, "filesystems", body)?;
+    put_text(alloc, &mut site.hosts, file, "hosts", body)?;
+    put_text(alloc, &mut site.networks, file, "networks", body)?;
+    put_text(alloc, &mut site.passwd, file, "passwd", body)?;
+    put_text(alloc, &mut site.group, file, "group", body)?;
+    put_text(alloc, &mut site.netgroup, file, "netgroup", body)?;
+    put_exports(alloc, &mut site.exports, file, body)?;
+    Ok(site)
+}
+
+/// Puts a text in the place of that of the file of this name.
+fn put_text(
+    alloc: Global,
+    slot: &mut Text,
+    file: &str,
+    name: &str,
+    text: &str,
+) -> Result<(), AllocError>
+    ensures { OnOk result (slot.new ≡ text_or file.now text.now name.now slot.old) }
+{
+    if file == name {
+        *slot = Text::copy(alloc, text)?;
+    }
+    Ok(())
+}
+
+/// Puts a text in the place of that of a mount point, if it is that of an exports file.
+fn put_exports(
+    alloc: Global,
+    exports: &mut BTreeMap<String, Text>,
+    file: &str,
+    text: &str,
+) -> Result<(), AllocError>
+    ensures { OnOk result ((mount : List ℕ) → unwrap_or (get_by_text exports.new mount) []
+        ≡ text_or file.now text.now (codes "exports:" ++ mount) (unwrap_or (get_by_text exports.old mount) [])) }
+{
+    if let Some(mount) = file.strip_prefix("exports:") {
+        let mount = String::from_str(alloc, mount)?;
+        let text = Text::copy(alloc, text)?;
+        exports.insert(mount, text)?;
+    }
+    Ok(())
+}
+
+/// Reads the custodians of a text that has no fault.
+pub(crate) fn read_good(alloc: Global, text: &str) -> Result<Custodians, AllocError>
+    requires length { length text.now ≤ longest_text }
+    requires good { IsOk (read_custodians text.now) }
+    ensures { IfOk result (λ custodians. read_custodians text.now ≡ Ok custodians) }
+{
+    match Custodians::read(alloc, text) {
+        Ok(custodians) => Ok(custodians),
+        Err(ReadError::Fault(_)) => unreachable!(),
+        Err(ReadError::Memory) => Err(AllocError),
+    }
+}
