@@ -1,9 +1,10 @@
 //! States: the newest revision of each file, and the policy that they put in force.
 
-ghost use Rattle.std.specs.Prelude.{◌≡◌, All, None, Some};
+ghost use Rattle.std.specs.Prelude.{◌≡◌, ◌<◌, All, IfOk, None, Some};
 ghost use Rattle.desk_policy.specs.Site.{HaveReadableLengths, texts_of};
+ghost use Rattle.desk_core.specs.Edit as spec;
 ghost use Rattle.desk_core.specs.Edit.{asked};
-ghost use Rattle.desk_core.specs.Head.{CanBeKept, StandOnce, newest_in, put};
+ghost use Rattle.desk_core.specs.Head.{CanBeKept, StandOnce, last_revision, newest_in, put};
 ghost use Rattle.desk_core.specs.Judging.{answer_in, first_case};
 ghost use Rattle.desk_core.specs.PrivateState.{Accepts, AnswersCase, PutsInForce};
 ghost use Rattle.desk_core.specs.Site.{IsInForce, site_in};
@@ -16,7 +17,7 @@ use crate::site::{read_good, site_of, site_with};
 use desk_policy::{PolicyView, Site, SiteFault, compile};
 use desk_tables::Custodians;
 use desk_text::{ReadError, Text};
-use std::alloc::Global;
+use std::alloc::{AllocError, Global};
 use std::marker::Model;
 
 /// The newest revision of each file, the custodians that these list, and a view of the policy that these write.
@@ -169,12 +170,7 @@ impl<V: PolicyView + Drop> State<V> {
         ensures { Accepts V.in_force self.now (asked edit.now) result }
     {
         let heads = self.heads.as_slice();
-        let head = Head {
-            file: Text::copy(alloc, edit.file)?,
-            rev: edit.base + 1,
-            author: Text::copy(alloc, edit.caller)?,
-            body: Text::copy(alloc, edit.text)?,
-        };
+        let head = revision_of(alloc, edit)?;
         let site = site_with(alloc, heads, &head)?;
         let (custodians, view) = match put_in_force(alloc, &site) {
             Ok(both) => both,
@@ -189,6 +185,19 @@ impl<V: PolicyView + Drop> State<V> {
             view,
         })
     }
+}
+
+/// Makes the revision that an edit stores.
+fn revision_of(alloc: Global, edit: &Edit<'_>) -> Result<Head, AllocError>
+    requires { edit.now.base < last_revision }
+    ensures { IfOk result (λ head. head ≡ spec.revision_of (asked edit.now)) }
+{
+    Ok(Head {
+        file: Text::copy(alloc, edit.file)?,
+        rev: edit.base + 1,
+        author: Text::copy(alloc, edit.caller)?,
+        body: Text::copy(alloc, edit.text)?,
+    })
 }
 
 /// Makes the custodians and the view of a consistent site, or gives its fault.
