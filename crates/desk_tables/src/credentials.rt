@@ -126,7 +126,6 @@ impl fmt::Display for GroupIds {
 
     ghost output = { λ g. Some (gids_text g) };
 
-    #[tactic(auto, using(crate::proofs::GidLemmas::one_more))]
     fn fmt<W: fmt::Write>(&self, f: &mut fmt::Formatter<W>) -> fmt::Result {
         let Some((first, others)) = self.as_slice().split_first() else {
             return Ok(());
