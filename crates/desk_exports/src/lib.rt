@@ -27,6 +27,7 @@ pub mod lines;
 pub mod options;
 pub mod prints;
 pub mod rules;
+pub mod splitting;
 pub mod tables;
 
 pub use boxed::Boxed;
@@ -38,4 +39,5 @@ pub use lines::{fs_of_line, read_line};
 pub use options::{Keyword, Setting};
 pub use prints::fault_text;
 pub use rules::{Rule, first_broken_rule};
+pub use splitting::split;
 pub use tables::Tables;

@@ -1,0 +1,60 @@
+use Rattle.std.proofs.Common.{◌≡◌, ◌++◌, ◌∷◌, ◌∙◌, ap, sym, subst, refl, take, map, replicate, ℕ, List, [], Result, Ok, Err, Global, String, Vec}
+use Rattle.std.specs.List.{cons_option}
+use Rattle.std.specs.String.{string_bytes}
+use Rattle.std.proofs.lemmas.List.{take_all, take_more}
+use Rattle.std.proofs.lemmas.Result.{err_from_is_err_and}
+use Rattle.desk_text.specs.Lines.{LogicalLine, logical_lines}
+use Rattle.desk_text.specs.Reading.{ReadsAs, unless_fault}
+use Rattle.desk_tables.specs.declared.filesystems.Mount.{Mount}
+use Rattle.desk_exports.specs.Laws.{faults}
+use Rattle.desk_exports.specs.Splitting.{destination_of, texts_to}
+use Rattle.desk_exports.proofs.FileLemmas.{faults_more}
+use Rattle.desk_exports.proofs.SplitTexts.{exit_split, none_sent, sent}
+use Rattle.desk_exports.proofs.splitting.split.Goals as goal
+
+abbrev Texts : Type 0
+Texts = Vec (String Global) Global
+
+abbrev bytes_in : Texts → List (List ℕ)
+bytes_in texts = map string_bytes texts.items
+
+pub returns-in_err-send_line : goal.returns-in_err-send_line
+returns-in_err-send_line c =
+    let table : List Mount = c.args.filesystems.now in
+    let ls : List LogicalLine = c.deref-line-items.result.now in
+    let text : ls ≡ logical_lines c.args.text.now = c.deref-line-items.ensures.value ∙ c.in_ok-lines.ensures.lines in
+    let p = err_from_is_err_and c.from_residual-in_err-send_line.result c.from_residual-in_err-send_line.ensures.1 in
+    let P : List LogicalLine → Type 0 = λ lines. ReadsAs bytes_in (Err c.in_err-send_line.field-0.0) (unless_fault (faults (destination_of table) lines) (texts_to table lines)) in
+    rw (p.1, p.2) (subst P text (exit_split bytes_in table ls c.loop-line.line-index c.in_err-send_line.field-0.0 c.line-item.result (bytes_in c.loop-line.texts) (bytes_in c.send_line.new.texts)
+    c.loop-line-test.true c.line-item.is c.loop-line.invariant.sound c.in_err-send_line.ensures))
+
+pub loop-line-init : goal.loop-line-init
+loop-line-init c = record {
+  sound = refl;
+  texts = c.in_ok-texts.ensures ∙ ap (λ n. replicate n []) c.len.ensures ∙ none_sent c.args.filesystems.now;
+}
+
+pub loop-line-preserved : goal.loop-line-preserved
+loop-line-preserved c =
+    let table : List Mount = c.args.filesystems.now in
+    let ls : List LogicalLine = c.deref-line-items.result.now in
+    let i = c.loop-line.line-index in
+    let x = c.line-item.result in
+    record {
+      sound = faults_more (destination_of table) ls i x c.loop-line-test.true c.line-item.is
+          ∙ ap (λ o. faults (destination_of table) (take i ls) ++ cons_option o []) c.in_ok-send_line.ensures.0
+          ∙ ap (λ fs. fs ++ []) c.loop-line.invariant.sound;
+      texts = c.in_ok-send_line.ensures.1
+          ∙ sent table (take i ls) x (bytes_in c.loop-line.texts) c.loop-line.invariant.texts
+          ∙ ap (texts_to table) (ap (λ l. take i ls ++ l ∷ []) c.line-item.is ∙ sym (take_more ls i x c.loop-line-test.true));
+    }
+
+pub returns : goal.returns
+returns c =
+    let table : List Mount = c.args.filesystems.now in
+    let ls : List LogicalLine = c.deref-line-items.result.now in
+    let text : ls ≡ logical_lines c.args.text.now = c.deref-line-items.ensures.value ∙ c.in_ok-lines.ensures.lines in
+    let all : take c.loop-line.line-index ls ≡ logical_lines c.args.text.now = take_all c.loop-line.line-index ls c.loop-line-test.false ∙ text in
+    ap (λ lines. unless_fault (faults (destination_of table) lines) (texts_to table lines)) (sym all)
+    ∙ ap (λ fs. unless_fault fs (texts_to table (take c.loop-line.line-index ls))) c.loop-line.invariant.sound
+    ∙ ap Ok (sym c.loop-line.invariant.texts)
