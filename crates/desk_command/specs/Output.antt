@@ -1,7 +1,7 @@
 -- What a command prints on standard output, and its exit status. (this project's own)
 use Rattle.std.specs.Prelude.{ℕ, ◌++◌, ◌∷◌, List, [], Result, Ok, Err, if◌then◌else◌}
 use Rattle.std.specs.String.{string_bytes}
-use Rattle.desk_exports.specs.Prints.{fault_line}
+use Rattle.desk_command.specs.Faults.{fault_line}
 use Rattle.desk_command.specs.declared.failure.Failure.{Failure}
 use Rattle.desk_command.specs.declared.failure.Failure.TheVariants.{Memory}
 use Rattle.desk_command.specs.declared.output.Output.{Output}

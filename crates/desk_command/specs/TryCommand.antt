@@ -3,12 +3,14 @@ use Rattle.std.specs.Prelude.{◌≡◌, ◌⊎◌, ℕ, List, Option, Some, Non
 use Rattle.std.specs.String.{string_bytes}
 use Rattle.desk_text.specs.Address.{number_of, read_addr}
 use Rattle.desk_text.specs.Path.{read_path}
-use Rattle.desk_text.specs.declared.reading.LineFault.{LineFault}
-use Rattle.desk_exports.specs.declared.rules.Rule.{Rule}
+use Rattle.desk_policy.specs.Parsing.{read_whole_policy}
+use Rattle.desk_policy.specs.Policy.{Content}
+use Rattle.desk_policy.specs.View.{IsFaultOf}
+use Rattle.desk_policy.specs.declared.site_fault.SiteFault.{SiteFault}
 use Rattle.desk_command.specs.Arguments.{IsBadArgument, IsRequest}
 use Rattle.desk_command.specs.CommandLine.{TryWords}
 use Rattle.desk_command.specs.Input.{text_of}
-use Rattle.desk_command.specs.TryText.{Answer, answer_of, try_answer}
+use Rattle.desk_command.specs.TryText.{IsAnswerBy, answer_of}
 use Rattle.desk_command.specs.declared.failure.Failure.{Failure}
 use Rattle.desk_command.specs.declared.failure.Failure.TheVariants.{File, Memory, Missing}
 use Rattle.desk_command.specs.declared.failure.ReadFailure.{ReadFailure}
@@ -24,16 +26,17 @@ IsFileFailure file reason (File name found) = (string_bytes name ≡ file) × (f
 IsFileFailure file reason Memory = Unit {0}
 IsFileFailure file reason failure = ⊥
 
--- the output tells this answer, or this fault of the text; out of memory says nothing
-abbrev pub Tells : Result Answer (LineFault Rule) → Result Output Failure → Type 0
-Tells (Ok answer) (Ok (Tried tried)) = answer_of tried ≡ answer
-Tells (Err fault) (Ok (Faulty found)) = found ≡ fault
-Tells expected (Err Memory) = Unit {0}
-Tells expected result = ⊥
+-- the output tells the verdict for an address and a path by what a text is read as, or the text's fault; out of memory says
+-- nothing
+abbrev pub Tells : Result Content SiteFault → ℕ → List (List ℕ) → Result Output Failure → Type 0
+Tells read address path (Ok (Tried tried)) = IsAnswerBy read address path (answer_of tried)
+Tells read address path (Ok (Faulty fault)) = IsFaultOf read fault
+Tells read address path (Err Memory) = Unit {0}
+Tells read address path result = ⊥
 
 -- the output answers a request by a text, or says why the bytes of the file are not taken as one
 abbrev pub AnswersTry : List ℕ → Request → Result (List ℕ) TextFault → Result Output Failure → Type 0
-AnswersTry file request (Ok text) result = Tells (try_answer request.filesystems text (number_of request.address) request.path) result
+AnswersTry file request (Ok text) result = Tells (read_whole_policy request.filesystems text) (number_of request.address) request.path result
 AnswersTry file request (Err fault) (Err failure) = IsFileFailure file (Text fault) failure
 AnswersTry file request (Err fault) (Ok output) = ⊥
 

@@ -1,16 +1,14 @@
 -- What `try` answers over an exports text. (this project's own)
-use Rattle.std.specs.Prelude.{ℕ, Bool, List, Result, Ok, Err, is_ok}
+use Rattle.std.specs.Prelude.{◌≡◌, ℕ, Bool, List, Result, Ok, Err, is_ok}
 use Rattle.std.specs.String.{string_bytes}
-use Rattle.desk_tables.specs.declared.filesystems.FsId.{FsId}
-use Rattle.desk_tables.specs.declared.filesystems.Mount.{Mount}
-use Rattle.desk_exports.specs.Files.{whole_answer}
-use Rattle.desk_exports.specs.Tables.{only_filesystems}
-use Rattle.desk_exports.specs.declared.entry.Entry.{Entry}
-use Rattle.desk_exports.specs.declared.rules.Rule.{Rule}
-use Rattle.desk_text.specs.declared.reading.LineFault.{LineFault}
-use Rattle.desk_policy.specs.Policy.{Content, content_of}
+use Rattle.desk_text.specs.declared.reading.ReadError.{ReadError}
+use Rattle.desk_text.specs.declared.reading.ReadError.TheVariants.{Fault, Memory}
+use Rattle.desk_policy.specs.Contradiction.{HasNoContradiction}
+use Rattle.desk_policy.specs.Policy.{Content}
 use Rattle.desk_policy.specs.Prints.{verdict_line}
 use Rattle.desk_policy.specs.Verdict.{Grant, verdict_of}
+use Rattle.desk_policy.specs.View.{IsFaultOf}
+use Rattle.desk_policy.specs.declared.site_fault.SiteFault.{SiteFault}
 use Rattle.desk_policy.specs.declared.verdict.Denial.{Denial}
 use Rattle.desk_command.specs.declared.try_text.Tried.{Tried}
 
@@ -31,11 +29,14 @@ answer_on content verdict = record { granted = is_ok verdict; line = verdict_lin
 abbrev pub policy_answer : Content → ℕ → List (List ℕ) → Answer
 policy_answer content address path = answer_on content (verdict_of content address path)
 
--- the answer over the entries of a text, or its fault
-abbrev pub answer_over : List Mount → ℕ → List (List ℕ) → Result (List (FsId × Entry)) (LineFault Rule) → Result Answer (LineFault Rule)
-answer_over table address path (Ok placed) = Ok (policy_answer (content_of table placed) address path)
-answer_over table address path (Err fault) = Err fault
+-- the answer tells the verdict by the policy that a text writes, which has no contradiction
+abbrev pub IsAnswerBy : Result Content SiteFault → ℕ → List (List ℕ) → Answer → Type 0
+IsAnswerBy (Ok policy) address path answer = HasNoContradiction policy × (answer ≡ policy_answer policy address path)
+IsAnswerBy (Err fault) address path answer = ⊥
 
--- the answer for an address and a path over an exports text, with these file systems and no other table; or the text's first fault
-abbrev pub try_answer : List Mount → List ℕ → ℕ → List (List ℕ) → Result Answer (LineFault Rule)
-try_answer table text address path = answer_over table address path (whole_answer (only_filesystems table) text)
+-- What `try` answers for an address and a path by what a text is read as: the verdict, or the text's fault, which is that
+-- of its first faulty line or else its least contradiction. Out of memory says nothing.
+abbrev pub Tries : Result Content SiteFault → ℕ → List (List ℕ) → Result Tried (ReadError SiteFault) → Type 0
+Tries read address path (Ok tried) = IsAnswerBy read address path (answer_of tried)
+Tries read address path (Err (Fault fault)) = IsFaultOf read fault
+Tries read address path (Err Memory) = Unit {0}

@@ -17,6 +17,7 @@ mod arguments;
 mod command_line;
 mod commands;
 mod failure;
+mod faults;
 mod input;
 mod output;
 mod try_command;

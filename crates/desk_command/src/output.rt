@@ -6,9 +6,9 @@ ghost use Rattle.std.specs.String.{string_bytes};
 ghost use Rattle.desk_command.specs.Output as spec;
 
 use crate::failure::{Failure, Origin, message};
+use crate::faults::fault_text;
 use crate::try_text::Tried;
-use desk_exports::{Rule, fault_text};
-use desk_text::LineFault;
+use desk_policy::SiteFault;
 use std::alloc::{AllocError, Global};
 use std::io;
 use std::io::Write;
@@ -18,10 +18,10 @@ use std::io::Write;
 pub enum Output {
     /// Help or the version, as `clap` writes it.
     Help(String),
-    /// The answer of `try` to a text without a fault.
+    /// The answer of `try` to a text that is consistent.
     Tried(Tried),
-    /// The first faulty line of the exports text.
-    Faulty(LineFault<Rule>),
+    /// The fault of the exports text: its first faulty line, or its least contradiction.
+    Faulty(SiteFault),
 }
 
 /// Prints what a command answers, or why it does not, and returns the exit status.
@@ -72,7 +72,7 @@ fn output_text(alloc: Global, output: Output) -> Result<String, AllocError>
     let mut line = match output {
         Output::Help(text) => return Ok(text),
         Output::Tried(tried) => tried.line,
-        Output::Faulty(fault) => fault_text(alloc, fault)?,
+        Output::Faulty(fault) => fault_text(alloc, &fault)?,
     };
     line.push('\n')?;
     Ok(line)
