@@ -1,6 +1,9 @@
 -- The faults of a site: of a file, or of the lines of an exports file against each other. (this project's own)
-use Rattle.std.specs.Prelude.{ℕ, List, None, Some, ◌++◌, codes}
+use Rattle.std.specs.Prelude.{ℕ, List, [], ◌∷◌, Option, None, Some, ◌++◌, codes}
+use Rattle.std.specs.Fmt.{decimal}
+use Rattle.desk_text.specs.Address.{addr_text, number_of}
 use Rattle.desk_text.specs.Path.{path_text}
+use Rattle.desk_text.specs.declared.address.Addr.{Addr}
 use Rattle.desk_text.specs.declared.reading.LineFault.{LineFault}
 use Rattle.desk_tables.specs.Rules as tables
 use Rattle.desk_tables.specs.Rules.{TableFault}
@@ -44,3 +47,22 @@ line_fault file fault = record { file = file; line = fault.line; rule = rule.Lin
 -- the fault of a contradiction in an exports file: the later line, and with it the earlier one and the address
 abbrev pub contradiction_fault : List ℕ → Contradiction → SiteFault
 contradiction_fault file found = record { file = file; line = found.line; rule = rule.Contradiction; other = Some found.other; address = Some found.address }
+
+-- the earlier line of a fault, and its address, each behind a word for it; nothing if there is none
+abbrev pub other_text : Option ℕ → List ℕ
+other_text None = []
+other_text (Some line) = codes " line " ++ decimal line
+
+abbrev pub address_text : Option Addr → List ℕ
+address_text None = []
+address_text (Some address) = codes " address " ++ addr_text (number_of address)
+
+-- where a fault is in its file, as `line 2 rule 26 Contradiction line 1 address 10.0.0.5`
+abbrev pub place_text : SiteFault → List ℕ
+place_text fault =
+    codes "line " ++ decimal fault.line ++ codes " rule " ++ decimal (rule_number fault.rule)
+    ++ 32 ∷ rule_name fault.rule ++ other_text fault.other ++ address_text fault.address
+
+-- a fault, as `fault netgroup line 3 rule 3 Duplicate line 1`
+abbrev pub fault_line : SiteFault → List ℕ
+fault_line fault = codes "fault " ++ fault.file ++ 32 ∷ place_text fault

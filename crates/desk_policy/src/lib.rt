@@ -44,7 +44,7 @@ pub use policy::Policy;
 pub use prints::verdict_text;
 pub use row::Row;
 pub use site::Site;
-pub use site_fault::{SiteFault, SiteRule};
+pub use site_fault::{FaultPlace, SiteFault, SiteRule};
 pub use unlisted::unlisted_line;
 pub use verdict::{Denial, Verdict, decide};
 pub use view::{Plain, PolicyView, compile, least_contradiction};

@@ -7,6 +7,7 @@ use desk_exports::Rule;
 use desk_netgroup::GroupRule;
 use desk_tables::TableRule;
 use desk_text::{Addr, Text};
+use std::fmt;
 
 /// What a line of a site's files breaks.
 #[derive(Clone, Copy, PartialEq, Eq)]
@@ -55,4 +56,69 @@ pub struct SiteFault {
     pub other: Option<u32>,
     /// The least address of a contradiction.
     pub address: Option<Addr>,
+}
+
+/// The fault as it is printed, with its file: `fault netgroup line 3 rule 3 Duplicate line 1`.
+impl fmt::Display for SiteFault {
+    ghost use Rattle.std.specs.Prelude.{Some};
+    ghost use Rattle.desk_policy.specs.SiteFault.{fault_line};
+
+    ghost output = { λ fault. Some (fault_line fault) };
+
+    fn fmt<W: fmt::Write>(&self, f: &mut fmt::Formatter<W>) -> fmt::Result {
+        let file = self.file.as_str();
+        let place = FaultPlace { fault: self };
+        write!(f, "fault {file} {place}")
+    }
+}
+
+/// Where a fault is in its file, as it is printed: `line 2 rule 26 Contradiction line 1 address 10.0.0.5`.
+#[derive(Clone, Copy)]
+pub struct FaultPlace<'a> {
+    pub fault: &'a SiteFault,
+}
+
+impl<'a> fmt::Display for FaultPlace<'a> {
+    ghost use Rattle.std.specs.Prelude.{Some};
+    ghost use Rattle.desk_policy.specs.SiteFault.{place_text};
+
+    ghost output = { λ place. Some (place_text place.fault.now) };
+
+    fn fmt<W: fmt::Write>(&self, f: &mut fmt::Formatter<W>) -> fmt::Result {
+        let line = self.fault.line;
+        let number = self.fault.rule.number();
+        let name = self.fault.rule.name();
+        let behind = Behind {
+            other: self.fault.other,
+            address: self.fault.address,
+        };
+        write!(f, "line {line} rule {number} {name}{behind}")
+    }
+}
+
+/// What is printed behind the rule of a fault: the earlier line and the address, if it has them.
+#[derive(Clone, Copy)]
+struct Behind {
+    other: Option<u32>,
+    address: Option<Addr>,
+}
+
+impl fmt::Display for Behind {
+    ghost use Rattle.std.specs.Prelude.{◌++◌, Some};
+    ghost use Rattle.desk_policy.specs.SiteFault.{address_text, other_text};
+
+    ghost output = { λ behind. Some (other_text behind.other ++ address_text behind.address) };
+
+    fn fmt<W: fmt::Write>(&self, f: &mut fmt::Formatter<W>) -> fmt::Result {
+        match self.other {
+            Some(line) => match self.address {
+                Some(address) => write!(f, " line {line} address {address}"),
+                None => write!(f, " line {line}"),
+            },
+            None => match self.address {
+                Some(address) => write!(f, " address {address}"),
+                None => Ok(()),
+            },
+        }
+    }
 }
