@@ -15,4 +15,5 @@ pub mod PrivateSplitting
 pub mod PrivateFlavours
 pub mod PrivateFew
 pub mod PrivateGrammar
+pub mod PrivateLines
 pub mod PrivateMapping

@@ -299,6 +299,14 @@ fn names(alloc: Global, words: &[GrammarWord]) -> Result<Few<Text>, AllocError>
     ensures { IfOk result (λ names. names ≡ spec.names false words.now) }
 {
     let mut names = Few::new();
+    push_names(alloc, &mut names, words)?;
+    Ok(names)
+}
+
+/// Adds the names among words.
+fn push_names(alloc: Global, names: &mut Few<Text>, words: &[GrammarWord]) -> Result<(), AllocError>
+    ensures { OnOk result (names.new ≡ names.old ++ spec.names false words.now) }
+{
     let mut taken = false;
     for word in words {
         if !word.dashed && !taken {
@@ -306,7 +314,7 @@ fn names(alloc: Global, words: &[GrammarWord]) -> Result<Few<Text>, AllocError>
         }
         taken = takes_next(word);
     }
-    Ok(names)
+    Ok(())
 }
 
 /// Tests whether a word takes the next one, where that is not dashed, as a value.
