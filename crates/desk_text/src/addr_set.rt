@@ -10,7 +10,7 @@ use std::alloc::Global;
 use std::marker::Model;
 
 /// Addresses in ascending order, each once.
-#[derive(Debug, Drop)]
+#[derive(Drop)]
 pub struct AddrSet {
     items: Vec<Addr>,
 }

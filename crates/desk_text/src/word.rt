@@ -19,7 +19,7 @@ use thiserror::Error;
 
 /// A word as it is written: its raw text with quotes and escapes, its place in the text in bytes,
 /// and whether its first raw character is `-`.
-#[derive(Clone, Copy, Debug)]
+#[derive(Clone, Copy)]
 pub struct Word<'a> {
     pub raw: &'a str,
     pub start: usize,
