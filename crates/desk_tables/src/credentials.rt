@@ -10,7 +10,7 @@ use std::fmt;
 use std::marker::Model;
 
 /// Up to sixteen group numbers, in their order.
-#[derive(Clone, Debug, Drop)]
+#[derive(Clone, Drop)]
 pub struct GroupIds {
     items: ArrayVec<u32, 16>,
 }
@@ -93,7 +93,7 @@ impl GroupIds {
 }
 
 /// A user's number and the numbers of its groups.
-#[derive(Clone, Debug, Drop)]
+#[derive(Clone, Drop)]
 pub struct Cred {
     pub uid: u32,
     pub gids: GroupIds,

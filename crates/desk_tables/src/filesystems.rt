@@ -25,7 +25,7 @@ pub struct FsId(pub u32);
 
 /// A listed mount point, the custodians who keep its exports file, and the number of the line that lists it (0 if no line
 /// does).
-#[derive(Clone, Debug, Drop)]
+#[derive(Clone, Drop)]
 pub struct Mount {
     pub path: Path,
     pub custodians: Sequence<Text>,
@@ -33,7 +33,7 @@ pub struct Mount {
 }
 
 /// The listed mount points, at most 256, in byte order of their printed forms.
-#[derive(Clone, Debug, Drop)]
+#[derive(Clone, Drop)]
 pub struct FileSystems {
     mounts: Sequence<Mount>,
 }
