@@ -17,4 +17,7 @@ pub mod Chain
 pub mod Compiling
 pub mod ReadableTexts
 pub mod SlotLemmas
+pub mod Commas
+pub mod InOrder
+pub mod ShownLines
 mod SiteExamples

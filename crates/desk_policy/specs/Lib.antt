@@ -18,3 +18,6 @@ pub mod SiteFault
 pub mod Parsing
 pub mod PrivateParsing
 pub mod View
+pub mod Listings
+pub mod PrivateListings
+pub mod ListingPrints

@@ -18,6 +18,8 @@ pub mod acting;
 pub mod contradiction;
 mod first_lines;
 pub mod laws;
+pub mod listing_prints;
+pub mod listings;
 pub mod names;
 pub mod parsing;
 pub mod policy;
@@ -38,6 +40,8 @@ pub use laws::{
     addresses_are_unique, ascending_entries_ascend_in_each_file, each_has_its_lines,
     least_lines_are_named,
 };
+pub use listing_prints::{all_exports, listing_text};
+pub use listings::{Shown, listing};
 pub use names::addresses_of;
 pub use parsing::{parse, parse_whole};
 pub use policy::Policy;

@@ -4,7 +4,7 @@
 //! those that have it. So a decision takes no memory, and can have no other answer than a verdict; the second scan costs
 //! less than the list would.
 
-ghost use Rattle.std.specs.Prelude.{◌≡◌, ◌&&◌, find};
+ghost use Rattle.std.specs.Prelude.{◌≡◌, ◌&&◌, IfOk, filter, find, map};
 ghost use Rattle.std.specs.Option.{option_copied};
 ghost use Rattle.desk_text.specs.Address.{number_of};
 ghost use Rattle.desk_policy.specs.Weights.{weight_of};
@@ -14,6 +14,7 @@ ghost use Rattle.desk_policy.specs.PrivateWeights.{has_weight, greater, lists_he
 use crate::row::Row;
 use desk_exports::Clients;
 use desk_text::{Addr, Path};
+use std::alloc::{AllocError, Global};
 
 /// The weight of a line that names the client: above that of any network, of which the heaviest has 33.
 const NAME_WEIGHT: u8 = 34;
@@ -56,6 +57,24 @@ pub fn first_with(rows: &[Row], address: Addr, weight: u8) -> Option<&Row>
     ensures { option_copied result ≡ find (has_weight (number_of address) weight) rows.now }
 {
     rows.iter().find(|row| weighs(row, address, weight))
+}
+
+/// Gathers the lines that match with this weight.
+pub fn all_with<'a>(
+    alloc: Global,
+    rows: &'a [Row],
+    address: Addr,
+    weight: u8,
+) -> Result<Vec<&'a Row>, AllocError>
+    ensures { IfOk result (λ found. map (λ row. row.now) found.items ≡ filter (has_weight (number_of address) weight) rows.now) }
+{
+    let mut found = Vec::new(alloc);
+    for row in rows {
+        if weighs(row, address, weight) {
+            found.push(row)?;
+        }
+    }
+    Ok(found)
 }
 
 /// Tests whether a line matches the address with this weight.

@@ -1,0 +1,76 @@
+-- What a client may mount: of each file system the directories, and on what terms. (showmount(8), in this project's own
+-- form)
+use Rattle.std.specs.Prelude.{◌≡◌, ◌↔◌, ℕ, ◌==◌, ◌&&◌, Bool, true, List, [], ◌∷◌, Option, Some, None, IsOk, filter, map, option_and_then, if◌then◌else◌}
+use Rattle.std.specs.List.{AllByRecursion, filter_map, flat_map, list_any}
+use Rattle.desk_text.specs.Path.{same_path}
+use Rattle.desk_tables.specs.FileSystems.{fs_of, is_before}
+use Rattle.desk_policy.specs.Policy.{Content, rows_of}
+use Rattle.desk_policy.specs.Verdict.{is_directory_among, lists, verdict_of}
+use Rattle.desk_policy.specs.Weights.{selected}
+use Rattle.desk_policy.specs.declared.listings.Shown.{Shown}
+use Rattle.desk_policy.specs.declared.row.Row.{Row}
+
+-- paths in order with one more in its place, unless it is there already
+abbrev pub put_path : List (List ℕ) → List (List (List ℕ)) → List (List (List ℕ))
+put_path path [] = path ∷ []
+put_path path (first ∷ others) =
+    if is_before path first then path ∷ first ∷ others
+    else (if same_path path first then first ∷ others
+    else first ∷ put_path path others)
+
+-- paths in byte order of their printed forms, each once
+abbrev pub in_order : List (List (List ℕ)) → List (List (List ℕ))
+in_order [] = []
+in_order (path ∷ paths) = put_path path (in_order paths)
+
+-- the directories that lines write
+abbrev pub written : List Row → List (List (List ℕ))
+written rows = flat_map (λ row. row.entry.dirs) rows
+
+-- the directories that a file system's lines write and one of these lines lists
+abbrev pub listed : Content → ℕ → List Row → List (List (List ℕ))
+listed content fs chosen = filter (λ path. list_any (lists content fs path) chosen) (written (rows_of content fs))
+
+-- What is shown of a file system of which these lines are selected: the directories that any of its lines writes and a
+-- selected line lists; whether a selected line has -alldirs; the terms, which all selected lines of a policy in force
+-- have; and the selected lines. Nothing is shown if none is selected.
+abbrev pub shown_by : Content → ℕ → List Row → Option Shown
+shown_by content fs [] = None
+shown_by content fs (first ∷ others) = Some (record {
+  fs = record { 0 = fs };
+  dirs = in_order (listed content fs (first ∷ others));
+  alldirs = list_any (λ row. row.entry.alldirs) (first ∷ others);
+  terms = first.entry.terms;
+  lines = map (λ row. row.entry.line) (first ∷ others);
+})
+
+-- what is shown of a file system to a client
+abbrev pub shown_of : Content → ℕ → ℕ → Option Shown
+shown_of content address fs = shown_by content fs (selected (rows_of content fs) address)
+
+-- what is shown of a mount point's file system to a client
+abbrev pub shown_at : Content → ℕ → List (List ℕ) → Option Shown
+shown_at content address mount = option_and_then (shown_of content address) (fs_of content.table mount)
+
+-- the listing for a client, by mount point
+unfoldable pub listing_of : Content → ℕ → List Shown
+listing_of content address = filter_map (λ mount. shown_at content address mount.path) content.table
+
+-- the path is shown of this file system
+abbrev pub shows : ℕ → List (List ℕ) → Shown → Bool
+shows fs path shown = (shown.fs.0 == fs) && is_directory_among path shown.dirs
+
+-- a line of the file system writes the path
+abbrev pub is_written : Content → ℕ → List (List ℕ) → Bool
+is_written content fs path = is_directory_among path (written (rows_of content fs))
+
+-- The lines of each file system write only its own directories.
+abbrev pub WriteTheirOwn : Content → Type 0
+WriteTheirOwn content = (fs : ℕ) → AllByRecursion (λ dir. fs_of content.table dir ≡ Some fs) (written (rows_of content fs))
+
+-- A directory is in a client's listing exactly if a line of its file system writes it and a mount of it is granted to that
+-- client.
+abbrev pub ListedAreGranted : Type 0
+ListedAreGranted =
+    (content : Content) (address fs : ℕ) (path : List (List ℕ)) → fs_of content.table path ≡ Some fs
+    → list_any (shows fs path) (listing_of content address) ≡ true ↔ ((is_written content fs path ≡ true) × IsOk (verdict_of content address path))
