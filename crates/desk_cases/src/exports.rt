@@ -23,7 +23,7 @@ pub fn answer(alloc: Global, site: &Site, out: &mut String, question: &str, text
     match question {
         "entries" => entries(alloc, &tables, out, text),
         "rule" => rule(alloc, &tables, out, text),
-        "file" => file(alloc, &tables, out, text),
+        "entries_in" => entries_in(alloc, &tables, out, text),
         _ => Ok(false),
     }
 }
@@ -95,9 +95,9 @@ fn rule(alloc: Global, tables: &Tables, out: &mut String, text: &str) -> Asked
     }
 }
 
-/// `file NUMBER TEXT`: the same as `entries` of the exports file of the file system with this number, of which the entries
-/// are without that number.
-fn file(alloc: Global, tables: &Tables, out: &mut String, text: &str) -> Asked
+/// `entries_in NUMBER TEXT`: the same as `entries` of the exports file of the file system with this number, of which the
+/// entries are without that number.
+fn entries_in(alloc: Global, tables: &Tables, out: &mut String, text: &str) -> Asked
     requires { length text.now ≤ 4294967294 }
 {
     let (number, lines) = text.split_once(' ').unwrap_or((text, ""));

@@ -22,6 +22,7 @@ mod policies;
 mod questions;
 mod report;
 mod site;
+mod sites;
 mod terminal;
 
 use crate::report::Report;

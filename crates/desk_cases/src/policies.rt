@@ -5,9 +5,9 @@ ghost use Rattle.std.specs.Prelude.{◌≤◌, length};
 use crate::answers::{Asked, end_list, number, say, say_whether};
 use crate::exports::{say_fault, tables};
 use crate::filesystems::{self, fs_id, paths};
-use crate::site::{Site, say_read};
+use crate::site::{InForce, Site, say_read};
 use desk_exports::{Rule, Tables, read_whole};
-use desk_policy::{Denial, Policy, Row, Verdict, act_as, decide, verdict_text};
+use desk_policy::{Denial, Policy, Row, Verdict, act_as, verdict_text};
 use desk_tables::{FileSystems, FsId, credential};
 use desk_text::{Addr, LineFault, Path, ReadError};
 use std::alloc::{AllocError, Global};
@@ -19,12 +19,16 @@ pub fn answer(alloc: Global, site: &mut Site, out: &mut String, question: &str, 
     match (question, &site.policy) {
         ("policy", _) => read(alloc, site, out, text),
         ("policy_with", _) => read_with(alloc, site, out, text),
-        ("verdict", Some(policy)) => verdict(alloc, policy, out, text),
-        ("not_listed", Some(policy)) => not_listed(alloc, policy, out, text),
-        ("rows", Some(policy)) => rows(policy, out, text),
-        ("row_has", Some(policy)) => row_has(policy, out, text),
-        ("policy_mount", Some(policy)) => filesystems::mount(policy.filesystems(), out, text),
-        ("acts_as", Some(policy)) => acts_as(site, policy, out, text),
+        ("verdict", Some(in_force)) => verdict(alloc, in_force, out, text),
+        ("not_listed", Some(in_force)) => not_listed(alloc, in_force.policy(), out, text),
+        ("rows", Some(in_force)) => rows(in_force.policy(), out, text),
+        ("row_has", Some(in_force)) => row_has(in_force.policy(), out, text),
+        ("policy_mount", Some(in_force)) => filesystems::mount(
+            in_force.policy().filesystems(),
+            out,
+            text,
+        ),
+        ("acts_as", Some(in_force)) => acts_as(site, in_force.policy(), out, text),
         _ => Ok(false),
     }
 }
@@ -72,7 +76,7 @@ fn set(
     };
     match policy_of(alloc, &tables(site, known), filesystems, text) {
         Ok(policy) => {
-            site.policy = Some(policy);
+            site.policy = Some(InForce::Policy(policy));
             say_read(out)
         }
         Err(error) => say_fault(out, error),
@@ -92,15 +96,18 @@ fn policy_of(
 }
 
 /// `verdict CLIENT PATH`: the verdict as it is printed.
-fn verdict(alloc: Global, policy: &Policy, out: &mut String, text: &str) -> Asked {
+fn verdict(alloc: Global, in_force: &InForce, out: &mut String, text: &str) -> Asked {
     let Some((client, path)) = text.split_once(' ') else {
         return Ok(false);
     };
     let (Ok(client), Ok(path)) = (Addr::read(client), Path::read(alloc, path)) else {
         return Ok(false);
     };
-    let verdict = decide(policy, client, &path);
-    say(out, verdict_text(alloc, policy, &verdict)?.as_str())
+    let verdict = in_force.decide(client, &path);
+    say(
+        out,
+        verdict_text(alloc, in_force.policy(), &verdict)?.as_str(),
+    )
 }
 
 /// `not_listed FS LINE`: the denial that names this line of the file system with this number, as it is printed.

@@ -6,7 +6,7 @@ use crate::answers::Asked;
 use crate::site::Site;
 use crate::{
     addresses, credentials, custodians, exports, filesystems, hosts, lines, netgroups, nets,
-    networks, paths, policies,
+    networks, paths, policies, sites,
 };
 use std::alloc::Global;
 
@@ -48,6 +48,7 @@ fn of_site(alloc: Global, site: &mut Site, out: &mut String, question: &str, tex
             || custodians::answer(alloc, site, out, question, text)?
             || filesystems::answer(alloc, site, out, question, text)?
             || exports::answer(alloc, site, out, question, text)?
-            || policies::answer(alloc, site, out, question, text)?,
+            || policies::answer(alloc, site, out, question, text)?
+            || sites::answer(alloc, site, out, question, text)?,
     )
 }

@@ -2,12 +2,13 @@
 
 use crate::answers::{Asked, say};
 use desk_netgroup::Netgroups;
-use desk_policy::Policy;
+use desk_policy::{Plain, Policy, PolicyView, Verdict, decide};
 use desk_tables::{Custodians, FileSystems, Groups, Hosts, Networks, TableFault, Users};
-use desk_text::ReadError;
+use desk_text::{Addr, Path, ReadError, Text};
 use std::alloc::{AllocError, Global};
+use std::collections::BTreeMap;
 
-/// What the file read last. Until then a table is without rows, or there is none.
+/// What the file read last. Until then a table is without rows, or there is none, and the texts of the site are empty.
 #[derive(Drop)]
 pub struct Site {
     pub hosts: Hosts,
@@ -17,11 +18,49 @@ pub struct Site {
     pub groups: Groups,
     pub filesystems: Option<FileSystems>,
     pub custodians: Option<Custodians>,
-    pub policy: Option<Policy>,
+    pub texts: desk_policy::Site,
+    pub policy: Option<InForce>,
+}
+
+/// A policy, or a view of one.
+#[derive(Drop)]
+pub enum InForce {
+    Policy(Policy),
+    View(Plain),
+}
+
+impl InForce {
+    pub fn policy(&self) -> &Policy {
+        match self {
+            InForce::Policy(policy) => policy,
+            InForce::View(view) => view.policy(),
+        }
+    }
+
+    pub fn decide(&self, address: Addr, path: &Path) -> Verdict<'_> {
+        match self {
+            InForce::Policy(policy) => decide(policy, address, path),
+            InForce::View(view) => view.decide(address, path),
+        }
+    }
+}
+
+/// Returns the texts of a site that has none.
+pub fn no_texts(alloc: Global) -> desk_policy::Site {
+    desk_policy::Site {
+        custodians: Text::from_string(String::new(alloc)),
+        filesystems: Text::from_string(String::new(alloc)),
+        hosts: Text::from_string(String::new(alloc)),
+        networks: Text::from_string(String::new(alloc)),
+        passwd: Text::from_string(String::new(alloc)),
+        group: Text::from_string(String::new(alloc)),
+        netgroup: Text::from_string(String::new(alloc)),
+        exports: BTreeMap::new(alloc),
+    }
 }
 
 impl Site {
-    /// Tables without rows, and no policy.
+    /// Tables without rows, empty texts, and no policy.
     pub fn new(alloc: Global) -> Site {
         Site {
             hosts: Hosts::new(alloc),
@@ -31,6 +70,7 @@ impl Site {
             groups: Groups::new(alloc),
             filesystems: None,
             custodians: None,
+            texts: no_texts(alloc),
             policy: None,
         }
     }

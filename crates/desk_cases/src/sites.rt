@@ -1,0 +1,200 @@
+//! Questions on sites and whole exports texts: what they are read as, whether they are consistent, and their warnings.
+
+ghost use Rattle.std.specs.Prelude.{◌≤◌, length};
+ghost use Rattle.desk_policy.specs.Site.{HaveReadableLengths, texts_of};
+
+use crate::answers::{Asked, say};
+use crate::site::{InForce, Site, no_texts};
+use desk_policy::{Plain, PolicyView, SiteFault, Warning, compile, parse, parse_whole};
+use desk_tables::FileSystems;
+use desk_text::{ReadError, Text};
+use std::alloc::{AllocError, Global};
+
+/// Answers a question on a site or a whole text, or on the warnings of either.
+pub fn answer(alloc: Global, site: &mut Site, out: &mut String, question: &str, text: &str) -> Asked
+    requires { length text.now ≤ 4294967294 }
+{
+    match question {
+        "site" => new(alloc, site, out, text),
+        "file" => file(alloc, site, out, text),
+        "parse" | "compile" => of_texts(alloc, site, out, question),
+        "whole" | "build" => of_whole(alloc, site, out, question, text),
+        "warnings" => warnings(site, out),
+        _ => Ok(false),
+    }
+}
+
+/// `site`: `new`. Forgets the texts of the site.
+fn new(alloc: Global, site: &mut Site, out: &mut String, text: &str) -> Asked {
+    if !text.is_empty() {
+        return Ok(false);
+    }
+    site.texts = no_texts(alloc);
+    say(out, "new")
+}
+
+/// `file NAME TEXT`: `kept`. Sets a text of the site: that of `custodians`, `filesystems`, `hosts`, `networks`, `passwd`,
+/// `group` or `netgroup`, or of `exports:` and a mount point.
+fn file(alloc: Global, site: &mut Site, out: &mut String, text: &str) -> Asked {
+    let (name, text) = text.split_once(' ').unwrap_or((text, ""));
+    if !keep(alloc, &mut site.texts, name, Text::copy(alloc, text)?)? {
+        return Ok(false);
+    }
+    say(out, "kept")
+}
+
+/// Sets the text of the file with this name. Tells whether there is one.
+fn keep(
+    alloc: Global,
+    texts: &mut desk_policy::Site,
+    name: &str,
+    text: Text,
+) -> Result<bool, AllocError> {
+    match name {
+        "custodians" => texts.custodians = text,
+        "filesystems" => texts.filesystems = text,
+        "hosts" => texts.hosts = text,
+        "networks" => texts.networks = text,
+        "passwd" => texts.passwd = text,
+        "group" => texts.group = text,
+        "netgroup" => texts.netgroup = text,
+        _ => return keep_exports(alloc, texts, name, text),
+    }
+    Ok(true)
+}
+
+fn keep_exports(
+    alloc: Global,
+    texts: &mut desk_policy::Site,
+    name: &str,
+    text: Text,
+) -> Result<bool, AllocError> {
+    let Some(mount) = name.strip_prefix("exports:") else {
+        return Ok(false);
+    };
+    texts.exports.insert(String::from_str(alloc, mount)?, text)?;
+    Ok(true)
+}
+
+/// `parse`: `read`, and `compile`: `consistent`; or the fault. Both set the policy, by the texts of the site.
+fn of_texts(alloc: Global, site: &mut Site, out: &mut String, question: &str) -> Asked {
+    if !site.texts.is_readable() {
+        return Ok(false);
+    }
+    let answer = if question == "parse" {
+        parsed(alloc, &site.texts)
+    } else {
+        compiled(alloc, &site.texts)
+    };
+    set(site, out, answer)
+}
+
+fn parsed(alloc: Global, texts: &desk_policy::Site) -> Result<InForce, ReadError<SiteFault>>
+    requires { HaveReadableLengths (texts_of texts.now) }
+{
+    Ok(InForce::Policy(parse(alloc, texts)?))
+}
+
+fn compiled(alloc: Global, texts: &desk_policy::Site) -> Result<InForce, ReadError<SiteFault>>
+    requires { HaveReadableLengths (texts_of texts.now) }
+{
+    Ok(InForce::View(compile(alloc, texts)?))
+}
+
+/// `whole TEXT`: `read`, and `build TEXT`: `consistent`; or the fault. Both set the policy, by a text for all file systems,
+/// with the file systems that the file read last.
+fn of_whole(alloc: Global, site: &mut Site, out: &mut String, question: &str, text: &str) -> Asked
+    requires { length text.now ≤ 4294967294 }
+{
+    let Some(filesystems) = &site.filesystems else {
+        return Ok(false);
+    };
+    let filesystems = filesystems.clone()?;
+    let answer = if question == "whole" {
+        read_whole(alloc, text, filesystems)
+    } else {
+        built(alloc, text, filesystems)
+    };
+    set(site, out, answer)
+}
+
+fn read_whole(
+    alloc: Global,
+    text: &str,
+    filesystems: FileSystems,
+) -> Result<InForce, ReadError<SiteFault>>
+    requires { length text.now ≤ 4294967294 }
+{
+    Ok(InForce::Policy(parse_whole(alloc, text, filesystems)?))
+}
+
+fn built(
+    alloc: Global,
+    text: &str,
+    filesystems: FileSystems,
+) -> Result<InForce, ReadError<SiteFault>>
+    requires { length text.now ≤ 4294967294 }
+{
+    let policy = parse_whole(alloc, text, filesystems)?;
+    Ok(InForce::View(Plain::build(alloc, policy)?))
+}
+
+/// Sets the policy, or answers with the fault.
+fn set(site: &mut Site, out: &mut String, answer: Result<InForce, ReadError<SiteFault>>) -> Asked {
+    match answer {
+        Ok(in_force) => {
+            let said = match &in_force {
+                InForce::Policy(_) => "read",
+                InForce::View(_) => "consistent",
+            };
+            site.policy = Some(in_force);
+            say(out, said)
+        }
+        Err(error) => say_fault(out, error),
+    }
+}
+
+/// Answers with a fault: `fault exports:/a line 2 rule 26 Contradiction line 1 address 10.0.0.5`.
+fn say_fault(out: &mut String, error: ReadError<SiteFault>) -> Asked {
+    match error {
+        ReadError::Memory => Err(AllocError),
+        ReadError::Fault(fault) => {
+            add_fault(out, &fault)?;
+            Ok(true)
+        }
+    }
+}
+
+fn add_fault(out: &mut String, fault: &SiteFault) -> Result<(), AllocError> {
+    let (file, line) = (fault.file.as_str(), fault.line);
+    let (number, name) = (fault.rule.number(), fault.rule.name());
+    write!(out, "fault {file} line {line} rule {number} {name}")?;
+    if let Some(other) = fault.other {
+        write!(out, " line {other}")?;
+    }
+    if let Some(address) = fault.address {
+        write!(out, " address {address}")?;
+    }
+    Ok(())
+}
+
+/// `warnings`: the warnings of the policy, in order, with `; ` between them, each its file, its line, its kind and its
+/// word; or `none`.
+fn warnings(site: &Site, out: &mut String) -> Asked {
+    let Some(in_force) = &site.policy else {
+        return Ok(false);
+    };
+    for (place, warning) in in_force.policy().warnings().iter().enumerate() {
+        if place > 0 {
+            out.push_str("; ")?;
+        }
+        add_warning(out, warning)?;
+    }
+    Ok(true)
+}
+
+fn add_warning(out: &mut String, warning: &Warning) -> Result<(), AllocError> {
+    let (file, line) = (warning.file.as_str(), warning.line);
+    let (kind, word) = (warning.kind.name(), warning.word.as_str());
+    write!(out, "{file} {line} {kind} {word}")
+}
