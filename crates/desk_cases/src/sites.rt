@@ -159,23 +159,10 @@ fn say_fault(out: &mut String, error: ReadError<SiteFault>) -> Asked {
     match error {
         ReadError::Memory => Err(AllocError),
         ReadError::Fault(fault) => {
-            add_fault(out, &fault)?;
+            write!(out, "{fault}")?;
             Ok(true)
         }
     }
-}
-
-fn add_fault(out: &mut String, fault: &SiteFault) -> Result<(), AllocError> {
-    let (file, line) = (fault.file.as_str(), fault.line);
-    let (number, name) = (fault.rule.number(), fault.rule.name());
-    write!(out, "fault {file} line {line} rule {number} {name}")?;
-    if let Some(other) = fault.other {
-        write!(out, " line {other}")?;
-    }
-    if let Some(address) = fault.address {
-        write!(out, " address {address}")?;
-    }
-    Ok(())
 }
 
 /// `warnings`: the warnings of the policy, in order, with `; ` between them, each its file, its line, its kind and its

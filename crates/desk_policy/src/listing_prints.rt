@@ -34,7 +34,7 @@ pub fn all_exports(alloc: Global, policy: &Policy) -> Result<String, AllocError>
     ensures { IfOk result (λ text. string_bytes text ≡ spec.all_exports policy.now) }
 {
     let mut text = String::new(alloc);
-    for rows in policy.lists() {
+    for rows in policy.rows_by_filesystem() {
         push_rows(alloc, rows.as_slice(), &mut text)?;
     }
     Ok(text)

@@ -15,7 +15,7 @@ use crate::policy::Policy;
 use crate::row::Row;
 use crate::view::PolicyView;
 use crate::weights::{all_with, greatest_weight};
-use desk_exports::{BoxedMapping, Few, Flavour, Terms};
+use desk_exports::Terms;
 use desk_tables::{FileSystems, FsId};
 use desk_text::{Addr, Path, Sequence};
 use std::alloc::{AllocError, Global};
@@ -135,7 +135,7 @@ fn shown_by(
         fs,
         dirs: in_order(alloc, dirs)?,
         alldirs: has_alldirs(chosen),
-        terms: copy_terms(alloc, &first.entry.terms)?,
+        terms: first.entry.terms.copy(alloc)?,
         lines: line_numbers(alloc, chosen)?,
     }))
 }
@@ -161,29 +161,6 @@ fn line_numbers(alloc: Global, rows: &[&Row]) -> Result<Sequence<u32>, AllocErro
         numbers.push(row.entry.line)?;
     }
     Ok(numbers)
-}
-
-/// Copies terms.
-fn copy_terms(alloc: Global, terms: &Terms) -> Result<Terms, AllocError>
-    ensures { IfOk result (λ copy. copy ≡ terms.now) }
-{
-    let flavours = copy_flavours(alloc, terms.flavours.as_slice())?;
-    let map = BoxedMapping::new(alloc, terms.map.get())?;
-    Ok(Terms {
-        ro: terms.ro,
-        flavours,
-        map,
-    })
-}
-
-fn copy_flavours(alloc: Global, flavours: &[Flavour]) -> Result<Few<Flavour>, AllocError>
-    ensures { IfOk result (λ copy. copy ≡ flavours.now) }
-{
-    let mut copy = Few::new();
-    for flavour in flavours {
-        copy.push(alloc, *flavour)?;
-    }
-    Ok(copy)
 }
 
 /// Gathers the directories that the selected lines of a file system list, some of them more than once: those that they write
