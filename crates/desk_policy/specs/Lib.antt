@@ -21,3 +21,4 @@ pub mod View
 pub mod Listings
 pub mod PrivateListings
 pub mod ListingPrints
+pub mod Laws

@@ -97,8 +97,20 @@ fn read_after_filesystems(
     let site_tables = read_site_tables(alloc, site)?;
     let mut rows = Vec::new(alloc);
     let mut warnings = Sequence::new(alloc);
-    push_netgroup(alloc, &site_tables.netgroups, &site_tables.hosts, &mut warnings)?;
-    push_files(alloc, site, &filesystems, &site_tables, &mut rows, &mut warnings)?;
+    push_netgroup(
+        alloc,
+        &site_tables.netgroups,
+        &site_tables.hosts,
+        &mut warnings,
+    )?;
+    push_files(
+        alloc,
+        site,
+        &filesystems,
+        &site_tables,
+        &mut rows,
+        &mut warnings,
+    )?;
     Ok(Policy::of_parts(filesystems, rows, warnings))
 }
 
