@@ -1,5 +1,5 @@
 -- The loop stops at the first word that is not UTF-8.
-use Rattle.std.proofs.Common.{◌∙◌, codes, ap, map, Bor, List, ℕ}
+use Rattle.std.proofs.Common.{◌∙◌, codes, ◌∷◌, ap, map, take_all, Bor, List, ℕ}
 use Rattle.desk_command.specs.Commands.{is_not_utf8}
 use Rattle.desk_command.proofs.FirstBad.{first_place, none_more_of, texts_more}
 use Rattle.desk_command.proofs.TextFaults.{bad_word, good_word}
@@ -21,3 +21,8 @@ loop-index-preserved g c =
           none_more_of is_not_utf8 g.S.AsSlice.items c.args.words.now c.loop-index.index c.index-words-index.result c.index-words-index.result c.loop-index-test.true c.index-words-index.is
           c.loop-index.invariant.good (good_word _ _ c.as_slice.ensures c.in-Ok.ensures.cases.1);
     }
+
+pub returns : goal.returns
+returns g c =
+    c.loop-index.invariant.texts
+    ∙ ap (λ words. codes "exportdesk" ∷ map g.S.AsSlice.items words) (take_all c.loop-index.index c.args.words.now c.loop-index-test.false)
