@@ -3,11 +3,11 @@
 
 ghost use Rattle.std.specs.Prelude.{◌≤◌, length};
 
-use crate::answers::{Asked, end_list};
+use crate::answers::{Asked, end_list, say};
 use crate::entries::add_entry;
 use crate::filesystems::fs_id;
 use crate::site::Site;
-use desk_exports::{Boxed, Entry, Rule, Tables, read_file, read_whole};
+use desk_exports::{Boxed, Entry, Rule, Tables, fault_text, read_file, read_whole};
 use desk_tables::{FileSystems, FsId};
 use desk_text::{LineFault, ReadError};
 use std::alloc::{AllocError, Global};
@@ -48,7 +48,7 @@ fn entries(alloc: Global, tables: &Tables, out: &mut String, text: &str) -> Aske
             add_whole(out, entries.as_slice())?;
             end_list(out)
         }
-        Err(error) => say_fault(out, error),
+        Err(error) => say_fault(alloc, out, error),
     }
 }
 
@@ -69,14 +69,10 @@ fn add_entries(out: &mut String, entries: &[Boxed<Entry>]) -> Result<(), AllocEr
 }
 
 /// Answers with a text's fault: `fault line 2 rule 4 DirectoryElsewhere`.
-pub fn say_fault(out: &mut String, error: ReadError<LineFault<Rule>>) -> Asked {
+pub fn say_fault(alloc: Global, out: &mut String, error: ReadError<LineFault<Rule>>) -> Asked {
     match error {
         ReadError::Memory => Err(AllocError),
-        ReadError::Fault(fault) => {
-            let (line, number, name) = (fault.line, fault.rule.number(), fault.rule.name());
-            write!(out, "fault line {line} rule {number} {name}")?;
-            Ok(true)
-        }
+        ReadError::Fault(fault) => say(out, fault_text(alloc, fault)?.as_str()),
     }
 }
 
@@ -91,7 +87,7 @@ fn rule(alloc: Global, tables: &Tables, out: &mut String, text: &str) -> Asked
             write!(out, "{number} {name}")?;
             Ok(true)
         }
-        Err(error) => say_fault(out, error),
+        Err(error) => say_fault(alloc, out, error),
     }
 }
 
@@ -124,6 +120,6 @@ fn entries_of_file(
             add_entries(out, entries.as_slice())?;
             end_list(out)
         }
-        Err(error) => say_fault(out, error),
+        Err(error) => say_fault(alloc, out, error),
     }
 }

@@ -79,7 +79,7 @@ fn set(
             site.policy = Some(InForce::Policy(policy));
             say_read(out)
         }
-        Err(error) => say_fault(out, error),
+        Err(error) => say_fault(alloc, out, error),
     }
 }
 
