@@ -96,7 +96,3 @@ abbrev pub SplitKeepsWords : Type 0
 SplitKeepsWords =
     (table : List Mount) (text : List ℕ) (texts : List (List ℕ)) (fs : ℕ) → split_text table text ≡ Ok texts → fs < length table
     → map raw_words (logical_lines (slice_index_or texts fs [])) ≡ map raw_words (lines_to table (logical_lines text) fs)
-
--- The file system that a line goes to has a text.
-abbrev pub DestinationsAreListed : Type 0
-DestinationsAreListed = (table : List Mount) (line : LogicalLine) (fs : FsId) → destination_of table line ≡ Ok (Some fs) → fs.0 < length table
