@@ -21,4 +21,6 @@ pub mod SlotLemmas
 pub mod Commas
 pub mod InOrder
 pub mod ShownLines
+pub mod OwnMounts
+pub mod GrantedListing
 mod SiteExamples

@@ -25,7 +25,7 @@ abbrev Path : Type 0
 Path = List (List ℕ)
 
 -- what is among those that pass a test is there and passes it
-among_filter : (q : Path → Bool) (d : Path) (xs : List Path) → is_directory_among d (filter q xs) ≡ (is_directory_among d xs && q d)
+pub among_filter : (q : Path → Bool) (d : Path) (xs : List Path) → is_directory_among d (filter q xs) ≡ (is_directory_among d xs && q d)
 among_filter q d [] = refl
 among_filter q d (x ∷ xs) =
     let rest = among_filter q d xs in

@@ -1,4 +1,4 @@
--- A site in the definitions: the addresses of its names, its warnings, verdicts on it, and its faults.
+-- A site in the definitions: the addresses of its names, its warnings, verdicts on it, its listings, and its faults.
 use Rattle.std.proofs.Common.{◌≡◌, ℕ, cond, List, [], ◌∷◌, ◌++◌, None, Result, Ok, Err, refl}
 use Rattle.std.specs.Prelude.{codes}
 use Rattle.std.specs.Fmt.{digits}
@@ -10,6 +10,8 @@ use Rattle.desk_tables.specs.declared.filesystems.Mount.{Mount}
 use Rattle.desk_tables.specs.declared.rules.TableRule.TheVariants as table_rule
 use Rattle.desk_netgroup.specs.Netgroups.{hosts_of, read_netgroups}
 use Rattle.desk_exports.specs.declared.rules.Rule.TheVariants as line_rule
+use Rattle.desk_policy.specs.ListingPrints.{all_exports, listing_text}
+use Rattle.desk_policy.specs.Listings.{listing_of}
 use Rattle.desk_policy.specs.Names.{addresses_of_names}
 use Rattle.desk_policy.specs.Parsing.{if_listed, read_after_filesystems}
 use Rattle.desk_policy.specs.Policy.{Content}
@@ -165,3 +167,36 @@ elsewhere : read_after_filesystems sample (rows_read (read_filesystems (filesyst
     ≡ Err (record { file = codes "exports:/usr"; line = 1; rule = rule.Line line_rule.DirectoryElsewhere; other = None; address = None })
 unfolding digits hosts_of prefix_of_mask
 elsewhere = refl
+
+-- what a host of the site may mount, as it is printed
+host_listing : (let content = content_read (read_behind sample table) in listing_text content (listing_of content 2204643348))
+    ≡ line (codes "/private rw sec=krb5i root=65534:65533 lines 1")
+    ++ line (codes "  /private")
+    ++ line (codes "/secret rw sec=krb5p root=65534:65533 lines 1")
+    ++ line (codes "  /secret")
+    ++ line (codes "/u rw sec=sys root=3: lines 1")
+    ++ line (codes "  /u")
+    ++ line (codes "/u2 rw sec=sys root=0:0:5 lines 1")
+    ++ line (codes "  /u2")
+    ++ line (codes "/usr rw sec=sys root=0:10 lines 1")
+    ++ line (codes "  /usr")
+    ++ line (codes "  /usr/local")
+unfolding digits hosts_of prefix_of_mask selected listing_of
+host_listing = refl
+
+-- all exports of the site
+site_exports : all_exports (content_read (read_behind sample table))
+    ≡ line (codes "/a 192.168.0.0/24")
+    ++ line (codes "/a (ipv6)")
+    ++ line (codes "/cdrom 192.168.33.0/24")
+    ++ line (codes "/private (everyone)")
+    ++ line (codes "/secret (everyone)")
+    ++ line (codes "/u 131.104.48.0/24")
+    ++ line (codes "/u2 friends")
+    ++ line (codes "/u2 131.104.48.0/24")
+    ++ line (codes "/usr friends")
+    ++ line (codes "/usr/local friends")
+    ++ line (codes "/usr grumpy.example,131.104.48.16")
+    ++ line (codes "/usr (everyone)")
+unfolding digits hosts_of prefix_of_mask
+site_exports = refl
