@@ -9,7 +9,6 @@ use Rattle.desk_policy.specs.Parsing.{content_with, ExportsFile, read_after_file
 use Rattle.desk_policy.specs.Policy.{Content}
 use Rattle.desk_policy.specs.Site.{SiteTexts}
 use Rattle.desk_policy.specs.declared.parsing.SiteTables.{SiteTables}
-use Rattle.desk_policy.specs.declared.row.Row.{Row}
 use Rattle.desk_policy.specs.declared.site_fault.SiteFault.{SiteFault}
 
 -- what was read before what comes next
