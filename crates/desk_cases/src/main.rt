@@ -8,6 +8,7 @@ mod cases;
 mod commands;
 mod credentials;
 mod custodians;
+mod edits;
 mod entries;
 mod escapes;
 mod exports;

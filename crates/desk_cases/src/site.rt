@@ -1,6 +1,7 @@
 //! The tables and the policy that the questions of a file are asked of.
 
 use crate::answers::{Asked, say};
+use crate::edits::Edits;
 use desk_netgroup::Netgroups;
 use desk_policy::{Plain, Policy, PolicyView, Verdict, decide};
 use desk_tables::{Custodians, FileSystems, Groups, Hosts, Networks, TableFault, Users};
@@ -20,6 +21,7 @@ pub struct Site {
     pub custodians: Option<Custodians>,
     pub texts: desk_policy::Site,
     pub policy: Option<InForce>,
+    pub edits: Edits,
 }
 
 /// A policy, or a view of one.
@@ -72,6 +74,7 @@ impl Site {
             custodians: None,
             texts: no_texts(alloc),
             policy: None,
+            edits: Edits::new(alloc),
         }
     }
 }

@@ -1,4 +1,5 @@
 pub mod HeadLemmas
+pub mod Limits
 pub mod SiteLemmas
 pub mod ExportsNames
 pub mod FirstCase

@@ -7,5 +7,6 @@ pub mod State
 pub mod Prints
 pub mod History
 pub mod Laws
+pub mod PrivateHead
 pub mod PrivateSite
 pub mod PrivateState

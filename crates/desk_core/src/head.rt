@@ -1,12 +1,19 @@
 //! The newest revisions of files.
 
-ghost use Rattle.std.specs.Prelude.{◌≡◌, ◌<◌, ◌∷◌, [], All, vec_capacity, vec_len};
-ghost use Rattle.std.specs.List.{position};
+ghost use Rattle.std.specs.Prelude.{◌≡◌, ◌<◌, ◌∷◌, [], All, Decides, vec_capacity, vec_len};
+ghost use Rattle.std.specs.List.{list_all, position};
 ghost use Rattle.std.specs.Option.{option_copied};
 ghost use Rattle.std.specs.Str.{bytes_eq};
 ghost use Rattle.desk_core.specs.Head.{CanBeKept, StandOnce, newest_in, newest_number, put};
+ghost use Rattle.desk_core.specs.PrivateHead.{is_within_limits};
 
 use desk_text::Text;
+
+/// The last number that a revision may have.
+pub(crate) const LAST_REVISION: u32 = 2_147_483_647;
+
+/// The most bytes that a text may have to be read.
+const LONGEST_TEXT: usize = 4_294_967_294;
 
 /// A revision of a file, mostly its newest: its number from 1, who stored it, and the file's text.
 #[derive(Drop)]
@@ -15,6 +22,28 @@ pub struct Head {
     pub rev: u32,
     pub author: Text,
     pub body: Text,
+}
+
+/// Tests whether revisions can be kept in a state: each has a number from 1 to 2,147,483,647, and a text of at most
+/// 4,294,967,294 bytes.
+pub fn can_be_kept(heads: &[Head]) -> bool
+    ensures { Decides result (All CanBeKept heads.now) }
+{
+    are_within_limits(heads)
+}
+
+/// Tests whether revisions are within the limits of what can be kept.
+fn are_within_limits(heads: &[Head]) -> bool
+    ensures { result ≡ list_all is_within_limits heads.now }
+{
+    heads.iter().all(|head| is_within_limits(head))
+}
+
+/// Tests whether a revision is within the limits of what can be kept.
+fn is_within_limits(head: &Head) -> bool
+    ensures { result ≡ is_within_limits head.now }
+{
+    1 <= head.rev && head.rev <= LAST_REVISION && head.body.as_str().len() <= LONGEST_TEXT
 }
 
 /// Finds the newest revision of a file.

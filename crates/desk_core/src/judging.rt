@@ -6,15 +6,12 @@ ghost use Rattle.desk_core.specs.Edit.{asked};
 ghost use Rattle.desk_core.specs.Judging as spec;
 
 use crate::edit::Edit;
-use crate::head::{Head, newest_number};
+use crate::head::{Head, LAST_REVISION, newest_number};
 use desk_tables::{Custodians, FileSystems, FsId};
 use sha2::{Digest, Sha256};
 
 /// The most bytes that the text of an edit may have.
 const LONGEST_EDIT: usize = 65_536;
-
-/// The last number that a revision may have.
-const LAST_REVISION: u32 = 2_147_483_647;
 
 /// What is checked of an edit, in this order, before the site with its text is.
 #[derive(Clone, Copy)]

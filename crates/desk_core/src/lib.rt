@@ -21,7 +21,7 @@ mod site;
 pub mod state;
 
 pub use edit::{Edit, Refusal};
-pub use head::Head;
+pub use head::{Head, can_be_kept};
 pub use judging::Case;
 pub use laws::{
     answers_are_right, edits_take_effect, histories_stay_numbered, newest_of_a_longer_history,
