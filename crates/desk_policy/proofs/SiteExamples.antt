@@ -169,7 +169,7 @@ unfolding digits hosts_of prefix_of_mask
 elsewhere = refl
 
 -- what a host of the site may mount, as it is printed
-host_listing : (let content = content_read (read_behind sample table) in listing_text content (listing_of content 2204643348))
+host_listing : (let content = content_read (read_after_filesystems sample table) in listing_text content (listing_of content 2204643348))
     ≡ line (codes "/private rw sec=krb5i root=65534:65533 lines 1")
     ++ line (codes "  /private")
     ++ line (codes "/secret rw sec=krb5p root=65534:65533 lines 1")
@@ -185,7 +185,7 @@ unfolding digits hosts_of prefix_of_mask selected listing_of
 host_listing = refl
 
 -- all exports of the site
-site_exports : all_exports (content_read (read_behind sample table))
+site_exports : all_exports (content_read (read_after_filesystems sample table))
     ≡ line (codes "/a 192.168.0.0/24")
     ++ line (codes "/a (ipv6)")
     ++ line (codes "/cdrom 192.168.33.0/24")
