@@ -15,6 +15,7 @@ mod exports;
 mod filesystems;
 mod hosts;
 mod lines;
+mod listings;
 mod netgroups;
 mod nets;
 mod networks;
