@@ -6,3 +6,4 @@ pub mod Input
 pub mod Output
 pub mod TryCommand
 pub mod TryText
+pub mod SplitText

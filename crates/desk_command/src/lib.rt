@@ -20,6 +20,7 @@ mod failure;
 mod faults;
 mod input;
 mod output;
+pub mod split_text;
 mod try_command;
 pub mod try_text;
 
