@@ -4,11 +4,11 @@ ghost use Rattle.std.specs.Prelude.{◌≤◌, length};
 
 use crate::answers::Asked;
 use crate::exports::say_fault;
-use crate::site::Site;
+use crate::site::{InForce, Site};
 use desk_exports::split;
-use desk_policy::{Plain, Policy, PolicyView, all_exports, listing, listing_text, parse_whole};
+use desk_policy::{Plain, Policy, PolicyView, all_exports, listing, listing_text};
 use desk_tables::FileSystems;
-use desk_text::{Addr, ReadError};
+use desk_text::Addr;
 use std::alloc::{AllocError, Global};
 
 /// Answers a question on listings.
@@ -17,8 +17,8 @@ pub fn answer(alloc: Global, site: &Site, out: &mut String, question: &str, text
 {
     match (question, &site.filesystems, &site.policy) {
         ("split", Some(table), _) => split_texts(alloc, table, out, text),
-        ("listing", Some(table), _) => listing_of(alloc, table, out, text),
-        ("exports", _, Some(policy)) => exports(alloc, policy, out),
+        ("listing", _, Some(InForce::View(view))) => listing_of(alloc, view, out, text),
+        ("exports", _, Some(in_force)) => exports(alloc, in_force.policy(), out),
         _ => Ok(false),
     }
 }
@@ -39,32 +39,12 @@ fn split_texts(alloc: Global, table: &FileSystems, out: &mut String, text: &str)
     }
 }
 
-/// `listing ADDRESS TEXT`: the printed listing for an address under the policy of a whole text, with `|` for each line feed.
-/// No table is read but the file systems.
-fn listing_of(alloc: Global, table: &FileSystems, out: &mut String, text: &str) -> Asked {
-    let Some((address, text)) = text.split_once(' ') else {
+/// `listing ADDRESS`: the printed listing for an address under the policy in force, with `|` for each line feed.
+fn listing_of(alloc: Global, view: &Plain, out: &mut String, text: &str) -> Asked {
+    let Ok(address) = Addr::read(text) else {
         return Ok(false);
     };
-    let Ok(address) = Addr::read(address) else {
-        return Ok(false);
-    };
-    if text.len() > 4294967294 {
-        return Ok(false);
-    }
-    match parse_whole(alloc, text, table.clone()?) {
-        Ok(policy) => say_listing(alloc, policy, address, out),
-        Err(ReadError::Memory) => Err(AllocError),
-        Err(ReadError::Fault(_)) => Ok(false),
-    }
-}
-
-fn say_listing(alloc: Global, policy: Policy, address: Addr, out: &mut String) -> Asked {
-    let view: Plain = match PolicyView::build(alloc, policy) {
-        Ok(view) => view,
-        Err(ReadError::Memory) => return Err(AllocError),
-        Err(ReadError::Fault(_)) => return Ok(false),
-    };
-    let shown = listing(alloc, &view, address)?;
+    let shown = listing(alloc, view, address)?;
     let text = listing_text(alloc, view.policy(), shown.as_slice())?;
     say_lines(out, text.as_str())?;
     Ok(true)

@@ -13,7 +13,7 @@ use Rattle.desk_tables.specs.FileSystemsText.{read_filesystems}
 use Rattle.desk_tables.specs.Rules.{TableFault}
 use Rattle.desk_tables.specs.declared.custodians.Custodian.{Custodian}
 use Rattle.desk_policy.specs.Contradiction.{HasNoContradiction}
-use Rattle.desk_policy.specs.Parsing.{if_listed, in_file, read_behind, read_site, then_read}
+use Rattle.desk_policy.specs.Parsing.{if_listed, in_file, read_after_filesystems, read_site, then_read}
 use Rattle.desk_policy.specs.Policy.{Content}
 use Rattle.desk_policy.specs.Site.{HaveReadableLengths, SiteTexts, longest_text}
 use Rattle.desk_policy.specs.SiteFault.{table_fault}
@@ -48,7 +48,7 @@ is_ok_read (Err fault) next content e = cc
 pub custodians_read : (texts : SiteTexts) (content : Content) → read_site texts ≡ Ok content → IsOk (read_custodians texts.custodians)
 unfolding read_site
 custodians_read texts content e =
-    is_ok_read (read_custodians texts.custodians) (λ custodians. then_read (in_file (table_fault (codes "filesystems")) (if_listed custodians (read_filesystems texts.filesystems))) (λ table. read_behind texts table)) content e
+    is_ok_read (read_custodians texts.custodians) (λ custodians. then_read (in_file (table_fault (codes "filesystems")) (if_listed custodians (read_filesystems texts.filesystems))) (λ table. read_after_filesystems texts table)) content e
 
 pub in_force : (texts : SiteTexts) (content : Content) → read_site texts ≡ Ok content → HasNoContradiction content → IsInForce texts content
 in_force texts content e none =
