@@ -35,7 +35,7 @@ fn split_texts(alloc: Global, table: &FileSystems, out: &mut String, text: &str)
             }
             Ok(true)
         }
-        Err(error) => say_fault(out, error),
+        Err(error) => say_fault(alloc, out, error),
     }
 }
 

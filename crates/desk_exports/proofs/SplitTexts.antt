@@ -1,5 +1,5 @@
 -- One more line of a text that is split, for the loop of `splitting::split`.
-use Rattle.std.proofs.Common.{◌≡◌, ◌≢◌, ℕ, zero, suc, ◌+◌, ◌<◌, ◌≤◌, ◌⊎◌, inl, inr, true, false, cond, eqb, ltb, List, [], ◌∷◌, ◌++◌, Option, Some, None, Result, Ok, Err, get_or, length, map, set, take, replicate, refl, sym, ap, ◌∙◌, zero-add, arith}
+use Rattle.std.proofs.Common.{◌≡◌, ◌≢◌, ℕ, zero, suc, ◌+◌, ◌<◌, ◌≤◌, ◌⊎◌, inl, inr, true, false, cond, ltb, List, [], ◌∷◌, ◌++◌, Option, Some, None, Result, Ok, Err, get_or, length, map, set, take, replicate, refl, sym, ap, ◌∙◌, zero-add, arith}
 use Rattle.std.specs.Prelude.{filter}
 use Rattle.std.specs.List.{flat_map, range_with_len}
 use Rattle.std.proofs.lemmas.Bool.{cases_lt, cond-true, cond-false, lt-ltb, le-ltb, eq-eqb, ne_eqb}
@@ -8,7 +8,7 @@ use Rattle.std.proofs.lemmas.List.Concat.{flat_map-append}
 use Rattle.std.proofs.lemmas.List.Elements.{filter-append}
 use Rattle.std.proofs.lemmas.List.FromFn.{length-map-range_with_len, get_or-map-range_with_len}
 use Rattle.desk_text.specs.Lines.{LogicalLine}
-use Rattle.desk_text.specs.Reading.{ReadsAs, read_lines, unless_fault}
+use Rattle.desk_text.specs.Reading.{ReadsAs, unless_fault}
 use Rattle.desk_text.specs.declared.reading.LineFault.{LineFault}
 use Rattle.desk_text.specs.declared.reading.ReadError.{ReadError}
 use Rattle.desk_text.specs.declared.reading.ReadError.TheVariants.{Fault, Memory}

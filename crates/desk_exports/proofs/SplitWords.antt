@@ -1,21 +1,20 @@
 -- The lines of a text that a whole text is split into have the words of the lines that were sent there.
-use Rattle.std.proofs.Common.{◌≡◌, ℕ, zero, suc, ◌+◌, ◌-◌, ◌<◌, Bool, true, false, not, cond, eqb, List, [], ◌∷◌, ◌++◌, Result, Ok, Err, filter, get_or, length, map, take, refl, sym, ap, subst, ◌∙◌, inl, inr, zero-add, append_assoc, length-append, arith}
-use Rattle.std.specs.List.{All, AllByRecursion, flat_map, join_with_byte, onto_first, range_with_len, slice_split}
+use Rattle.std.proofs.Common.{◌≡◌, ℕ, zero, suc, ◌+◌, ◌-◌, ◌<◌, Bool, true, false, not, cond, eqb, List, [], ◌∷◌, ◌++◌, Ok, filter, get_or, length, map, take, refl, sym, ap, subst, ◌∙◌, inl, inr, zero-add, append_assoc, length-append, arith}
+use Rattle.std.specs.List.{AllByRecursion, flat_map, join_with_byte, onto_first, slice_split}
 use Rattle.std.specs.Str.Lines.{strip_carriage_return}
-use Rattle.std.proofs.lemmas.Bool.{cases_Bool, cond-true, cond-false, cond_both, eqb-true, ne_eqb, true≢false}
-use Rattle.std.proofs.lemmas.List.{append-nil, get_or_at, map-append, take_at}
+use Rattle.std.proofs.lemmas.Bool.{cases_Bool, cond-true, cond-false, cond_both}
+use Rattle.std.proofs.lemmas.List.{get_or_at, map-append, take_at}
 use Rattle.std.proofs.lemmas.List.Concat.{flat_map-append}
 use Rattle.std.proofs.lemmas.List.Elements.{All-from_recursion}
 use Rattle.std.proofs.lemmas.List.FromFn.{get_or-map-range_with_len}
 use Rattle.std.proofs.lemmas.List.Splits.{length-slice_split, slice_split_at}
-use Rattle.desk_text.specs.Lines.{LogicalLine, PhysicalLine, groups, is_continued, is_skipped, joined_text, kept, logical_lines, numbered, physical_line, physical_lines, physical_lines_from, skips, without_continuation}
+use Rattle.desk_text.specs.Lines.{LogicalLine, PhysicalLine, groups, is_continued, is_skipped, kept, logical_lines, numbered, physical_line, physical_lines, physical_lines_from, skips, without_continuation}
 use Rattle.desk_text.specs.Bytes.{first_non_blank}
 use Rattle.desk_text.specs.Reading.{unless_fault}
-use Rattle.desk_text.specs.Word.{Atom, atom_text, atoms, is_separator, line_words, words_at, words_from}
+use Rattle.desk_text.specs.Word.{Atom, atom_text, atoms, is_separator, words_at, words_from}
 use Rattle.desk_text.specs.declared.reading.LineFault.{LineFault}
-use Rattle.desk_tables.specs.declared.filesystems.Mount.{Mount}
 use Rattle.desk_exports.specs.Laws.{faults}
-use Rattle.desk_exports.specs.Splitting.{SplitKeepsWords, destination_of, ends_with_return, is_to, line_end, lines_to, raw_words, split_text, text_to, texts_to, written_line, written_part}
+use Rattle.desk_exports.specs.Splitting.{SplitKeepsWords, destination_of, ends_with_return, is_to, line_end, raw_words, text_to, texts_to, written_line, written_part}
 use Rattle.desk_exports.specs.declared.rules.Rule.{Rule}
 
 abbrev Bytes : Type 0

@@ -1,4 +1,4 @@
-use Rattle.std.proofs.Common.{◌≡◌, ◌++◌, ◌∷◌, ◌∙◌, ap, sym, subst, refl, take, map, replicate, ℕ, List, [], Result, Ok, Err, Global, String, Vec}
+use Rattle.std.proofs.Common.{◌≡◌, ◌++◌, ◌∷◌, ◌∙◌, ap, sym, subst, refl, take, map, replicate, ℕ, List, [], Ok, Err, Global, String, Vec}
 use Rattle.std.specs.List.{cons_option}
 use Rattle.std.specs.String.{string_bytes}
 use Rattle.std.proofs.lemmas.List.{take_all, take_more}
