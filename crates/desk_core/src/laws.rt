@@ -2,9 +2,10 @@
 
 ghost use Rattle.desk_core.specs.Laws.{AnswersAreRight, EditsTakeEffect, HistoriesStayNumbered, NewestOfALongerHistory, StoredEditsKeepTheNumbers};
 
-/// In every run an edit takes effect exactly if its caller keeps that file, it names the newest revision and it leaves the
-/// site consistent; nothing else changes anything; each denial names its rule; and a repeat of the newest edit by its
-/// author is answered with its revision.
+/// In every run an edit takes effect exactly if its caller is listed with the key and keeps that file, it names the newest
+/// revision, it is within the limits and it leaves the site consistent; nothing else changes anything; each denial names
+/// its rule; and a repeat of the newest edit, by its author, who is still listed with the key and keeps the file, is
+/// answered with its revision.
 pub fn edits_take_effect()
     ensures { EditsTakeEffect }
 {}

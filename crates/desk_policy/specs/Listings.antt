@@ -68,8 +68,8 @@ is_written content fs path = is_directory_among path (written (rows_of content f
 abbrev pub WriteTheirOwn : Content → Type 0
 WriteTheirOwn content = (fs : ℕ) → AllByRecursion (λ dir. fs_of content.table dir ≡ Some fs) (written (rows_of content fs))
 
--- A directory is in a client's listing exactly if a line of its file system writes it and a mount of it is granted to that
--- client.
+-- A directory is shown to a client of its own file system exactly if a line of that file system writes it and a mount of it is
+-- granted to that client.
 abbrev pub ListedAreGranted : Type 0
 ListedAreGranted =
     (content : Content) (address fs : ℕ) (path : List (List ℕ)) → fs_of content.table path ≡ Some fs
