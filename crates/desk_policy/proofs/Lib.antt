@@ -15,6 +15,7 @@ pub mod Lesser
 pub mod FilesRead
 pub mod Chain
 pub mod SiteLaws
+pub mod OwnDirectories
 pub mod Compiling
 pub mod ReadableTexts
 pub mod SlotLemmas

@@ -12,7 +12,7 @@ use Rattle.desk_policy.specs.declared.parsing.SiteTables.{SiteTables}
 use Rattle.desk_policy.specs.declared.site_fault.SiteFault.{SiteFault}
 
 -- what was read before what comes next
-was_read : {X Y : Type 0} (read : Result X SiteFault) (next : X → Result Y SiteFault) (value : Y) → then_read read next ≡ Ok value → (first : X) × (read ≡ Ok first) × (next first ≡ Ok value)
+pub was_read : {X Y : Type 0} (read : Result X SiteFault) (next : X → Result Y SiteFault) (value : Y) → then_read read next ≡ Ok value → (first : X) × (read ≡ Ok first) × (next first ≡ Ok value)
 was_read (Ok first) next value is = (first, refl, is)
 was_read (Err fault) next value is = cc
 

@@ -9,7 +9,8 @@ use Rattle.desk_tables.specs.Users.{read_users}
 use Rattle.desk_tables.specs.declared.custodians.Custodian.{Custodian}
 use Rattle.desk_tables.specs.declared.filesystems.Mount.{Mount}
 use Rattle.desk_netgroup.specs.Netgroups.{read_netgroups}
-use Rattle.desk_policy.specs.Parsing.{ExportsFile, if_listed, in_file, read_exports, read_site, read_site_tables, then_read}
+use Rattle.desk_policy.specs.Listings.{WriteTheirOwn}
+use Rattle.desk_policy.specs.Parsing.{ExportsFile, if_listed, in_file, read_exports, read_site, read_site_tables, read_whole_policy, then_read}
 use Rattle.desk_policy.specs.Policy.{Content, rows_of}
 use Rattle.desk_policy.specs.Site.{SiteTexts}
 use Rattle.desk_policy.specs.SiteFault.{group_fault, table_fault}
@@ -29,6 +30,14 @@ abbrev pub EachHasItsOwnLines : Type 0
 EachHasItsOwnLines =
     (texts : SiteTexts) (content : Content) (fs : ℕ) (mount : Mount) → read_site texts ≡ Ok content → slice_get content.table fs ≡ Some mount
     → HasItsOwnLines texts content fs mount
+
+-- In the policy that a site's texts write, the lines of each file system write only its own directories.
+abbrev pub SiteLinesWriteTheirOwn : Type 0
+SiteLinesWriteTheirOwn = (texts : SiteTexts) (content : Content) → read_site texts ≡ Ok content → WriteTheirOwn content
+
+-- So it is in the policy that a whole exports text writes.
+abbrev pub WholeLinesWriteTheirOwn : Type 0
+WholeLinesWriteTheirOwn = (table : List Mount) (text : List ℕ) (content : Content) → read_whole_policy table text ≡ Ok content → WriteTheirOwn content
 
 -- the fault of a file, if it has one
 abbrev pub fault_of : {X : Type 0} → Result X SiteFault → Option SiteFault

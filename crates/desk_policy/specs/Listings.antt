@@ -74,3 +74,20 @@ abbrev pub ListedAreGranted : Type 0
 ListedAreGranted =
     (content : Content) (address fs : ℕ) (path : List (List ℕ)) → fs_of content.table path ≡ Some fs
     → list_any (shows fs path) (listing_of content address) ≡ true ↔ ((is_written content fs path ≡ true) × IsOk (verdict_of content address path))
+
+-- a listing shows the path, of whichever file system
+abbrev pub is_shown : List (List ℕ) → List Shown → Bool
+is_shown path listing = list_any (λ shown. is_directory_among path shown.dirs) listing
+
+-- a line of the path's file system writes it, and a mount of it is granted to the client
+pub record IsWrittenAndGranted (content : Content) (address : ℕ) (path : List (List ℕ)) : Type 0 where
+  pub fs : ℕ
+  pub home : fs_of content.table path ≡ Some fs
+  pub by_line : is_written content fs path ≡ true
+  pub granted : IsOk (verdict_of content address path)
+
+-- If the lines of each file system write only its own directories, a listing shows a directory exactly if a line of the
+-- directory's file system writes it and a mount of it is granted to the client.
+abbrev pub ListingsShowWhatIsGranted : Type 0
+ListingsShowWhatIsGranted =
+    (content : Content) (address : ℕ) (path : List (List ℕ)) → WriteTheirOwn content → is_shown path (listing_of content address) ≡ true ↔ IsWrittenAndGranted content address path
