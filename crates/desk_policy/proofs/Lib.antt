@@ -24,4 +24,5 @@ pub mod InOrder
 pub mod ShownLines
 pub mod OwnMounts
 pub mod GrantedListing
+pub mod ShownPaths
 mod SiteExamples
