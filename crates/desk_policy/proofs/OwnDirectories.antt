@@ -1,5 +1,5 @@
 -- Lines write only directories of their own file system.
-use Rattle.std.proofs.Common.{◌≡◌, ◌∙◌, ℕ, zero, suc, ◌+◌, List, [], ◌∷◌, ◌++◌, Option, Some, None, Result, Ok, Err, All, ap, arith, cond, eqb, filter, get_or, inl, inr, length, ltb, map, refl, subst, sym}
+use Rattle.std.proofs.Common.{◌≡◌, ◌∙◌, ℕ, zero, suc, ◌+◌, List, [], ◌∷◌, ◌++◌, Some, Result, Ok, Err, All, arith, eqb, filter, get_or, inl, inr, length, ltb, map, refl, subst, sym}
 use Rattle.std.specs.Prelude.{codes}
 use Rattle.std.specs.List.{AllByRecursion}
 use Rattle.std.specs.Result.{result_map_both}
@@ -23,13 +23,12 @@ use Rattle.desk_exports.specs.declared.rules.Rule.{Rule}
 use Rattle.desk_policy.specs.Laws.{custodians_in, filesystems_in, SiteLinesWriteTheirOwn, WholeLinesWriteTheirOwn}
 use Rattle.desk_policy.specs.Listings.{WriteTheirOwn, written}
 use Rattle.desk_policy.specs.Parsing.{content_with, ExportsFile, file_with, in_file, read_after_filesystems, read_exports, read_files, read_site, read_site_tables, rows_with, then_read, whole_policy}
-use Rattle.desk_policy.specs.Policy.{Content, content_of, EachHasItsLines, rows_of, rows_placed, with_warnings}
+use Rattle.desk_policy.specs.Policy.{content_of, EachHasItsLines, rows_placed, with_warnings}
 use Rattle.desk_policy.specs.Row.{row_of}
 use Rattle.desk_policy.specs.Site.{SiteTexts}
 use Rattle.desk_policy.specs.SiteFault.{exports_name, line_fault}
 use Rattle.desk_policy.specs.Warning.{whole_warnings}
 use Rattle.desk_policy.specs.declared.parsing.SiteTables.{SiteTables}
-use Rattle.desk_policy.specs.declared.row.Row.{Row}
 use Rattle.desk_policy.specs.declared.site_fault.SiteFault.{SiteFault}
 use Rattle.desk_policy.proofs.SiteLaws.{was_read}
 

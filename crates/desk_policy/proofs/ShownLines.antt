@@ -1,5 +1,5 @@
 -- What the selected lines of a file system show.
-use Rattle.std.proofs.Common.{◌≡◌, ℕ, ◌&&◌, ◌||◌, Bool, true, false, cond, List, [], ◌∷◌, ◌++◌, map, Option, Some, None, sym, ◌∙◌, ap, subst, refl, inl, inr}
+use Rattle.std.proofs.Common.{◌≡◌, ℕ, ◌&&◌, ◌||◌, Bool, true, false, cond, List, [], ◌∷◌, Option, Some, None, sym, ◌∙◌, ap, refl, inl, inr}
 use Rattle.std.specs.Prelude.{filter, option_and_then}
 use Rattle.std.specs.List.{list_any}
 use Rattle.std.specs.Option.{option_map}
@@ -12,7 +12,7 @@ use Rattle.desk_tables.specs.declared.filesystems.Mount.{Mount}
 use Rattle.desk_exports.specs.declared.entry.Terms.{Terms}
 use Rattle.desk_policy.specs.Listings.{in_order, listed, shown_at, shown_by, shown_of, written}
 use Rattle.desk_policy.specs.Policy.{Content, rows_of}
-use Rattle.desk_policy.specs.PrivateListings.{IsShownBy, ShowsFirst, gathered, own_dirs}
+use Rattle.desk_policy.specs.PrivateListings.{IsShownBy, gathered, own_dirs}
 use Rattle.desk_policy.specs.PrivateWeights.{IsGreatest, has_weight}
 use Rattle.desk_policy.specs.Verdict.{is_directory_among, is_in, lists}
 use Rattle.desk_policy.specs.Weights.{selected}

@@ -1,5 +1,5 @@
 -- The exports of the file systems so far are written.
-use Rattle.std.proofs.Common.{◌≡◌, ◌++◌, take}
+use Rattle.std.proofs.Common.{◌≡◌, take}
 use Rattle.std.specs.List.{flat_map}
 use Rattle.std.specs.String.{string_bytes}
 use Rattle.desk_policy.specs.ListingPrints.{entry_exports}

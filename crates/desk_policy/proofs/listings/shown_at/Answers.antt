@@ -1,4 +1,4 @@
-use Rattle.desk_policy.proofs.ShownLines.{shown_found, shown_nowhere}
+use Rattle.desk_policy.proofs.ShownLines.{shown_nowhere}
 use Rattle.desk_policy.proofs.listings.shown_at.Goals as goal
 
 pub returns-in-None : goal.returns-in-None
