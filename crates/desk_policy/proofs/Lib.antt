@@ -24,5 +24,5 @@ pub mod InOrder
 pub mod ShownLines
 pub mod OwnMounts
 pub mod GrantedListing
-pub mod ShownPaths
+pub mod OwnListing
 mod SiteExamples

@@ -75,6 +75,11 @@ ListedAreGranted =
     (content : Content) (address fs : ℕ) (path : List (List ℕ)) → fs_of content.table path ≡ Some fs
     → list_any (shows fs path) (listing_of content address) ≡ true ↔ ((is_written content fs path ≡ true) × IsOk (verdict_of content address path))
 
+-- If the lines of each file system write only its own directories, a listing shows of each only its own.
+abbrev pub ListingsShowTheirOwn : Type 0
+ListingsShowTheirOwn =
+    (content : Content) (address : ℕ) → WriteTheirOwn content → AllByRecursion (λ shown. AllByRecursion (λ dir. fs_of content.table dir ≡ Some shown.fs.0) shown.dirs) (listing_of content address)
+
 -- a listing shows the path, of whichever file system
 abbrev pub is_shown : List (List ℕ) → List Shown → Bool
 is_shown path listing = list_any (λ shown. is_directory_among path shown.dirs) listing

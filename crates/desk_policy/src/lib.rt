@@ -39,7 +39,8 @@ pub use contradiction::{Contradiction, contradiction_in};
 pub use laws::{
     addresses_are_unique, ascending_entries_ascend_in_each_file, each_has_its_lines,
     each_has_its_own_lines, first_faulty_file_is_reported, least_lines_are_named,
-    lines_write_their_own, listed_are_granted, listings_show_what_is_granted,
+    lines_write_their_own, listed_are_granted, listings_show_their_own,
+    listings_show_what_is_granted,
 };
 pub use listing_prints::{all_exports, listing_text};
 pub use listings::{Shown, listing};

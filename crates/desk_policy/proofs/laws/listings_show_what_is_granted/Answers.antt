@@ -1,4 +1,4 @@
-use Rattle.desk_policy.proofs.ShownPaths.{listings_show_what_is_granted}
+use Rattle.desk_policy.proofs.OwnListing.{listings_show_what_is_granted}
 use Rattle.desk_policy.proofs.laws.listings_show_what_is_granted.Goals as goal
 
 pub returns : goal.returns
