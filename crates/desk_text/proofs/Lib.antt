@@ -20,6 +20,7 @@ pub mod Below
 pub mod PathParts
 pub mod AtomLaws
 pub mod LineLaws
+pub mod Places
 pub mod WordLaws
 pub mod PathLaws
 pub mod AddrLaws

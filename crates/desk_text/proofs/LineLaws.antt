@@ -54,6 +54,18 @@ lines_ascend text =
     AllPairs-filter (λ (line later : LogicalLine). line.number < later.number) (λ line. not (is_skipped line)) (numbered 1 (groups (physical_lines text)))
     (ascend 1 (groups (physical_lines text)) (groups_filled (physical_lines text)))
 
+-- the numbers of the lines begin with 1
+pub lines_counted : (text : List ℕ) → All (λ (line : LogicalLine). 0 < line.number) (logical_lines text)
+lines_counted text = All-filter (λ line. not (is_skipped line)) (λ (line : LogicalLine). 0 < line.number) (numbered 1 (groups (physical_lines text))) (from_number 1 1 (groups (physical_lines text)) (omega arith))
+
+numbered_filled : (number : ℕ) (gs : List (List PhysicalLine)) → AreFilled gs → All (λ (line : LogicalLine). 0 < length line.parts) (numbered number gs)
+numbered_filled number [] h = λ i d l. absurd (omega arith)
+numbered_filled number (g ∷ gs) h = All-cons (λ (line : LogicalLine). 0 < length line.parts) (record { number = number; parts = g }) (numbered (number + length g) gs) h.0 (numbered_filled (number + length g) gs h.1)
+
+-- each line has a physical line
+pub lines_filled : (text : List ℕ) → All (λ (line : LogicalLine). 0 < length line.parts) (logical_lines text)
+lines_filled text = All-filter (λ line. not (is_skipped line)) (λ (line : LogicalLine). 0 < length line.parts) (numbered 1 (groups (physical_lines text))) (numbered_filled 1 (groups (physical_lines text)) (groups_filled (physical_lines text)))
+
 -- the physical lines of a line that stand from its number on
 abbrev StandsAt : List PhysicalLine → LogicalLine → Type 0
 StandsAt all line = take (length line.parts) (drop (line.number - 1) all) ≡ line.parts

@@ -11,6 +11,7 @@ pub mod laws;
 pub mod lines;
 pub mod network;
 pub mod path;
+pub mod place;
 pub mod reading;
 pub mod sequence;
 pub mod text;
@@ -22,6 +23,7 @@ pub use bytes::{first_non_blank, has_leading_zero, is_blank, is_digits, is_ipv6,
 pub use lines::{Line, Part, logical_lines};
 pub use network::{Net, NetText, Prefix};
 pub use path::{Path, PathFault};
+pub use place::Place;
 pub use reading::{LineFault, ReadError};
 pub use sequence::Sequence;
 pub use text::{Text, split_at};

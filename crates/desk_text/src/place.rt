@@ -1,0 +1,88 @@
+//! Places of slices of a text, as a message tells them: by physical line and column.
+
+ghost use Rattle.std.specs.Prelude.{◌≡◌, ◌↔◌, ◌<◌, ◌^◌, ℕ, ◌+◌, IsTrue, List, Some, length, slice_get, take};
+ghost use Rattle.std.specs.List.{IsAmong};
+ghost use Rattle.std.specs.Str.{chars};
+ghost use Rattle.desk_text.specs.Lines.{PhysicalLine, logical_lines};
+ghost use Rattle.desk_text.specs.Place.{HasSlice, IsOfLine, IsPlaceOf, LiesIn, LiesWithin};
+ghost use Rattle.desk_text.specs.PrivatePlace.{IsOnPart};
+ghost use Rattle.desk_text.specs.Views.{line_of_part};
+
+use crate::lines::{Line, Part};
+
+/// A slice of a text: its physical line, from 1, and where it begins and ends within that line, in bytes.
+#[derive(Clone, Copy)]
+pub struct Place {
+    pub line: u32,
+    pub start: usize,
+    pub end: usize,
+}
+
+impl Place {
+    /// Makes the place of a whole line, which is lent without its line end.
+    pub fn of_line(line: u32, text: &str) -> Place
+        ensures line { result.line ≡ line }
+        ensures whole { LiesWithin text.now result }
+    {
+        Place {
+            line,
+            start: 0,
+            end: text.len(),
+        }
+    }
+
+    /// Makes the place of the slice of a text that begins and ends at these bytes of the whole text. If no physical line
+    /// of this logical line has that slice, the place is that of the first one, whole.
+    pub fn in_line(line: &Line, start: usize, end: usize) -> Place
+        ensures exact { (index : ℕ) (part : PhysicalLine) → slice_get line.now.parts index ≡ Some part
+            → HasSlice part start end → IsPlaceOf line.now start end result }
+        ensures lies { (text : List ℕ) → IsAmong (logical_lines text) line.now → LiesIn text result }
+        ensures own { (text : List ℕ) → IsAmong (logical_lines text) line.now → IsOfLine line.now result }
+    {
+        for (index, part) in line.parts().iter().enumerate() {
+            if has_slice(part, start, end) {
+                return Place {
+                    line: line.number() + index as u32,
+                    start: start - part.start,
+                    end: end - part.start,
+                };
+            }
+        }
+        first_line(line)
+    }
+
+    /// Returns the column of the slice, from 1, in its line, which is lent without its line end.
+    pub fn column(self, line: &str) -> usize
+        requires { LiesWithin line.now self }
+        ensures { result ≡ 1 + length (chars (take self.start line.now)) }
+    {
+        count_characters(&line[..self.start]) + 1
+    }
+}
+
+fn count_characters(text: &str) -> usize
+    ensures count { result ≡ length (chars text.now) }
+    ensures fits { result + 1 < 2 ^ 64 }
+{
+    text.chars().count()
+}
+
+/// Tests whether a physical line has the slice of the text that begins and ends at these bytes.
+fn has_slice(part: &Part, start: usize, end: usize) -> bool
+    ensures { IsTrue result ↔ HasSlice (line_of_part part.now) start end }
+{
+    part.start <= start
+        && start <= end
+        && part.whole.is_char_boundary(start - part.start)
+        && part.whole.is_char_boundary(end - part.start)
+}
+
+/// Makes the place of the first physical line of a logical line.
+fn first_line(line: &Line) -> Place
+    ensures { (text : List ℕ) → IsAmong (logical_lines text) line.now → IsOnPart line.now result }
+{
+    match line.parts().first() {
+        Some(part) => Place::of_line(line.number(), part.whole),
+        None => Place::of_line(line.number(), ""),
+    }
+}
