@@ -7,9 +7,11 @@ pub mod Rules
 pub mod Entry
 pub mod Lines
 pub mod Files
+pub mod Faults
 pub mod Splitting
 pub mod Prints
 pub mod Laws
+pub mod PrivateFaults
 pub mod PrivateFiles
 pub mod PrivateSplitting
 pub mod PrivateFlavours

@@ -166,7 +166,7 @@ fn is_v4(words: &[GrammarWord]) -> bool
     }
 }
 
-fn count_absolute(words: &[GrammarWord]) -> usize
+pub(crate) fn count_absolute(words: &[GrammarWord]) -> usize
     ensures count { result ≡ prefix_len (λ w. is_absolute w.value) words.now }
     ensures fits { result ≤ length words.now }
 {
@@ -289,7 +289,7 @@ fn push_without_offer(
 }
 
 /// Returns a text behind the dash that it begins with.
-fn after_dash(text: &str) -> &str
+pub(crate) fn after_dash(text: &str) -> &str
     ensures { result.now ≡ spec.after_dash text.now }
 {
     text.strip_prefix('-').unwrap_or(text)
@@ -318,7 +318,7 @@ fn push_names(alloc: Global, names: &mut Few<Text>, words: &[GrammarWord]) -> Re
 }
 
 /// Tests whether a word takes the next one, where that is not dashed, as a value.
-fn takes_next(word: &GrammarWord) -> bool
+pub(crate) fn takes_next(word: &GrammarWord) -> bool
     ensures { result ≡ spec.takes_next word.now }
 {
     word.dashed && last_wants(after_dash(word.value.as_str()))

@@ -18,6 +18,7 @@
 pub mod boxed;
 mod clients;
 pub mod entry;
+pub mod faults;
 pub mod few;
 pub mod files;
 mod flavours;
@@ -25,6 +26,7 @@ pub mod grammar;
 pub mod laws;
 pub mod lines;
 pub mod options;
+mod places;
 pub mod prints;
 pub mod rules;
 pub mod splitting;
@@ -32,6 +34,7 @@ pub mod tables;
 
 pub use boxed::Boxed;
 pub use entry::{BoxedMapping, Clients, Entry, Flavour, Mapping, Terms};
+pub use faults::{PlacedFault, find_faults};
 pub use few::Few;
 pub use files::{Scope, read_file, read_whole};
 pub use grammar::{GrammarLine, GrammarWord, WordText};

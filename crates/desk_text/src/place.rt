@@ -1,14 +1,16 @@
 //! Places of slices of a text, as a message tells them: by physical line and column.
 
-ghost use Rattle.std.specs.Prelude.{◌≡◌, ◌↔◌, ◌<◌, ◌^◌, ℕ, ◌+◌, IsTrue, List, Some, length, slice_get, take};
+ghost use Rattle.std.specs.Prelude.{◌≡◌, ◌↔◌, ◌<◌, ◌^◌, ℕ, ◌+◌, IfSome, IsTrue, List, Some, is_some, length, slice_get, take};
 ghost use Rattle.std.specs.List.{IsAmong};
 ghost use Rattle.std.specs.Str.{chars};
 ghost use Rattle.desk_text.specs.Lines.{PhysicalLine, logical_lines};
 ghost use Rattle.desk_text.specs.Place.{HasSlice, IsOfLine, IsPlaceOf, LiesIn, LiesWithin};
 ghost use Rattle.desk_text.specs.PrivatePlace.{IsOnPart};
 ghost use Rattle.desk_text.specs.Views.{line_of_part};
+ghost use Rattle.desk_text.specs.Word.{has_open_quote, line_has_open_quote};
 
 use crate::lines::{Line, Part};
+use crate::word::{atom_len, is_special};
 
 /// A slice of a text: its physical line, from 1, and where it begins and ends within that line, in bytes.
 #[derive(Clone, Copy)]
@@ -51,6 +53,20 @@ impl Place {
         first_line(line)
     }
 
+    /// Makes the place of the first quote of a line that does not close: it goes on to the end of its physical line.
+    pub fn of_open_quote(line: &Line) -> Option<Place>
+        ensures found { is_some result ≡ line_has_open_quote line.now }
+        ensures lies { IfSome result (λ place. (text : List ℕ) → IsAmong (logical_lines text) line.now → LiesIn text place) }
+        ensures own { IfSome result (λ place. (text : List ℕ) → IsAmong (logical_lines text) line.now → IsOfLine line.now place) }
+    {
+        for part in line.parts() {
+            if let Some(place) = open_quote_on(line, part) {
+                return Some(place);
+            }
+        }
+        None
+    }
+
     /// Returns the column of the slice, from 1, in its line, which is lent without its line end.
     pub fn column(self, line: &str) -> usize
         requires { LiesWithin line.now self }
@@ -85,4 +101,36 @@ fn first_line(line: &Line) -> Place
         Some(part) => Place::of_line(line.number(), part.whole),
         None => Place::of_line(line.number(), ""),
     }
+}
+
+/// Makes the place of the first quote that does not close on a physical line of a logical line.
+fn open_quote_on(line: &Line, part: &Part) -> Option<Place>
+    requires { part.now.start + length part.now.text.now < 2 ^ 64 }
+    ensures found { is_some result ≡ has_open_quote part.now.text.now }
+    ensures lies { IfSome result (λ place. (text : List ℕ) → IsAmong (logical_lines text) line.now → LiesIn text place) }
+    ensures own { IfSome result (λ place. (text : List ℕ) → IsAmong (logical_lines text) line.now → IsOfLine line.now place) }
+{
+    let at = find_open_quote(part.text)?;
+    let end = part.start + part.text.len();
+    Some(Place::in_line(line, part.start + at, end))
+}
+
+/// Finds the first quote of a text that does not close.
+fn find_open_quote(text: &str) -> Option<usize>
+    ensures found { is_some result ≡ has_open_quote text.now }
+    ensures within { IfSome result (λ at. at < length text.now) }
+{
+    let bytes = text.as_bytes();
+    let mut at = 0;
+    while at < bytes.len() {
+        if is_special(bytes[at]) {
+            let Some(len) = atom_len(&bytes[at..]) else {
+                return Some(at);
+            };
+            at += len;
+        } else {
+            at += 1;
+        }
+    }
+    None
 }

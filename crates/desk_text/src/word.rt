@@ -151,7 +151,7 @@ fn is_quote(b: u8) -> bool
 }
 
 /// Tests whether a byte is a quote or a backslash. Every other one that is not a blank stands for itself.
-fn is_special(b: u8) -> bool
+pub(crate) fn is_special(b: u8) -> bool
     ensures { result ≡ is_special b }
 {
     is_quote(b) || b == b'\\'
@@ -177,7 +177,7 @@ fn quoted_len(text: &[u8]) -> Option<usize>
 }
 
 /// Returns how long the atom is with which the text begins: an escaped character, or a quoted run.
-fn atom_len(text: &[u8]) -> Option<usize>
+pub(crate) fn atom_len(text: &[u8]) -> Option<usize>
     requires some { 0 < length text.now }
     requires special { IsTrue (is_special (slice_index text.now 0)) }
     ensures len { IfSome result (IsAtomLen text.now) }

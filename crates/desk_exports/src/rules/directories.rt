@@ -38,7 +38,7 @@ pub(crate) fn has_directory_elsewhere(
         .any(|directory| is_elsewhere(filesystems, own_fs, directory))
 }
 
-fn is_elsewhere(
+pub(crate) fn is_elsewhere(
     filesystems: &FileSystems,
     own_fs: Option<FsId>,
     directory: &Result<Path, PathFault>,
@@ -72,7 +72,7 @@ pub(crate) fn has_other_directory(
         .any(|directory| is_not_root(mount, directory))
 }
 
-fn mount_point(filesystems: &FileSystems, own_fs: Option<FsId>) -> Option<&Path>
+pub(crate) fn mount_point(filesystems: &FileSystems, own_fs: Option<FsId>) -> Option<&Path>
     ensures { option_copied result ≡ spec.mount_point filesystems.now own_fs }
 {
     match own_fs {
@@ -81,7 +81,7 @@ fn mount_point(filesystems: &FileSystems, own_fs: Option<FsId>) -> Option<&Path>
     }
 }
 
-fn is_not_root(mount: Option<&Path>, directory: &Result<Path, PathFault>) -> bool
+pub(crate) fn is_not_root(mount: Option<&Path>, directory: &Result<Path, PathFault>) -> bool
     ensures { result ≡ spec.is_not_root (option_copied mount.entry) directory.now }
 {
     match (mount, directory) {

@@ -14,7 +14,7 @@ pub(crate) fn has_bad_name(names: &[Text]) -> bool
     names.iter().any(|name| is_bad_name(name.as_str()))
 }
 
-fn is_bad_name(name: &str) -> bool
+pub(crate) fn is_bad_name(name: &str) -> bool
     ensures { result ≡ spec.is_bad_name name.now }
 {
     name.is_empty()

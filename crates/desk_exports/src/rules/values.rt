@@ -22,7 +22,7 @@ pub(crate) fn has_unknown_option(settings: &[Setting]) -> bool
     settings.iter().any(is_unknown)
 }
 
-fn is_unknown(setting: &Setting) -> bool
+pub(crate) fn is_unknown(setting: &Setting) -> bool
     ensures { result ≡ spec.is_unknown setting.now }
 {
     setting.keyword == Keyword::Unknown
@@ -36,7 +36,7 @@ pub(crate) fn has_option_without_value(settings: &[Setting]) -> bool
     settings.iter().any(lacks_value)
 }
 
-fn lacks_value(setting: &Setting) -> bool
+pub(crate) fn lacks_value(setting: &Setting) -> bool
     ensures { result ≡ spec.lacks_value setting.now }
 {
     if !setting.keyword.takes_value() {
@@ -87,7 +87,7 @@ pub(crate) fn has_cred_fault(tables: &Tables, settings: &[Setting], fault: CredF
         || breaks_credential(tables, settings, Keyword::MapAll, fault)
 }
 
-fn breaks_credential(
+pub(crate) fn breaks_credential(
     tables: &Tables,
     settings: &[Setting],
     keyword: Keyword,
