@@ -18,3 +18,5 @@ pub mod IndexLemmas
 pub mod CustodianLemmas
 pub mod QuotedLineLemmas
 pub mod FileSystemsTextLemmas
+pub mod FaultLemmas
+pub mod FirstOfFaults

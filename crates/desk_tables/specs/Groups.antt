@@ -4,7 +4,7 @@ use Rattle.std.specs.List.{list_any, slice_split}
 use Rattle.std.specs.Option.{option_map}
 use Rattle.std.specs.Str.{bytes_eq}
 use Rattle.desk_tables.specs.ColonLines.{field, fields, number_in, skips_line}
-use Rattle.desk_tables.specs.Rows.{text_table}
+use Rattle.desk_tables.specs.Rows.{text_faults, text_table}
 use Rattle.desk_tables.specs.Rules.{unless_rule}
 use Rattle.desk_tables.specs.Rules.{TableFault}
 use Rattle.desk_tables.specs.declared.rules.TableRule.{TableRule}
@@ -39,6 +39,10 @@ line_answer line = if skips_line line then Ok None else unless_rule (find (break
 -- what a text of groups answers
 abbrev pub read_groups : List ℕ → Result (List Group) TableFault
 read_groups text = text_table line_answer text
+
+-- the faults of a group file: each faulty line with the first rule that it breaks
+abbrev pub group_faults : List ℕ → List TableFault
+group_faults text = text_faults line_answer text
 
 -- the group of a name: the first row that has it
 abbrev pub group_of_name : List Group → List ℕ → Option Group

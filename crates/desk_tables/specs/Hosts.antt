@@ -9,7 +9,7 @@ use Rattle.desk_text.specs.AddrSet.{is_among, sorted_set}
 use Rattle.desk_text.specs.Address.{number_of, read_addr}
 use Rattle.desk_text.specs.Bytes.{is_ipv6}
 use Rattle.desk_tables.specs.SpacedLines.{is_long_name, words_before_comment}
-use Rattle.desk_tables.specs.Rows.{text_table}
+use Rattle.desk_tables.specs.Rows.{text_faults, text_table}
 use Rattle.desk_tables.specs.Rules.{unless_rule}
 use Rattle.desk_tables.specs.Rules.{TableFault}
 use Rattle.desk_tables.specs.declared.rules.TableRule.{TableRule}
@@ -47,6 +47,10 @@ line_answer line = words_answer (words_before_comment line)
 -- the rows of a hosts file, or its first faulty line with the first rule that it breaks
 abbrev pub read_hosts : List ℕ → Result (List HostRow) TableFault
 read_hosts text = text_table line_answer text
+
+-- the faults of a hosts file: each faulty line with the first rule that it breaks
+abbrev pub host_faults : List ℕ → List TableFault
+host_faults text = text_faults line_answer text
 
 -- the row has the name, or has it as an alias, without ASCII case
 abbrev pub is_host : List ℕ → HostRow → Bool

@@ -1,5 +1,5 @@
 -- What the definitions of the tables come to.
-use Rattle.std.specs.Prelude.{◌≡◌, ◌≤◌, ◌↔◌, ◌⊎◌, ℕ, Bool, List, [], ◌∷◌, ◌++◌, None, Ok, Err, All, codes, find, length, map, IsOk, IsSome}
+use Rattle.std.specs.Prelude.{◌≡◌, ◌≤◌, ◌↔◌, ◌⊎◌, ℕ, Bool, List, [], ◌∷◌, ◌++◌, None, Some, Ok, Err, All, codes, find, length, map, slice_get, IsOk, IsSome}
 use Rattle.std.specs.List.{AllPass, count_by, filter_map}
 use Rattle.std.specs.Str.{str_to_ascii_lowercase}
 use Rattle.hex.specs.Hex.{decode_sized, encode_lower, is_hex_digit}
@@ -63,6 +63,17 @@ pub record FirstFaultIsReported : Type 0 where
   pub of_filesystems : (text : List ℕ) (fault : TableFault) → filesystems.read_filesystems text ≡ Err fault → IsFirstFault (answers filesystems.line_answer [] (logical_lines text)) fault
   pub of_custodians : (text : List ℕ) (fault : TableFault) → custodians.read_custodians text ≡ Err fault
       → IsFirstFault (answers custodians.line_answer [] (logical_lines text)) fault ⊎ LacksSite text fault
+
+-- the fault is the first of these
+abbrev pub IsFirstOf : TableFault → List TableFault → Type 0
+IsFirstOf fault faults = slice_get faults 0 ≡ Some fault
+
+-- The fault that a refused table reports is the first of its text's faults; and a text that has one is refused.
+pub record FirstOfFaultsIsReported : Type 0 where
+  pub of_hosts : (text : List ℕ) (fault : TableFault) → (hosts.read_hosts text ≡ Err fault) ↔ IsFirstOf fault (hosts.host_faults text)
+  pub of_networks : (text : List ℕ) (fault : TableFault) → (networks.read_networks text ≡ Err fault) ↔ IsFirstOf fault (networks.network_faults text)
+  pub of_users : (text : List ℕ) (fault : TableFault) → (users.read_users text ≡ Err fault) ↔ IsFirstOf fault (users.user_faults text)
+  pub of_groups : (text : List ℕ) (fault : TableFault) → (groups.read_groups text ≡ Err fault) ↔ IsFirstOf fault (groups.group_faults text)
 
 -- A line that breaks no rule has its row.
 pub record GoodLinesHaveRows : Type 0 where

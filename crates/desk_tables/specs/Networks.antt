@@ -8,7 +8,7 @@ use Rattle.std.specs.Str.{bytes_eq}
 use Rattle.desk_text.specs.Address.{read_short}
 use Rattle.desk_text.specs.declared.address.Addr.{Addr}
 use Rattle.desk_tables.specs.SpacedLines.{is_long_name, words_before_comment}
-use Rattle.desk_tables.specs.Rows.{text_table}
+use Rattle.desk_tables.specs.Rows.{text_faults, text_table}
 use Rattle.desk_tables.specs.Rules.{unless_rule}
 use Rattle.desk_tables.specs.Rules.{TableFault}
 use Rattle.desk_tables.specs.declared.rules.TableRule.{TableRule}
@@ -51,6 +51,10 @@ line_answer line = words_answer (words_before_comment line)
 -- the rows of a networks file, or its first faulty line with the first rule that it breaks
 abbrev pub read_networks : List ℕ → Result (List NetworkName) TableFault
 read_networks text = text_table line_answer text
+
+-- the faults of a networks file: each faulty line with the first rule that it breaks
+abbrev pub network_faults : List ℕ → List TableFault
+network_faults text = text_faults line_answer text
 
 -- the row has the name, or has it as an alias, byte by byte
 abbrev pub is_network : List ℕ → NetworkName → Bool

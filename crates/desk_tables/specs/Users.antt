@@ -3,7 +3,7 @@ use Rattle.std.specs.Prelude.{ℕ, ◌==◌, Bool, false, not, ◌||◌, Option,
 use Rattle.std.specs.Option.{option_map}
 use Rattle.std.specs.Str.{bytes_eq}
 use Rattle.desk_tables.specs.ColonLines.{field, fields, number_in, skips_line}
-use Rattle.desk_tables.specs.Rows.{text_table}
+use Rattle.desk_tables.specs.Rows.{text_faults, text_table}
 use Rattle.desk_tables.specs.Rules.{unless_rule}
 use Rattle.desk_tables.specs.Rules.{TableFault}
 use Rattle.desk_tables.specs.declared.rules.TableRule.{TableRule}
@@ -34,6 +34,10 @@ line_answer line = if skips_line line then Ok None else unless_rule (find (break
 -- what a text of users answers
 abbrev pub read_users : List ℕ → Result (List User) TableFault
 read_users text = text_table line_answer text
+
+-- the faults of a passwd file: each faulty line with the first rule that it breaks
+abbrev pub user_faults : List ℕ → List TableFault
+user_faults text = text_faults line_answer text
 
 -- the user of a name: the first row that has it
 abbrev pub user_of_name : List User → List ℕ → Option User

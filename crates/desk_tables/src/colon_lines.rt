@@ -3,6 +3,7 @@
 ghost use Rattle.std.specs.Prelude.{◌≡◌, length};
 ghost use Rattle.desk_tables.specs.ColonLines.{field, fields, number_in, skips_line};
 
+use crate::faults::Slice;
 use desk_text::{first_non_blank, read_decimal};
 
 /// Counts the fields of a line.
@@ -17,6 +18,26 @@ pub(crate) fn field(line: &str, place: usize) -> &str
     ensures { result.now ≡ field place line.now }
 {
     line.split(':').nth(place).unwrap_or("")
+}
+
+/// Finds where the field at a place, from 0, begins and ends; a line that has none there has the last one.
+pub(crate) fn field_slice(line: &str, place: usize) -> Slice {
+    let bytes = line.as_bytes();
+    let mut start = 0;
+    let mut left = place;
+    for (at, byte) in bytes.iter().enumerate() {
+        if *byte == b':' {
+            if left == 0 {
+                return Slice { start, end: at };
+            }
+            left -= 1;
+            start = at + 1;
+        }
+    }
+    Slice {
+        start,
+        end: bytes.len(),
+    }
 }
 
 /// Tests whether a line is a comment, or has only blanks.

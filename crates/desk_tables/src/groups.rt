@@ -1,14 +1,17 @@
 //! The groups of a site. (group(5))
 
-ghost use Rattle.std.specs.Prelude.{◌≡◌, ◌≤◌, [], IfOk, OnOk, length};
+ghost use Rattle.std.specs.Prelude.{◌≡◌, ◌≤◌, [], IfOk, OnOk, length, map};
+ghost use Rattle.std.specs.List.{All};
 ghost use Rattle.std.specs.Option.{option_copied};
 ghost use Rattle.desk_text.specs.Reading.{Reads};
+ghost use Rattle.desk_tables.specs.Faults.{IsPlaced};
 ghost use Rattle.desk_tables.specs.Credentials.{at_most_16};
 ghost use Rattle.desk_tables.specs.Groups as spec;
 ghost use Rattle.desk_tables.specs.PrivateIndex.{AddsUnderEach, HasGroupNames, HasMembers, listed};
 
-use crate::colon_lines::{field, field_count, is_skipped, read_number};
+use crate::colon_lines::{field, field_count, field_slice, is_skipped, read_number};
 use crate::credentials::GroupIds;
+use crate::faults::{PlacedFault, Slice, find_faults};
 use crate::index::{add_first, add_under, row_at};
 use crate::rows::read_rows;
 use crate::rules::{TableFault, TableRule};
@@ -74,6 +77,16 @@ impl Groups {
             by_name,
             by_member,
         })
+    }
+
+    /// Finds the faults of a text: all its faulty lines, in order, each with the first rule that it breaks and the place
+    /// of the slice at fault. `read` reports the first of them.
+    pub fn faults(alloc: Global, text: &str) -> Result<Sequence<PlacedFault>, AllocError>
+        requires { length text.now ≤ 4294967294 }
+        ensures faults { IfOk result (λ found. map (λ one. one.fault) found ≡ spec.group_faults text.now) }
+        ensures placed { IfOk result (All (IsPlaced text.now)) }
+    {
+        find_faults(alloc, text, read_group, slice_at_fault)
     }
 
     /// Finds the group of a name, byte for byte: the first row that has it.
@@ -190,4 +203,13 @@ fn read_members(alloc: Global, text: &str) -> Result<Sequence<Text>, AllocError>
         }
     }
     Ok(members)
+}
+
+/// Finds the slice of a line at fault, if this is the first rule that it breaks.
+fn slice_at_fault(line: &str, rule: TableRule) -> Slice {
+    match rule {
+        TableRule::Number => field_slice(line, 2),
+        TableRule::Name => field_slice(line, 0),
+        _ => Slice::whole(line),
+    }
 }

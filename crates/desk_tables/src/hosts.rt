@@ -1,16 +1,21 @@
 //! The hosts file. (hosts(5))
 
 ghost use Rattle.std.specs.Prelude.{◌≡◌, ◌≤◌, ◌∷◌, [], IfOk, OnOk, length, map};
+ghost use Rattle.std.specs.List.{All};
 ghost use Rattle.std.specs.Str.{str_to_ascii_lowercase};
 ghost use Rattle.desk_text.specs.Address.{number_of};
 ghost use Rattle.desk_text.specs.Reading.{Reads};
+ghost use Rattle.desk_tables.specs.Faults.{IsPlaced};
 ghost use Rattle.desk_tables.specs.Hosts as spec;
 ghost use Rattle.desk_tables.specs.PrivateIndex.{AddsUnderEach, HasAddresses, listed};
 
+use crate::faults::{PlacedFault, Slice, find_faults};
 use crate::index::add_under;
 use crate::rows::read_rows;
 use crate::rules::{TableFault, TableRule};
-use crate::spaced_lines::{has_long_name, push_copies, words_before_comment};
+use crate::spaced_lines::{
+    has_long_name, long_word_slice, push_copies, word_slice, words_before_comment,
+};
 use desk_text::{Addr, AddrSet, ReadError, Sequence, Text, is_ipv6};
 use std::alloc::{AllocError, Global};
 use std::collections::BTreeMap;
@@ -64,6 +69,16 @@ impl Hosts {
         let rows = read_rows(alloc, text, read_line)?;
         let index = addresses_by_name(alloc, rows.as_slice())?;
         Ok(Hosts { rows, index })
+    }
+
+    /// Finds the faults of a text: all its faulty lines, in order, each with the first rule that it breaks and the place
+    /// of the slice at fault. `read` reports the first of them.
+    pub fn faults(alloc: Global, text: &str) -> Result<Sequence<PlacedFault>, AllocError>
+        requires { length text.now ≤ 4294967294 }
+        ensures faults { IfOk result (λ found. map (λ one. one.fault) found ≡ spec.host_faults text.now) }
+        ensures placed { IfOk result (All (IsPlaced text.now)) }
+    {
+        find_faults(alloc, text, read_line, slice_at_fault)
     }
 
     /// Lists the addresses of all rows that have the name, as their name or as an alias, without ASCII case: ascending,
@@ -157,4 +172,13 @@ fn read_row(
         addr,
         names: copies,
     }))
+}
+
+/// Finds the slice of a line at fault, if this is the first rule that it breaks.
+fn slice_at_fault(line: &str, rule: TableRule) -> Slice {
+    match rule {
+        TableRule::Number => word_slice(line, 0),
+        TableRule::Name => long_word_slice(line),
+        _ => Slice::whole(line),
+    }
 }

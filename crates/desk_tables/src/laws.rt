@@ -2,7 +2,7 @@
 //! these say what they come to.
 
 ghost use Rattle.desk_tables.specs.Hosts.{AddressesAreUnique};
-ghost use Rattle.desk_tables.specs.Laws.{DigestsAreHexadecimal, FirstFaultIsReported, GoodLinesHaveRows, OrderKeepsMounts, RulesAscend, TableIsUnique, TablesAreInOrder};
+ghost use Rattle.desk_tables.specs.Laws.{DigestsAreHexadecimal, FirstFaultIsReported, FirstOfFaultsIsReported, GoodLinesHaveRows, OrderKeepsMounts, RulesAscend, TableIsUnique, TablesAreInOrder};
 
 use desk_text::laws::{printed_paths_differ, sorted_sets_are_unique};
 
@@ -38,6 +38,11 @@ pub fn digests_are_hexadecimal()
 /// A table that is refused reports its first faulty line, with the first rule that the line breaks.
 pub fn first_fault_is_reported()
     ensures { FirstFaultIsReported }
+{}
+
+/// The fault that a refused table reports is the first of those that its text is told to have.
+pub fn first_of_faults_is_reported()
+    ensures { FirstOfFaultsIsReported }
 {}
 
 /// The rules of a line, and the faults of a credential, are checked in the order of their numbers.

@@ -1,14 +1,19 @@
 //! The networks file. (networks(5))
 
 ghost use Rattle.std.specs.Prelude.{◌≡◌, ◌≤◌, ◌∷◌, [], IfOk, OnOk, length, map};
+ghost use Rattle.std.specs.List.{All};
 ghost use Rattle.desk_text.specs.Reading.{Reads};
+ghost use Rattle.desk_tables.specs.Faults.{IsPlaced};
 ghost use Rattle.desk_tables.specs.Networks as spec;
 ghost use Rattle.desk_tables.specs.PrivateIndex.{AddsFirsts, HasNumbers};
 
+use crate::faults::{PlacedFault, Slice, find_faults};
 use crate::index::add_first;
 use crate::rows::read_rows;
 use crate::rules::{TableFault, TableRule};
-use crate::spaced_lines::{has_long_name, push_copies, words_before_comment};
+use crate::spaced_lines::{
+    has_long_name, long_word_slice, push_copies, word_slice, words_before_comment,
+};
 use desk_text::{Addr, ReadError, Sequence, Text};
 use std::alloc::{AllocError, Global};
 use std::collections::BTreeMap;
@@ -61,6 +66,16 @@ impl Networks {
         let rows = read_rows(alloc, text, read_line)?;
         let numbers = numbers_by_name(alloc, rows.as_slice())?;
         Ok(Networks { rows, numbers })
+    }
+
+    /// Finds the faults of a text: all its faulty lines, in order, each with the first rule that it breaks and the place
+    /// of the slice at fault. `read` reports the first of them.
+    pub fn faults(alloc: Global, text: &str) -> Result<Sequence<PlacedFault>, AllocError>
+        requires { length text.now ≤ 4294967294 }
+        ensures faults { IfOk result (λ found. map (λ one. one.fault) found ≡ spec.network_faults text.now) }
+        ensures placed { IfOk result (All (IsPlaced text.now)) }
+    {
+        find_faults(alloc, text, read_line, slice_at_fault)
     }
 
     /// Finds the number of the first row that has the name, as its name or as an alias. (networks(5))
@@ -132,4 +147,13 @@ fn read_row(
     names.push(Text::copy(alloc, name)?)?;
     push_copies(alloc, &mut names, aliases)?;
     Ok(Some(NetworkName { number, names }))
+}
+
+/// Finds the slice of a line at fault, if this is the first rule that it breaks.
+fn slice_at_fault(line: &str, rule: TableRule) -> Slice {
+    match rule {
+        TableRule::Number => word_slice(line, 1),
+        TableRule::Name => long_word_slice(line),
+        _ => Slice::whole(line),
+    }
 }

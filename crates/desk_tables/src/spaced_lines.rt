@@ -5,7 +5,8 @@ ghost use Rattle.std.specs.List.{before_first, list_any};
 ghost use Rattle.desk_tables.specs.SpacedLines.{is_long_name, words_before_comment, words_of};
 ghost use Rattle.desk_tables.specs.PrivateSpacedLines.{words_between_tabs};
 
-use desk_text::{Sequence, Text};
+use crate::faults::Slice;
+use desk_text::{Sequence, Text, is_blank};
 use std::alloc::{AllocError, Global};
 
 /// Reads the words of a line up to its comment.
@@ -66,6 +67,39 @@ fn is_long_name(name: &str) -> bool
     ensures { result ≡ is_long_name name.now }
 {
     name.len() > 255
+}
+
+/// Finds where the word at a place, from 0, begins and ends.
+pub fn word_slice(line: &str, place: usize) -> Slice {
+    nth_slice(before_comment(line), place, 1)
+}
+
+/// Finds where the first word of over 255 bytes begins and ends.
+pub fn long_word_slice(line: &str) -> Slice {
+    nth_slice(before_comment(line), 0, 256)
+}
+
+/// Finds where the word at a place, from 0, among those of at least so many bytes begins and ends. A text that has none
+/// there has the last one.
+fn nth_slice(text: &str, place: usize, least: usize) -> Slice {
+    let bytes = text.as_bytes();
+    let mut start = 0;
+    let mut left = place;
+    for (at, byte) in bytes.iter().enumerate() {
+        if is_blank(*byte) {
+            if at.saturating_sub(start) >= least {
+                if left == 0 {
+                    return Slice { start, end: at };
+                }
+                left -= 1;
+            }
+            start = at + 1;
+        }
+    }
+    Slice {
+        start,
+        end: bytes.len(),
+    }
 }
 
 /// Adds a copy of each name.

@@ -1,12 +1,15 @@
 //! The users of a site. (passwd(5))
 
-ghost use Rattle.std.specs.Prelude.{◌≡◌, ◌≤◌, [], IfOk, length};
+ghost use Rattle.std.specs.Prelude.{◌≡◌, ◌≤◌, [], IfOk, length, map};
+ghost use Rattle.std.specs.List.{All};
 ghost use Rattle.std.specs.Option.{option_copied};
 ghost use Rattle.desk_text.specs.Reading.{Reads};
+ghost use Rattle.desk_tables.specs.Faults.{IsPlaced};
 ghost use Rattle.desk_tables.specs.PrivateIndex.{HasUserNames, HasUserNumbers};
 ghost use Rattle.desk_tables.specs.Users as spec;
 
-use crate::colon_lines::{field, field_count, is_skipped, read_number};
+use crate::colon_lines::{field, field_count, field_slice, is_skipped, read_number};
+use crate::faults::{PlacedFault, Slice, find_faults};
 use crate::index::{add_first, add_first_number, row_at};
 use crate::rows::read_rows;
 use crate::rules::{TableFault, TableRule};
@@ -72,6 +75,16 @@ impl Users {
         })
     }
 
+    /// Finds the faults of a text: all its faulty lines, in order, each with the first rule that it breaks and the place
+    /// of the slice at fault. `read` reports the first of them.
+    pub fn faults(alloc: Global, text: &str) -> Result<Sequence<PlacedFault>, AllocError>
+        requires { length text.now ≤ 4294967294 }
+        ensures faults { IfOk result (λ found. map (λ one. one.fault) found ≡ spec.user_faults text.now) }
+        ensures placed { IfOk result (All (IsPlaced text.now)) }
+    {
+        find_faults(alloc, text, read_user, slice_at_fault)
+    }
+
     /// Finds the user of a name, byte for byte: the first row that has it.
     pub fn by_name(&self, name: &str) -> Option<&User>
         ensures { option_copied result ≡ spec.user_of_name self.now name.now }
@@ -128,4 +141,14 @@ fn read_user(alloc: Global, line: &str) -> Result<Option<User>, ReadError<TableR
     }
     let name = Text::copy(alloc, name)?;
     Ok(Some(User { name, uid, gid }))
+}
+
+/// Finds the slice of a line at fault, if this is the first rule that it breaks.
+fn slice_at_fault(line: &str, rule: TableRule) -> Slice {
+    match rule {
+        TableRule::Number if read_number(field(line, 2)).is_some() => field_slice(line, 3),
+        TableRule::Number => field_slice(line, 2),
+        TableRule::Name => field_slice(line, 0),
+        _ => Slice::whole(line),
+    }
 }
