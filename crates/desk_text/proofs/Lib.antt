@@ -23,5 +23,6 @@ pub mod LineLaws
 pub mod Places
 pub mod WordLaws
 pub mod PathLaws
+pub mod WrittenPaths
 pub mod AddrLaws
 pub mod AtomsAreUnique

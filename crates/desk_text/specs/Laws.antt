@@ -161,6 +161,10 @@ PathsReadBack =
     → length (path_text path) ≤ longest_path → list_any (λ b. b == 0) (path_text path) ≡ false
     → read_path (path_text path) ≡ Ok path
 
+-- The path that a text writes reads back from its printed form.
+abbrev pub WrittenPathsReadBack : Type 0
+WrittenPathsReadBack = (text : List ℕ) (path : List (List ℕ)) → read_path text ≡ Ok path → read_path (path_text path) ≡ Ok path
+
 -- A printed address reads as that address.
 abbrev pub AddrsReadBack : Type 0
 AddrsReadBack = (address : ℕ) → address < 2 ^ 32 → read_addr (addr_text address) ≡ Ok address

@@ -1,7 +1,7 @@
 //! Laws of addresses, networks, paths, logical lines and words. Each is proved as the contract of a function that does
 //! nothing: the definitions walk over a text, and these say what they come to.
 
-ghost use Rattle.desk_text.specs.Laws.{AddrsReadBack, AtomsAreUnique, CoversBetweenFirstAndLast, GroupsAreUnique, LinesAreNumbered, LinesAscend, MasksReadBack, PartsAreSlices, PathsReadBack, PhysicalLinesAreLines, PrintedPathsDiffer, SortedSetsAreUnique, WordsAreMaximalRuns, WordsAreSlices};
+ghost use Rattle.desk_text.specs.Laws.{AddrsReadBack, AtomsAreUnique, CoversBetweenFirstAndLast, GroupsAreUnique, LinesAreNumbered, LinesAscend, MasksReadBack, PartsAreSlices, PathsReadBack, PhysicalLinesAreLines, PrintedPathsDiffer, SortedSetsAreUnique, WordsAreMaximalRuns, WordsAreSlices, WrittenPathsReadBack};
 
 /// The physical lines of a text fall into groups in one way.
 pub fn groups_are_unique()
@@ -51,6 +51,11 @@ pub fn printed_paths_differ()
 /// A printed path reads as that path.
 pub fn paths_read_back()
     ensures { PathsReadBack }
+{}
+
+/// The path that a text writes reads back from its printed form.
+pub fn written_paths_read_back()
+    ensures { WrittenPathsReadBack }
 {}
 
 /// A printed address reads as that address.
