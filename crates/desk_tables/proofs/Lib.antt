@@ -20,3 +20,4 @@ pub mod QuotedLineLemmas
 pub mod FileSystemsTextLemmas
 pub mod FaultLemmas
 pub mod FirstOfFaults
+pub mod MountPoints

@@ -4,7 +4,7 @@ use Rattle.std.specs.List.{AllPass, count_by, filter_map}
 use Rattle.std.specs.Str.{str_to_ascii_lowercase}
 use Rattle.hex.specs.Hex.{decode_sized, encode_lower, is_hex_digit}
 use Rattle.desk_text.specs.Lines.{logical_lines}
-use Rattle.desk_text.specs.Path.{IsPath}
+use Rattle.desk_text.specs.Path.{IsPath, path_text, read_path}
 use Rattle.desk_text.specs.Reading.{AnsweredLine, fault_of}
 use Rattle.desk_tables.specs.CredentialText.{cred_fault_number, cred_faults}
 use Rattle.desk_tables.specs.Custodians as custodians
@@ -34,6 +34,11 @@ OrderKeepsMounts = (test : Mount → Bool) (mounts : List Mount) → count_by te
 -- 256 of them.
 abbrev pub TablesAreInOrder : Type 0
 TablesAreInOrder = (text : List ℕ) (table : List Mount) → filesystems.read_filesystems text ≡ Ok table → AreAscending table × (length table ≤ 256)
+
+-- Each mount point in the table of a text reads back from its printed form.
+abbrev pub MountPointsReadBack : Type 0
+MountPointsReadBack =
+    (text : List ℕ) (table : List Mount) → filesystems.read_filesystems text ≡ Ok table → All (λ mount. read_path (path_text mount.path) ≡ Ok mount.path) table
 
 -- The fault is that of one of the lines: it has the line's number and the first rule that the line breaks, and no line
 -- before it breaks a rule.

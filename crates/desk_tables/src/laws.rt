@@ -2,9 +2,9 @@
 //! these say what they come to.
 
 ghost use Rattle.desk_tables.specs.Hosts.{AddressesAreUnique};
-ghost use Rattle.desk_tables.specs.Laws.{DigestsAreHexadecimal, FirstFaultIsReported, FirstOfFaultsIsReported, GoodLinesHaveRows, OrderKeepsMounts, RulesAscend, TableIsUnique, TablesAreInOrder};
+ghost use Rattle.desk_tables.specs.Laws.{DigestsAreHexadecimal, FirstFaultIsReported, FirstOfFaultsIsReported, GoodLinesHaveRows, MountPointsReadBack, OrderKeepsMounts, RulesAscend, TableIsUnique, TablesAreInOrder};
 
-use desk_text::laws::{printed_paths_differ, sorted_sets_are_unique};
+use desk_text::laws::{printed_paths_differ, sorted_sets_are_unique, written_paths_read_back};
 
 /// Mount points that are given have one table.
 pub fn table_is_unique()
@@ -29,6 +29,13 @@ pub fn order_keeps_mounts()
 pub fn tables_are_in_order()
     ensures { TablesAreInOrder }
 {}
+
+/// The mount points in the table of a text of file systems read back from their printed forms.
+pub fn mount_points_read_back()
+    ensures { MountPointsReadBack }
+{
+    written_paths_read_back()
+}
 
 /// A digest is written by 64 hexadecimal digits and by nothing else, and they are its bytes' digits.
 pub fn digests_are_hexadecimal()
