@@ -6,5 +6,6 @@ pub mod FirstCase
 pub mod RightAnswers
 pub mod Histories
 pub mod Runs
+pub mod FileNames
 pub mod Accepting
 mod EditExamples

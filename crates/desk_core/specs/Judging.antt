@@ -1,9 +1,10 @@
 -- What an edit is answered: by the first of eight cases that holds, or else by the site with its text. (this project's own)
-use Rattle.std.specs.Prelude.{◌≡◌, ℕ, ◌+◌, ◌==◌, ◌&&◌, Bool, true, false, not, List, [], ◌∷◌, Option, Some, None, codes, find, is_none, is_some, length, nat_lt, position, if◌then◌else◌}
+use Rattle.std.specs.Prelude.{◌≡◌, ◌⊎◌, ℕ, ◌+◌, ◌==◌, ◌&&◌, Bool, true, false, not, List, [], ◌∷◌, Option, Some, None, Ok, codes, find, is_none, is_some, length, nat_lt, position, if◌then◌else◌}
 use Rattle.std.specs.List.{list_any}
 use Rattle.std.specs.Option.{option_map_or}
 use Rattle.std.specs.Str.{bytes_eq}
 use Rattle.sha2.specs.Sha256.{sha256}
+use Rattle.desk_text.specs.Path.{path_text, read_path}
 use Rattle.desk_tables.specs.Custodians.{digest_of}
 use Rattle.desk_tables.specs.FileSystemsText.{keeps}
 use Rattle.desk_tables.specs.declared.custodians.Custodian.{Custodian}
@@ -34,6 +35,10 @@ exports_place table file = position (λ mount. bytes_eq (exports_name mount.path
 -- a file is one of the seven, or the exports file of a listed mount point
 abbrev pub is_known : List Mount → List ℕ → Bool
 is_known table file = if is_of_seven file then true else is_some (exports_place table file)
+
+-- a name that a file may have: that of one of the seven, or that of the exports file of a path in printed form
+abbrev pub IsFileName : List ℕ → Type 0
+IsFileName file = (is_of_seven file ≡ true) ⊎ ((path : List (List ℕ)) × (read_path (path_text path) ≡ Ok path) × (file ≡ exports_name path))
 
 -- `site` keeps the seven, and by that alone no exports file; the custodians listed for a mount point keep its exports file
 abbrev pub keeps_file : List Mount → List ℕ → List ℕ → Bool

@@ -2,12 +2,13 @@
 use Rattle.std.specs.Prelude.{◌≡◌, ◌≢◌, ◌↔◌, ◌⊎◌, ℕ, ◌+◌, ◌≤◌, true, List, [], ◌∷◌, ◌++◌, Some, None, length}
 use Rattle.sha2.specs.Sha256.{sha256}
 use Rattle.desk_tables.specs.Custodians.{digest_of}
+use Rattle.desk_policy.specs.Site.{SiteTexts}
 use Rattle.desk_policy.specs.View.{HasFault}
 use Rattle.desk_policy.specs.declared.site_fault.SiteFault.{SiteFault}
 use Rattle.desk_core.specs.Edit.{Already, Answer, Edit, Refused, Stored, revision_of}
 use Rattle.desk_core.specs.Head.{Newest, Revision, last_revision, newest_number, put}
 use Rattle.desk_core.specs.History.{Exchange, IsHistory, Run, added, added_by, newest_of}
-use Rattle.desk_core.specs.Judging.{Answers, answer_in, first_case, is_known, keeps_file, longest_edit}
+use Rattle.desk_core.specs.Judging.{Answers, IsFileName, answer_in, first_case, is_known, keeps_file, longest_edit}
 use Rattle.desk_core.specs.Site.{IsConsistent, custodians_of, policy_of, site_in}
 use Rattle.desk_core.specs.declared.edit.Refusal.{Refusal}
 use Rattle.desk_core.specs.declared.edit.Refusal.TheVariants as refusal
@@ -79,3 +80,7 @@ StoredEditsKeepTheNumbers =
 -- Of a history with one revision more that one is the newest of its file, and other files keep their newest.
 abbrev pub NewestOfALongerHistory : Type 0
 NewestOfALongerHistory = (history : List Revision) (revision : Revision) → newest_of (history ++ revision ∷ []) ≡ put (newest_of history) revision
+
+-- A file that the policy of a site knows has a name that a file may have.
+abbrev pub KnownFilesHaveNames : Type 0
+KnownFilesHaveNames = (texts : SiteTexts) (file : List ℕ) → is_known (policy_of texts).table file ≡ true → IsFileName file

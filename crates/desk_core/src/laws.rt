@@ -1,6 +1,8 @@
 //! What the definitions of this crate come to, each as a function that does nothing.
 
-ghost use Rattle.desk_core.specs.Laws.{AnswersAreRight, EditsTakeEffect, HistoriesStayNumbered, NewestOfALongerHistory, StoredEditsKeepTheNumbers};
+ghost use Rattle.desk_core.specs.Laws.{AnswersAreRight, EditsTakeEffect, HistoriesStayNumbered, KnownFilesHaveNames, NewestOfALongerHistory, StoredEditsKeepTheNumbers};
+
+use desk_tables::laws::mount_points_read_back;
 
 /// In every run an edit takes effect exactly if its caller is listed with the key and keeps that file, it names the newest
 /// revision, it is within the limits and it leaves the site consistent; nothing else changes anything; each denial names
@@ -29,3 +31,10 @@ pub fn stored_edits_keep_the_numbers()
 pub fn newest_of_a_longer_history()
     ensures { NewestOfALongerHistory }
 {}
+
+/// A file that an edit may change has one of the names of the project: `hosts`, or `exports:/a`.
+pub fn known_files_have_names()
+    ensures { KnownFilesHaveNames }
+{
+    mount_points_read_back()
+}

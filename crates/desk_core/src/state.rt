@@ -1,6 +1,7 @@
 //! States: the newest revision of each file, and the policy that they put in force.
 
 ghost use Rattle.std.specs.Prelude.{◌≡◌, ◌<◌, All, IfOk, None, Some};
+ghost use Rattle.std.specs.Option.{option_copied};
 ghost use Rattle.desk_policy.specs.Site.{HaveReadableLengths, texts_of};
 ghost use Rattle.desk_core.specs.Edit as spec;
 ghost use Rattle.desk_core.specs.Edit.{asked};
@@ -130,6 +131,13 @@ impl<V: PolicyView + Drop> State<V> {
         ensures { result.now ≡ self.now.heads }
     {
         self.heads.as_slice()
+    }
+
+    /// Finds the newest revision of a file.
+    pub fn newest(&self, file: &str) -> Option<&Head>
+        ensures { option_copied result ≡ newest_in self.now.heads file.now }
+    {
+        newest(self.heads.as_slice(), file)
     }
 
     /// Finds the first case that holds.
