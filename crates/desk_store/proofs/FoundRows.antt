@@ -1,0 +1,214 @@
+-- What the rows say of a revision is what the history says, and a look leaves a desk as it was.
+use Rattle.std.proofs.Common.{All, Bool, Err, IsTrue, List, None, Ok, Option, Result, Some, [], ap, arith, codes, cond, false, find, get_or, inl, inr, length, map, pos, refl, subst, suc, sym, true, zero, ℕ, ◌++◌, ◌+◌, ◌-◌, ◌<◌, ◌==◌, ◌∙◌, ◌∷◌, ◌≡◌, ◌≤◌}
+use Rattle.std.specs.Prelude.{Contains, IfOk, IsPermutation, OnOk, is_err}
+use Rattle.std.specs.Str.{bytes_eq}
+use Rattle.std.proofs.lemmas.Bool.{cases_Bool, cases_lt, eqb-true, eq-eqb}
+use Rattle.std.proofs.lemmas.List.{length-append}
+use Rattle.std.proofs.lemmas.List.Sorted.{Contains-permutation, IsPermutation-sym}
+use Rattle.std.proofs.lemmas.Slice.Eq.{bytes_eq-Decides}
+use Rattle.sqlite.specs.Order.{Row, column}
+use Rattle.sqlite.specs.Effect.{Database}
+use Rattle.sqlite.specs.State.{HasCleanDisk, State, Survives}
+use Rattle.sqlite.specs.declared.types.Value.TheVariants.{Int, Text as Words, Blob as Bytes}
+use Rattle.desk_core.specs.Head.{Revision}
+use Rattle.desk_core.specs.History.{revisions_of}
+use Rattle.desk_core.specs.Views.{Kept}
+use Rattle.desk_store.specs.Desk.{IsDesk, Stands, Stays, revision_at, stored_of}
+use Rattle.desk_store.specs.History.{Holds, row_of}
+use Rattle.desk_store.specs.Rows.{AreListed, Finds, IsListed, IsRowOf, Lists, Says}
+use Rattle.desk_store.specs.Tables.{IsAtRest, rows_of}
+use Rattle.desk_store.specs.declared.error.DeskError.{DeskError}
+use Rattle.desk_store.specs.declared.desk.Revision.{Revision as Found}
+use Rattle.desk_store.proofs.OneHistory.{AreNumbered, default, from_filter, from_map, in_filter, in_map, rev_at, same_lists, shift}
+
+-- the only one that passes is found
+find_only : {X : Type 0} (p : X → Bool) (xs : List X) (r : X) → Contains xs r → p r ≡ true → ((x : X) → Contains xs x → p x ≡ true → x ≡ r) → find p xs ≡ Some r
+find_only p [] r (k, below, is) own only = absurd (omega arith)
+find_only p (x ∷ xs) r h own only =
+    let rest : Contains xs r → find p xs ≡ Some r = λ more. find_only p xs r more own (λ y there passes. only y (shift x xs y there) passes) in
+    elim (cases_Bool (p x)) [
+      | inl passes ↦ ap (λ b. cond b (Some x) (find p xs)) passes ∙ ap Some (only x (0, omega arith, refl) passes)
+      | inr fails ↦ ap (λ b. cond b (Some x) (find p xs)) fails ∙ rest (behind fails h)
+    ]
+  where
+    behind : p x ≡ false → Contains (x ∷ xs) r → Contains xs r
+    behind fails (zero, below, is) = absurd (let e : p r ≡ false = ap p (sym is) ∙ fails in cc)
+    behind fails (suc k, below, is) = (k, omega arith, is)
+
+find_none : {X : Type 0} (p : X → Bool) (xs : List X) → ((x : X) → Contains xs x → p x ≡ true → ⊥) → find p xs ≡ None
+find_none p [] fails = refl
+find_none p (x ∷ xs) fails =
+    let rest : find p xs ≡ None = find_none p xs (λ y there passes. fails y (shift x xs y there) passes) in
+    elim (cases_Bool (p x)) [
+      | inl passes ↦ absurd (fails x (0, omega arith, refl) passes)
+      | inr other ↦ ap (λ b. cond b (Some x) (find p xs)) other ∙ rest
+    ]
+
+-- of numbered revisions two with one number are one
+one_number : (xs : List Revision) (a b : Revision) → AreNumbered xs → Contains xs a → Contains xs b → a.rev ≡ b.rev → a ≡ b
+one_number xs a b numbered (i, at_i, is_i) (j, at_j, is_j) same =
+    let first : a.rev ≡ 1 + i = ap (λ (r : Revision). r.rev) (sym is_i) ∙ rev_at xs i a numbered at_i in
+    let second : b.rev ≡ 1 + j = ap (λ (r : Revision). r.rev) (sym is_j) ∙ rev_at xs j b numbered at_j in
+    let place : i ≡ j = omega (arith, first, second, same) in
+    sym is_i ∙ ap (λ k. get_or xs k a) place ∙ default xs j a b at_j ∙ is_j
+
+some : (xs : List Revision) (n : ℕ) → n < length xs → Revision
+some [] n below = absurd (omega arith)
+some (x ∷ xs) n below = x
+
+at_most : {X Y : Type 0} (xs : List X) (ys : List Y) → ((k : ℕ) (d : X) → k < length xs → k < length ys) → length xs ≤ length ys
+at_most [] ys h = omega arith
+at_most (x ∷ xs) ys h =
+    let last : length (x ∷ xs) - 1 < length ys = h (length (x ∷ xs) - 1) x (omega arith) in
+    omega (arith, last)
+
+listed_length : (xs : List Revision) → length {A = ℕ × List ℕ} (map (λ (r : Revision). (r.rev, r.author)) xs) ≡ length xs
+listed_length [] = refl
+listed_length (x ∷ xs) = ap suc (listed_length xs)
+
+mapped : (xs : List Revision) (k : ℕ) (d : ℕ × List ℕ) → k < length xs → (listed : ℕ × List ℕ) → ((e : Revision) → listed ≡ ((get_or xs k e).rev, (get_or xs k e).author)) → listed ≡ get_or (map (λ (r : Revision). (r.rev, r.author)) xs) k d
+mapped [] k d below listed h = absurd (omega arith)
+mapped (x ∷ xs) zero d below listed h = h x
+mapped (x ∷ xs) (suc k) d below listed h = mapped xs k d (omega arith) listed h
+
+module _ (db : Database) (history : List Revision) (rows : List Row) (holds : Holds db history) (same : IsPermutation (rows_of db (codes "file_rev")) rows) (file : List ℕ) (rev : ℕ) where
+  row_there : (r : Revision) → Contains history r → Contains rows (row_of r)
+  row_there r h = Contains-permutation (rows_of db (codes "file_rev")) rows (row_of r) same (Contains-permutation (map row_of history) _ (row_of r) holds.rows (in_map row_of history r h))
+
+  revision_there : (row : Row) → Contains rows row → (r : Revision) × Contains history r × (row_of r ≡ row)
+  revision_there row h = from_map row_of history row (Contains-permutation (rows_of db (codes "file_rev")) (map row_of history) row (IsPermutation-sym (map row_of history) _ holds.rows) (Contains-permutation rows _ row (IsPermutation-sym _ rows same) h))
+
+  found_some : (row : Row) (found : Found) → Contains rows row → IsRowOf file rev row → Says row found → Some found ≡ stored_of (revision_at history file rev)
+  found_some row found there is says =
+      let it = revision_there row there in
+      let r : Revision = it.0 in
+      let name : Words r.file ≡ Words file = ap (λ x. column x 0) it.2 ∙ is.0 in
+      let number : Int (pos r.rev) ≡ Int (pos rev) = ap (λ x. column x 1) it.2 ∙ is.1 in
+      let author : Words r.author ≡ Words found.author = ap (λ x. column x 2) it.2 ∙ says.0 in
+      let body : Bytes r.body ≡ Bytes found.body = ap (λ x. column x 4) it.2 ∙ says.1 in
+      let f : r.file ≡ file = cc in
+      let n : r.rev ≡ rev = cc in
+      let a : r.author ≡ found.author = cc in
+      let b : r.body ≡ found.body = cc in
+      let own : bytes_eq r.file file ≡ true = (bytes_eq-Decides r.file file).1 f in
+      let kept : Contains (revisions_of file history) r = in_filter (λ (x : Revision). bytes_eq x.file file) history r it.1 own in
+      let at : revision_at history file rev ≡ Some r =
+      find_only (λ (x : Revision). x.rev == rev) (revisions_of file history) r kept (eq-eqb r.rev rev n)
+      (λ x h passes. one_number (revisions_of file history) x r (holds.numbered file) h kept (eqb-true x.rev rev passes ∙ sym n)) in
+      let make : List ℕ → List ℕ → Option Found = λ author body. Some (record { author = author; body = body }) in
+      ap (λ x. make x found.body) (sym a) ∙ ap (λ x. make r.author x) (sym b) ∙ ap stored_of (sym at)
+
+  found_none : All (λ row. IsRowOf file rev row → ⊥) rows → None ≡ stored_of (revision_at history file rev)
+  found_none none =
+      let at : revision_at history file rev ≡ None =
+      find_none (λ (x : Revision). x.rev == rev) (revisions_of file history) (λ x h passes.
+      let from = from_filter (λ (y : Revision). bytes_eq y.file file) history x h in
+      let row = row_there x from.0 in
+      let fails : IsRowOf file rev (row_of x) → ⊥ = subst (λ (y : Row). IsRowOf file rev y → ⊥) row.2 (none row.0 (row_of x) row.1) in
+      fails (ap Words ((bytes_eq-Decides x.file file).0 from.1), ap (λ n. Int (pos n)) (eqb-true x.rev rev passes))) in
+      ap stored_of (sym at)
+
+  pub found_is : (found : Option Found) → Finds rows file rev found → found ≡ stored_of (revision_at history file rev)
+  found_is None h = found_none h
+  found_is (Some found) h = found_some h.0 found h.1 h.2 h.3
+
+  pub found_if : (result : Result (Option Found) DeskError) → IfOk result (Finds rows file rev) → IfOk result (λ found. found ≡ stored_of (revision_at history file rev))
+  found_if (Ok found) h = found_is found h
+  found_if (Err e) h = tt
+
+  -- the listed revision is that of this number
+  at_number : (k : ℕ) (listed : ℕ × List ℕ) → IsListed rows file (k + 1) listed
+      → (k < length (revisions_of file history)) × ((d : Revision) → listed ≡ ((get_or (revisions_of file history) k d).rev, (get_or (revisions_of file history) k d).author))
+  at_number k listed h =
+      let row = h.1.0 in
+      let it = revision_there row h.1.1 in
+      let r : Revision = it.0 in
+      let name : Words r.file ≡ Words file = ap (λ x. column x 0) it.2 ∙ h.1.2.0 in
+      let number : Int (pos r.rev) ≡ Int (pos (k + 1)) = ap (λ x. column x 1) it.2 ∙ h.1.2.1 in
+      let author : Words r.author ≡ Words listed.1 = ap (λ x. column x 2) it.2 ∙ h.1.3 in
+      let f : r.file ≡ file = cc in
+      let n : r.rev ≡ k + 1 = cc in
+      let a : r.author ≡ listed.1 = cc in
+      let kept : Contains (revisions_of file history) r = in_filter (λ (x : Revision). bytes_eq x.file file) history r it.1 ((bytes_eq-Decides r.file file).1 f) in
+      let at : r.rev ≡ 1 + kept.0 = ap (λ (x : Revision). x.rev) (sym kept.2) ∙ rev_at (revisions_of file history) kept.0 r (holds.numbered file) kept.1 in
+      let place : kept.0 ≡ k = omega (arith, at, n) in
+      let below : k < length (revisions_of file history) = omega (arith, place, kept.1) in
+      let pair : ℕ → List ℕ → ℕ × List ℕ = λ rev author. (rev, author) in (
+        below,
+        λ d.
+            let same : r ≡ get_or (revisions_of file history) k d = sym kept.2 ∙ ap (λ i. get_or (revisions_of file history) i r) place ∙ default (revisions_of file history) k r d below in
+            ap (λ x. pair x listed.1) (h.0 ∙ sym n) ∙ ap (λ x. pair r.rev x) (sym a) ∙ ap (λ (x : Revision). pair x.rev x.author) same,
+      )
+
+  no_further : (n : ℕ) → All (λ row. IsRowOf file (n + 1) row → ⊥) rows → n < length (revisions_of file history) → ⊥
+  no_further n none below =
+      let xs = revisions_of file history in
+      let d : Revision = some xs n below in
+      let r : Revision = get_or xs n d in
+      let here : Contains xs r = (n, below, default xs n r d below) in
+      let from = from_filter (λ (y : Revision). bytes_eq y.file file) history r here in
+      let row = row_there r from.0 in
+      let count : r.rev ≡ 1 + n = rev_at xs n d (holds.numbered file) below in
+      let number : r.rev ≡ n + 1 = omega (arith, count) in
+      let fails : IsRowOf file (n + 1) (row_of r) → ⊥ = subst (λ (y : Row). IsRowOf file (n + 1) y → ⊥) row.2 (none row.0 (row_of r) row.1) in
+      fails (ap Words ((bytes_eq-Decides r.file file).0 from.1), ap (λ k. Int (pos k)) number)
+
+  listed_is : (listed : List (ℕ × List ℕ)) → Lists rows file listed → listed ≡ map (λ (r : Revision). (r.rev, r.author)) (revisions_of file history)
+  listed_is listed h =
+      let xs = revisions_of file history in
+      let up : length listed ≤ length xs = at_most listed xs (λ k d below. (at_number k (get_or listed k d) (h.0 k d below)).0) in
+      let down : length xs ≤ length listed = elim (cases_lt (length listed) (length xs)) [ inl less ↦ absurd (no_further (length listed) h.1 less) | inr le ↦ le ] in
+      same_lists listed (map (λ (r : Revision). (r.rev, r.author)) xs) (omega (arith, up, down, listed_length xs))
+      (λ k d below. mapped xs k d (omega (arith, below, up)) (get_or listed k d) (at_number k (get_or listed k d) (h.0 k d below)).1)
+
+  pub listed_if : (result : Result (List (ℕ × List ℕ)) DeskError) → IfOk result (Lists rows file) → IfOk result (λ found. found ≡ map (λ (r : Revision). (r.rev, r.author)) (revisions_of file history))
+  listed_if (Ok found) h = listed_is found h
+  listed_if (Err e) h = tt
+
+at_front : {X : Type 0} (xs : List X) (x : X) (k : ℕ) (d : X) → k < length xs → get_or (xs ++ x ∷ []) k d ≡ get_or xs k d
+at_front [] x k d below = absurd (omega arith)
+at_front (y ∷ xs) x zero d below = refl
+at_front (y ∷ xs) x (suc k) d below = at_front xs x k d (omega arith)
+
+at_back : {X : Type 0} (xs : List X) (x d : X) → get_or (xs ++ x ∷ []) (length xs) d ≡ x
+at_back [] x d = refl
+at_back (y ∷ xs) x d = at_back xs x d
+
+pub on_ok : {A E : Type 0} (r : Result A E) (P : Type 0) → is_err r ≡ false → OnOk r P → P
+on_ok (Ok x) P ok h = h
+on_ok (Err e) P ok h = absurd (cc)
+
+-- one more that is listed
+pub listed_more : (rows : List Row) (file : List ℕ) (xs : List (ℕ × List ℕ)) (x : ℕ × List ℕ) (rev : ℕ) → AreListed rows file xs → length xs + 1 ≡ rev → IsListed rows file rev x
+    → AreListed rows file (xs ++ x ∷ []) × (length (xs ++ x ∷ []) + 1 ≡ rev + 1)
+listed_more rows file xs x rev all count one =
+    let n : length (xs ++ x ∷ []) ≡ length xs + 1 = length-append xs (x ∷ []) in (
+      λ k d below. elim (cases_lt k (length xs)) [
+        | inl less ↦ subst (IsListed rows file (k + 1)) (sym (at_front xs x k d less)) (all k d less)
+        | inr more ↦
+            let last : k ≡ length xs = omega (arith, below, n, more) in
+            let number : rev ≡ k + 1 = omega (arith, count, last) in
+            let here : get_or (xs ++ x ∷ []) k d ≡ x = ap (λ i. get_or (xs ++ x ∷ []) i d) last ∙ at_back xs x d in
+            subst (IsListed rows file (k + 1)) (sym here) (subst (λ r. IsListed rows file r x) number one)
+      ],
+      omega (arith, n, count),
+    )
+
+-- a look that commits nothing leaves a desk as it was
+module _ {V : Type 0} (old new : State) (kept : Kept V) (opened : HasCleanDisk new → IsTrue new.is_open → IsTrue old.is_open) (same : HasCleanDisk new → IsTrue new.is_open → new.committed ≡ old.committed) (crash : Survives old new (λ _. ⊥)) where
+  pub stands_still : HasCleanDisk new → (history pending : List Revision) → Stands old kept history pending → Stands new kept history pending
+  stands_still clean history pending stands = record {
+    stored = stands.stored;
+    heads = stands.heads;
+    tables = λ live. subst (λ (db : Database). Holds db history) (sym (same clean live)) (stands.tables (opened clean live));
+    leaves = λ trees may. elim (crash.crash clean trees may) [ inl as_before ↦ stands.leaves trees as_before | inr never ↦ absurd never ];
+  }
+
+  pub stays_still : Stays old new kept kept
+  stays_still = record { state = refl; disk = crash.clean; stands = stands_still }
+
+  pub desk_still : (HasCleanDisk old → IsDesk old kept) → (HasCleanDisk new → IsAtRest new) → HasCleanDisk new → IsDesk new kept
+  desk_still desk rest clean =
+      let start : HasCleanDisk old = omega (arith, clean, crash.clean) in
+      let d = desk start in
+      record { rest = rest clean; history = d.history; pending = d.pending; stands = stands_still clean d.history d.pending d.stands }

@@ -1,0 +1,14 @@
+pub mod InsertText
+pub mod InsertEffect
+pub mod Inserting
+pub mod SelectText
+pub mod Reading
+pub mod CreateText
+pub mod CreateEffect
+pub mod HistoryStep
+pub mod EditRuns
+pub mod SiteHistories
+pub mod EditStep
+pub mod OneHistory
+pub mod FoundRows
+pub mod TreesApart

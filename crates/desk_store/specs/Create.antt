@@ -1,0 +1,120 @@
+-- What making a database promises. (this project's own)
+use Rattle.std.specs.Prelude.{◌≡◌, ◌⊎◌, ℕ, Bool, true, false, List, [], ◌∷◌, ◌++◌, Option, Some, None, Result, Ok, Err, IsTrue, codes, find, is_some, length, map, nat_lt, if◌then◌else◌, ◌||◌}
+use Rattle.std.specs.List.{AllByRecursion}
+use Rattle.std.specs.Option.{option_map}
+use Rattle.std.specs.Result.{result_unwrap_or}
+use Rattle.std.specs.Str.{bytes_eq}
+use Rattle.sqlite_trees.specs.declared.store.Store.{Ghosts}
+use Rattle.sqlite.specs.Held.{Held, state}
+use Rattle.sqlite.specs.State.{HasCleanDisk, State, Survives}
+use Rattle.sqlite.specs.Effect.{Database, SparesFrozen}
+use Rattle.sqlite.specs.Schema.{Schema}
+use Rattle.sqlite.specs.Table.{Table}
+use Rattle.sqlite.specs.Tree.{Trees}
+use Rattle.desk_text.specs.Path.{path_text}
+use Rattle.desk_tables.specs.FileSystemsText.{read_filesystems}
+use Rattle.desk_tables.specs.declared.filesystems.Mount.{Mount}
+use Rattle.desk_policy.specs.Site.{SiteTexts}
+use Rattle.desk_policy.specs.SiteFault.{exports_name}
+use Rattle.desk_policy.specs.View.{HasFault}
+use Rattle.desk_policy.specs.declared.site_fault.SiteFault.{SiteFault}
+use Rattle.desk_core.specs.Head.{Revision}
+use Rattle.desk_core.specs.Judging.{is_of_seven, longest_edit}
+use Rattle.desk_store.specs.Desk.{LeavesTables, Shown, Stands}
+use Rattle.desk_store.specs.History.{Holds}
+use Rattle.desk_store.specs.Tables.{LeavesCommit, table_in}
+use Rattle.desk_store.specs.declared.error.CreateError.{CreateError}
+use Rattle.desk_store.specs.declared.error.CreateError.TheVariants as refused
+
+-- one of the two tables is there
+abbrev pub has_one : Schema → Bool
+has_one schema = is_some (table_in schema (codes "meta")) || is_some (table_in schema (codes "file_rev"))
+
+-- the first of these files whose text is too long
+abbrev pub first_long : (List ℕ → List ℕ) → List (List ℕ) → Option (List ℕ)
+first_long text files = find (λ file. nat_lt longest_edit (length (text file))) files
+
+-- of each of the seven files its text
+abbrev pub text_of_seven : SiteTexts → List ℕ → List ℕ
+text_of_seven t file =
+    if bytes_eq file (codes "custodians") then t.custodians
+    else (if bytes_eq file (codes "filesystems") then t.filesystems
+    else (if bytes_eq file (codes "hosts") then t.hosts
+    else (if bytes_eq file (codes "networks") then t.networks
+    else (if bytes_eq file (codes "passwd") then t.passwd
+    else (if bytes_eq file (codes "group") then t.group
+    else t.netgroup)))))
+
+-- the order in which the texts of the seven files are read
+abbrev pub in_order : List (List ℕ)
+in_order =
+    codes "custodians" ∷ codes "filesystems" ∷ codes "hosts" ∷ codes "networks" ∷ codes "passwd" ∷ codes "group" ∷ codes "netgroup" ∷ []
+
+abbrev pub mounts_of : SiteTexts → List Mount
+mounts_of texts = result_unwrap_or (read_filesystems texts.filesystems) []
+
+-- the first listed mount point whose exports text is too long
+abbrev pub first_long_exports : SiteTexts → Option (List ℕ)
+first_long_exports texts =
+    option_map (λ mount. exports_name mount.path) (find (λ mount. nat_lt longest_edit (length (texts.exports (path_text mount.path)))) (mounts_of texts))
+
+-- the fault is one of the seven files
+abbrev pub IsFaultOfSeven : SiteTexts → SiteFault → Type 0
+IsFaultOfSeven texts fault = HasFault texts fault × (is_of_seven fault.file ≡ true)
+
+-- What making a database is refused for, in this order: one of the tables is there; a text of the seven is too long; the
+-- fault of one of the seven; a listed exports text is too long; another fault. Store and Memory may stand in place of any.
+abbrev pub RefusesToCreate : Schema → SiteTexts → CreateError → Type 0
+RefusesToCreate schema texts refused.Schema = has_one schema ≡ true
+RefusesToCreate schema texts (refused.TooLarge file) =
+    (has_one schema ≡ false)
+    × ((first_long (text_of_seven texts) in_order ≡ Some file)
+    ⊎ ((first_long (text_of_seven texts) in_order ≡ None) × ((fault : SiteFault) → IsFaultOfSeven texts fault → ⊥) × (first_long_exports texts ≡ Some file)))
+RefusesToCreate schema texts (refused.Fault fault) =
+    (has_one schema ≡ false) × (first_long (text_of_seven texts) in_order ≡ None) × HasFault texts fault
+    × ((is_of_seven fault.file ≡ true) ⊎ (first_long_exports texts ≡ None))
+RefusesToCreate schema texts (refused.Store fault) = Unit {0}
+RefusesToCreate schema texts refused.Memory = Unit {0}
+
+abbrev pub first_revision : List ℕ → List ℕ → Revision
+first_revision file text = record { file = file; rev = 1; author = codes "site"; body = text }
+
+-- revision 1 of the seven files and of each listed exports file, by `site`
+abbrev pub first_history : SiteTexts → List Revision
+first_history texts =
+    map (λ file. first_revision file (text_of_seven texts file)) in_order
+    ++ map (λ mount. first_revision (exports_name mount.path) (texts.exports (path_text mount.path))) (mounts_of texts)
+
+-- a database that holds this history; each table that was listed is listed yet, and as it was, and so is all that SQL here
+-- does not understand
+pub record Makes (history : List Revision) (old after : Database) : Type 0 where
+  pub holds : Holds after history
+  pub listed : (name : List ℕ) (table : Table) → table_in old.schema name ≡ Some table → table_in after.schema name ≡ Some table
+  pub others : AllByRecursion (λ t. after.trees t.tree ≡ old.trees t.tree) old.schema.tables
+  pub frozen : SparesFrozen old after
+
+-- the trees are those of such a database
+abbrev pub MakesTables : List Revision → Database → Trees → Type 0
+MakesTables history old trees = (after : Database) × Makes history old after × (trees ≡ after.trees)
+
+-- made: the desk stands at revision 1 of each file, by `site`, in one commit
+abbrev pub IfCreated : {S V : Type 0} (g : Ghosts S) → State → SiteTexts → Result (Shown S V) (CreateError × Held S) → Type 0
+IfCreated g old texts (Ok desk) =
+    Survives old (state g desk.conn) (MakesTables (first_history texts) old.committed)
+    × (HasCleanDisk (state g desk.conn) → Stands (state g desk.conn) desk.state (first_history texts) [] × LeavesCommit (state g desk.conn))
+IfCreated g old texts (Err both) = Unit {0}
+
+-- not made: the first reason in the order is named; only Store and Memory may come after the one commit was begun
+abbrev pub SurvivesRefusal : State → State → SiteTexts → CreateError → Type 0
+SurvivesRefusal old new texts (refused.Store fault) = Survives old new (MakesTables (first_history texts) old.committed)
+SurvivesRefusal old new texts refused.Memory = Survives old new (MakesTables (first_history texts) old.committed)
+SurvivesRefusal old new texts refused.Schema = LeavesTables old new
+SurvivesRefusal old new texts (refused.Fault fault) = LeavesTables old new
+SurvivesRefusal old new texts (refused.TooLarge file) = LeavesTables old new
+
+abbrev pub IfNotCreated : {S V : Type 0} (g : Ghosts S) → State → SiteTexts → Result (Shown S V) (CreateError × Held S) → Type 0
+IfNotCreated g old texts (Ok desk) = Unit {0}
+IfNotCreated g old texts (Err both) =
+    SurvivesRefusal old (state g both.1) texts both.0
+    × (HasCleanDisk (state g both.1) → RefusesToCreate old.committed.schema texts both.0)
+    × (HasCleanDisk (state g both.1) → IsTrue (state g both.1).is_open → (state g both.1).committed ≡ old.committed)

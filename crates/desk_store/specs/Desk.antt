@@ -1,0 +1,154 @@
+-- What a desk shows, how it stands to a history, and what its calls promise. (this project's own)
+use Rattle.std.specs.Prelude.{◌≡◌, ◌≢◌, ◌⊎◌, ℕ, ◌+◌, ◌≤◌, ◌++◌, ◌==◌, List, [], ◌∷◌, Option, Some, None, Result, Ok, Err, All, Contains, IfOk, IsTrue, find, length, if◌then◌else◌, refl}
+use Rattle.std.specs.Option.{option_map}
+use Rattle.std.specs.Str.{IsUtf8}
+use Rattle.std.specs.Coded.{Coded, code_by, coded×}
+use Rattle.sqlite_trees.specs.declared.store.Store.{Ghosts}
+use Rattle.sqlite_trees.specs.View.{doubt}
+use Rattle.sqlite.specs.Held.{Held, held_code, state}
+use Rattle.sqlite.specs.State.{HasCleanDisk, State, Survives}
+use Rattle.sqlite.specs.Effect.{Database}
+use Rattle.sqlite.specs.Tree.{Trees}
+use Rattle.desk_policy.specs.Policy.{Content}
+use Rattle.desk_core.specs.Edit.{Already, Answer, Edit, Refused, Stored, revision_of}
+use Rattle.desk_core.specs.Head.{Revision, last_revision, newest_in, put}
+use Rattle.desk_core.specs.History.{IsAnswered, IsHistory, added_if, newest_of, revisions_of}
+use Rattle.desk_core.specs.Judging.{Answers, IsFileName, first_case, longest_edit, seven}
+use Rattle.desk_core.specs.Site.{IsConsistent, site_in}
+use Rattle.desk_core.specs.State.{IsJudged}
+use Rattle.desk_core.specs.Views.{Kept, Ready, kept_code}
+use Rattle.desk_store.specs.Tables.{AddsTo, IsAtRest, LeavesCommit}
+use Rattle.desk_store.specs.History.{Holds, row_of}
+use Rattle.desk_store.specs.declared.desk.Done.{Done}
+use Rattle.desk_store.specs.declared.desk.Revision.{Revision as Found}
+use Rattle.desk_store.specs.declared.error.DeskError.{DeskError}
+use Rattle.desk_store.specs.declared.error.DeskError.TheVariants as error
+
+-- a desk as its callers see it: its connection, and the state that it keeps beside the tables
+pub record Shown (S V : Type 0) : Type 0 where
+  pub conn : Held S
+  pub state : Kept V
+
+abbrev pub shown_code : {S V : Type 0} → Coded S → Coded V → Coded (Shown S V)
+shown_code {S} {V} store view =
+    code_by (Held S × Kept V) (coded× (held_code store) (kept_code view)) (λ d. (d.conn, d.state)) (λ p. record { conn = p.0; state = p.1 }) (λ _. refl)
+
+-- revisions of files, in the order in which they were stored
+abbrev pub History : Type 0
+History = List Revision
+
+-- a revision that a database of this project may hold
+pub record IsStorable (r : Revision) : Type 0 where
+  pub name : IsFileName r.file
+  pub rev : r.rev ≤ last_revision
+  pub text : IsUtf8 r.body
+  pub short : length r.body ≤ longest_edit
+
+-- the history of a site, as a database of this project may hold it: each of the seven files has a revision, and the site is
+-- consistent
+pub record IsSiteHistory (history : List Revision) : Type 0 where
+  pub numbered : IsHistory history
+  pub each : All IsStorable history
+  pub complete : All (λ file. revisions_of file history ≢ []) seven
+  pub consistent : IsConsistent (site_in (newest_of history))
+
+-- what a crash may leave: the history, or it and one of the revisions whose edits had no answer since the last one stored;
+-- a desk can be opened on either
+abbrev pub LeavesHistory : (Trees → Type 0) → List Revision → List Revision → Type 0
+LeavesHistory may_leave history pending =
+    (trees : Trees) → may_leave trees → (db : Database) × (trees ≡ db.trees)
+    × (Holds db history ⊎ ((r : Revision) × Contains pending r × Holds db (history ++ r ∷ []) × IsSiteHistory (history ++ r ∷ [])))
+
+-- A desk stands at a history: its heads are the newest revisions; its tables hold the history while the connection is open;
+-- and whatever a crash leaves holds it, and at most one of the pending revisions more.
+pub record Stands {V : Type 0} (s : State) (state : Kept V) (history pending : List Revision) : Type 0 where
+  pub stored : IsSiteHistory history
+  pub heads : newest_in state.heads ≡ newest_of history
+  pub tables : IsTrue s.is_open → Holds s.committed history
+  pub leaves : LeavesHistory s.may_leave history pending
+
+-- what a desk keeps true while nothing else has written its files
+pub record IsDesk {V : Type 0} (s : State) (state : Kept V) : Type 0 where
+  pub rest : IsAtRest s
+  pub history : List Revision
+  pub pending : List Revision
+  pub stands : Stands s state history pending
+
+-- The desk is as it was: its state, and whatever it stood at; no fault of the disk is forgotten.
+pub record Stays {V : Type 0} (old new : State) (before after : Kept V) : Type 0 where
+  pub state : after ≡ before
+  pub disk : doubt old.is_clean ≤ doubt new.is_clean
+  pub stands : HasCleanDisk new → (history pending : List Revision) → Stands old before history pending → Stands new after history pending
+
+-- the answer that a result tells; want of memory and a refused statement are none
+abbrev pub told : Result Done DeskError → Option Answer
+told (Ok done) = Some (if done.already then Already done.rev else Stored done.rev)
+told (Err (error.Refused refusal)) = Some (Refused refusal)
+told (Err (error.Store fault)) = None
+told (Err error.Schema) = None
+told (Err error.Memory) = None
+
+-- the revisions that a crash may still bring to light after an edit
+abbrev pub pending_after : List Revision → Edit → Option Answer → List Revision
+pending_after pending e None = pending ++ revision_of e ∷ []
+pending_after pending e (Some (Stored number)) = []
+pending_after pending e (Some (Already number)) = pending
+pending_after pending e (Some (Refused refusal)) = pending
+
+-- The one commit of an edit: its row, where it was answered as stored; the same row may be there without an answer, if it
+-- could take effect; a repeat and a refused edit commit nothing.
+abbrev pub CommitsOne : {V : Type 0} → Kept V → Edit → Option Answer → Database → Trees → Type 0
+CommitsOne state e (Some (Stored number)) old trees = AddsTo (row_of (revision_of e)) old trees
+CommitsOne state e (Some (Already number)) old trees = ⊥
+CommitsOne state e (Some (Refused refusal)) old trees = ⊥
+CommitsOne state e None old trees =
+    (first_case (newest_in state.heads) e ≡ None) × IsConsistent (site_in (put (newest_in state.heads) (revision_of e)))
+    × AddsTo (row_of (revision_of e)) old trees
+
+-- an edit is answered by the history at which the desk stands, and the desk then stands at the history after it
+pub record StepsOn {V : Type 0} (old new : State) (before after : Kept V) (e : Edit) (answer : Option Answer) (history pending : List Revision) : Type 0 where
+  pub answered : IsAnswered history e answer
+  pub stands : Stands new after (history ++ added_if e answer) (pending_after pending e answer)
+
+-- a state has accepted an edit, as it is: the edit is answered as stored, and what was judged brings its revision
+pub record IsAccepted {V : Type 0} (in_force : V → Content) (state : Kept V) (e : Edit) (ready : Ready V) : Type 0 where
+  pub answers : Answers (newest_in state.heads) e (Stored (e.base + 1))
+  pub head : ready.head ≡ revision_of e
+  pub judged : IsJudged in_force state ready
+
+-- what an edit did to a desk, all together (each part is a clause of `edit`)
+pub record IsEdited {V : Type 0} (old new : State) (before after : Kept V) (e : Edit) (result : Result Done DeskError) : Type 0 where
+  pub number : IfOk result (λ done. done.rev ≡ e.base + 1)
+  pub step : HasCleanDisk new → (history pending : History) → Stands old before history pending → StepsOn old new before after e (told result) history pending
+  pub unanswered : told result ≡ None → first_case (newest_in before.heads) e ≡ None
+  pub unchanged : added_if e (told result) ≡ [] → after ≡ before
+  pub tables : HasCleanDisk new → IsTrue new.is_open → added_if e (told result) ≡ [] → new.committed ≡ old.committed
+  pub schema : result ≢ Err error.Schema
+  pub crash : Survives old new (CommitsOne before e (told result) old.committed)
+  pub durable : HasCleanDisk new → added_if e (told result) ≢ [] → LeavesCommit new
+
+-- the revision of a file with this number
+abbrev pub revision_at : List Revision → List ℕ → ℕ → Option Revision
+revision_at history file rev = find (λ r. r.rev == rev) (revisions_of file history)
+
+-- a revision as it is handed out
+abbrev pub stored_of : Option Revision → Option Found
+stored_of found = option_map (λ r. record { author = r.author; body = r.body }) found
+
+-- the tables are as before, and a crash leaves what it could before
+pub record LeavesTables (old new : State) : Type 0 where
+  pub same : HasCleanDisk new → IsTrue new.is_open → new.committed ≡ old.committed
+  pub crash : Survives old new (λ _. ⊥)
+
+-- The words of a desk for the layers above, which know nothing of tables.
+module _ {S V : Type 0} (g : Ghosts S) where
+  -- nothing else has written its files, and the disk has returned what was written
+  abbrev pub HasGoodDisk : Shown S V → Type 0
+  HasGoodDisk d = HasCleanDisk (state g d.conn)
+
+  abbrev pub StandsAt : Shown S V → History → History → Type 0
+  StandsAt d history pending = Stands (state g d.conn) d.state history pending
+
+  -- a desk after a call that changes nothing
+  abbrev pub StaysAsItWas : Shown S V → Shown S V → Type 0
+  StaysAsItWas old new = Stays (state g old.conn) (state g new.conn) old.state new.state

@@ -1,0 +1,55 @@
+-- What the definitions of desks come to. (this project's own)
+use Rattle.std.specs.Prelude.{◌≡◌, ◌+◌, ◌≤◌, ◌++◌, ℕ, List, [], ◌∷◌, Some, codes, map}
+use Rattle.std.specs.Str.{IsUtf8}
+use Rattle.sqlite_trees.specs.declared.store.Store.{Ghosts}
+use Rattle.sqlite_trees.specs.Objects.{catalog_tree}
+use Rattle.sqlite_trees.specs.View.{doubt}
+use Rattle.sqlite.specs.Held.{state}
+use Rattle.sqlite.specs.State.{HasCleanDisk, State}
+use Rattle.sqlite.specs.Effect.{Database, IsDatabase}
+use Rattle.sqlite.specs.Tree.{IsTable}
+use Rattle.desk_core.specs.Edit.{Edit, Stored, revision_of}
+use Rattle.desk_core.specs.Head.{CanBeKept, Revision}
+use Rattle.desk_core.specs.History.{Exchange, Run, added, newest_of, revisions_of}
+use Rattle.desk_core.specs.Judging.{Answers}
+use Rattle.desk_core.specs.Views.{Kept}
+use Rattle.desk_store.specs.Desk.{History, IsSiteHistory, Shown, Stands, StepsOn}
+use Rattle.desk_store.specs.History.{Holds}
+use Rattle.desk_store.specs.Tables.{HasTables, file_rev_table, meta_table, table_in}
+
+-- The same tables hold one history, file by file: so it does not matter in which order their rows are read.
+abbrev pub OneHistory : Type 0
+OneHistory = (db : Database) (history other : List Revision) → Holds db history → Holds db other → (file : List ℕ) → revisions_of file history ≡ revisions_of file other
+
+-- In a sound database whose list of objects rises, the two tables that are declared as ours are our tables: each is the only
+-- one with its tree, and the trees are low and differ.
+abbrev pub DeclaredTablesAreOurs : Type 0
+DeclaredTablesAreOurs =
+    (db : Database) (meta_tree tree : ℕ) → IsDatabase db → IsTable (db.trees catalog_tree)
+    → table_in db.schema (codes "meta") ≡ Some (meta_table meta_tree) → table_in db.schema (codes "file_rev") ≡ Some (file_rev_table tree) → HasTables db.schema
+
+-- The history of a site with the revision of an edit that is answered as stored is the history of a site.
+abbrev pub StoredEditsKeepSiteHistories : Type 0
+StoredEditsKeepSiteHistories =
+    (history : List Revision) (e : Edit) → IsSiteHistory history → Answers (newest_of history) e (Stored (e.base + 1)) → CanBeKept (revision_of e) → IsUtf8 e.text
+    → IsSiteHistory (history ++ revision_of e ∷ [])
+
+-- A desk after an edit: no fault of its disk is forgotten, and where the disk is good it has stepped on, wherever it stood.
+abbrev pub EditedOnce : {V : Type 0} → State → Kept V → Exchange → State → Kept V → Type 0
+EditedOnce old before x new after =
+    (doubt old.is_clean ≤ doubt new.is_clean)
+    × (HasCleanDisk new → (history pending : History) → Stands old before history pending → StepsOn old new before after x.edit x.answer history pending)
+
+-- a desk after edits, one after another
+abbrev pub EditedBy : {S V : Type 0} → Ghosts S → Shown S V → List (Exchange × Shown S V) → Shown S V → Type 0
+EditedBy g old [] new = new ≡ old
+EditedBy g old (call ∷ calls) new =
+    EditedOnce (state g old.conn) old.state call.0 (state g call.1.conn) call.1.state × EditedBy g call.1 calls new
+
+-- After any edits on a good disk the answers are a run of the histories, and the desk stands at the run's last history.
+abbrev pub EditsAreARun : (S V : Type 0) → Ghosts S → Type 0
+EditsAreARun S V g =
+    (old new : Shown S V) (calls : List (Exchange × Shown S V)) (history pending : History)
+    → EditedBy g old calls new → HasCleanDisk (state g new.conn) → Stands (state g old.conn) old.state history pending
+    → Run history (map (λ call. call.0) calls) (history ++ added (map (λ call. call.0) calls))
+    × ((left : History) × Stands (state g new.conn) new.state (history ++ added (map (λ call. call.0) calls)) left)

@@ -1,0 +1,175 @@
+//! A desk: a connection to a database, and the state that its tables stand for.
+
+ghost use Rattle.std.specs.Prelude.{◌≡◌, ◌≢◌, ◌+◌, [], Err, IfErr, IfOk, IsTrue, None, map, option_copied};
+ghost use Rattle.sqlite.specs.Held.{state};
+ghost use Rattle.sqlite.specs.State.{HasCleanDisk, Survives};
+ghost use Rattle.desk_core.specs.Edit.{asked};
+ghost use Rattle.desk_core.specs.Head.{newest_in};
+ghost use Rattle.desk_core.specs.History.{added_if, newest_of, revisions_of};
+ghost use Rattle.desk_core.specs.Judging.{first_case};
+ghost use Rattle.desk_core.specs.Site.{IsInForce, site_in};
+ghost use Rattle.desk_store.specs.Desk.{CommitsOne, History, IsAccepted, IsEdited, Stands, Stays, StepsOn, revision_at, stored_of, told};
+ghost use Rattle.desk_store.specs.Rows.{IsOfStore};
+ghost use Rattle.desk_store.specs.Tables.{LeavesCommit};
+ghost use Rattle.desk_store.specs.declared.error.DeskError.TheVariants as error;
+
+use crate::error::{DeskError, Task};
+use crate::laws::stored_edits_keep_site_histories;
+use crate::rows::{find_revision, not_stored, numbered};
+use crate::tables::{append_revision, read_revisions};
+use desk_core::{Accepted, Edit, Head, Judged, State, newest_of_a_longer_history};
+use desk_policy::PolicyView;
+use desk_text::{ReadError, Sequence, Text};
+use sqlite::{Alter, Connection};
+use std::alloc::Global;
+use std::marker::Model;
+
+/// A desk over any store, with any view.
+#[derive(Drop)]
+pub struct Desk<S: Alter + Drop, V: PolicyView + Drop> {
+    conn: Connection<S>,
+    current: State<V>,
+}
+
+impl<S: Alter + Drop, V: PolicyView + Drop> Model for Desk<S, V> {
+    ghost use Rattle.sqlite.specs.Held.{state};
+    ghost use Rattle.sqlite.specs.State.{HasCleanDisk};
+    ghost use Rattle.desk_store.specs.Desk.{IsDesk, Shown, shown_code};
+
+    ghost Value = { Shown S V };
+
+    ghost coded = { shown_code S.code V.code };
+
+    ghost view = { λ d. record { conn = d.conn; state = d.current } };
+
+    ghost invariant = { λ d. HasCleanDisk (state S.Store d.conn) → IsDesk (state S.Store d.conn) d.current };
+}
+
+/// What an edit is answered that is not refused.
+#[derive(Clone, Copy)]
+pub struct Done {
+    /// The number of its revision.
+    pub rev: u32,
+    /// Whether it was stored before.
+    pub already: bool,
+}
+
+/// A stored revision.
+#[derive(Drop)]
+pub struct Revision {
+    pub author: Text,
+    pub body: Text,
+}
+
+impl<S: Alter + Drop, V: PolicyView + Drop> Desk<S, V> {
+    /// Lends the view of the policy in force.
+    pub fn view(&self) -> &V
+        ensures value { result.now ≡ self.now.state.view }
+        ensures in_force { IsInForce (site_in (newest_in self.now.state.heads)) (V.in_force result.now) }
+    {
+        self.current.view()
+    }
+
+    /// Finds the newest revision of a file. This takes no statement.
+    pub fn newest(&self, file: &str) -> Option<&Head>
+        ensures newest { option_copied result ≡ newest_in self.now.state.heads file.now }
+        ensures stood_at { (history pending : History) → Stands (state S.Store self.now.conn) self.now.state history pending
+            → option_copied result ≡ newest_of history file.now }
+    {
+        self.current.newest(file)
+    }
+
+    /// Judges an edit, stores its revision in one commit, and puts it in force. The reply can be made before.
+    pub fn edit(&mut self, alloc: Global, edit: &Edit<'_>) -> Result<Done, DeskError>
+        ensures number { IfOk result (λ done. done.rev ≡ edit.now.base + 1) }
+
+        // Wherever the desk stood, the edit is answered by that history, and the desk stands at the history after it.
+        ensures step { HasCleanDisk (state S.Store self.new.conn) → (history pending : History)
+            → Stands (state S.Store self.old.conn) self.old.state history pending
+            → StepsOn (state S.Store self.old.conn) (state S.Store self.new.conn) self.old.state self.new.state (asked edit.now) (told result) history pending }
+        ensures unanswered { told result ≡ None → first_case (newest_in self.old.state.heads) (asked edit.now) ≡ None }
+        ensures schema { result ≢ Err error.Schema }
+
+        // What was not stored changed nothing.
+        ensures unchanged { added_if (asked edit.now) (told result) ≡ [] → self.new.state ≡ self.old.state }
+        ensures tables { HasCleanDisk (state S.Store self.new.conn) → IsTrue (state S.Store self.new.conn).is_open → added_if (asked edit.now) (told result) ≡ []
+            → (state S.Store self.new.conn).committed ≡ (state S.Store self.old.conn).committed }
+
+        // A crash at any moment leaves what it could before, or the edit's one commit; once it is answered as stored, that.
+        ensures crash { Survives (state S.Store self.old.conn) (state S.Store self.new.conn)
+            (CommitsOne self.old.state (asked edit.now) (told result) (state S.Store self.old.conn).committed) }
+        ensures durable { HasCleanDisk (state S.Store self.new.conn) → added_if (asked edit.now) (told result) ≢ [] → LeavesCommit (state S.Store self.new.conn) }
+    {
+        self.judged(alloc, edit)
+    }
+
+    /// Reads a stored revision of a file; none if the file has no revision with this number. An error changes nothing.
+    pub fn revision(
+        &mut self,
+        alloc: Global,
+        file: &str,
+        rev: u32,
+    ) -> Result<Option<Revision>, DeskError>
+        ensures stays { Stays (state S.Store self.old.conn) (state S.Store self.new.conn) self.old.state self.new.state }
+        ensures found { HasCleanDisk (state S.Store self.new.conn) → (history pending : History)
+            → Stands (state S.Store self.old.conn) self.old.state history pending
+            → IfOk result (λ found. found ≡ stored_of (revision_at history file.now rev)) }
+        ensures errors { IfErr result IsOfStore }
+        ensures crash { Survives (state S.Store self.old.conn) (state S.Store self.new.conn) (λ _. ⊥) }
+    {
+        match read_revisions(&mut self.conn) {
+            Ok(rows) => find_revision(alloc, rows.as_slice(), file, rev),
+            Err(e) => Err(not_stored(Task::ReadRevisions, e)),
+        }
+    }
+
+    /// Lists the numbers and authors of a file's revisions, in order. An error changes nothing.
+    pub fn revisions(
+        &mut self,
+        alloc: Global,
+        file: &str,
+    ) -> Result<Sequence<(u32, Text)>, DeskError>
+        ensures stays { Stays (state S.Store self.old.conn) (state S.Store self.new.conn) self.old.state self.new.state }
+        ensures found { HasCleanDisk (state S.Store self.new.conn) → (history pending : History)
+            → Stands (state S.Store self.old.conn) self.old.state history pending
+            → IfOk result (λ found. found ≡ map (λ r. (r.rev, r.author)) (revisions_of file.now history)) }
+        ensures errors { IfErr result IsOfStore }
+        ensures crash { Survives (state S.Store self.old.conn) (state S.Store self.new.conn) (λ _. ⊥) }
+    {
+        match read_revisions(&mut self.conn) {
+            Ok(rows) => numbered(alloc, rows.as_slice(), file),
+            Err(e) => Err(not_stored(Task::ReadRevisions, e)),
+        }
+    }
+
+    /// Answers an edit by what it is judged.
+    fn judged(&mut self, alloc: Global, edit: &Edit<'_>) -> Result<Done, DeskError>
+        ensures { IsEdited (state S.Store self.old.conn) (state S.Store self.new.conn) self.old.state self.new.state (asked edit.now) result }
+    {
+        match self.current.judge(alloc, edit) {
+            Ok(Judged::Already(rev)) => Ok(Done { rev, already: true }),
+            Ok(Judged::Accepted(accepted)) => self.store(edit, accepted),
+            Err(ReadError::Fault(refusal)) => Err(DeskError::Refused(refusal)),
+            Err(ReadError::Memory) => Err(DeskError::Memory),
+        }
+    }
+
+    /// Stores the revision of an edit that this desk, as it is, has accepted, and puts it in force.
+    fn store(&mut self, edit: &Edit<'_>, accepted: Accepted<V>) -> Result<Done, DeskError>
+        requires accepted { IsAccepted V.in_force self.old.state (asked edit.now) accepted }
+        ensures { IsEdited (state S.Store self.old.conn) (state S.Store self.new.conn) self.old.state self.new.state (asked edit.now) result }
+    {
+        newest_of_a_longer_history();
+        stored_edits_keep_site_histories();
+        let rev = edit.base + 1;
+        let body = edit.text.as_bytes();
+        if let Err(e) = append_revision(&mut self.conn, edit.file, rev, edit.caller, body) {
+            return Err(not_stored(Task::AddRevision, e));
+        }
+        self.current.apply(accepted);
+        Ok(Done {
+            rev,
+            already: false,
+        })
+    }
+}

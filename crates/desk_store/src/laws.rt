@@ -1,0 +1,35 @@
+//! What the definitions of this crate come to, each as a function that does nothing of its own.
+
+ghost use Rattle.desk_store.specs.Laws.{DeclaredTablesAreOurs, EditsAreARun, OneHistory, StoredEditsKeepSiteHistories};
+
+use desk_core::{
+    answers_are_right, known_files_have_names, newest_of_a_longer_history,
+    stored_edits_keep_the_numbers,
+};
+use desk_policy::PolicyView;
+use sqlite::Alter;
+
+/// After any edits on a good disk the answers are a run of the histories, and the desk stands at the run's last history.
+pub fn edits_are_a_run<S: Alter + Drop, V: PolicyView + Drop>()
+    ensures { EditsAreARun S V S.Store }
+{}
+
+/// The same tables hold one history, file by file: the order in which their rows are read does not matter.
+pub fn one_history()
+    ensures { OneHistory }
+{}
+
+/// Two tables that a database declares as the project's are the project's tables.
+pub fn declared_tables_are_ours()
+    ensures { DeclaredTablesAreOurs }
+{}
+
+/// The history of a site with the revision of a stored edit is one, too: a desk can be opened on it.
+pub fn stored_edits_keep_site_histories()
+    ensures { StoredEditsKeepSiteHistories }
+{
+    answers_are_right();
+    known_files_have_names();
+    newest_of_a_longer_history();
+    stored_edits_keep_the_numbers()
+}

@@ -1,0 +1,25 @@
+//! A desk: a site's files with all their revisions, in a database of SQLite, and the policy in force. (this project's own)
+//!
+//! Its promise: the answers to edits are those of the definitions, and what was answered with a revision is kept, whatever
+//! moment the program or the machine stops at.
+//!
+//! ```text
+//! let done = desk.edit(alloc, &edit)?;                      // judged, stored in one commit, put in force
+//! let text = desk.revision(alloc, "hosts", done.rev)?;
+//! let verdict = desk.view().decide(address, &path);
+//! ```
+#![tactic(auto)]
+
+pub mod declared;
+pub mod desk;
+pub mod error;
+pub mod laws;
+mod rows;
+mod tables;
+
+pub use declared::{declares_file_rev, declares_meta};
+pub use desk::{Desk, Done, Revision};
+pub use error::{CreateError, DeskError, StoreFault, Task};
+pub use laws::{
+    declared_tables_are_ours, edits_are_a_run, one_history, stored_edits_keep_site_histories,
+};

@@ -1,0 +1,46 @@
+//! The statements that read and write the table of revisions.
+
+ghost use Rattle.std.specs.Prelude.{◌≡◌, IsTrue, OnOk, OnErr, IfOk, IsPermutation, codes};
+ghost use Rattle.sqlite.specs.State.{HasCleanDisk, Survives};
+ghost use Rattle.sqlite.specs.Held.{state};
+ghost use Rattle.desk_store.specs.Tables.{IsAtRest, Adds, AddsWhileOpen, LeavesCommit, revision_row, rows_of};
+
+use sqlite::{Alter, Connection, Error, Row, params};
+
+/// Adds one revision, in a commit of its own.
+pub(crate) fn append_revision<S: Alter>(
+    conn: &mut Connection<S>,
+    file: &str,
+    rev: u32,
+    author: &str,
+    body: &[u8],
+) -> Result<(), Error>
+    requires { HasCleanDisk (state S.Store conn.old) → IsAtRest (state S.Store conn.old) }
+    ensures rest { HasCleanDisk (state S.Store conn.new) → IsAtRest (state S.Store conn.new) }
+    ensures added { HasCleanDisk (state S.Store conn.new) → OnOk result (Adds (revision_row file.now rev author.now body.now) (state S.Store conn.old).committed (state S.Store conn.new).committed) }
+    ensures unchanged { HasCleanDisk (state S.Store conn.new) → IsTrue (state S.Store conn.new).is_open → OnErr result ((state S.Store conn.new).committed ≡ (state S.Store conn.old).committed) }
+    ensures opened { HasCleanDisk (state S.Store conn.new) → IsTrue (state S.Store conn.new).is_open → IsTrue (state S.Store conn.old).is_open }
+    ensures live { HasCleanDisk (state S.Store conn.new) → OnOk result (IsTrue (state S.Store conn.new).is_open) }
+    ensures crash { Survives (state S.Store conn.old) (state S.Store conn.new) (AddsWhileOpen (revision_row file.now rev author.now body.now) (state S.Store conn.old)) }
+    ensures durable { HasCleanDisk (state S.Store conn.new) → OnOk result (LeavesCommit (state S.Store conn.new)) }
+{
+    let insert = conn.prepare(
+        "INSERT INTO file_rev(file, rev, author, profile, body) VALUES(?1, ?2, ?3, 1, ?4)",
+    )?;
+    insert.execute(conn, params![file, i64::from(rev), author, body])?;
+    Ok(())
+}
+
+/// Reads the rows of all revisions, in any order.
+pub(crate) fn read_revisions<S: Alter>(conn: &mut Connection<S>) -> Result<Vec<Row>, Error>
+    requires { HasCleanDisk (state S.Store conn.old) → IsAtRest (state S.Store conn.old) }
+    ensures rest { HasCleanDisk (state S.Store conn.new) → IsAtRest (state S.Store conn.new) }
+    ensures rows { HasCleanDisk (state S.Store conn.new) → IfOk result (λ rows. IsPermutation (rows_of (state S.Store conn.old).committed (codes "file_rev")) rows.items) }
+    ensures opened { HasCleanDisk (state S.Store conn.new) → IsTrue (state S.Store conn.new).is_open → IsTrue (state S.Store conn.old).is_open }
+    ensures live { HasCleanDisk (state S.Store conn.new) → OnOk result (IsTrue (state S.Store conn.new).is_open) }
+    ensures unchanged { HasCleanDisk (state S.Store conn.new) → IsTrue (state S.Store conn.new).is_open → (state S.Store conn.new).committed ≡ (state S.Store conn.old).committed }
+    ensures crash { Survives (state S.Store conn.old) (state S.Store conn.new) (λ _. ⊥) }
+{
+    let select = conn.prepare("SELECT * FROM file_rev")?;
+    select.query_all(conn, &[])
+}
