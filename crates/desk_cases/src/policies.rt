@@ -7,8 +7,9 @@ use crate::exports::{say_fault, tables};
 use crate::filesystems::{self, fs_id, paths};
 use crate::site::{InForce, Site, say_read};
 use desk_exports::{Rule, Tables, read_whole};
+use desk_netgroup::Netgroups;
 use desk_policy::{Denial, Policy, Row, Verdict, act_as, verdict_text};
-use desk_tables::{FileSystems, FsId, credential};
+use desk_tables::{FileSystems, FsId, Hosts, credential};
 use desk_text::{Addr, LineFault, Path, ReadError};
 use std::alloc::{AllocError, Global};
 
@@ -92,7 +93,9 @@ fn policy_of(
     requires { length text.now ≤ 4294967294 }
 {
     let entries = read_whole(alloc, text, tables)?;
-    Ok(Policy::of_entries(alloc, filesystems, entries)?)
+    let netgroups = Netgroups::new(alloc);
+    let hosts = Hosts::new(alloc);
+    Ok(Policy::of_entries(alloc, &netgroups, &hosts, filesystems, entries)?)
 }
 
 /// `verdict CLIENT PATH`: the verdict as it is printed.

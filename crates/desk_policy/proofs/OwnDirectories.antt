@@ -15,7 +15,7 @@ use Rattle.desk_tables.specs.declared.hosts.HostRow.{HostRow}
 use Rattle.desk_netgroup.specs.declared.group_line.GroupLine.{GroupLine}
 use Rattle.desk_exports.specs.Files.{line_says, text_answer}
 use Rattle.desk_exports.specs.Laws.{AnswersSayWhat, EntriesAreTheAnswers, SaysWhat, takes_part}
-use Rattle.desk_exports.specs.Tables.{only_filesystems, TableRows}
+use Rattle.desk_exports.specs.Tables.{TableRows}
 use Rattle.desk_exports.specs.declared.entry.Entry.{Entry}
 use Rattle.desk_exports.specs.declared.files.Scope.{Scope}
 use Rattle.desk_exports.specs.declared.files.Scope.TheVariants.{File, Whole}
@@ -51,17 +51,18 @@ module _ (table : List Mount) (fs : ℕ) where
       all_of_both (IsOwn table fs) one.1.dirs (written (map (row_of netgroups hosts) (map (λ one. one.1) more))) (recursion_from_All (IsOwn table fs) one.1.dirs own.0) (of_entries netgroups hosts more own.1)
 
   -- entries of which those in the file system have only directories of it
-  of_placed : (placed : List (FsId × Entry)) → AllByRecursion (λ one. All (IsOwn table one.0.0) one.1.dirs) placed → AllByRecursion (IsOwn table fs) (written (rows_placed placed fs))
-  of_placed [] own = tt
-  of_placed (one ∷ more) own =
+  of_placed : (netgroups : List GroupLine) (hosts : List HostRow) (placed : List (FsId × Entry)) → AllByRecursion (λ one. All (IsOwn table one.0.0) one.1.dirs) placed
+      → AllByRecursion (IsOwn table fs) (written (rows_placed netgroups hosts placed fs))
+  of_placed netgroups hosts [] own = tt
+  of_placed netgroups hosts (one ∷ more) own =
       let rest : List (FsId × Entry) = filter (λ pair. eqb pair.0.0 fs) more in
-      let Fit : List (FsId × Entry) → Type 0 = λ pairs. AllByRecursion (IsOwn table fs) (written (map (λ pair. row_of [] [] pair.1) pairs)) in
-      let later : Fit rest = of_placed more own.1 in
+      let Fit : List (FsId × Entry) → Type 0 = λ pairs. AllByRecursion (IsOwn table fs) (written (map (λ pair. row_of netgroups hosts pair.1) pairs)) in
+      let later : Fit rest = of_placed netgroups hosts more own.1 in
       elim (cases_eq one.0.0 fs) [
         | inl is ↦
             let here = subst (λ n. All (IsOwn table n) one.1.dirs) is own.0 in
             subst Fit (sym (cond-true (eqb one.0.0 fs) (one ∷ rest) rest (eq-eqb one.0.0 fs is)))
-            (all_of_both (IsOwn table fs) one.1.dirs (written (map (λ pair. row_of [] [] pair.1) rest)) (recursion_from_All (IsOwn table fs) one.1.dirs here) later)
+            (all_of_both (IsOwn table fs) one.1.dirs (written (map (λ pair. row_of netgroups hosts pair.1) rest)) (recursion_from_All (IsOwn table fs) one.1.dirs here) later)
         | inr apart ↦ subst Fit (sym (cond-false (eqb one.0.0 fs) (one ∷ rest) rest (ne_eqb one.0.0 fs apart))) later
       ]
 
@@ -138,13 +139,13 @@ module _ (said : AnswersSayWhat) (answers : EntriesAreTheAnswers) where
 
   pub whole_lines_write_their_own : EachHasItsLines → WholeLinesWriteTheirOwn
   unfolding content_of
-  whole_lines_write_their_own lines table text content is =
-      let tables : TableRows = only_filesystems table in
-      let read = was_read (in_file (line_fault (codes "exports")) (text_answer tables Whole text)) (whole_policy table) content is in
+  whole_lines_write_their_own lines site_tables table text content is =
+      let tables : TableRows = rows_with table site_tables in
+      let read = was_read (in_file (line_fault (codes "exports")) (text_answer tables Whole text)) (whole_policy site_tables table) content is in
       let answered = was_in_file (line_fault (codes "exports")) (text_answer tables Whole text) read.0 read.1 in
       let placed = each_entry tables Whole (λ one. All (IsOwn table one.0.0) one.1.dirs) (λ line one says. says.within) text read.0 answered in
-      let same : with_warnings (content_of table read.0) (whole_warnings read.0) ≡ content = cc in
+      let same : with_warnings (content_of site_tables.netgroups site_tables.hosts table read.0) (whole_warnings site_tables.netgroups site_tables.hosts read.0) ≡ content = cc in
       subst WriteTheirOwn same (λ fs. elim (cases_Bool (ltb fs (length table))) [
-        | inl there ↦ subst (λ rows. AllByRecursion (IsOwn table fs) (written rows)) (sym (lines table read.0 fs ∙ cond-true (ltb fs (length table)) (rows_placed read.0 fs) [] there)) (of_placed table fs read.0 placed)
-        | inr beyond ↦ subst (λ rows. AllByRecursion (IsOwn table fs) (written rows)) (sym (lines table read.0 fs ∙ cond-false (ltb fs (length table)) (rows_placed read.0 fs) [] beyond)) tt
+        | inl there ↦ subst (λ rows. AllByRecursion (IsOwn table fs) (written rows)) (sym (lines site_tables.netgroups site_tables.hosts table read.0 fs ∙ cond-true (ltb fs (length table)) (rows_placed site_tables.netgroups site_tables.hosts read.0 fs) [] there)) (of_placed table fs site_tables.netgroups site_tables.hosts read.0 placed)
+        | inr beyond ↦ subst (λ rows. AllByRecursion (IsOwn table fs) (written rows)) (sym (lines site_tables.netgroups site_tables.hosts table read.0 fs ∙ cond-false (ltb fs (length table)) (rows_placed site_tables.netgroups site_tables.hosts read.0 fs) [] beyond)) tt
       ])

@@ -43,7 +43,7 @@ asked content address path = verdict_line content (verdict_of content address pa
 -- `/usr /usr/local -ro 10.0.0.5` and `/usr 10.0.0.6` on the file system /usr
 abbrev two_hosts : Content
 two_hosts =
-    content_of (mount usr ∷ [])
+    content_of [] [] (mount usr ∷ [])
     ((record { 0 = 0 }, line 1 (usr ∷ usr_local ∷ []) false true (Hosts (codes "10.0.0.5" ∷ [])))
     ∷ (record { 0 = 0 }, line 2 (usr ∷ []) false false (Hosts (codes "10.0.0.6" ∷ [])))
     ∷ [])
@@ -66,7 +66,7 @@ no_file_system = refl
 
 -- a line none of whose names stands for an address is no default
 abbrev old_host : Content
-old_host = content_of (mount usr ∷ []) ((record { 0 = 0 }, line 1 (usr ∷ []) false false (Hosts (codes "oldhost" ∷ []))) ∷ [])
+old_host = content_of [] [] (mount usr ∷ []) ((record { 0 = 0 }, line 1 (usr ∷ []) false false (Hosts (codes "oldhost" ∷ []))) ∷ [])
 
 no_default : asked old_host 167772165 usr ≡ codes "denied 2 NoLine /usr"
 unfolding digits content_of selected verdict_of
@@ -74,7 +74,7 @@ no_default = refl
 
 -- `/ -alldirs` beside a file system /usr
 abbrev all_of_root : Content
-all_of_root = content_of (mount [] ∷ mount usr ∷ []) ((record { 0 = 0 }, line 1 ([] ∷ []) true false World) ∷ [])
+all_of_root = content_of [] [] (mount [] ∷ mount usr ∷ []) ((record { 0 = 0 }, line 1 ([] ∷ []) true false World) ∷ [])
 
 other_file_system : asked all_of_root 167772165 (codes "usr" ∷ codes "x" ∷ []) ≡ codes "denied 2 NoLine /usr"
 unfolding digits content_of selected verdict_of

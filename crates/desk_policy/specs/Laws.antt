@@ -10,7 +10,7 @@ use Rattle.desk_tables.specs.declared.custodians.Custodian.{Custodian}
 use Rattle.desk_tables.specs.declared.filesystems.Mount.{Mount}
 use Rattle.desk_netgroup.specs.Netgroups.{read_netgroups}
 use Rattle.desk_policy.specs.Listings.{WriteTheirOwn}
-use Rattle.desk_policy.specs.Parsing.{ExportsFile, if_listed, in_file, read_exports, read_site, read_site_tables, read_whole_policy, then_read}
+use Rattle.desk_policy.specs.Parsing.{ExportsFile, if_listed, in_file, read_exports, read_site, read_site_tables, read_whole_with, then_read}
 use Rattle.desk_policy.specs.Policy.{Content, rows_of}
 use Rattle.desk_policy.specs.Site.{SiteTexts}
 use Rattle.desk_policy.specs.SiteFault.{group_fault, table_fault}
@@ -35,9 +35,11 @@ EachHasItsOwnLines =
 abbrev pub SiteLinesWriteTheirOwn : Type 0
 SiteLinesWriteTheirOwn = (texts : SiteTexts) (content : Content) → read_site texts ≡ Ok content → WriteTheirOwn content
 
--- So it is in the policy that a whole exports text writes.
+-- So it is in the policy that a whole exports text writes, whatever tables are lent to it.
 abbrev pub WholeLinesWriteTheirOwn : Type 0
-WholeLinesWriteTheirOwn = (table : List Mount) (text : List ℕ) (content : Content) → read_whole_policy table text ≡ Ok content → WriteTheirOwn content
+WholeLinesWriteTheirOwn =
+    (site_tables : SiteTables) (table : List Mount) (text : List ℕ) (content : Content) → read_whole_with site_tables table text ≡ Ok content
+    → WriteTheirOwn content
 
 -- the fault of a file, if it has one
 abbrev pub fault_of : {X : Type 0} → Result X SiteFault → Option SiteFault

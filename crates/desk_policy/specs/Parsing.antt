@@ -15,7 +15,7 @@ use Rattle.desk_tables.specs.declared.filesystems.Mount.{Mount}
 use Rattle.desk_tables.specs.declared.rules.TableRule.TheVariants as table_rule
 use Rattle.desk_netgroup.specs.Netgroups.{read_netgroups}
 use Rattle.desk_exports.specs.Files.{file_answer, whole_answer}
-use Rattle.desk_exports.specs.Tables.{only_filesystems, TableRows}
+use Rattle.desk_exports.specs.Tables.{TableRows}
 use Rattle.desk_exports.specs.declared.entry.Entry.{Entry}
 use Rattle.desk_policy.specs.Policy.{Content, content_of, with_warnings}
 use Rattle.desk_policy.specs.Row.{row_of}
@@ -47,15 +47,24 @@ abbrev pub if_listed : List Custodian → Result (List Mount) TableFault → Res
 if_listed custodians (Ok table) = unless_unlisted table (unlisted_line custodians table)
 if_listed custodians (Err fault) = Err fault
 
--- The tables after the file systems, in the order in which they are read.
-abbrev pub read_site_tables : SiteTexts → Result SiteTables SiteFault
-read_site_tables texts =
-    then_read (in_file (table_fault (codes "hosts")) (read_hosts texts.hosts)) (λ hosts.
-    then_read (in_file (table_fault (codes "networks")) (read_networks texts.networks)) (λ networks.
-    then_read (in_file (table_fault (codes "passwd")) (read_users texts.passwd)) (λ users.
-    then_read (in_file (table_fault (codes "group")) (read_groups texts.group)) (λ groups.
-    then_read (in_file group_fault (read_netgroups texts.netgroup)) (λ netgroups.
+-- tables without a row
+abbrev pub no_tables : SiteTables
+no_tables = record { hosts = []; networks = []; users = []; groups = []; netgroups = [] }
+
+-- The tables that these five texts write, or the fault of the first faulty one, in the order in which they are read: hosts,
+-- networks, passwd, group, netgroup.
+abbrev pub read_tables : List ℕ → List ℕ → List ℕ → List ℕ → List ℕ → Result SiteTables SiteFault
+read_tables hosts_text networks_text passwd_text group_text netgroup_text =
+    then_read (in_file (table_fault (codes "hosts")) (read_hosts hosts_text)) (λ hosts.
+    then_read (in_file (table_fault (codes "networks")) (read_networks networks_text)) (λ networks.
+    then_read (in_file (table_fault (codes "passwd")) (read_users passwd_text)) (λ users.
+    then_read (in_file (table_fault (codes "group")) (read_groups group_text)) (λ groups.
+    then_read (in_file group_fault (read_netgroups netgroup_text)) (λ netgroups.
     Ok (record { hosts = hosts; networks = networks; users = users; groups = groups; netgroups = netgroups }))))))
+
+-- the tables of a site after its file systems
+abbrev pub read_site_tables : SiteTexts → Result SiteTables SiteFault
+read_site_tables texts = read_tables texts.hosts texts.networks texts.passwd texts.group texts.netgroup
 
 -- the tables with which an exports file is read
 abbrev pub rows_with : List Mount → SiteTables → TableRows
@@ -105,10 +114,16 @@ read_site texts =
     then_read (in_file (table_fault (codes "filesystems")) (if_listed custodians (read_filesystems texts.filesystems))) (λ table.
     read_after_filesystems texts table))
 
--- the policy of the entries of a whole exports text
-abbrev pub whole_policy : List Mount → List (FsId × Entry) → Result Content SiteFault
-whole_policy table placed = Ok (with_warnings (content_of table placed) (whole_warnings placed))
+-- the policy of the entries of a whole exports text, by these tables; its warnings are those of the text alone
+abbrev pub whole_policy : SiteTables → List Mount → List (FsId × Entry) → Result Content SiteFault
+whole_policy site_tables table placed =
+    Ok (with_warnings (content_of site_tables.netgroups site_tables.hosts table placed) (whole_warnings site_tables.netgroups site_tables.hosts placed))
 
--- the policy that a whole exports text writes, with these file systems and no other table, or its fault
+-- the policy that a whole exports text writes, with these tables and file systems, or its fault
+abbrev pub read_whole_with : SiteTables → List Mount → List ℕ → Result Content SiteFault
+read_whole_with site_tables table text =
+    then_read (in_file (line_fault (codes "exports")) (whole_answer (rows_with table site_tables) text)) (whole_policy site_tables table)
+
+-- the same with no table but the file systems
 abbrev pub read_whole_policy : List Mount → List ℕ → Result Content SiteFault
-read_whole_policy table text = then_read (in_file (line_fault (codes "exports")) (whole_answer (only_filesystems table) text)) (whole_policy table)
+read_whole_policy table text = read_whole_with no_tables table text

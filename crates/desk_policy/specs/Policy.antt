@@ -3,6 +3,8 @@ use Rattle.std.specs.Prelude.{◌≡◌, ℕ, ◌<◌, ◌==◌, List, [], nat_l
 use Rattle.std.specs.List.{All, AllPairs, range_with_len}
 use Rattle.desk_tables.specs.declared.filesystems.FsId.{FsId}
 use Rattle.desk_tables.specs.declared.filesystems.Mount.{Mount}
+use Rattle.desk_tables.specs.declared.hosts.HostRow.{HostRow}
+use Rattle.desk_netgroup.specs.declared.group_line.GroupLine.{GroupLine}
 use Rattle.desk_exports.specs.Files.{EntriesAscend}
 use Rattle.desk_exports.specs.declared.entry.Entry.{Entry}
 use Rattle.desk_policy.specs.declared.row.Row.{Row}
@@ -28,9 +30,9 @@ pub record IsContent (content : Content) : Type 0 where
 abbrev pub rows_of : Content → ℕ → List Row
 rows_of content fs = slice_index_or content.rows fs []
 
--- the lines in force of the entries that are placed in this file system, in their order; no group and no host is listed
-abbrev pub rows_placed : List (FsId × Entry) → ℕ → List Row
-rows_placed placed fs = map (λ pair. row_of [] [] pair.1) (filter (λ pair. pair.0.0 == fs) placed)
+-- the lines in force of the entries that are placed in this file system, in their order, by these groups and hosts
+abbrev pub rows_placed : List GroupLine → List HostRow → List (FsId × Entry) → ℕ → List Row
+rows_placed netgroups hosts placed fs = map (λ pair. row_of netgroups hosts pair.1) (filter (λ pair. pair.0.0 == fs) placed)
 
 -- of two entries in one file system the later one has the greater line number; each file system may count its own lines
 abbrev pub EachFileAscends : List (FsId × Entry) → Type 0
@@ -41,8 +43,8 @@ abbrev pub AscendingEntriesAscendInEachFile : Type 0
 AscendingEntriesAscendInEachFile = (placed : List (FsId × Entry)) → EntriesAscend placed → EachFileAscends placed
 
 -- each file system has the lines of the entries that are placed in it; nothing is warned of
-unfoldable pub content_of : List Mount → List (FsId × Entry) → Content
-content_of table placed = record { table = table; rows = map (rows_placed placed) (range_with_len 0 (length table)); warnings = [] }
+unfoldable pub content_of : List GroupLine → List HostRow → List Mount → List (FsId × Entry) → Content
+content_of netgroups hosts table placed = record { table = table; rows = map (rows_placed netgroups hosts placed) (range_with_len 0 (length table)); warnings = [] }
 
 -- the same lines, with these warnings
 abbrev pub with_warnings : Content → List Warning → Content
@@ -50,4 +52,6 @@ with_warnings content warnings = record { table = content.table; rows = content.
 
 -- the lines in force of a file system of the table are those placed in it, and there are none beyond the table
 abbrev pub EachHasItsLines : Type 0
-EachHasItsLines = (table : List Mount) (placed : List (FsId × Entry)) (fs : ℕ) → rows_of (content_of table placed) fs ≡ (if nat_lt fs (length table) then rows_placed placed fs else [])
+EachHasItsLines =
+    (netgroups : List GroupLine) (hosts : List HostRow) (table : List Mount) (placed : List (FsId × Entry)) (fs : ℕ)
+    → rows_of (content_of netgroups hosts table placed) fs ≡ (if nat_lt fs (length table) then rows_placed netgroups hosts placed fs else [])

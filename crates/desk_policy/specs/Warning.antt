@@ -77,6 +77,6 @@ clients_warnings netgroups hosts file line clients.World = []
 abbrev pub entry_warnings : List GroupLine → List HostRow → List ℕ → Entry → List Warning
 entry_warnings netgroups hosts file entry = clients_warnings netgroups hosts file entry.line entry.clients
 
--- of a whole exports text, with no group and no host listed
-abbrev pub whole_warnings : List (FsId × Entry) → List Warning
-whole_warnings placed = flat_map (λ pair. entry_warnings [] [] (codes "exports") pair.1) placed
+-- of a whole exports text
+abbrev pub whole_warnings : List GroupLine → List HostRow → List (FsId × Entry) → List Warning
+whole_warnings netgroups hosts placed = flat_map (λ pair. entry_warnings netgroups hosts (codes "exports") pair.1) placed

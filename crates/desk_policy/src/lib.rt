@@ -45,7 +45,7 @@ pub use laws::{
 pub use listing_prints::{all_exports, listing_text};
 pub use listings::{Shown, listing};
 pub use names::addresses_of;
-pub use parsing::{parse, parse_whole};
+pub use parsing::{SiteTables, parse, parse_whole, parse_whole_with};
 pub use policy::Policy;
 pub use prints::verdict_text;
 pub use row::Row;

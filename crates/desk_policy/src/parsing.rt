@@ -3,7 +3,7 @@
 //! The files are read in this order: custodians, filesystems, hosts, networks, passwd, group, netgroup, and then the
 //! exports files by mount point. The first faulty one is refused, with its first faulty line.
 
-ghost use Rattle.std.specs.Prelude.{◌≡◌, ◌≤◌, [], ◌++◌, IfOk, List, None, Ok, OnOk, Result, length, map, unwrap_or};
+ghost use Rattle.std.specs.Prelude.{◌≡◌, ◌≤◌, [], ◌++◌, IfOk, List, None, Ok, OnOk, Result, codes, length, map, unwrap_or};
 ghost use Rattle.std.specs.BTreeMap.{get_by_text};
 ghost use Rattle.std.specs.List.{flat_map};
 ghost use Rattle.std.specs.String.{string_bytes};
@@ -14,7 +14,6 @@ ghost use Rattle.desk_tables.specs.Rules as tables;
 ghost use Rattle.desk_netgroup.specs.declared.faults.GroupFault.{GroupFault};
 ghost use Rattle.desk_netgroup.specs.declared.group_line.GroupLine.{GroupLine};
 ghost use Rattle.desk_exports.specs.Files.{EntriesAscend, whole_answer};
-ghost use Rattle.desk_exports.specs.Tables.{only_filesystems};
 ghost use Rattle.desk_exports.specs.declared.rules.Rule.{Rule};
 ghost use Rattle.desk_text.specs.declared.reading.LineFault.{LineFault};
 ghost use Rattle.desk_policy.specs.Parsing as spec;
@@ -38,14 +37,60 @@ use desk_tables::{
 use desk_text::{LineFault, Path, ReadError, Sequence, Text};
 use std::alloc::{AllocError, Global};
 
-/// The tables of a site that are read after its file systems.
+/// The tables of a site that are read after its file systems: hosts(5), networks(5), passwd(5), group(5) and netgroup(5).
 #[derive(Drop)]
-struct SiteTables {
-    hosts: Hosts,
-    networks: Networks,
-    users: Users,
-    groups: Groups,
-    netgroups: Netgroups,
+pub struct SiteTables {
+    pub hosts: Hosts,
+    pub networks: Networks,
+    pub users: Users,
+    pub groups: Groups,
+    pub netgroups: Netgroups,
+}
+
+impl SiteTables {
+    /// Makes tables without a row.
+    pub fn new(alloc: Global) -> SiteTables
+        ensures { result ≡ spec.no_tables }
+    {
+        SiteTables {
+            hosts: Hosts::new(alloc),
+            networks: Networks::new(alloc),
+            users: Users::new(alloc),
+            groups: Groups::new(alloc),
+            netgroups: Netgroups::new(alloc),
+        }
+    }
+
+    /// Reads the tables that these texts write, or the fault of the first faulty one, in the order of the arguments. Each
+    /// text has at most 4,294,967,294 bytes.
+    pub fn read(
+        alloc: Global,
+        hosts: &str,
+        networks: &str,
+        passwd: &str,
+        group: &str,
+        netgroup: &str,
+    ) -> Result<SiteTables, ReadError<SiteFault>>
+        requires hosts { length hosts.now ≤ 4294967294 }
+        requires networks { length networks.now ≤ 4294967294 }
+        requires passwd { length passwd.now ≤ 4294967294 }
+        requires group { length group.now ≤ 4294967294 }
+        requires netgroup { length netgroup.now ≤ 4294967294 }
+        ensures { Reads result (spec.read_tables hosts.now networks.now passwd.now group.now netgroup.now) }
+    {
+        let hosts = in_table(alloc, "hosts", Hosts::read(alloc, hosts))?;
+        let networks = in_table(alloc, "networks", Networks::read(alloc, networks))?;
+        let users = in_table(alloc, "passwd", Users::read(alloc, passwd))?;
+        let groups = in_table(alloc, "group", Groups::read(alloc, group))?;
+        let netgroups = in_netgroup(alloc, Netgroups::read(alloc, netgroup))?;
+        Ok(SiteTables {
+            hosts,
+            networks,
+            users,
+            groups,
+            netgroups,
+        })
+    }
 }
 
 /// Reads the policy that the texts of a site write, or the fault of the first faulty file. Whether its lines contradict each
@@ -119,22 +164,14 @@ fn read_site_tables(alloc: Global, site: &Site) -> Result<SiteTables, ReadError<
     requires { HaveReadableLengths (texts_of site.now) }
     ensures { Reads result (spec.read_site_tables (texts_of site.now)) }
 {
-    let hosts = in_table(alloc, "hosts", Hosts::read(alloc, site.hosts.as_str()))?;
-    let networks = in_table(
+    SiteTables::read(
         alloc,
-        "networks",
-        Networks::read(alloc, site.networks.as_str()),
-    )?;
-    let users = in_table(alloc, "passwd", Users::read(alloc, site.passwd.as_str()))?;
-    let groups = in_table(alloc, "group", Groups::read(alloc, site.group.as_str()))?;
-    let netgroups = in_netgroup(alloc, Netgroups::read(alloc, site.netgroup.as_str()))?;
-    Ok(SiteTables {
-        hosts,
-        networks,
-        users,
-        groups,
-        netgroups,
-    })
+        site.hosts.as_str(),
+        site.networks.as_str(),
+        site.passwd.as_str(),
+        site.group.as_str(),
+        site.netgroup.as_str(),
+    )
 }
 
 /// Reads the exports file of each file system, and adds its lines and its warnings.
@@ -332,33 +369,54 @@ pub fn parse_whole(
     requires { length text.now ≤ 4294967294 }
     ensures { Reads result (spec.read_whole_policy filesystems text.now) }
 {
-    let entries = in_exports(
-        alloc,
-        "exports",
-        read_with_mounts(alloc, text, &filesystems),
-    )?;
-    let warnings = whole_warnings(alloc, entries.as_slice())?;
-    Ok(Policy::of_entries(alloc, filesystems, entries)?.with_warnings(warnings))
+    let site_tables = SiteTables::new(alloc);
+    parse_whole_with(alloc, text, filesystems, &site_tables)
 }
 
-/// Reads the entries of a whole exports text with these file systems and no row of another table.
-fn read_with_mounts(
+/// Reads the policy that a whole exports text writes, with these file systems and tables. Its faults and warnings are of the
+/// file `exports`: the netgroup file's own warnings are not among them.
+pub fn parse_whole_with(
+    alloc: Global,
+    text: &str,
+    filesystems: FileSystems,
+    site_tables: &SiteTables,
+) -> Result<Policy, ReadError<SiteFault>>
+    requires { length text.now ≤ 4294967294 }
+    ensures { Reads result (spec.read_whole_with site_tables.now filesystems text.now) }
+{
+    let entries = whole_entries(alloc, text, &filesystems, site_tables)?;
+    let warnings = whole_warnings(
+        alloc,
+        &site_tables.netgroups,
+        &site_tables.hosts,
+        entries.as_slice(),
+    )?;
+    let policy = Policy::of_entries(
+        alloc,
+        &site_tables.netgroups,
+        &site_tables.hosts,
+        filesystems,
+        entries,
+    )?;
+    Ok(policy.with_warnings(warnings))
+}
+
+/// Reads the entries of a whole exports text, or its fault in the file `exports`.
+fn whole_entries(
     alloc: Global,
     text: &str,
     filesystems: &FileSystems,
-) -> Result<Sequence<(FsId, Boxed<Entry>)>, ReadError<LineFault<Rule>>>
+    site_tables: &SiteTables,
+) -> Result<Sequence<(FsId, Boxed<Entry>)>, ReadError<SiteFault>>
     requires { length text.now ≤ 4294967294 }
-    ensures read { Reads result (whole_answer (only_filesystems filesystems.now) text.now) }
+    ensures read { Reads result (spec.in_file (line_fault (codes "exports")) (whole_answer (spec.rows_with filesystems.now site_tables.now) text.now)) }
     ensures ascending { IfOk result EntriesAscend }
 {
-    let networks = Networks::new(alloc);
-    let users = Users::new(alloc);
-    let groups = Groups::new(alloc);
     let tables = Tables {
-        networks: &networks,
-        users: &users,
-        groups: &groups,
+        networks: &site_tables.networks,
+        users: &site_tables.users,
+        groups: &site_tables.groups,
         filesystems,
     };
-    read_whole(alloc, text, &tables)
+    in_exports(alloc, "exports", read_whole(alloc, text, &tables))
 }

@@ -7,7 +7,8 @@ ghost use Rattle.desk_policy.specs.PrivatePolicy.{with_row};
 use crate::row::Row;
 use crate::warning::Warning;
 use desk_exports::{Boxed, Entry};
-use desk_tables::{FileSystems, FsId};
+use desk_netgroup::Netgroups;
+use desk_tables::{FileSystems, FsId, Hosts};
 use desk_text::Sequence;
 use std::alloc::{AllocError, Global};
 use std::marker::Model;
@@ -33,20 +34,21 @@ impl Model for Policy {
 impl Policy {
     /// Makes the policy with these file systems and the lines of these entries, each in the file system that is given
     /// with it. The lines of each file system come in the order of their numbers; file systems may each number their own
-    /// lines from 1, or share the numbers of one text. An entry of a file system that is not in the table is in none. No
-    /// group and no host is listed, so a written address stands for itself, and any other name for nothing. There are no
-    /// warnings.
+    /// lines from 1, or share the numbers of one text. An entry of a file system that is not in the table is in none.
+    /// Written names stand for what these groups and hosts say. There are no warnings.
     pub fn of_entries(
         alloc: Global,
+        netgroups: &Netgroups,
+        hosts: &Hosts,
         filesystems: FileSystems,
         entries: Sequence<(FsId, Boxed<Entry>)>,
     ) -> Result<Policy, AllocError>
         requires { EachFileAscends entries }
-        ensures { IfOk result (λ policy. policy ≡ content_of filesystems entries) }
+        ensures { IfOk result (λ policy. policy ≡ content_of netgroups.now hosts.now filesystems entries) }
     {
         let mut rows = empty_lists(alloc, &filesystems)?;
         for (fs, entry) in entries.into_vec() {
-            let row = Row::without_tables(alloc, entry)?;
+            let row = Row::of_entry(alloc, netgroups, hosts, entry)?;
             add_row(&mut rows, fs, row)?;
         }
         let warnings = Sequence::new(alloc);

@@ -1,6 +1,6 @@
 //! The lines in force: an entry, and the addresses for which its written names stand.
 
-ghost use Rattle.std.specs.Prelude.{◌≡◌, [], IfOk};
+ghost use Rattle.std.specs.Prelude.{◌≡◌, IfOk};
 ghost use Rattle.desk_policy.specs.Names.{addresses_of_names};
 ghost use Rattle.desk_policy.specs.Row.{names_of, row_of};
 
@@ -30,16 +30,6 @@ impl Row {
     {
         let addrs = addresses_of_clients(alloc, netgroups, hosts, &entry.clients)?;
         Ok(Row { entry, addrs })
-    }
-
-    /// Makes the line in force of an entry if no group and no host is listed: a written address stands for itself, and any
-    /// other name for nothing.
-    pub(crate) fn without_tables(alloc: Global, entry: Boxed<Entry>) -> Result<Row, AllocError>
-        ensures { IfOk result (λ row. row ≡ row_of [] [] entry) }
-    {
-        let netgroups = Netgroups::new(alloc);
-        let hosts = Hosts::new(alloc);
-        Row::of_entry(alloc, &netgroups, &hosts, entry)
     }
 }
 

@@ -158,18 +158,18 @@ pub(crate) fn push_entry(
     }
 }
 
-/// Lists the warnings of a whole exports text, with no group and no host listed.
+/// Lists the warnings of a whole exports text.
 pub(crate) fn whole_warnings(
     alloc: Global,
+    netgroups: &Netgroups,
+    hosts: &Hosts,
     entries: &[(FsId, Boxed<Entry>)],
 ) -> Result<Sequence<Warning>, AllocError>
-    ensures { IfOk result (λ warnings. warnings ≡ spec.whole_warnings entries.now) }
+    ensures { IfOk result (λ warnings. warnings ≡ spec.whole_warnings netgroups.now hosts.now entries.now) }
 {
-    let netgroups = Netgroups::new(alloc);
-    let hosts = Hosts::new(alloc);
     let mut warnings = Sequence::new(alloc);
     for (_, entry) in entries {
-        push_entry(alloc, &netgroups, &hosts, "exports", entry, &mut warnings)?;
+        push_entry(alloc, netgroups, hosts, "exports", entry, &mut warnings)?;
     }
     Ok(warnings)
 }

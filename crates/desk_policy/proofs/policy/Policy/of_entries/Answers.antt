@@ -4,6 +4,8 @@ use Rattle.std.proofs.lemmas.Bool.{cases_lt, cond-true, cond-false, lt-ltb, le-l
 use Rattle.std.proofs.lemmas.List.{append_assoc, append-nil, nil_from_length}
 use Rattle.std.proofs.lemmas.List.FromFn.{length-map-range_with_len}
 use Rattle.desk_tables.specs.declared.filesystems.FsId.{FsId}
+use Rattle.desk_tables.specs.declared.hosts.HostRow.{HostRow}
+use Rattle.desk_netgroup.specs.declared.group_line.GroupLine.{GroupLine}
 use Rattle.desk_exports.specs.declared.entry.Entry.{Entry}
 use Rattle.desk_policy.specs.declared.row.Row.{Row}
 use Rattle.desk_policy.specs.Policy.{AreAscending, Content, content_of, rows_placed}
@@ -18,37 +20,38 @@ use Rattle.desk_policy.proofs.policy.Policy.of_entries.Goals.{After-new-warnings
 pub loop-fs-init : goal.loop-fs-init
 loop-fs-init c = record {
   entries = c.into_iter-fs-iterator.ensures.into_iter_gives.0 ∙ c.into_vec-fs-items.ensures;
-  lists = c.in_ok-rows.ensures ∙ none_placed 0 (length c.args.filesystems);
+  lists = c.in_ok-rows.ensures ∙ none_placed c.args.netgroups.now c.args.hosts.now 0 (length c.args.filesystems);
 }
 
 -- the next entry goes from what is left to what was read
 one_more : {X : Type 0} (done left rest all : List X) (x : X) → left ≡ x ∷ rest → done ++ left ≡ all → (done ++ x ∷ []) ++ rest ≡ all
 one_more done left rest all x e h = append_assoc done (x ∷ []) rest ∙ ap (λ xs. done ++ xs) (sym e) ∙ h
 
-lists-length : (lists : List (List Row)) (done : List (FsId × Entry)) (n : ℕ) → lists ≡ map (rows_placed done) (range_with_len 0 n) → length lists ≡ n
-lists-length lists done n h = ap length h ∙ length-map-range_with_len (rows_placed done) 0 n
+module _ (netgroups : List GroupLine) (hosts : List HostRow) where
+  lists-length : (lists : List (List Row)) (done : List (FsId × Entry)) (n : ℕ) → lists ≡ map (rows_placed netgroups hosts done) (range_with_len 0 n) → length lists ≡ n
+  lists-length lists done n h = ap length h ∙ length-map-range_with_len (rows_placed netgroups hosts done) 0 n
 
-module _ (lists : List (List Row)) (done : List (FsId × Entry)) (n : ℕ) (h : lists ≡ map (rows_placed done) (range_with_len 0 n)) (fs : FsId) (entry : Entry) where
-  -- the list of the entry's file system, if there is one, gains its line
-  gains : (row : Row) → row ≡ row_of [] [] entry → with_row lists fs.0 row ≡ map (rows_placed (done ++ (fs, entry) ∷ [])) (range_with_len 0 n)
-  gains row is = elim (cases_lt fs.0 (length lists)) [
-    | inl lt ↦
-        let below : fs.0 < n = omega (arith, lists-length lists done n h) in
-        cond-true (ltb fs.0 (length lists)) _ _ (lt-ltb _ _ lt)
-        ∙ ap (λ r. set lists fs.0 (get_or lists fs.0 [] ++ r ∷ [])) is
-        ∙ ap (λ ls. set ls fs.0 (get_or ls fs.0 [] ++ row_of [] [] entry ∷ [])) h
-        ∙ sym (placed_within done (fs, entry) 0 n fs.0 [] below (zero-add fs.0))
-    | inr over ↦
-        cond-false (ltb fs.0 (length lists)) _ _ (le-ltb _ _ over)
-        ∙ h ∙ sym (placed_beyond done (fs, entry) 0 n (inr (omega (arith, lists-length lists done n h))))
-  ]
+  module _ (lists : List (List Row)) (done : List (FsId × Entry)) (n : ℕ) (h : lists ≡ map (rows_placed netgroups hosts done) (range_with_len 0 n)) (fs : FsId) (entry : Entry) where
+    -- the list of the entry's file system, if there is one, gains its line
+    gains : (row : Row) → row ≡ row_of netgroups hosts entry → with_row lists fs.0 row ≡ map (rows_placed netgroups hosts (done ++ (fs, entry) ∷ [])) (range_with_len 0 n)
+    gains row is = elim (cases_lt fs.0 (length lists)) [
+      | inl lt ↦
+          let below : fs.0 < n = omega (arith, lists-length lists done n h) in
+          cond-true (ltb fs.0 (length lists)) _ _ (lt-ltb _ _ lt)
+          ∙ ap (λ r. set lists fs.0 (get_or lists fs.0 [] ++ r ∷ [])) is
+          ∙ ap (λ ls. set ls fs.0 (get_or ls fs.0 [] ++ row_of netgroups hosts entry ∷ [])) h
+          ∙ sym (placed_within netgroups hosts done (fs, entry) 0 n fs.0 [] below (zero-add fs.0))
+      | inr over ↦
+          cond-false (ltb fs.0 (length lists)) _ _ (le-ltb _ _ over)
+          ∙ h ∙ sym (placed_beyond netgroups hosts done (fs, entry) 0 n (inr (omega (arith, lists-length lists done n h))))
+    ]
 
 pub loop-fs-preserved : goal.loop-fs-preserved
 loop-fs-preserved c =
     let keeps = c.loop-fs.invariant in
     record {
       entries = one_more c.loop-fs.yielded _ c.next.new.self.rest.items _ (c.in-Some.fs, c.in-Some.entry) c.in-Some.ensures.steps.0 keeps.entries;
-      lists = c.in_ok-add_row.ensures ∙ gains c.loop-fs.rows.items c.loop-fs.yielded (length c.args.filesystems) keeps.lists c.in-Some.fs c.in-Some.entry c.in_ok-row.row c.in_ok-row.ensures;
+      lists = c.in_ok-add_row.ensures ∙ gains c.args.netgroups.now c.args.hosts.now c.loop-fs.rows.items c.loop-fs.yielded (length c.args.filesystems) keeps.lists c.in-Some.fs c.in-Some.entry c.in_ok-row.row c.in_ok-row.ensures;
     }
 
 all_done : (c : After-new-warnings) → c.loop-fs.yielded ≡ c.args.entries
@@ -56,14 +59,14 @@ all_done c =
     let left = nil_from_length c.loop-fs.fs-iterator.rest.items (sym c.loop-fs.fs-iterator.rest.ok.0 ∙ c.in-None.ensures.steps.0) in
     sym (append-nil c.loop-fs.yielded) ∙ ap (λ xs. c.loop-fs.yielded ++ xs) (sym left) ∙ c.loop-fs.invariant.entries
 
-all_lists : (c : After-new-warnings) → c.loop-fs.rows.items ≡ map (rows_placed c.args.entries) (range_with_len 0 (length c.args.filesystems))
+all_lists : (c : After-new-warnings) → c.loop-fs.rows.items ≡ map (rows_placed c.args.netgroups.now c.args.hosts.now c.args.entries) (range_with_len 0 (length c.args.filesystems))
 all_lists c =
-    c.loop-fs.invariant.lists ∙ ap (λ (entries : List (FsId × Entry)). map (rows_placed entries) (range_with_len 0 (length c.args.filesystems))) (all_done c)
+    c.loop-fs.invariant.lists ∙ ap (λ (entries : List (FsId × Entry)). map (rows_placed c.args.netgroups.now c.args.hosts.now entries) (range_with_len 0 (length c.args.filesystems))) (all_done c)
 
 pub invariant_of-result : goal.invariant_of-result
 invariant_of-result c = record {
-  each = lists-length c.loop-fs.rows.items c.loop-fs.yielded (length c.args.filesystems) c.loop-fs.invariant.lists;
-  ascending = subst (λ lists. All AreAscending lists) (sym (all_lists c)) (each_ascends c.args.entries (range_with_len 0 (length c.args.filesystems)) c.requires);
+  each = lists-length c.args.netgroups.now c.args.hosts.now c.loop-fs.rows.items c.loop-fs.yielded (length c.args.filesystems) c.loop-fs.invariant.lists;
+  ascending = subst (λ lists. All AreAscending lists) (sym (all_lists c)) (each_ascends c.args.netgroups.now c.args.hosts.now c.args.entries (range_with_len 0 (length c.args.filesystems)) c.requires);
 }
 
 pub returns : goal.returns

@@ -7,5 +7,5 @@ use Rattle.desk_policy.proofs.policy.Policy.of_entries.Given as goal
 abbrev pub invariant-loop-fs : goal.invariant-loop-fs
 invariant-loop-fs l = record {
   entries : l.yielded ++ l.fs-iterator.rest.items ≡ l.fn.entries;
-  lists : l.rows.items ≡ map (rows_placed l.yielded) (range_with_len 0 (length l.fn.filesystems));
+  lists : l.rows.items ≡ map (rows_placed l.netgroups l.hosts l.yielded) (range_with_len 0 (length l.fn.filesystems));
 }
