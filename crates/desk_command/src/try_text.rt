@@ -1,11 +1,15 @@
 //! The verdict on one mount over an exports text.
 
-ghost use Rattle.std.specs.Prelude.{◌≤◌, length};
+ghost use Rattle.std.specs.Prelude.{◌≤◌, Ok, length};
 ghost use Rattle.desk_text.specs.Address.{number_of};
-ghost use Rattle.desk_policy.specs.Parsing.{read_whole_policy};
+ghost use Rattle.desk_text.specs.Reading.{Reads};
+ghost use Rattle.desk_policy.specs.Parsing.{read_whole_policy, without_warnings};
 ghost use Rattle.desk_command.specs.TryText.{Tries};
 
-use desk_policy::{Plain, PolicyView, SiteFault, Verdict, parse_whole, verdict_text};
+use desk_policy::{
+    Plain, Policy, PolicyView, SiteFault, SiteTables, Verdict, parse_whole_without_warnings,
+    verdict_text, warnings_change_no_answer,
+};
 use desk_tables::FileSystems;
 use desk_text::{Addr, Path, ReadError};
 use std::alloc::Global;
@@ -31,7 +35,34 @@ pub fn try_text(
     requires { length text.now ≤ 4294967294 }
     ensures { Tries (read_whole_policy filesystems text.now) (number_of address) path.now result }
 {
-    let policy = parse_whole(alloc, text, filesystems)?;
+    let policy = read_policy(alloc, text, filesystems)?;
+    // No answer rests on the warnings, which are left out.
+    warnings_change_no_answer();
+    answer_by(alloc, policy, address, path)
+}
+
+/// Reads the policy that a whole exports text writes, without its warnings, of which `try` prints none.
+fn read_policy(
+    alloc: Global,
+    text: &str,
+    filesystems: FileSystems,
+) -> Result<Policy, ReadError<SiteFault>>
+    requires { length text.now ≤ 4294967294 }
+    ensures { Reads result (without_warnings (read_whole_policy filesystems text.now)) }
+{
+    let site_tables = SiteTables::new(alloc);
+    parse_whole_without_warnings(alloc, text, filesystems, &site_tables)
+}
+
+/// Decides whether a client may mount a directory by a policy, or returns its least contradiction.
+fn answer_by(
+    alloc: Global,
+    policy: Policy,
+    address: Addr,
+    path: &Path,
+) -> Result<Tried, ReadError<SiteFault>>
+    ensures { Tries (Ok policy) (number_of address) path.now result }
+{
     let view = Plain::build(alloc, policy)?;
     let verdict = view.decide(address, path);
     let granted = matches!(verdict, Verdict::Granted { .. });

@@ -124,6 +124,11 @@ abbrev pub read_whole_with : SiteTables → List Mount → List ℕ → Result C
 read_whole_with site_tables table text =
     then_read (in_file (line_fault (codes "exports")) (whole_answer (rows_with table site_tables) text)) (whole_policy site_tables table)
 
--- the same with no table but the file systems
+-- the same policy without its warnings, or the same fault
+abbrev pub without_warnings : Result Content SiteFault → Result Content SiteFault
+without_warnings (Ok content) = Ok (with_warnings content [])
+without_warnings (Err fault) = Err fault
+
+-- the policy that a whole exports text writes with no table but these file systems, or its fault
 abbrev pub read_whole_policy : List Mount → List ℕ → Result Content SiteFault
 read_whole_policy table text = read_whole_with no_tables table text

@@ -1,16 +1,18 @@
 -- What a view of a policy is built of, when it is refused, and when a site is consistent. (this project's own)
-use Rattle.std.specs.Prelude.{◌≡◌, ℕ, ◌<◌, Option, Some, None, Result, Ok, Err, slice_get}
+use Rattle.std.specs.Prelude.{◌≡◌, ◌↔◌, ℕ, ◌<◌, List, Option, Some, None, Result, Ok, Err, slice_get}
 use Rattle.std.specs.Option.{option_map}
 use Rattle.desk_text.specs.Address.{number_of}
 use Rattle.desk_text.specs.declared.reading.ReadError.{ReadError}
 use Rattle.desk_text.specs.declared.reading.ReadError.TheVariants.{Fault, Memory}
 use Rattle.desk_policy.specs.Contradiction.{AreConsistent, HasNoContradiction, IsLeastIn}
 use Rattle.desk_policy.specs.Parsing.{read_site}
-use Rattle.desk_policy.specs.Policy.{Content, rows_of}
+use Rattle.desk_policy.specs.Policy.{Content, rows_of, with_warnings}
 use Rattle.desk_policy.specs.Site.{SiteTexts}
 use Rattle.desk_policy.specs.SiteFault.{contradiction_fault, exports_name}
+use Rattle.desk_policy.specs.Verdict.{verdict_of}
 use Rattle.desk_policy.specs.declared.contradiction.Contradiction.{Contradiction}
 use Rattle.desk_policy.specs.declared.site_fault.SiteFault.{SiteFault}
+use Rattle.desk_policy.specs.declared.warning.Warning.{Warning}
 
 -- a fault names the least contradiction of a policy: by mount point, later line, earlier line and address
 pub record IsLeastContradiction (content : Content) (fault : SiteFault) : Type 0 where
@@ -24,6 +26,15 @@ pub record IsLeastContradiction (content : Content) (fault : SiteFault) : Type 0
 abbrev pub IsLeastOrNone : Content → Option SiteFault → Type 0
 IsLeastOrNone content None = HasNoContradiction content
 IsLeastOrNone content (Some fault) = IsLeastContradiction content fault
+
+-- with other warnings a policy gives the same verdicts, and has the same least contradiction or none
+pub record AnswersAlike (content other : Content) : Type 0 where
+  pub verdicts : (address : ℕ) (path : List (List ℕ)) → verdict_of other address path ≡ verdict_of content address path
+  pub consistent : HasNoContradiction other ↔ HasNoContradiction content
+  pub least : (fault : SiteFault) → IsLeastContradiction other fault ↔ IsLeastContradiction content fault
+
+abbrev pub WarningsChangeNoAnswer : Type 0
+WarningsChangeNoAnswer = (content : Content) (warnings : List Warning) → AnswersAlike content (with_warnings content warnings)
 
 -- a view keeps the policy, which has no contradiction, or the policy's least one is named; out of memory says nothing
 abbrev pub Builds : {V : Type 0} → (V → Content) → Content → Result V (ReadError SiteFault) → Type 0

@@ -40,12 +40,12 @@ pub use laws::{
     addresses_are_unique, ascending_entries_ascend_in_each_file, each_has_its_lines,
     each_has_its_own_lines, first_faulty_file_is_reported, least_lines_are_named,
     lines_write_their_own, listed_are_granted, listings_show_their_own,
-    listings_show_what_is_granted,
+    listings_show_what_is_granted, warnings_change_no_answer,
 };
 pub use listing_prints::{all_exports, listing_text};
 pub use listings::{Shown, listing};
 pub use names::addresses_of;
-pub use parsing::{SiteTables, parse, parse_whole, parse_whole_with};
+pub use parsing::{SiteTables, parse, parse_whole, parse_whole_with, parse_whole_without_warnings};
 pub use policy::Policy;
 pub use prints::verdict_text;
 pub use row::Row;

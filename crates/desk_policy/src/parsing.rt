@@ -401,6 +401,28 @@ pub fn parse_whole_with(
     Ok(policy.with_warnings(warnings))
 }
 
+/// Reads the policy that a whole exports text writes, as `parse_whole_with` does, but none of its warnings. There may be one
+/// for each word of the text, so this is for callers that show none.
+pub fn parse_whole_without_warnings(
+    alloc: Global,
+    text: &str,
+    filesystems: FileSystems,
+    site_tables: &SiteTables,
+) -> Result<Policy, ReadError<SiteFault>>
+    requires { length text.now ≤ 4294967294 }
+    ensures { Reads result (spec.without_warnings (spec.read_whole_with site_tables.now filesystems text.now)) }
+{
+    let entries = whole_entries(alloc, text, &filesystems, site_tables)?;
+    let policy = Policy::of_entries(
+        alloc,
+        &site_tables.netgroups,
+        &site_tables.hosts,
+        filesystems,
+        entries,
+    )?;
+    Ok(policy)
+}
+
 /// Reads the entries of a whole exports text, or its fault in the file `exports`.
 fn whole_entries(
     alloc: Global,
