@@ -1,5 +1,5 @@
 -- Files that are read one after the other.
-use Rattle.std.proofs.Common.{◌≡◌, List, ap, subst, sym, ℕ}
+use Rattle.std.proofs.Common.{◌≡◌, IfOk, List, ap, subst, sym, ℕ}
 use Rattle.std.specs.Prelude.{Result, Ok, Err}
 use Rattle.desk_text.specs.Reading.{Reads}
 use Rattle.desk_text.specs.declared.reading.ReadError.{ReadError}
@@ -24,3 +24,8 @@ pub files_refused : (error : ReadError SiteFault) (read : Result (List ExportsFi
     → PushesFiles (Err error) read count rows rows' warnings warnings' → Reads {X = List ExportsFile} (Err error) read
 files_refused (Fault fault) read count rows rows' warnings warnings' told = told
 files_refused Memory read count rows rows' warnings warnings' told = tt
+
+-- what holds of a value holds of it where it is kept
+pub if_kept : {X E F : Type 0} (P : X → Type 0) (answer : Result X E) (result : Result X F) → IfOk result (λ value. answer ≡ Ok value) → IfOk answer P → IfOk result P
+if_kept P answer (Ok value) kept holds = subst (λ r. IfOk r P) kept holds
+if_kept P answer (Err fault) kept holds = tt

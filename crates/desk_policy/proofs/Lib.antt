@@ -14,6 +14,7 @@ pub mod KeyPlaces
 pub mod Lesser
 pub mod FilesRead
 pub mod Chain
+pub mod Gathered
 pub mod SiteLaws
 pub mod OwnDirectories
 pub mod Compiling

@@ -3,7 +3,7 @@
 //! The files are read in this order: custodians, filesystems, hosts, networks, passwd, group, netgroup, and then the
 //! exports files by mount point. The first faulty one is refused, with its first faulty line.
 
-ghost use Rattle.std.specs.Prelude.{◌≡◌, ◌≤◌, [], ◌++◌, IfOk, List, None, Ok, OnOk, Result, codes, length, map, unwrap_or};
+ghost use Rattle.std.specs.Prelude.{◌≡◌, ◌≤◌, [], ◌++◌, IfOk, None, Ok, OnOk, Result, codes, length, map, unwrap_or};
 ghost use Rattle.std.specs.BTreeMap.{get_by_text};
 ghost use Rattle.std.specs.List.{flat_map};
 ghost use Rattle.std.specs.String.{string_bytes};
@@ -12,7 +12,6 @@ ghost use Rattle.desk_text.specs.Reading.{Reads};
 ghost use Rattle.desk_tables.specs.FileSystemsText as filesystems;
 ghost use Rattle.desk_tables.specs.Rules as tables;
 ghost use Rattle.desk_netgroup.specs.declared.faults.GroupFault.{GroupFault};
-ghost use Rattle.desk_netgroup.specs.declared.group_line.GroupLine.{GroupLine};
 ghost use Rattle.desk_exports.specs.Files.{EntriesAscend, whole_answer};
 ghost use Rattle.desk_exports.specs.declared.rules.Rule.{Rule};
 ghost use Rattle.desk_text.specs.declared.reading.LineFault.{LineFault};
@@ -299,14 +298,14 @@ fn in_table<T>(
 }
 
 /// Names the netgroup file in its fault.
-fn in_netgroup(
+fn in_netgroup<T>(
     alloc: Global,
-    answer: Result<Netgroups, ReadError<GroupFault>>,
-) -> Result<Netgroups, ReadError<SiteFault>>
-    ensures { (read : Result (List GroupLine) GroupFault) → Reads answer read → Reads result (spec.in_file group_fault read) }
+    answer: Result<T, ReadError<GroupFault>>,
+) -> Result<T, ReadError<SiteFault>>
+    ensures { (read : Result T GroupFault) → Reads answer read → Reads result (spec.in_file group_fault read) }
 {
     match answer {
-        Ok(groups) => Ok(groups),
+        Ok(value) => Ok(value),
         Err(ReadError::Memory) => Err(ReadError::Memory),
         Err(ReadError::Fault(fault)) => Err(ReadError::Fault(fault_in(
             alloc,

@@ -136,8 +136,11 @@ fn add_row(lists: &mut Vec<Sequence<Row>>, fs: FsId, row: Row) -> Result<(), All
     Ok(())
 }
 
-/// Makes a list without lines for each file system.
-fn empty_lists(alloc: Global, filesystems: &FileSystems) -> Result<Vec<Sequence<Row>>, AllocError>
+/// Makes a list without elements for each file system.
+fn empty_lists<T: Drop>(
+    alloc: Global,
+    filesystems: &FileSystems,
+) -> Result<Vec<Sequence<T>>, AllocError>
     ensures { IfOk result (λ lists. lists.items ≡ replicate (length filesystems.now) []) }
 {
     let mut lists = Vec::new(alloc);

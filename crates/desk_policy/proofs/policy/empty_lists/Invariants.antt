@@ -3,4 +3,4 @@ use Rattle.std.proofs.Common.{◌≡◌, [], replicate}
 use Rattle.desk_policy.proofs.policy.empty_lists.Given as goal
 
 abbrev pub invariant-loop : goal.invariant-loop
-invariant-loop l = l.lists.items ≡ replicate l.counter []
+invariant-loop g l = l.lists.items ≡ replicate l.counter []
