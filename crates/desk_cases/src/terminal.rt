@@ -116,7 +116,7 @@ fn push_printed(shown: &mut String, mark: &str, printed: &[u8]) -> Asked {
     }
 }
 
-/// Adds lines, with a mark before each. A last line without a line end is told apart.
+/// Adds lines, with a mark before each. A last line without a line end is told apart, and a carriage return is `\r`.
 fn push_lines(shown: &mut String, mark: &str, text: &str) -> Result<(), AllocError> {
     if text.is_empty() {
         return Ok(());
@@ -136,5 +136,12 @@ fn push_line(shown: &mut String, mark: &str, line: &str) -> Result<(), AllocErro
     } else {
         " "
     };
-    write!(shown, "{mark}{blank}{line}\n")
+    write!(shown, "{mark}{blank}")?;
+    for (index, piece) in line.split('\r').enumerate() {
+        if 0 < index {
+            shown.push_str("\\r")?;
+        }
+        shown.push_str(piece)?;
+    }
+    shown.push('\n')
 }

@@ -1,5 +1,5 @@
 -- The command line, as `clap` reads it. (this project's own)
-use Rattle.std.specs.Prelude.{◌⊎◌, ℕ, true, List, ◌∷◌, Option, Some, None, codes, if◌then◌else◌, option_and_then}
+use Rattle.std.specs.Prelude.{◌⊎◌, ℕ, true, List, ◌∷◌, Option, Some, None, codes, if◌then◌else◌, option_and_then, option_map}
 use Rattle.std.specs.Str.{bytes_eq}
 use Rattle.clap.specs.Lexer.{usize_max}
 use Rattle.clap.specs.Words.{App, IsAmong, Kinds, Row, Rule, all_of, fault_of, first_of, new_app, new_rule, subcommand_of, with_rule, with_subcommand}
@@ -18,7 +18,11 @@ mount_words = record (word (codes "MOUNT")) { range = Some (record { start_inclu
 abbrev pub try_command : App
 try_command = with_rule (with_rule (with_rule (with_rule (new_app (codes "try")) (word (codes "FILE"))) (word (codes "HOST"))) (word (codes "DIR"))) mount_words
 
--- the program without its subcommand
+-- `split FILE FILESYSTEMS`
+abbrev pub split_command : App
+split_command = with_rule (with_rule (new_app (codes "split")) (word (codes "FILE"))) (word (codes "FILESYSTEMS"))
+
+-- the program without its subcommands
 abbrev pub program : App
 program = record (new_app (codes "exportdesk")) {
   top = record (new_app (codes "exportdesk")).top {
@@ -28,9 +32,9 @@ program = record (new_app (codes "exportdesk")) {
   };
 }
 
--- the program's command line: one subcommand
+-- the program's command line: its subcommands
 abbrev pub command_line : App
-command_line = with_subcommand program try_command.top
+command_line = with_subcommand (with_subcommand program try_command.top) split_command.top
 
 -- the words behind the program's name, as clap is given them
 abbrev pub line_of : List (List ℕ) → List (List ℕ)
@@ -64,9 +68,38 @@ abbrev pub try_words_in : List Row → Option TryWords
 try_words_in rows =
     try_words_from (first_of (codes "FILE") rows) (first_of (codes "HOST") rows) (first_of (codes "DIR") rows) (all_of (codes "MOUNT") rows)
 
--- the words of `try`, if that is the subcommand which clap finds
-abbrev pub try_words_of : Option (List ℕ × List Row) → Option TryWords
-try_words_of found = option_and_then (λ command. if bytes_eq command.0 (codes "try") then try_words_in command.1 else None) found
+-- the words of `split`
+pub record SplitWords : Type 0 where
+  pub file : List ℕ
+  pub filesystems : List ℕ
 
-abbrev pub try_words : List (List ℕ) → Option TryWords
-try_words words = try_words_of (subcommand_of command_line (line_of words))
+abbrev pub words_of_split : List ℕ → List ℕ → SplitWords
+words_of_split file filesystems = record { file = file; filesystems = filesystems }
+
+-- the words of `split` by those of FILE and FILESYSTEMS, if none is missing
+abbrev pub split_words_from : Option (List ℕ) → Option (List ℕ) → Option SplitWords
+split_words_from (Some file) (Some filesystems) = Some (words_of_split file filesystems)
+split_words_from file filesystems = None
+
+-- the words of `split` among the arguments that clap finds
+abbrev pub split_words_in : List Row → Option SplitWords
+split_words_in rows = split_words_from (first_of (codes "FILE") rows) (first_of (codes "FILESYSTEMS") rows)
+
+-- a command with its words
+pub data CommandWords : Type 0 where
+  Try : TryWords → CommandWords
+  Split : SplitWords → CommandWords
+
+-- the command of this name with its words among the arguments that clap finds, if none is missing
+abbrev pub command_in : List ℕ → List Row → Option CommandWords
+command_in name rows =
+    if bytes_eq name (codes "try") then option_map Try (try_words_in rows)
+    else (if bytes_eq name (codes "split") then option_map Split (split_words_in rows)
+    else None)
+
+-- the command that clap finds, if it finds one
+abbrev pub command_of : Option (List ℕ × List Row) → Option CommandWords
+command_of found = option_and_then (λ command. command_in command.0 command.1) found
+
+abbrev pub command_found : List (List ℕ) → Option CommandWords
+command_found words = command_of (subcommand_of command_line (line_of words))

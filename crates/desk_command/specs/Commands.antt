@@ -1,14 +1,17 @@
 -- What the program answers to the words of a command, and how it ends. (this project's own)
-use Rattle.std.specs.Prelude.{◌≡◌, ◌≢◌, ◌⊎◌, ℕ, Bool, not, List, [], ◌∷◌, take, Option, Some, IfSome, Result, Ok, Err, IsErrAnd}
+use Rattle.std.specs.Prelude.{◌≡◌, ◌≢◌, ◌⊎◌, ℕ, Bool, not, List, [], ◌∷◌, take, Option, Some, None, IfSome, Result, Ok, Err, IsErrAnd}
 use Rattle.std.specs.Io.BufRead.{take_through}
 use Rattle.std.specs.List.{position_from}
 use Rattle.std.specs.Str.{is_utf8}
 use Rattle.clap.specs.declared.error.ErrorKind.{ErrorKind}
 use Rattle.clap.specs.declared.error.ErrorKind.TheVariants.{DisplayHelp, DisplayVersion, OutOfMemory}
-use Rattle.desk_command.specs.CommandLine.{AskForHelp, faults_of, try_words}
+use Rattle.desk_command.specs.CommandLine.{AskForHelp, CommandWords, Split, Try, command_found, faults_of}
+use Rattle.desk_command.specs.Files.{IsSystem}
 use Rattle.desk_command.specs.Input.{first_line, words_of}
 use Rattle.desk_command.specs.Output.{printed, status_of}
-use Rattle.desk_command.specs.TryCommand.{AnswersFound, IsSystem}
+use Rattle.desk_command.specs.SplitCommand.{AnswersSplit}
+use Rattle.desk_command.specs.TryCommand.{AnswersFile}
+use Rattle.desk_command.specs.Words.{IsMissing}
 use Rattle.desk_command.specs.declared.failure.Failure.{Failure}
 use Rattle.desk_command.specs.declared.failure.Failure.TheVariants.{FirstLine, Memory, Usage, Word}
 use Rattle.desk_command.specs.declared.failure.ReadFailure.TheVariants.{Text}
@@ -45,10 +48,19 @@ IsNoCommand words (Ok output) = ⊥
 IsNoCommand words (Err (Usage text)) = faults_of words ≢ []
 IsNoCommand words (Err failure) = IsBadWord words failure
 
--- the answer to words: that they are no command, or that of `try`, over an input that has these bytes, if a contract can
--- name them
+-- the answer to a command over an input that has these bytes, if a contract can name them
+abbrev pub AnswersGiven : CommandWords → Option (List ℕ) → Result Output Failure → Type 0
+AnswersGiven (Try words) known result = AnswersFile words known result
+AnswersGiven (Split words) known result = AnswersSplit words known result
+
+-- the answer to what clap finds: that to the command, or that a word is missing
+abbrev pub AnswersFound : Option CommandWords → Option (List ℕ) → Result Output Failure → Type 0
+AnswersFound (Some words) known result = AnswersGiven words known result
+AnswersFound None known result = IsErrAnd result IsMissing
+
+-- the answer to words: that they are no command, or that to the command which they are
 abbrev pub AnswersCommand : List (List ℕ) → Option (List ℕ) → Result Output Failure → Type 0
-AnswersCommand words known result = IsNoCommand words result ⊎ AnswersFound (try_words words) known result
+AnswersCommand words known result = IsNoCommand words result ⊎ AnswersFound (command_found words) known result
 
 -- the answer to the first line: that to its words, over the rest of the input; or its fault
 abbrev pub AnswersLine : Result (List ℕ) TextFault → Option (List ℕ) → Result Output Failure → Type 0

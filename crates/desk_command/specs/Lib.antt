@@ -2,8 +2,11 @@ pub mod Arguments
 pub mod CommandLine
 pub mod Commands
 pub mod Faults
+pub mod Files
 pub mod Input
 pub mod Output
+pub mod SplitCommand
+pub mod SplitText
 pub mod TryCommand
 pub mod TryText
-pub mod SplitText
+pub mod Words

@@ -1,6 +1,5 @@
 -- The output of `try` by the bytes of FILE. (this project's own)
-use Rattle.std.specs.Prelude.{◌≡◌, ◌⊎◌, ℕ, List, Option, Some, None, IfSome, Result, Ok, Err, IsErrAnd, codes}
-use Rattle.std.specs.String.{string_bytes}
+use Rattle.std.specs.Prelude.{◌⊎◌, ℕ, List, Option, Result, Ok, Err}
 use Rattle.desk_text.specs.Address.{number_of, read_addr}
 use Rattle.desk_text.specs.Path.{read_path}
 use Rattle.desk_policy.specs.Parsing.{read_whole_policy}
@@ -9,22 +8,17 @@ use Rattle.desk_policy.specs.View.{IsFaultOf}
 use Rattle.desk_policy.specs.declared.site_fault.SiteFault.{SiteFault}
 use Rattle.desk_command.specs.Arguments.{IsBadArgument, IsRequest}
 use Rattle.desk_command.specs.CommandLine.{TryWords}
+use Rattle.desk_command.specs.Files.{IsContents, IsFileFailure, IsUnread}
 use Rattle.desk_command.specs.Input.{text_of}
 use Rattle.desk_command.specs.TryText.{IsAnswerBy, answer_of}
 use Rattle.desk_command.specs.declared.failure.Failure.{Failure}
-use Rattle.desk_command.specs.declared.failure.Failure.TheVariants.{File, Memory, Missing}
-use Rattle.desk_command.specs.declared.failure.ReadFailure.{ReadFailure}
-use Rattle.desk_command.specs.declared.failure.ReadFailure.TheVariants.{System, Text}
+use Rattle.desk_command.specs.declared.failure.Failure.TheVariants.{Memory}
+use Rattle.desk_command.specs.declared.failure.ReadFailure.TheVariants.{Text}
+use Rattle.desk_command.specs.declared.files.FileArgument.TheVariants.{File}
 use Rattle.desk_command.specs.declared.input.TextFault.{TextFault}
 use Rattle.desk_command.specs.declared.output.Output.{Output}
 use Rattle.desk_command.specs.declared.output.Output.TheVariants.{Faulty, Tried}
 use Rattle.desk_command.specs.declared.arguments.Request.{Request}
-
--- the failure names this file and why it could not be read; out of memory says nothing
-abbrev pub IsFileFailure : List ℕ → ReadFailure → Failure → Type 0
-IsFileFailure file reason (File name found) = (string_bytes name ≡ file) × (found ≡ reason)
-IsFileFailure file reason Memory = Unit {0}
-IsFileFailure file reason failure = ⊥
 
 -- the output tells the verdict for an address and a path by what a text is read as, or the text's fault; out of memory says
 -- nothing
@@ -37,19 +31,8 @@ Tells read address path result = ⊥
 -- the output answers a request by a text, or says why the bytes of the file are not taken as one
 abbrev pub AnswersTry : List ℕ → Request → Result (List ℕ) TextFault → Result Output Failure → Type 0
 AnswersTry file request (Ok text) result = Tells (read_whole_policy request.filesystems text) (number_of request.address) request.path result
-AnswersTry file request (Err fault) (Err failure) = IsFileFailure file (Text fault) failure
+AnswersTry file request (Err fault) (Err failure) = IsFileFailure File file (Text fault) failure
 AnswersTry file request (Err fault) (Ok output) = ⊥
-
--- why the system could not read
-abbrev pub IsSystem : ReadFailure → Type 0
-IsSystem (System error) = Unit {0}
-IsSystem (Text fault) = ⊥
-
--- the failure says that the system could not read this file; out of memory says nothing
-abbrev pub IsUnread : List ℕ → Failure → Type 0
-IsUnread file (File name reason) = (string_bytes name ≡ file) × IsSystem reason
-IsUnread file Memory = Unit {0}
-IsUnread file failure = ⊥
 
 -- the output answers a request that these words write, by these bytes
 pub record AnswersBytes (file host dir : List ℕ) (mounts : List (List ℕ)) (bytes : List ℕ) (result : Result Output Failure) : Type 0 where
@@ -63,24 +46,10 @@ abbrev pub AnswersWords : List ℕ → List ℕ → List ℕ → List (List ℕ)
 AnswersWords file host dir mounts bytes (Ok output) = AnswersBytes file host dir mounts bytes (Ok output)
 AnswersWords file host dir mounts bytes (Err failure) =
     AnswersBytes file host dir mounts bytes (Err failure)
-    ⊎ (IsBadArgument host (read_addr host) dir (read_path dir) mounts failure ⊎ IsUnread file failure)
-
--- the bytes of FILE: of `-` all that the input has, if a contract can name these; of another file some
-abbrev pub IsContents : List ℕ → Option (List ℕ) → List ℕ → Type 0
-IsContents file known bytes = file ≡ codes "-" → IfSome known (λ given. bytes ≡ given)
+    ⊎ (IsBadArgument host (read_addr host) dir (read_path dir) mounts failure ⊎ IsUnread File file failure)
 
 -- the answer of `try` to its words by the bytes of FILE
 pub record AnswersFile (words : TryWords) (known : Option (List ℕ)) (result : Result Output Failure) : Type 0 where
   pub bytes : List ℕ
   pub contents : IsContents words.file known bytes
   pub answers : AnswersWords words.file words.host words.dir words.mounts bytes result
-
--- the failure says that a word is missing
-abbrev pub IsMissing : Failure → Type 0
-IsMissing (Missing name) = Unit {0}
-IsMissing failure = ⊥
-
--- the answer to what clap finds: that of `try`, or that a word is missing
-abbrev pub AnswersFound : Option TryWords → Option (List ℕ) → Result Output Failure → Type 0
-AnswersFound (Some words) known result = AnswersFile words known result
-AnswersFound None known result = IsErrAnd result IsMissing

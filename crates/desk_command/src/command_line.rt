@@ -8,7 +8,7 @@ ghost use Rattle.desk_command.specs.CommandLine as spec;
 use clap::{Arg, ArgAction, Command};
 use std::alloc::{AllocError, Global};
 
-/// Makes the program's command line: one subcommand.
+/// Makes the program's command line: its subcommands.
 pub fn command<'a>(alloc: Global) -> Result<Command<'a>, AllocError>
     ensures { IfOk result (λ command. app_of command ≡ spec.command_line) }
 {
@@ -17,13 +17,14 @@ pub fn command<'a>(alloc: Global) -> Result<Command<'a>, AllocError>
         .about("Decides who may mount what, by the exports files of mountd(8)")
         .after_help(
             "Without words, the first line of standard input gives them, and the file - is the rest.\n\n\
-             Status: 0 granted, or help was printed; 1 denied; 2 bad words, or a file that cannot be read;\n\
-             3 the exports text has a fault; 4 out of memory, or the output could not be written.\n\
+             Status: 0 granted or done, or help was printed; 1 denied; 2 bad words, or a file that cannot\n\
+             be read; 3 a text has a fault; 4 out of memory, or the output could not be written.\n\
              docs/RULES.md explains each rule that an exports text can break.",
         )
         .disable_help_subcommand(true)
         .subcommand_required(true)
-        .subcommand(try_command(alloc)?)
+        .subcommand(try_command(alloc)?)?
+        .subcommand(split_command(alloc)?)
 }
 
 /// Makes the command line of `try FILE HOST DIR MOUNT...`
@@ -42,6 +43,26 @@ fn try_command<'a>(alloc: Global) -> Result<Command<'a>, AllocError>
         .arg(word(alloc, "HOST", "The IPv4 address of the client"))?
         .arg(word(alloc, "DIR", "The directory that it asks for"))?
         .arg(mounts)
+}
+
+/// Makes the command line of `split FILE FILESYSTEMS`.
+fn split_command<'a>(alloc: Global) -> Result<Command<'a>, AllocError>
+    ensures shape { IfOk result (λ command. app_of command ≡ spec.split_command) }
+    ensures local { IfOk result (λ command. (out-Command command).has_globals ≡ false) }
+{
+    Command::new(alloc, "split")
+        .about("Splits an exports file among file systems")
+        .after_help(
+            "For each file system, in byte order of the mount points, it prints a line `== MOUNT` and the\n\
+             lines of FILE that are for it, as they are written. A line is for the file system of its first\n\
+             directory, a V4: line for the first file system. Comments are left out.",
+        )
+        .arg(word(alloc, "FILE", "The exports text; - is standard input"))?
+        .arg(word(
+            alloc,
+            "FILESYSTEMS",
+            "The file systems, each a line `MOUNT CUSTODIAN...`; - is standard input",
+        ))
 }
 
 /// Makes an argument that is required, and taken as it is.

@@ -1,15 +1,19 @@
 //! From words to what the program prints.
 
 ghost use Rattle.std.specs.Prelude.{◌≡◌, ◌∷◌, MatchResult, codes, map};
-ghost use Rattle.clap.specs.Words.{kind_of};
-ghost use Rattle.desk_command.specs.Commands.{AnswersCommand, AnswersFirstLine, AnswersLine, IsBadWord, IsSaid};
+ghost use Rattle.clap.specs.Words.{kind_of, subcommand_rows_of};
+ghost use Rattle.desk_command.specs.CommandLine.{command_of};
+ghost use Rattle.desk_command.specs.Commands.{AnswersCommand, AnswersFirstLine, AnswersFound, AnswersLine, IsBadWord, IsSaid};
 ghost use Rattle.desk_command.specs.Input as spec;
 
 use crate::command_line::command;
 use crate::failure::{Failure, ReadFailure};
 use crate::input::{first_line, read_line, words_of};
 use crate::output::Output;
+use crate::split_command::run_split;
 use crate::try_command::run_try;
+use crate::words::{CommandWords, found_command};
+use clap::ArgMatches;
 use clap::error::ErrorKind;
 use std::alloc::Global;
 use std::convert::AsSlice;
@@ -51,11 +55,22 @@ pub fn run_words<S: AsSlice<u8>, I: BufRead>(
     let alloc = rt.alloc();
     let line = command_words(alloc, words)?;
     match command(alloc)?.try_get_matches_from(line.as_slice()) {
-        Ok(matches) => match matches.subcommand_matches("try") {
-            Some(words) => run_try(rt, words, input),
-            None => Err(Failure::Missing("the command")),
-        },
+        Ok(matches) => run_found(rt, &matches, input),
         Err(error) => clap_output(alloc, &error),
+    }
+}
+
+/// Runs the command that `clap` found.
+fn run_found<I: BufRead>(
+    rt: &HostRuntime,
+    matches: &ArgMatches<'_>,
+    input: &mut I,
+) -> Result<Output, Failure>
+    ensures { AnswersFound (command_of (subcommand_rows_of matches.now)) (I.remaining input.old) result }
+{
+    match found_command(matches)? {
+        CommandWords::Try(words) => run_try(rt, words, input),
+        CommandWords::Split(words) => run_split(rt, words, input),
     }
 }
 

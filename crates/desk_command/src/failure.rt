@@ -2,10 +2,11 @@
 
 ghost use Rattle.std.specs.Prelude.{◌≡◌, MatchResult};
 ghost use Rattle.desk_command.specs.Commands.{IsUnreadLine};
-ghost use Rattle.desk_command.specs.TryCommand.{IsFileFailure, IsSystem};
+ghost use Rattle.desk_command.specs.Files.{IsFileFailure, IsSystem};
 ghost use Rattle.desk_command.specs.declared.failure.Failure.TheVariants.{Memory};
 
 use crate::arguments::BadArgument;
+use crate::files::FileArgument;
 use crate::input::TextFault;
 use std::alloc::{AllocError, AllocFailed, Global};
 use std::io::ErrorKind;
@@ -34,8 +35,10 @@ pub enum Failure {
     TooManyMounts,
     /// The first line of standard input cannot be read.
     FirstLine(ReadFailure),
+    /// Two files are both to be standard input.
+    InputTwice,
     /// The file that this word names cannot be read.
-    File(String, ReadFailure),
+    File(FileArgument, String, ReadFailure),
     Memory,
 }
 
@@ -70,11 +73,16 @@ impl<T: Drop> From<AllocFailed<T>> for Failure {
 
 impl Failure {
     /// Returns the failure to read the file that a word names.
-    pub fn of_file(alloc: Global, file: &str, failure: ReadFailure) -> Failure
-        ensures { IsFileFailure file.now failure result }
+    pub fn of_file(
+        alloc: Global,
+        argument: FileArgument,
+        word: &str,
+        failure: ReadFailure,
+    ) -> Failure
+        ensures { IsFileFailure argument word.now failure result }
     {
-        match String::from_str(alloc, file) {
-            Ok(file) => Failure::File(file, failure),
+        match String::from_str(alloc, word) {
+            Ok(word) => Failure::File(argument, word, failure),
             Err(_) => Failure::Memory,
         }
     }
@@ -127,7 +135,11 @@ impl fmt::Display for Failure {
             Failure::Argument(bad) => write!(f, "{bad}"),
             Failure::TooManyMounts => write!(f, "MOUNT: over 256 different mount points"),
             Failure::FirstLine(failure) => write!(f, "{failure}"),
-            Failure::File(word, failure) => write!(f, "FILE {word:?}: {failure}"),
+            Failure::InputTwice => write!(f, "two files cannot both be standard input"),
+            Failure::File(argument, word, failure) => {
+                let name = argument.name();
+                write!(f, "{name} {word:?}: {failure}")
+            }
             Failure::Memory => write!(f, "out of memory"),
         }
     }

@@ -4,12 +4,13 @@ ghost use Rattle.std.specs.Prelude.{◌≡◌, ◌≤◌, ◌==◌, IfOk, IfSome
 ghost use Rattle.std.specs.Io.BufRead.{strip_last, take_through};
 ghost use Rattle.std.specs.List.{after_last};
 ghost use Rattle.std.specs.Result.{result_map_both};
+ghost use Rattle.std.specs.String.{string_bytes};
 ghost use Rattle.desk_command.specs.Input as spec;
 
 use desk_text::is_blank;
 use std::alloc::{AllocError, Global};
+use std::io;
 use std::io::{BufRead, Read};
-use std::{io, str};
 
 /// The most bytes of a file, and of the first line of standard input without its line end.
 const LONGEST_TEXT: usize = 16_777_216;
@@ -77,15 +78,18 @@ fn strip_last(line: &[u8], byte: u8) -> &[u8]
 }
 
 /// Takes bytes as a text.
-pub fn text_of(bytes: &[u8]) -> Result<&str, TextFault>
-    ensures { result_map_both (λ text. text.now) (λ fault. fault) result ≡ spec.text_of bytes.now }
+pub fn text_of(bytes: Vec<u8>) -> Result<String, TextFault>
+    ensures { result_map_both string_bytes (λ fault. fault) result ≡ spec.text_of bytes.items }
 {
     if bytes.len() > LONGEST_TEXT {
         return Err(TextFault::TooLong);
     }
-    match str::from_utf8(bytes) {
+    match String::from_utf8(bytes) {
         Ok(text) => Ok(text),
-        Err(error) => Err(not_utf8_behind(&bytes[..error.valid_up_to()])),
+        Err(error) => {
+            let front = &error.as_bytes()[..error.utf8_error().valid_up_to()];
+            Err(not_utf8_behind(front))
+        }
     }
 }
 

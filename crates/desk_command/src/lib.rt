@@ -18,11 +18,14 @@ mod command_line;
 mod commands;
 mod failure;
 mod faults;
+mod files;
 mod input;
 mod output;
+mod split_command;
 pub mod split_text;
 mod try_command;
 pub mod try_text;
+mod words;
 
 ghost use Rattle.std.specs.Prelude.{map};
 ghost use Rattle.std.specs.Io.KnownBytes.{Appends};

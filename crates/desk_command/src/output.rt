@@ -7,6 +7,7 @@ ghost use Rattle.desk_command.specs.Output as spec;
 
 use crate::failure::{Failure, Origin, message};
 use crate::faults::fault_text;
+use crate::split_text::SplitFault;
 use crate::try_text::Tried;
 use desk_policy::SiteFault;
 use std::alloc::{AllocError, Global};
@@ -22,6 +23,10 @@ pub enum Output {
     Tried(Tried),
     /// The fault of the exports text: its first faulty line, or its least contradiction.
     Faulty(SiteFault),
+    /// The texts that `split` makes.
+    Split(String),
+    /// The fault of one of the texts that `split` is given.
+    NotSplit(SplitFault),
 }
 
 /// Prints what a command answers, or why it does not, and returns the exit status.
@@ -57,9 +62,9 @@ fn status_of(answer: &Result<Output, Failure>) -> u8
     ensures { result ≡ spec.status_of answer.now }
 {
     match answer {
-        Ok(Output::Help(_)) => 0,
+        Ok(Output::Help(_) | Output::Split(_)) => 0,
         Ok(Output::Tried(tried)) => { if tried.granted { 0 } else { 1 } }
-        Ok(Output::Faulty(_)) => 3,
+        Ok(Output::Faulty(_) | Output::NotSplit(_)) => 3,
         Err(Failure::Memory) => 4,
         Err(_) => 2,
     }
@@ -70,9 +75,10 @@ fn output_text(alloc: Global, output: Output) -> Result<String, AllocError>
     ensures { IfOk result (λ text. string_bytes text ≡ spec.output_text output) }
 {
     let mut line = match output {
-        Output::Help(text) => return Ok(text),
+        Output::Help(text) | Output::Split(text) => return Ok(text),
         Output::Tried(tried) => tried.line,
         Output::Faulty(fault) => fault_text(alloc, &fault)?,
+        Output::NotSplit(fault) => fault.text(alloc)?,
     };
     line.push('\n')?;
     Ok(line)

@@ -2,7 +2,7 @@
 use Rattle.std.proofs.Common.{◌∙◌, sym}
 use Rattle.clap.proofs.WalkLemmas.{first_value-rows}
 use Rattle.clap.specs.Words.{found_of}
-use Rattle.desk_command.proofs.try_command.required.Goals as goal
+use Rattle.desk_command.proofs.words.required.Goals as goal
 
 pub returns-in-Some : goal.returns-in-Some
 returns-in-Some c = sym (c.in-Some.ensures ∙ first_value-rows (found_of c.args.words.now) c.args.name.now)

@@ -1,0 +1,91 @@
+//! The files that words name, read whole as texts.
+
+ghost use Rattle.std.specs.Prelude.{◌≡◌, ◌≢◌, ◌≤◌, ◌==◌, IfErr, IfOk, IfSome, codes, length, take};
+ghost use Rattle.std.specs.String.{string_bytes};
+ghost use Rattle.desk_command.specs.Files as spec;
+ghost use Rattle.desk_command.specs.Files.{IsUnread, ReadsText};
+
+use crate::failure::{Failure, ReadFailure};
+use crate::input::{read_bytes, text_of};
+use std::alloc::Global;
+use std::io::BufRead;
+use std::{fs, io};
+
+/// A file that a command is given.
+#[derive(Clone, Copy)]
+pub enum FileArgument {
+    /// The exports text.
+    File,
+    /// The text of the file systems.
+    FileSystems,
+}
+
+impl FileArgument {
+    /// Names the file as the usage does.
+    pub fn name(self) -> &'static str {
+        match self {
+            FileArgument::File => "FILE",
+            FileArgument::FileSystems => "FILESYSTEMS",
+        }
+    }
+}
+
+/// Tests whether a word names standard input.
+pub fn is_input(word: &str) -> bool
+    ensures { result ≡ spec.is_input word.now }
+{
+    word == "-"
+}
+
+/// Reads the text of the file that a word names; `-` is standard input.
+pub fn read_text<I: BufRead>(
+    rt: &HostRuntime,
+    argument: FileArgument,
+    word: &str,
+    input: &mut I,
+) -> Result<String, Failure>
+    ensures text { ReadsText argument word.now (I.remaining input.old) result }
+    ensures short { IfOk result (λ text. length (string_bytes text) ≤ 16777216) }
+    ensures untouched { word.now ≢ codes "-" → input.new ≡ input.old }
+{
+    let bytes = read_file(rt, argument, word, input)?;
+    match text_of(bytes) {
+        Ok(text) => Ok(text),
+        Err(fault) => Err(Failure::of_file(rt.alloc(), argument, word, ReadFailure::Text(fault))),
+    }
+}
+
+/// Reads the bytes of a file.
+fn read_file<I: BufRead>(
+    rt: &HostRuntime,
+    argument: FileArgument,
+    word: &str,
+    input: &mut I,
+) -> Result<Vec<u8>, Failure>
+    ensures read { word.now ≡ codes "-" → IfSome (I.remaining input.old)
+        (λ given. IfOk result (λ bytes. bytes.items ≡ take 16777217 given)) }
+    ensures unread { IfErr result (IsUnread argument word.now) }
+    ensures untouched { word.now ≢ codes "-" → input.new ≡ input.old }
+{
+    match open_and_read(rt, word, input) {
+        Ok(bytes) => Ok(bytes),
+        Err(error) => Err(Failure::of_file(
+            rt.alloc(),
+            argument,
+            word,
+            ReadFailure::of_error(error)?,
+        )),
+    }
+}
+
+/// Reads the file that a word names; `-` is standard input.
+fn open_and_read<I: BufRead>(rt: &HostRuntime, word: &str, input: &mut I) -> io::Result<Vec<u8>>
+    ensures read { word.now ≡ codes "-" → IfSome (I.remaining input.old)
+        (λ given. IfOk result (λ bytes. bytes.items ≡ take 16777217 given)) }
+    ensures untouched { word.now ≢ codes "-" → input.new ≡ input.old }
+{
+    if word == "-" {
+        return read_bytes(rt.alloc(), input);
+    }
+    read_bytes(rt.alloc(), fs::open(rt, word)?)
+}

@@ -1,0 +1,78 @@
+//! The command `split`: an exports text split among the file systems that another text lists.
+
+ghost use Rattle.std.specs.Prelude.{◌≡◌, ◌≤◌, MatchResult, false, length};
+ghost use Rattle.clap.specs.Words.{found_of, rows_of};
+ghost use Rattle.desk_command.specs.CommandLine.{split_words_in};
+ghost use Rattle.desk_command.specs.SplitCommand.{AnswersSplit, AnswersSplitFiles, TellsSplit, names_input_twice};
+ghost use Rattle.desk_command.specs.SplitText.{split_answer};
+ghost use Rattle.desk_command.specs.Words.{Finds, given_split};
+ghost use Rattle.desk_command.specs.declared.failure.Failure.TheVariants.{Memory};
+
+use crate::failure::Failure;
+use crate::files::{FileArgument, is_input, read_text};
+use crate::output::Output;
+use crate::split_text::split_text;
+use crate::words::required;
+use clap::ArgMatches;
+use desk_text::ReadError;
+use std::alloc::Global;
+use std::io::BufRead;
+
+/// The words of `split`.
+#[derive(Clone, Copy)]
+pub struct SplitWords<'a> {
+    pub file: &'a str,
+    pub filesystems: &'a str,
+}
+
+impl<'a> SplitWords<'a> {
+    /// Takes the words of `split` from what `clap` found.
+    pub fn find(found: &ArgMatches<'a>) -> Result<SplitWords<'a>, Failure>
+        ensures { Finds given_split (split_words_in (rows_of (found_of found.now))) result }
+    {
+        let file = required(found, "FILE")?;
+        let filesystems = required(found, "FILESYSTEMS")?;
+        Ok(SplitWords { file, filesystems })
+    }
+}
+
+/// Answers `split FILE FILESYSTEMS`.
+pub fn run_split<I: BufRead>(
+    rt: &HostRuntime,
+    words: SplitWords<'_>,
+    input: &mut I,
+) -> Result<Output, Failure>
+    ensures { AnswersSplit (given_split words.entry) (I.remaining input.old) result }
+{
+    if is_input(words.file) && is_input(words.filesystems) {
+        return Err(Failure::InputTwice);
+    }
+    split_files(rt, words, input)
+}
+
+/// Reads the two files, FILE first, and answers by their texts.
+fn split_files<I: BufRead>(
+    rt: &HostRuntime,
+    words: SplitWords<'_>,
+    input: &mut I,
+) -> Result<Output, Failure>
+    requires { names_input_twice (given_split words) ≡ false }
+    ensures { AnswersSplitFiles (given_split words.entry) (I.remaining input.old) result }
+{
+    let text = read_text(rt, FileArgument::File, words.file, input)?;
+    let filesystems = read_text(rt, FileArgument::FileSystems, words.filesystems, input)?;
+    split_texts(rt.alloc(), text.as_str(), filesystems.as_str())
+}
+
+/// Answers by the two texts.
+fn split_texts(alloc: Global, text: &str, filesystems: &str) -> Result<Output, Failure>
+    requires text { length text.now ≤ 4294967294 }
+    requires filesystems { length filesystems.now ≤ 4294967294 }
+    ensures { MatchResult result (TellsSplit (split_answer text.now filesystems.now)) (λ failure. failure ≡ Memory) }
+{
+    match split_text(alloc, text, filesystems) {
+        Ok(text) => Ok(Output::Split(text)),
+        Err(ReadError::Fault(fault)) => Ok(Output::NotSplit(fault)),
+        Err(ReadError::Memory) => Err(Failure::Memory),
+    }
+}

@@ -1,0 +1,53 @@
+//! The command that `clap` finds, with its words.
+
+ghost use Rattle.std.specs.Prelude.{◌≡◌, Some, None, MatchResult};
+ghost use Rattle.clap.specs.Words.{first_of, found_of, rows_of, subcommand_rows_of};
+ghost use Rattle.desk_command.specs.CommandLine.{command_in, command_of};
+ghost use Rattle.desk_command.specs.Words.{Finds, IsMissing, given};
+
+use crate::failure::Failure;
+use crate::split_command::SplitWords;
+use crate::try_command::TryWords;
+use clap::ArgMatches;
+
+/// A command with its words.
+#[derive(Clone, Copy)]
+pub enum CommandWords<'m, 'a> {
+    Try(TryWords<'m, 'a>),
+    Split(SplitWords<'a>),
+}
+
+/// Takes the command that `clap` found.
+pub fn found_command<'m, 'a>(matches: &'m ArgMatches<'a>) -> Result<CommandWords<'m, 'a>, Failure>
+    ensures { Finds given (command_of (subcommand_rows_of matches.now)) result }
+{
+    match matches.subcommand() {
+        Some((name, words)) => found_words(name, words),
+        None => Err(Failure::Missing("the command")),
+    }
+}
+
+/// Takes the words of the command of this name.
+fn found_words<'m, 'a>(
+    name: &str,
+    words: &'m ArgMatches<'a>,
+) -> Result<CommandWords<'m, 'a>, Failure>
+    ensures { Finds given (command_in name.now (rows_of (found_of words.now))) result }
+{
+    match name {
+        "try" => Ok(CommandWords::Try(TryWords::find(words)?)),
+        "split" => Ok(CommandWords::Split(SplitWords::find(words)?)),
+        _ => Err(Failure::Missing("the command")),
+    }
+}
+
+/// Returns the word of an argument that `clap` requires.
+pub fn required<'a>(words: &ArgMatches<'a>, name: &'static str) -> Result<&'a str, Failure>
+    ensures { let found = first_of name.entry.now (rows_of (found_of words.now)) in
+        MatchResult result (λ word. found ≡ Some word.now) (λ failure. (found ≡ None) × IsMissing failure) }
+{
+    match words.get_str(name) {
+        Some(word) => Ok(word),
+        None => Err(Failure::Missing(name)),
+    }
+}
