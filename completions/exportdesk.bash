@@ -4,11 +4,11 @@ _exportdesk()
     local word=${COMP_WORDS[COMP_CWORD]} choices=--help
     COMPREPLY=()
     if [ "$COMP_CWORD" -eq 1 ]; then
-        choices='try --help --version'
+        choices='try split --help --version'
     elif [[ $word != -* || $word == - ]]; then
         compopt -o filenames
         case ${COMP_WORDS[1]}:$COMP_CWORD in
-        try:2) mapfile -t COMPREPLY < <(compgen -f -- "$word") ;;
+        try:2 | split:[23]) mapfile -t COMPREPLY < <(compgen -f -- "$word") ;;
         try:3) ;;
         try:*) mapfile -t COMPREPLY < <(compgen -d -- "$word") ;;
         esac
