@@ -1,12 +1,12 @@
 -- Lemmas on the faults of a text.
-use Rattle.std.proofs.Common.{◌≡◌, ℕ, ◌+◌, ◌<◌, Bool, true, false, cond, List, [], ◌∷◌, ◌++◌, Option, None, Some, Result, Ok, Err, get_or, length, map, take, refl, sym, ap, subst, ◌∙◌}
-use Rattle.std.specs.List.{All, IsAmong, cons_option}
+use Rattle.std.proofs.Common.{◌≡◌, ℕ, ◌+◌, ◌<◌, Bool, true, false, cond, List, ◌++◌, Option, None, Some, Result, Ok, Err, get_or, length, map, take, refl, sym, ap, subst, ◌∙◌}
+use Rattle.std.specs.List.{All, IsAmong}
 use Rattle.std.specs.Option.{option_zip}
 use Rattle.std.specs.Result.{result_map_both}
 use Rattle.std.proofs.lemmas.List.{map-append}
 use Rattle.std.proofs.lemmas.List.Elements.{All-append}
 use Rattle.desk_text.specs.Lines.{LogicalLine, logical_lines}
-use Rattle.desk_text.specs.Reading.{fault_at, fault_of}
+use Rattle.desk_text.specs.Reading.{fault_at}
 use Rattle.desk_text.specs.declared.reading.LineFault.{LineFault}
 use Rattle.desk_tables.specs.declared.filesystems.FsId.{FsId}
 use Rattle.desk_exports.specs.Entry.{entry_of}

@@ -1,6 +1,6 @@
 -- The faults of a text, each with the place of the slice at fault. (this project's own)
-use Rattle.std.specs.Prelude.{◌≡◌, ℕ, Bool, true, false, ◌&&◌, ◌+◌, ◌++◌, nat_lt, nat_le, List, [], Option, None, Some, drop, find, length, position, slice_get, take, is_err, if◌then◌else◌}
-use Rattle.std.specs.List.{IsAmong, list_any, range_with_len}
+use Rattle.std.specs.Prelude.{◌≡◌, ℕ, Bool, false, ◌&&◌, ◌+◌, nat_lt, List, Option, None, Some, drop, find, length, position, slice_get, take, is_err, if◌then◌else◌}
+use Rattle.std.specs.List.{IsAmong, range_with_len}
 use Rattle.std.specs.Option.{option_map_or, unwrap_or}
 use Rattle.desk_text.specs.Lines.{LogicalLine, logical_lines}
 use Rattle.desk_text.specs.Path.{is_absolute}

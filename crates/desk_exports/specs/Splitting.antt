@@ -1,6 +1,6 @@
 -- How a whole exports text is split into one text for each file system. (this project's own; mountd(8) reads one file for
 -- all of them)
-use Rattle.std.specs.Prelude.{◌≡◌, ℕ, ◌-◌, ◌<◌, ◌==◌, Bool, false, List, [], ◌∷◌, ◌++◌, Option, Some, None, Result, Ok, Err, filter, length, map, slice_get, slice_index, slice_index_or, if◌then◌else◌}
+use Rattle.std.specs.Prelude.{◌≡◌, ℕ, ◌-◌, ◌<◌, ◌==◌, All, Bool, false, true, List, [], ◌∷◌, ◌++◌, Option, Some, None, Result, Ok, Err, filter, length, map, slice_get, slice_index, slice_index_or, if◌then◌else◌}
 use Rattle.std.specs.List.{filter_map, flat_map, range_with_len}
 use Rattle.desk_text.specs.Lines.{LogicalLine, PhysicalLine, logical_lines}
 use Rattle.desk_text.specs.Reading.{fault_of, unless_fault}
@@ -96,3 +96,37 @@ abbrev pub SplitKeepsWords : Type 0
 SplitKeepsWords =
     (table : List Mount) (text : List ℕ) (texts : List (List ℕ)) (fs : ℕ) → split_text table text ≡ Ok texts → fs < length table
     → map raw_words (logical_lines (slice_index_or texts fs [])) ≡ map raw_words (lines_to table (logical_lines text) fs)
+
+-- a `V4:` line, or one with this first directory, belongs to a file system: the first one of the table, or that of the directory
+abbrev pub IsOfItsFirst : List Mount → ℕ → Bool → Option (Result (List (List ℕ)) PathFault) → Type 0
+IsOfItsFirst table fs true first = fs ≡ 0
+IsOfItsFirst table fs false None = ⊥
+IsOfItsFirst table fs false (Some (Err fault)) = ⊥
+IsOfItsFirst table fs false (Some (Ok path)) = fs_of table path ≡ Some fs
+
+-- The line belongs to this file system, which is listed.
+pub record BelongsTo (table : List Mount) (fs : ℕ) (line : LogicalLine) : Type 0 where
+  pub parts : GrammarLine
+  pub read : read_grammar_line line ≡ Ok parts
+  pub listed : fs < length table
+  pub first : IsOfItsFirst table fs parts.is_v4 (slice_get parts.directories 0)
+
+-- a logical line, and the file system to whose text it went
+pub record SentLine : Type 0 where
+  pub fs : ℕ
+  pub line : LogicalLine
+
+-- These are the texts of the file systems, one for each: each logical line of the whole text went to one of them, that of the
+-- file system to which it belongs, and the lines of a text are those that went there, in order.
+pub record IsSplitInto (table : List Mount) (text : List ℕ) (texts : List (List ℕ)) : Type 0 where
+  pub count : length texts ≡ length table
+  pub sent : List SentLine
+  pub all : map (λ s. s.line) sent ≡ logical_lines text
+  pub own : All (λ s. BelongsTo table s.fs s.line) sent
+  pub each : (fs : ℕ) → fs < length table → map raw_words (logical_lines (slice_index_or texts fs [])) ≡ map (λ s. raw_words s.line) (filter (λ s. s.fs == fs) sent)
+
+-- A whole text that is split has each line in the text of one file system, that of its first directory. (If no file system is
+-- listed, there is no text: `V4:` lines go nowhere, and every other line is faulty.)
+abbrev pub SplitSendsEachLineOnce : Type 0
+SplitSendsEachLineOnce =
+    (table : List Mount) (text : List ℕ) (texts : List (List ℕ)) → 0 < length table → split_text table text ≡ Ok texts → IsSplitInto table text texts

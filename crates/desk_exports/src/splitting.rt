@@ -23,7 +23,8 @@ pub fn split(
     filesystems: &FileSystems,
 ) -> Result<Vec<String>, ReadError<LineFault<Rule>>>
     requires { length text.now ≤ 4294967294 }
-    ensures { ReadsAs (λ texts. map string_bytes texts.items) result (spec.split_text filesystems.now text.now) }
+    ensures split { ReadsAs (λ texts. map string_bytes texts.items) result (spec.split_text filesystems.now text.now) }
+    ensures count { IfOk result (λ texts. length texts.items ≡ length filesystems.now) }
 {
     let lines = logical_lines(alloc, text)?;
     let mut texts = empty_texts(alloc, filesystems.len())?;

@@ -1,4 +1,4 @@
-use Rattle.std.proofs.Common.{ap, sym, ◌∙◌, Some}
+use Rattle.std.proofs.Common.{ap, ◌∙◌, Some}
 use Rattle.desk_exports.specs.Tables.{table_rows}
 use Rattle.desk_exports.proofs.FaultLemmas.{fault_by_rules}
 use Rattle.desk_exports.proofs.faults.words_fault.Goals as goal

@@ -1,13 +1,14 @@
-use Rattle.std.proofs.Common.{◌≡◌, ◌++◌, ◌∷◌, ◌∙◌, ap, sym, subst, refl, take, map, replicate, ℕ, List, [], Ok, Err, Global, String, Vec}
+use Rattle.std.proofs.Common.{◌≡◌, ◌++◌, ◌∷◌, ◌∙◌, ap, sym, subst, refl, take, map, replicate, ℕ, List, [], Ok, Err, Global, String, Vec, arith, length}
 use Rattle.std.specs.List.{cons_option}
 use Rattle.std.specs.String.{string_bytes}
-use Rattle.std.proofs.lemmas.List.{take_all, take_more}
+use Rattle.std.proofs.lemmas.List.{length-map, take_all, take_more}
+use Rattle.std.proofs.lemmas.List.FromFn.{length-map-range_with_len}
 use Rattle.std.proofs.lemmas.Result.{err_from_is_err_and}
 use Rattle.desk_text.specs.Lines.{LogicalLine, logical_lines}
 use Rattle.desk_text.specs.Reading.{ReadsAs, unless_fault}
 use Rattle.desk_tables.specs.declared.filesystems.Mount.{Mount}
 use Rattle.desk_exports.specs.Laws.{faults}
-use Rattle.desk_exports.specs.Splitting.{destination_of, texts_to}
+use Rattle.desk_exports.specs.Splitting.{destination_of, text_to, texts_to}
 use Rattle.desk_exports.proofs.FileLemmas.{faults_more}
 use Rattle.desk_exports.proofs.SplitTexts.{exit_split, none_sent, sent}
 use Rattle.desk_exports.proofs.splitting.split.Goals as goal
@@ -18,8 +19,8 @@ Texts = Vec (String Global) Global
 abbrev bytes_in : Texts → List (List ℕ)
 bytes_in texts = map string_bytes texts.items
 
-pub returns-in_err-send_line : goal.returns-in_err-send_line
-returns-in_err-send_line c =
+pub returns-in_err-send_line-clause-split : goal.returns-in_err-send_line-clause-split
+returns-in_err-send_line-clause-split c =
     let table : List Mount = c.args.filesystems.now in
     let ls : List LogicalLine = c.deref-line-items.result.now in
     let text : ls ≡ logical_lines c.args.text.now = c.deref-line-items.ensures.value ∙ c.in_ok-lines.ensures.lines in
@@ -49,8 +50,8 @@ loop-line-preserved c =
           ∙ ap (texts_to table) (ap (λ l. take i ls ++ l ∷ []) c.line-item.is ∙ sym (take_more ls i x c.loop-line-test.true));
     }
 
-pub returns : goal.returns
-returns c =
+pub returns-clause-split : goal.returns-clause-split
+returns-clause-split c =
     let table : List Mount = c.args.filesystems.now in
     let ls : List LogicalLine = c.deref-line-items.result.now in
     let text : ls ≡ logical_lines c.args.text.now = c.deref-line-items.ensures.value ∙ c.in_ok-lines.ensures.lines in
@@ -58,3 +59,12 @@ returns c =
     ap (λ lines. unless_fault (faults (destination_of table) lines) (texts_to table lines)) (sym all)
     ∙ ap (λ fs. unless_fault fs (texts_to table (take c.loop-line.line-index ls))) c.loop-line.invariant.sound
     ∙ ap Ok (sym c.loop-line.invariant.texts)
+
+pub returns-clause-count : goal.returns-clause-count
+returns-clause-count c =
+    omega (
+      arith,
+      length-map c.loop-line.texts.items string_bytes,
+      ap length c.loop-line.invariant.texts,
+      length-map-range_with_len (text_to c.args.filesystems.now (take c.loop-line.line-index c.deref-line-items.result.now)) 0 (length c.args.filesystems.now),
+    )
