@@ -20,7 +20,7 @@ use Rattle.desk_core.specs.declared.edit.Refusal.{Refusal}
 use Rattle.desk_store.specs.Tables.{Adds, AddsWhileOpen, IsAtRest, LeavesCommit, revision_row}
 use Rattle.sqlite.specs.Order.{Row}
 use Rattle.desk_store.specs.History.{Holds, row_of}
-use Rattle.desk_store.specs.Desk.{CommitsOne, IsAccepted, IsDesk, IsEdited, IsSiteHistory, Stands, StepsOn, told}
+use Rattle.desk_store.specs.Desk.{CommitsOne, IsAccepted, IsDesk, IsEdited, IsInUtf8, IsSiteHistory, Stands, StepsOn, told}
 use Rattle.desk_store.specs.declared.error.DeskError.{DeskError}
 use Rattle.desk_store.specs.declared.error.DeskError.TheVariants as error
 use Rattle.desk_store.specs.Laws.{StoredEditsKeepSiteHistories}
@@ -122,7 +122,7 @@ no_case newest e number (Some case.Already) h = absurd (cc)
 no_case newest e number (Some case.Stale) h = absurd (cc)
 no_case newest e number (Some case.Full) h = absurd (cc)
 
-module _ {V : Type 0} (newest_more : NewestOfALongerHistory) (keeps : StoredEditsKeepSiteHistories) (in_force : V → Content) (old new : State) (before after : Kept V) (e : Edit) (ready : Ready V) (accepted : IsAccepted in_force before e ready) (utf8 : IsUtf8 e.text) where
+module _ {V : Type 0} (newest_more : NewestOfALongerHistory) (keeps : StoredEditsKeepSiteHistories) (in_force : V → Content) (old new : State) (before after : Kept V) (e : Edit) (ready : Ready V) (accepted : IsAccepted in_force before e ready) (utf8 : IsInUtf8 e) where
   abbrev r : Revision
   r = revision_of e
 
@@ -233,24 +233,27 @@ module _ {V : Type 0} (newest_more : NewestOfALongerHistory) (keeps : StoredEdit
 
 -- ---- by what the statement answered, where the body was handed over as bytes
 module _ {V : Type 0} (newest_more : NewestOfALongerHistory) (keeps : StoredEditsKeepSiteHistories) (in_force : V → Content) (old new : State) (before after : Kept V) (e : Edit) (ready : Ready V) (body : List ℕ) where
+  in_utf8 : IsUtf8 e.file × IsUtf8 e.caller → IsUtf8 e.text → IsInUtf8 e
+  in_utf8 names text = record { file = names.0; caller = names.1; text = text }
+
   abbrev row : Row
   row = revision_row e.file (e.base + 1) e.caller body
 
-  pub edit_failed : IsAccepted in_force before e ready → IsUtf8 body → body ≡ e.text → (failure : DeskError) → IsOfStore failure
+  pub edit_failed : IsAccepted in_force before e ready → IsUtf8 e.file × IsUtf8 e.caller → IsUtf8 body → body ≡ e.text → (failure : DeskError) → IsOfStore failure
       → (HasCleanDisk new → IsTrue new.is_open → IsTrue old.is_open) → (HasCleanDisk new → IsTrue new.is_open → new.committed ≡ old.committed) → Survives old new (AddsWhileOpen row old)
       → IsEdited old new before before e (Err failure)
-  edit_failed accepted utf8 same failure which opened kept crash =
+  edit_failed accepted names utf8 same failure which opened kept crash =
       let P : List ℕ → Type 0 = λ b. Survives old new (AddsWhileOpen (revision_row e.file (e.base + 1) e.caller b) old) in
-      edited_not newest_more keeps in_force old new before before e ready accepted (subst IsUtf8 same utf8) failure which opened kept (subst P same crash)
+      edited_not newest_more keeps in_force old new before before e ready accepted (in_utf8 names (subst IsUtf8 same utf8)) failure which opened kept (subst P same crash)
 
-  pub edit_stored : IsAccepted in_force before e ready → IsUtf8 body → body ≡ e.text
+  pub edit_stored : IsAccepted in_force before e ready → IsUtf8 e.file × IsUtf8 e.caller → IsUtf8 body → body ≡ e.text
       → (HasCleanDisk new → IsTrue new.is_open → IsTrue old.is_open) → (HasCleanDisk new → IsTrue new.is_open) → (HasCleanDisk new → Adds row old.committed new.committed) → (HasCleanDisk new → LeavesCommit new)
       → newest_in after.heads ≡ put (newest_in before.heads) ready.head → Survives old new (AddsWhileOpen row old)
       → IsEdited old new before after e (Ok (record { rev = e.base + 1; already = false }))
-  edit_stored accepted utf8 same opened live adds durable heads crash =
+  edit_stored accepted names utf8 same opened live adds durable heads crash =
       let P : List ℕ → Type 0 = λ b. Survives old new (AddsWhileOpen (revision_row e.file (e.base + 1) e.caller b) old) in
       let Q : List ℕ → Type 0 = λ b. Adds (revision_row e.file (e.base + 1) e.caller b) old.committed new.committed in
-      edited_stored newest_more keeps in_force old new before after e ready accepted (subst IsUtf8 same utf8) (λ clean. (opened clean (live clean), subst Q same (adds clean), durable clean)) heads (subst P same crash)
+      edited_stored newest_more keeps in_force old new before after e ready accepted (in_utf8 names (subst IsUtf8 same utf8)) (λ clean. (opened clean (live clean), subst Q same (adds clean), durable clean)) heads (subst P same crash)
 
 -- ---- a desk that was edited is a desk
 pub desk_after : {V : Type 0} (old new : State) (before after : Kept V) (e : Edit) (result : Result Done DeskError) → IsEdited old new before after e result

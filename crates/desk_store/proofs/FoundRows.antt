@@ -1,9 +1,8 @@
 -- What the rows say of a revision is what the history says, and a look leaves a desk as it was.
-use Rattle.std.proofs.Common.{All, Bool, Err, IsTrue, List, None, Ok, Option, Result, Some, [], ap, arith, codes, cond, false, find, get_or, inl, inr, length, map, pos, refl, subst, suc, sym, true, zero, ℕ, ◌++◌, ◌+◌, ◌-◌, ◌<◌, ◌==◌, ◌∙◌, ◌∷◌, ◌≡◌, ◌≤◌}
-use Rattle.std.specs.Prelude.{Contains, IfOk, IsPermutation, OnOk, is_err}
+use Rattle.std.proofs.Common.{All, Bool, Err, IsTrue, List, None, Ok, Option, Result, Some, [], ap, arith, codes, cond, false, find, get_or, inl, inr, map, pos, refl, subst, suc, sym, true, zero, ℕ, ◌+◌, ◌==◌, ◌∙◌, ◌∷◌, ◌≡◌}
+use Rattle.std.specs.Prelude.{Contains, IfOk, IsPermutation}
 use Rattle.std.specs.Str.{bytes_eq}
-use Rattle.std.proofs.lemmas.Bool.{cases_Bool, cases_lt, eqb-true, eq-eqb}
-use Rattle.std.proofs.lemmas.List.{length-append}
+use Rattle.std.proofs.lemmas.Bool.{cases_Bool, eqb-true, eq-eqb}
 use Rattle.std.proofs.lemmas.List.Sorted.{Contains-permutation, IsPermutation-sym}
 use Rattle.std.proofs.lemmas.Slice.Eq.{bytes_eq-Decides}
 use Rattle.sqlite.specs.Order.{Row, column}
@@ -15,11 +14,11 @@ use Rattle.desk_core.specs.History.{revisions_of}
 use Rattle.desk_core.specs.Views.{Kept}
 use Rattle.desk_store.specs.Desk.{IsDesk, Stands, Stays, revision_at, stored_of}
 use Rattle.desk_store.specs.History.{Holds, row_of}
-use Rattle.desk_store.specs.Rows.{AreListed, Finds, IsListed, IsRowOf, Lists, Says}
+use Rattle.desk_store.specs.Rows.{Finds, IsRowOf, Says}
 use Rattle.desk_store.specs.Tables.{IsAtRest, rows_of}
 use Rattle.desk_store.specs.declared.error.DeskError.{DeskError}
 use Rattle.desk_store.specs.declared.desk.Revision.{Revision as Found}
-use Rattle.desk_store.proofs.OneHistory.{AreNumbered, default, from_filter, from_map, in_filter, in_map, rev_at, same_lists, shift}
+use Rattle.desk_store.proofs.OneHistory.{AreNumbered, default, from_filter, from_map, in_filter, in_map, rev_at, shift}
 
 -- the only one that passes is found
 find_only : {X : Type 0} (p : X → Bool) (xs : List X) (r : X) → Contains xs r → p r ≡ true → ((x : X) → Contains xs x → p x ≡ true → x ≡ r) → find p xs ≡ Some r
@@ -51,25 +50,6 @@ one_number xs a b numbered (i, at_i, is_i) (j, at_j, is_j) same =
     let second : b.rev ≡ 1 + j = ap (λ (r : Revision). r.rev) (sym is_j) ∙ rev_at xs j b numbered at_j in
     let place : i ≡ j = omega (arith, first, second, same) in
     sym is_i ∙ ap (λ k. get_or xs k a) place ∙ default xs j a b at_j ∙ is_j
-
-some : (xs : List Revision) (n : ℕ) → n < length xs → Revision
-some [] n below = absurd (omega arith)
-some (x ∷ xs) n below = x
-
-at_most : {X Y : Type 0} (xs : List X) (ys : List Y) → ((k : ℕ) (d : X) → k < length xs → k < length ys) → length xs ≤ length ys
-at_most [] ys h = omega arith
-at_most (x ∷ xs) ys h =
-    let last : length (x ∷ xs) - 1 < length ys = h (length (x ∷ xs) - 1) x (omega arith) in
-    omega (arith, last)
-
-listed_length : (xs : List Revision) → length {A = ℕ × List ℕ} (map (λ (r : Revision). (r.rev, r.author)) xs) ≡ length xs
-listed_length [] = refl
-listed_length (x ∷ xs) = ap suc (listed_length xs)
-
-mapped : (xs : List Revision) (k : ℕ) (d : ℕ × List ℕ) → k < length xs → (listed : ℕ × List ℕ) → ((e : Revision) → listed ≡ ((get_or xs k e).rev, (get_or xs k e).author)) → listed ≡ get_or (map (λ (r : Revision). (r.rev, r.author)) xs) k d
-mapped [] k d below listed h = absurd (omega arith)
-mapped (x ∷ xs) zero d below listed h = h x
-mapped (x ∷ xs) (suc k) d below listed h = mapped xs k d (omega arith) listed h
 
 module _ (db : Database) (history : List Revision) (rows : List Row) (holds : Holds db history) (same : IsPermutation (rows_of db (codes "file_rev")) rows) (file : List ℕ) (rev : ℕ) where
   row_there : (r : Revision) → Contains history r → Contains rows (row_of r)
@@ -115,84 +95,6 @@ module _ (db : Database) (history : List Revision) (rows : List Row) (holds : Ho
   pub found_if : (result : Result (Option Found) DeskError) → IfOk result (Finds rows file rev) → IfOk result (λ found. found ≡ stored_of (revision_at history file rev))
   found_if (Ok found) h = found_is found h
   found_if (Err e) h = tt
-
-  -- the listed revision is that of this number
-  at_number : (k : ℕ) (listed : ℕ × List ℕ) → IsListed rows file (k + 1) listed
-      → (k < length (revisions_of file history)) × ((d : Revision) → listed ≡ ((get_or (revisions_of file history) k d).rev, (get_or (revisions_of file history) k d).author))
-  at_number k listed h =
-      let row = h.1.0 in
-      let it = revision_there row h.1.1 in
-      let r : Revision = it.0 in
-      let name : Words r.file ≡ Words file = ap (λ x. column x 0) it.2 ∙ h.1.2.0 in
-      let number : Int (pos r.rev) ≡ Int (pos (k + 1)) = ap (λ x. column x 1) it.2 ∙ h.1.2.1 in
-      let author : Words r.author ≡ Words listed.1 = ap (λ x. column x 2) it.2 ∙ h.1.3 in
-      let f : r.file ≡ file = cc in
-      let n : r.rev ≡ k + 1 = cc in
-      let a : r.author ≡ listed.1 = cc in
-      let kept : Contains (revisions_of file history) r = in_filter (λ (x : Revision). bytes_eq x.file file) history r it.1 ((bytes_eq-Decides r.file file).1 f) in
-      let at : r.rev ≡ 1 + kept.0 = ap (λ (x : Revision). x.rev) (sym kept.2) ∙ rev_at (revisions_of file history) kept.0 r (holds.numbered file) kept.1 in
-      let place : kept.0 ≡ k = omega (arith, at, n) in
-      let below : k < length (revisions_of file history) = omega (arith, place, kept.1) in
-      let pair : ℕ → List ℕ → ℕ × List ℕ = λ rev author. (rev, author) in (
-        below,
-        λ d.
-            let same : r ≡ get_or (revisions_of file history) k d = sym kept.2 ∙ ap (λ i. get_or (revisions_of file history) i r) place ∙ default (revisions_of file history) k r d below in
-            ap (λ x. pair x listed.1) (h.0 ∙ sym n) ∙ ap (λ x. pair r.rev x) (sym a) ∙ ap (λ (x : Revision). pair x.rev x.author) same,
-      )
-
-  no_further : (n : ℕ) → All (λ row. IsRowOf file (n + 1) row → ⊥) rows → n < length (revisions_of file history) → ⊥
-  no_further n none below =
-      let xs = revisions_of file history in
-      let d : Revision = some xs n below in
-      let r : Revision = get_or xs n d in
-      let here : Contains xs r = (n, below, default xs n r d below) in
-      let from = from_filter (λ (y : Revision). bytes_eq y.file file) history r here in
-      let row = row_there r from.0 in
-      let count : r.rev ≡ 1 + n = rev_at xs n d (holds.numbered file) below in
-      let number : r.rev ≡ n + 1 = omega (arith, count) in
-      let fails : IsRowOf file (n + 1) (row_of r) → ⊥ = subst (λ (y : Row). IsRowOf file (n + 1) y → ⊥) row.2 (none row.0 (row_of r) row.1) in
-      fails (ap Words ((bytes_eq-Decides r.file file).0 from.1), ap (λ k. Int (pos k)) number)
-
-  listed_is : (listed : List (ℕ × List ℕ)) → Lists rows file listed → listed ≡ map (λ (r : Revision). (r.rev, r.author)) (revisions_of file history)
-  listed_is listed h =
-      let xs = revisions_of file history in
-      let up : length listed ≤ length xs = at_most listed xs (λ k d below. (at_number k (get_or listed k d) (h.0 k d below)).0) in
-      let down : length xs ≤ length listed = elim (cases_lt (length listed) (length xs)) [ inl less ↦ absurd (no_further (length listed) h.1 less) | inr le ↦ le ] in
-      same_lists listed (map (λ (r : Revision). (r.rev, r.author)) xs) (omega (arith, up, down, listed_length xs))
-      (λ k d below. mapped xs k d (omega (arith, below, up)) (get_or listed k d) (at_number k (get_or listed k d) (h.0 k d below)).1)
-
-  pub listed_if : (result : Result (List (ℕ × List ℕ)) DeskError) → IfOk result (Lists rows file) → IfOk result (λ found. found ≡ map (λ (r : Revision). (r.rev, r.author)) (revisions_of file history))
-  listed_if (Ok found) h = listed_is found h
-  listed_if (Err e) h = tt
-
-at_front : {X : Type 0} (xs : List X) (x : X) (k : ℕ) (d : X) → k < length xs → get_or (xs ++ x ∷ []) k d ≡ get_or xs k d
-at_front [] x k d below = absurd (omega arith)
-at_front (y ∷ xs) x zero d below = refl
-at_front (y ∷ xs) x (suc k) d below = at_front xs x k d (omega arith)
-
-at_back : {X : Type 0} (xs : List X) (x d : X) → get_or (xs ++ x ∷ []) (length xs) d ≡ x
-at_back [] x d = refl
-at_back (y ∷ xs) x d = at_back xs x d
-
-pub on_ok : {A E : Type 0} (r : Result A E) (P : Type 0) → is_err r ≡ false → OnOk r P → P
-on_ok (Ok x) P ok h = h
-on_ok (Err e) P ok h = absurd (cc)
-
--- one more that is listed
-pub listed_more : (rows : List Row) (file : List ℕ) (xs : List (ℕ × List ℕ)) (x : ℕ × List ℕ) (rev : ℕ) → AreListed rows file xs → length xs + 1 ≡ rev → IsListed rows file rev x
-    → AreListed rows file (xs ++ x ∷ []) × (length (xs ++ x ∷ []) + 1 ≡ rev + 1)
-listed_more rows file xs x rev all count one =
-    let n : length (xs ++ x ∷ []) ≡ length xs + 1 = length-append xs (x ∷ []) in (
-      λ k d below. elim (cases_lt k (length xs)) [
-        | inl less ↦ subst (IsListed rows file (k + 1)) (sym (at_front xs x k d less)) (all k d less)
-        | inr more ↦
-            let last : k ≡ length xs = omega (arith, below, n, more) in
-            let number : rev ≡ k + 1 = omega (arith, count, last) in
-            let here : get_or (xs ++ x ∷ []) k d ≡ x = ap (λ i. get_or (xs ++ x ∷ []) i d) last ∙ at_back xs x d in
-            subst (IsListed rows file (k + 1)) (sym here) (subst (λ r. IsListed rows file r x) number one)
-      ],
-      omega (arith, n, count),
-    )
 
 -- a look that commits nothing leaves a desk as it was
 module _ {V : Type 0} (old new : State) (kept : Kept V) (opened : HasCleanDisk new → IsTrue new.is_open → IsTrue old.is_open) (same : HasCleanDisk new → IsTrue new.is_open → new.committed ≡ old.committed) (crash : Survives old new (λ _. ⊥)) where

@@ -11,4 +11,5 @@ pub mod SiteHistories
 pub mod EditStep
 pub mod OneHistory
 pub mod FoundRows
+pub mod ListedRows
 pub mod TreesApart

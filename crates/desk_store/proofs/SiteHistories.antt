@@ -19,7 +19,7 @@ some_more (x ∷ xs) ys h e = cc
 pub stored_edits_keep_site_histories : AnswersAreRight → KnownFilesHaveNames → NewestOfALongerHistory → StoredEditsKeepTheNumbers → StoredEditsKeepSiteHistories
 stored_edits_keep_site_histories right names newest numbers history e stored answers kept utf8 =
     let may : MayTakeEffect (newest_of history) e = (((right history e (Stored (e.base + 1)) answers).effect (e.base + 1)).0 refl).1 in
-    let storable : IsStorable (revision_of e) = record { name = names (site_in (newest_of history)) e.file may.allowed.known; rev = kept.to; text = utf8; short = may.allowed.short } in
+    let storable : IsStorable (revision_of e) = record { name = names (site_in (newest_of history)) e.file may.allowed.known; rev = kept.to; file = utf8.file; author = utf8.caller; body = utf8.text; short = may.allowed.short } in
     record {
       numbered = numbers history e (e.base + 1) stored.numbered answers;
       each = All-append IsStorable history (revision_of e ∷ []) stored.each (All-from_recursion IsStorable (revision_of e ∷ []) (storable, tt));

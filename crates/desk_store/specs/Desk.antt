@@ -41,7 +41,9 @@ History = List Revision
 pub record IsStorable (r : Revision) : Type 0 where
   pub name : IsFileName r.file
   pub rev : r.rev ≤ last_revision
-  pub text : IsUtf8 r.body
+  pub file : IsUtf8 r.file
+  pub author : IsUtf8 r.author
+  pub body : IsUtf8 r.body
   pub short : length r.body ≤ longest_edit
 
 -- the history of a site, as a database of this project may hold it: each of the seven files has a revision, and the site is
@@ -109,6 +111,12 @@ CommitsOne state e None old trees =
 pub record StepsOn {V : Type 0} (old new : State) (before after : Kept V) (e : Edit) (answer : Option Answer) (history pending : List Revision) : Type 0 where
   pub answered : IsAnswered history e answer
   pub stands : Stands new after (history ++ added_if e answer) (pending_after pending e answer)
+
+-- the texts of an edit that are stored are UTF-8
+pub record IsInUtf8 (e : Edit) : Type 0 where
+  pub file : IsUtf8 e.file
+  pub caller : IsUtf8 e.caller
+  pub text : IsUtf8 e.text
 
 -- a state has accepted an edit, as it is: the edit is answered as stored, and what was judged brings its revision
 pub record IsAccepted {V : Type 0} (in_force : V → Content) (state : Kept V) (e : Edit) (ready : Ready V) : Type 0 where

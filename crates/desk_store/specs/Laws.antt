@@ -1,6 +1,5 @@
 -- What the definitions of desks come to. (this project's own)
 use Rattle.std.specs.Prelude.{◌≡◌, ◌+◌, ◌≤◌, ◌++◌, ℕ, List, [], ◌∷◌, Some, codes, map}
-use Rattle.std.specs.Str.{IsUtf8}
 use Rattle.sqlite_trees.specs.declared.store.Store.{Ghosts}
 use Rattle.sqlite_trees.specs.Objects.{catalog_tree}
 use Rattle.sqlite_trees.specs.View.{doubt}
@@ -13,7 +12,7 @@ use Rattle.desk_core.specs.Head.{CanBeKept, Revision}
 use Rattle.desk_core.specs.History.{Exchange, Run, added, newest_of, revisions_of}
 use Rattle.desk_core.specs.Judging.{Answers}
 use Rattle.desk_core.specs.Views.{Kept}
-use Rattle.desk_store.specs.Desk.{History, IsSiteHistory, Shown, Stands, StepsOn}
+use Rattle.desk_store.specs.Desk.{History, IsInUtf8, IsSiteHistory, Shown, Stands, StepsOn}
 use Rattle.desk_store.specs.History.{Holds}
 use Rattle.desk_store.specs.Tables.{HasTables, file_rev_table, meta_table, table_in}
 
@@ -31,7 +30,7 @@ DeclaredTablesAreOurs =
 -- The history of a site with the revision of an edit that is answered as stored is the history of a site.
 abbrev pub StoredEditsKeepSiteHistories : Type 0
 StoredEditsKeepSiteHistories =
-    (history : List Revision) (e : Edit) → IsSiteHistory history → Answers (newest_of history) e (Stored (e.base + 1)) → CanBeKept (revision_of e) → IsUtf8 e.text
+    (history : List Revision) (e : Edit) → IsSiteHistory history → Answers (newest_of history) e (Stored (e.base + 1)) → CanBeKept (revision_of e) → IsInUtf8 e
     → IsSiteHistory (history ++ revision_of e ∷ [])
 
 -- A desk after an edit: no fault of its disk is forgotten, and where the disk is good it has stepped on, wherever it stood.

@@ -1,5 +1,9 @@
 -- What a row of `file_rev` says. (this project's own)
-use Rattle.std.specs.Prelude.{◌≡◌, ◌⊎◌, ℕ, ◌+◌, ◌<◌, pos, List, length, slice_index_or, Option, Some, None, All, Contains}
+use Rattle.std.specs.Prelude.{◌≡◌, ◌⊎◌, ℕ, Bool, false, pos, List, [], Option, Some, None, All, Contains, IsPermutation, if◌then◌else◌}
+use Rattle.std.specs.List.{filter_map}
+use Rattle.std.specs.List.Sorted.{IsNonDecreasingBy}
+use Rattle.std.specs.Str.{bytes_eq}
+use Rattle.sqlite.specs.declared.types.Value.{Value}
 use Rattle.sqlite.specs.declared.types.Value.TheVariants.{Int, Text as Words, Blob as Bytes}
 use Rattle.sqlite.specs.Order.{Row, column}
 use Rattle.desk_store.specs.declared.error.DeskError.{DeskError}
@@ -24,14 +28,26 @@ abbrev pub Finds : List Row → List ℕ → ℕ → Option Found → Type 0
 Finds rows file rev None = All (λ row. IsRowOf file rev row → ⊥) rows
 Finds rows file rev (Some found) = (row : Row) × Contains rows row × IsRowOf file rev row × Says row found
 
--- the number, and the author that the row of the revision with this number says
-abbrev pub IsListed : List Row → List ℕ → ℕ → ℕ × List ℕ → Type 0
-IsListed rows file rev listed = (listed.0 ≡ rev) × ((row : Row) × Contains rows row × IsRowOf file rev row × (column row 2 ≡ Words listed.1))
+-- a value is this text
+abbrev pub is_text : List ℕ → Value → Bool
+is_text text (Words own) = bytes_eq own text
+is_text text _ = false
 
--- the first so many revisions, each with its number from 1
-abbrev pub AreListed : List Row → List ℕ → List (ℕ × List ℕ) → Type 0
-AreListed rows file listed = (k : ℕ) (d : ℕ × List ℕ) → k < length listed → IsListed rows file (k + 1) (slice_index_or listed k d)
+-- the number that a value is, 0 if it is none
+abbrev pub number_in : Value → ℕ
+number_in (Int (pos number)) = number
+number_in _ = 0
 
--- those of the revisions 1, 2, .. up to the first number that no row has
-abbrev pub Lists : List Row → List ℕ → List (ℕ × List ℕ) → Type 0
-Lists rows file listed = AreListed rows file listed × All (λ row. IsRowOf file (length listed + 1) row → ⊥) rows
+-- the text that a value is, empty if it is none
+abbrev pub text_in : Value → List ℕ
+text_in (Words own) = own
+text_in _ = []
+
+-- the number and the author in a row of a revision of this file
+abbrev pub listed : List ℕ → Row → Option (ℕ × List ℕ)
+listed file row = if is_text file (column row 0) then Some (number_in (column row 1), text_in (column row 2)) else None
+
+-- the numbers and authors in the rows of a file's revisions, in ascending order of the numbers
+pub record Lists (rows : List Row) (file : List ℕ) (found : List (ℕ × List ℕ)) : Type 0 where
+  pub same : IsPermutation (filter_map (listed file) rows) found
+  pub ascending : IsNonDecreasingBy (λ one. one.0) found

@@ -15,7 +15,7 @@ ghost use Rattle.desk_store.specs.declared.error.DeskError.TheVariants as error;
 
 use crate::error::{DeskError, Task};
 use crate::laws::stored_edits_keep_site_histories;
-use crate::rows::{find_revision, not_stored, numbered};
+use crate::rows::{find_revision, list_revisions, not_stored};
 use crate::tables::{append_revision, read_revisions};
 use desk_core::{Accepted, Edit, Head, Judged, State, newest_of_a_longer_history};
 use desk_policy::PolicyView;
@@ -66,6 +66,8 @@ impl<S: Alter + Drop, V: PolicyView + Drop> Desk<S, V> {
     pub fn view(&self) -> &V
         ensures value { result.now ≡ self.now.state.view }
         ensures in_force { IsInForce (site_in (newest_in self.now.state.heads)) (V.in_force result.now) }
+        ensures stood_at { (history pending : History) → Stands (state S.Store self.now.conn) self.now.state history pending
+            → IsInForce (site_in (newest_of history)) (V.in_force result.now) }
     {
         self.current.view()
     }
@@ -137,7 +139,7 @@ impl<S: Alter + Drop, V: PolicyView + Drop> Desk<S, V> {
         ensures crash { Survives (state S.Store self.old.conn) (state S.Store self.new.conn) (λ _. ⊥) }
     {
         match read_revisions(&mut self.conn) {
-            Ok(rows) => numbered(alloc, rows.as_slice(), file),
+            Ok(rows) => list_revisions(alloc, rows.as_slice(), file),
             Err(e) => Err(not_stored(Task::ReadRevisions, e)),
         }
     }

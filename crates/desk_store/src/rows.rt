@@ -1,9 +1,10 @@
 //! What the rows of revisions say.
 
-ghost use Rattle.std.specs.Prelude.{All, Contains, MatchOption, ◌≡◌, ◌↔◌, IfErr, IfOk, IsTrue};
+ghost use Rattle.std.specs.Prelude.{All, Contains, MatchOption, ◌≡◌, ◌↔◌, ◌++◌, [], IfErr, IfOk, IsTrue, OnOk, pos};
+ghost use Rattle.std.specs.List.{cons_option, filter_map};
 ghost use Rattle.sqlite.specs.Order.{column};
-ghost use Rattle.sqlite.specs.declared.types.Value.TheVariants.{Text as Words};
-ghost use Rattle.desk_store.specs.Rows.{Finds, IsOfStore, IsRowOf, Lists, Says};
+ghost use Rattle.sqlite.specs.declared.types.Value.TheVariants.{Int, Text as Words};
+ghost use Rattle.desk_store.specs.Rows.{Finds, IsOfStore, IsRowOf, Lists, Says, listed};
 ghost use Rattle.desk_store.specs.declared.error.DeskError.TheVariants as error;
 
 use crate::desk::Revision;
@@ -40,8 +41,8 @@ pub(crate) fn find_revision(
     }
 }
 
-/// Lists the numbers and authors in the rows of a file's revisions 1, 2, .., up to the first number that no row has.
-pub(crate) fn numbered(
+/// Lists the numbers and authors in the rows of a file's revisions, in ascending order of the numbers.
+pub(crate) fn list_revisions(
     alloc: Global,
     rows: &[Row],
     file: &str,
@@ -49,17 +50,67 @@ pub(crate) fn numbered(
     ensures listed { IfOk result (Lists rows.now file.now) }
     ensures errors { IfErr result IsOfStore }
 {
-    let mut found: Sequence<(u32, Text)> = Sequence::new(alloc);
-    for rev in 1..=u32::MAX {
-        let Some(row) = row_of(rows, file, rev) else {
-            return Ok(found);
-        };
-        let author = author_in(alloc, row)?;
-        if found.push((rev, author)).is_err() {
-            return Err(DeskError::Memory);
-        }
+    let mut found = listed_rows(alloc, rows, file)?;
+    found.sort_unstable_by_key(|one| one.0);
+    Ok(Sequence::from_vec(found))
+}
+
+/// Reads the numbers and authors in the rows of a file's revisions, in the order of the rows.
+fn listed_rows(alloc: Global, rows: &[Row], file: &str) -> Result<Vec<(u32, Text)>, DeskError>
+    ensures listed { IfOk result (λ found. found.items ≡ filter_map (listed file.now) rows.now) }
+    ensures errors { IfErr result IsOfStore }
+{
+    let mut found = Vec::new(alloc);
+    for row in rows {
+        add_listed(alloc, &mut found, row, file)?;
     }
-    Err(DeskError::Memory)
+    Ok(found)
+}
+
+/// Adds the number and the author in a row, if it is of this file.
+fn add_listed(
+    alloc: Global,
+    found: &mut Vec<(u32, Text)>,
+    row: &Row,
+    file: &str,
+) -> Result<(), DeskError>
+    ensures added { OnOk result (found.new.items ≡ found.old.items ++ cons_option (listed file.now row.now) []) }
+    ensures errors { IfErr result IsOfStore }
+{
+    let Some(one) = listed_in(alloc, row, file)? else {
+        return Ok(());
+    };
+    match found.push(one) {
+        Ok(()) => Ok(()),
+        Err(_) => Err(DeskError::Memory),
+    }
+}
+
+/// Reads the number and the author in a row, if it is of this file.
+fn listed_in(alloc: Global, row: &Row, file: &str) -> Result<Option<(u32, Text)>, DeskError>
+    ensures listed { IfOk result (λ one. one ≡ listed file.now row.now) }
+    ensures errors { IfErr result IsOfStore }
+{
+    let Ok(ValueRef::Text(name)) = row.get_ref(0) else {
+        return Err(unreadable(0));
+    };
+    if name != file.as_bytes() {
+        return Ok(None);
+    }
+    let rev = number_in(row)?;
+    let author = author_in(alloc, row)?;
+    Ok(Some((rev, author)))
+}
+
+/// Reads the number in a row.
+fn number_in(row: &Row) -> Result<u32, DeskError>
+    ensures number { IfOk result (λ rev. column row.now 1 ≡ Int (pos rev)) }
+    ensures errors { IfErr result IsOfStore }
+{
+    match row.get_ref(1) {
+        Ok(ValueRef::Int(number)) => u32::try_from(number).map_err(|_| unreadable(1)),
+        _ => Err(unreadable(1)),
+    }
 }
 
 /// Finds the row of a revision.

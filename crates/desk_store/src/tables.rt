@@ -1,6 +1,7 @@
 //! The statements that read and write the table of revisions.
 
 ghost use Rattle.std.specs.Prelude.{◌≡◌, IsTrue, OnOk, OnErr, IfOk, IsPermutation, codes};
+ghost use Rattle.std.specs.Str.{IsUtf8};
 ghost use Rattle.sqlite.specs.State.{HasCleanDisk, Survives};
 ghost use Rattle.sqlite.specs.Held.{state};
 ghost use Rattle.desk_store.specs.Tables.{IsAtRest, Adds, AddsWhileOpen, LeavesCommit, revision_row, rows_of};
@@ -23,6 +24,7 @@ pub(crate) fn append_revision<S: Alter>(
     ensures live { HasCleanDisk (state S.Store conn.new) → OnOk result (IsTrue (state S.Store conn.new).is_open) }
     ensures crash { Survives (state S.Store conn.old) (state S.Store conn.new) (AddsWhileOpen (revision_row file.now rev author.now body.now) (state S.Store conn.old)) }
     ensures durable { HasCleanDisk (state S.Store conn.new) → OnOk result (LeavesCommit (state S.Store conn.new)) }
+    ensures utf8 { IsUtf8 file.now × IsUtf8 author.now }
 {
     let insert = conn.prepare(
         "INSERT INTO file_rev(file, rev, author, profile, body) VALUES(?1, ?2, ?3, 1, ?4)",

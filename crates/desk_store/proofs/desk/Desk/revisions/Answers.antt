@@ -4,7 +4,8 @@ use Rattle.desk_store.specs.Desk.{Stands}
 use Rattle.desk_core.specs.Head.{Revision}
 use Rattle.desk_core.specs.History.{revisions_of}
 use Rattle.desk_store.specs.Tables.{rows_of}
-use Rattle.desk_store.proofs.FoundRows.{desk_still, listed_if}
+use Rattle.desk_store.proofs.FoundRows.{desk_still}
+use Rattle.desk_store.proofs.ListedRows.{listed_if}
 use Rattle.desk_store.proofs.desk.Desk.revisions.Goals as goal
 use Rattle.desk_store.proofs.desk.Desk.revisions.Goals.{in-Ok, in-Err}
 
@@ -21,7 +22,7 @@ returns-clause-found g c clean history pending stands =
       | in-Ok w ↦
           let a = w.in-Ok.ensures in
           let rows : IsPermutation (rows_of old.committed (codes "file_rev")) w.as_slice.result.now = subst (IsPermutation (rows_of old.committed (codes "file_rev"))) (sym w.as_slice.ensures.value) (a.rows clean) in
-          let found = listed_if old.committed history w.as_slice.result.now (here.tables (a.opened clean (a.live clean))) rows c.args.file.now 0 w.numbered.result w.numbered.ensures.listed in
+          let found = listed_if old.committed history w.as_slice.result.now (here.tables (a.opened clean (a.live clean))) rows c.args.file.now w.list_revisions.result w.list_revisions.ensures.listed in
           subst (λ r. IfOk r (λ found. found ≡ map (λ (r : Revision). (r.rev, r.author)) (revisions_of c.args.file.now history))) (sym w.result-is) found
       | in-Err w ↦ subst (λ r. IfOk r (λ found. found ≡ map (λ (r : Revision). (r.rev, r.author)) (revisions_of c.args.file.now history))) (sym w.result-is) tt
     ]

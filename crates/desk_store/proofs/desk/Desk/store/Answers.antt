@@ -14,7 +14,7 @@ invariant_of-self g c clean =
     let a = c.in-Err.ensures in
     let accepted = subst (λ s. IsAccepted g.V.PolicyView.in_force s.state e c.args.accepted) (sym c.self.view_is) c.requires.accepted in
     desk_after old new c.self.inside.current c.self.inside.current e (Err error.Memory)
-    (edit_failed c.newest_of_a_longer_history.ensures c.stored_edits_keep_site_histories.ensures g.V.PolicyView.in_force old new c.self.inside.current c.self.inside.current e c.args.accepted c.as_bytes-body.result.now accepted c.as_bytes-body.ensures.utf8 c.as_bytes-body.ensures.value error.Memory (inl refl) a.opened a.unchanged a.crash)
+    (edit_failed c.newest_of_a_longer_history.ensures c.stored_edits_keep_site_histories.ensures g.V.PolicyView.in_force old new c.self.inside.current c.self.inside.current e c.args.accepted c.as_bytes-body.result.now accepted a.utf8 c.as_bytes-body.ensures.utf8 c.as_bytes-body.ensures.value error.Memory (inl refl) a.opened a.unchanged a.crash)
     c.self.invariant a.rest clean
 
 pub returns-in-Err : goal.returns-in-Err
@@ -24,7 +24,7 @@ returns-in-Err g c =
     let e = asked c.args.edit.now in
     let a = c.in-Err.ensures in
     let accepted = subst (λ s. IsAccepted g.V.PolicyView.in_force s.state e c.args.accepted) (sym c.self.view_is) c.requires.accepted in
-    let done = edit_failed c.newest_of_a_longer_history.ensures c.stored_edits_keep_site_histories.ensures g.V.PolicyView.in_force old new c.self.inside.current c.self.inside.current e c.args.accepted c.as_bytes-body.result.now accepted c.as_bytes-body.ensures.utf8 c.as_bytes-body.ensures.value c.not_stored.result c.not_stored.ensures.either a.opened a.unchanged a.crash in
+    let done = edit_failed c.newest_of_a_longer_history.ensures c.stored_edits_keep_site_histories.ensures g.V.PolicyView.in_force old new c.self.inside.current c.self.inside.current e c.args.accepted c.as_bytes-body.result.now accepted a.utf8 c.as_bytes-body.ensures.utf8 c.as_bytes-body.ensures.value c.not_stored.result c.not_stored.ensures.either a.opened a.unchanged a.crash in
     subst (λ s. IsEdited (state g.S.Store s.conn) new s.state c.self.inside.current e (Err c.not_stored.result)) c.self.view_is done
 
 pub invariant_of-self-2 : goal.invariant_of-self-2
@@ -35,7 +35,7 @@ invariant_of-self-2 g c clean =
     let a = c.in_default.ensures in
     let accepted = subst (λ s. IsAccepted g.V.PolicyView.in_force s.state e c.args.accepted) (sym c.self.view_is) c.requires.accepted in
     desk_after old new c.self.inside.current c.apply.new.self e (Ok (record { rev = e.base + 1; already = false }))
-    (edit_stored c.newest_of_a_longer_history.ensures c.stored_edits_keep_site_histories.ensures g.V.PolicyView.in_force old new c.self.inside.current c.apply.new.self e c.args.accepted c.as_bytes-body.result.now accepted c.as_bytes-body.ensures.utf8 c.as_bytes-body.ensures.value a.opened a.live a.added a.durable c.apply.ensures.heads a.crash)
+    (edit_stored c.newest_of_a_longer_history.ensures c.stored_edits_keep_site_histories.ensures g.V.PolicyView.in_force old new c.self.inside.current c.apply.new.self e c.args.accepted c.as_bytes-body.result.now accepted a.utf8 c.as_bytes-body.ensures.utf8 c.as_bytes-body.ensures.value a.opened a.live a.added a.durable c.apply.ensures.heads a.crash)
     c.self.invariant a.rest clean
 
 pub returns : goal.returns
@@ -45,5 +45,5 @@ returns g c =
     let e = asked c.args.edit.now in
     let a = c.in_default.ensures in
     let accepted = subst (λ s. IsAccepted g.V.PolicyView.in_force s.state e c.args.accepted) (sym c.self.view_is) c.requires.accepted in
-    let done = edit_stored c.newest_of_a_longer_history.ensures c.stored_edits_keep_site_histories.ensures g.V.PolicyView.in_force old new c.self.inside.current c.apply.new.self e c.args.accepted c.as_bytes-body.result.now accepted c.as_bytes-body.ensures.utf8 c.as_bytes-body.ensures.value a.opened a.live a.added a.durable c.apply.ensures.heads a.crash in
+    let done = edit_stored c.newest_of_a_longer_history.ensures c.stored_edits_keep_site_histories.ensures g.V.PolicyView.in_force old new c.self.inside.current c.apply.new.self e c.args.accepted c.as_bytes-body.result.now accepted a.utf8 c.as_bytes-body.ensures.utf8 c.as_bytes-body.ensures.value a.opened a.live a.added a.durable c.apply.ensures.heads a.crash in
     subst (λ s. IsEdited (state g.S.Store s.conn) new s.state c.apply.new.self e (Ok (record { rev = e.base + 1; already = false }))) c.self.view_is done
