@@ -38,7 +38,7 @@ pub(crate) enum FaultyPart {
 
 /// Where an option is written: its word, its piece of that word, and whether its value is the next word.
 #[derive(Clone, Copy)]
-struct Written {
+struct PieceOfWord {
     word: usize,
     piece: usize,
     takes_next: bool,
@@ -95,7 +95,7 @@ fn place_of(line: &Line, slice: Option<Slice>) -> Place
 {
     match slice {
         Some(slice) => Place::in_line(line, slice.start, slice.end),
-        None => Place::in_line(line, usize::MAX, 0),
+        None => Place::of_first_line(line),
     }
 }
 
@@ -105,7 +105,7 @@ pub(crate) fn place_of_open_quote(line: &Line) -> Place
 {
     match Place::of_open_quote(line) {
         Some(place) => place,
-        None => place_of(line, None),
+        None => Place::of_first_line(line),
     }
 }
 
@@ -367,7 +367,7 @@ fn name_place(words: &[GrammarWord], name: usize) -> Option<usize> {
 }
 
 /// Finds the word and the piece of it that is this one of the options.
-fn written_place(words: &[GrammarWord], option: usize) -> Option<Written>
+fn piece_of_option(words: &[GrammarWord], option: usize) -> Option<PieceOfWord>
     ensures { IfSome result (λ place. place.word < length words.now) }
 {
     let first = count_absolute(words);
@@ -375,7 +375,7 @@ fn written_place(words: &[GrammarWord], option: usize) -> Option<Written>
     for (index, word) in words[first..].iter().enumerate() {
         let count = piece_count(word);
         if before < count {
-            return Some(Written {
+            return Some(PieceOfWord {
                 word: first + index,
                 piece: before,
                 takes_next: before + 1 == count && takes_next(word),
@@ -406,10 +406,10 @@ fn count_pieces(text: &str) -> usize
 /// Finds the slice of an option as it is written: a piece of its word, of which the first has the dash; or all of a word
 /// that has quotes or escapes.
 fn slice_of_option(words: &[Word], read: &[GrammarWord], option: usize) -> Option<Slice> {
-    let written = written_place(read, option)?;
-    let word = words.get(written.word)?;
+    let found = piece_of_option(read, option)?;
+    let word = words.get(found.word)?;
     let (start, end) = match word.plain() {
-        Some(text) => piece_bounds(text, written.piece),
+        Some(text) => piece_bounds(text, found.piece),
         None => (0, word.raw.len()),
     };
     Some(slice_in(word, start, end))
@@ -418,13 +418,13 @@ fn slice_of_option(words: &[Word], read: &[GrammarWord], option: usize) -> Optio
 /// Finds the slice of the value of an option: the next word, what stands behind `=`, or all of a word that has quotes or
 /// escapes.
 fn slice_of_value(words: &[Word], read: &[GrammarWord], option: usize) -> Option<Slice> {
-    let written = written_place(read, option)?;
-    if written.takes_next {
-        return slice_of_word(words, written.word + 1);
+    let found = piece_of_option(read, option)?;
+    if found.takes_next {
+        return slice_of_word(words, found.word + 1);
     }
-    let word = words.get(written.word)?;
+    let word = words.get(found.word)?;
     let (start, end) = match word.plain() {
-        Some(text) => value_bounds(text, written.piece),
+        Some(text) => value_bounds(text, found.piece),
         None => (0, word.raw.len()),
     };
     Some(slice_in(word, start, end))

@@ -33,6 +33,14 @@ impl Place {
         }
     }
 
+    /// Makes the place of the first physical line of a logical line, whole.
+    pub fn of_first_line(line: &Line) -> Place
+        ensures lies { (text : List ℕ) → IsAmong (logical_lines text) line.now → LiesIn text result }
+        ensures own { (text : List ℕ) → IsAmong (logical_lines text) line.now → IsOfLine line.now result }
+    {
+        first_line(line)
+    }
+
     /// Makes the place of the slice of a text that begins and ends at these bytes of the whole text. If no physical line
     /// of this logical line has that slice, the place is that of the first one, whole.
     pub fn in_line(line: &Line, start: usize, end: usize) -> Place
