@@ -24,7 +24,7 @@ pub no_fault : {X : Type 0} (value read : X) (fault : Option GroupFault) → unl
 no_fault value read None h = refl
 no_fault value read (Some fault) h = absurd (cc)
 
-fault_is : {X : Type 0} (value : X) (fault : Option GroupFault) (told : GroupFault) → unless_fault value fault ≡ Err told → fault ≡ Some told
+pub fault_is : {X : Type 0} (value : X) (fault : Option GroupFault) (told : GroupFault) → unless_fault value fault ≡ Err told → fault ≡ Some told
 fault_is value None told h = absurd (cc)
 fault_is value (Some fault) told h = cc
 
@@ -45,7 +45,7 @@ fault_append before (x ∷ xs) ys =
     ∙ or_assoc (fault_on (groups_on before) x) (first_fault (before ++ x ∷ []) xs) (first_fault (before ++ x ∷ xs) ys)
 
 module _ (ls : List LogicalLine) (i : ℕ) (x : LogicalLine) (within : i < length ls) (is : x ≡ get_or ls i x) where
-  one_more : take (i + 1) ls ≡ take i ls ++ x ∷ []
+  pub one_more : take (i + 1) ls ≡ take i ls ++ x ∷ []
   one_more = take_more ls i x within ∙ ap (λ l. take i ls ++ l ∷ []) (sym is)
 
   -- a line without a fault

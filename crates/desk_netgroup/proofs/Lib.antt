@@ -8,3 +8,4 @@ pub mod FormLemmas
 pub mod FileLemmas
 pub mod OnceLemmas
 pub mod SetLemmas
+pub mod FaultLemmas

@@ -1,12 +1,14 @@
 -- The faults of a netgroup line. (netgroup(5); the rules and their order are this project's own)
-use Rattle.std.specs.Prelude.{ℕ, ◌==◌, ◌||◌, nat_lt, Bool, true, false, not, List, [], ◌∷◌, Option, None, codes, find, length, option_and_then, slice_index, if◌then◌else◌}
-use Rattle.std.specs.List.{list_any}
+use Rattle.std.specs.Prelude.{◌≡◌, ℕ, ◌==◌, ◌||◌, nat_lt, Bool, true, false, not, List, [], ◌∷◌, Option, None, codes, find, length, option_and_then, slice_index, if◌then◌else◌}
+use Rattle.std.specs.List.{IsAmong, list_any}
 use Rattle.std.specs.Option.{is_none, is_some, option_map}
-use Rattle.desk_text.specs.Lines.{LogicalLine}
+use Rattle.desk_text.specs.Lines.{LogicalLine, logical_lines}
+use Rattle.desk_text.specs.Place.{IsOfLine, LiesIn}
 use Rattle.desk_netgroup.specs.GroupLine.{group_named, group_on, tokens_of}
 use Rattle.desk_netgroup.specs.declared.faults.GroupFault.{GroupFault}
 use Rattle.desk_netgroup.specs.declared.faults.GroupRule.{GroupRule}
 use Rattle.desk_netgroup.specs.declared.faults.GroupRule.TheVariants as rule
+use Rattle.desk_netgroup.specs.declared.faults.PlacedFault.{PlacedFault}
 use Rattle.desk_netgroup.specs.declared.group_line.GroupLine.{GroupLine}
 use Rattle.desk_netgroup.specs.declared.token.Token.{Token}
 use Rattle.desk_netgroup.specs.declared.token.Token.TheVariants.{Open, Close, Comma, Word}
@@ -84,6 +86,14 @@ other_of rule.StrayComment earlier = None
 abbrev pub fault_on : List GroupLine → LogicalLine → Option GroupFault
 fault_on earlier line =
     option_map (λ rule. record { line = line.number; rule = rule; other = other_of rule (earlier_line earlier line) }) (first_broken_rule earlier line)
+
+-- The fault is told at a place of the text, on a physical line of the logical line that has its number.
+pub record IsPlaced (text : List ℕ) (placed : PlacedFault) : Type 0 where
+  pub line : LogicalLine
+  pub among : IsAmong (logical_lines text) line
+  pub number : placed.fault.line ≡ line.number
+  pub own : IsOfLine line placed.place
+  pub lies : LiesIn text placed.place
 
 -- the number of a rule
 abbrev pub rule_number : GroupRule → ℕ

@@ -1,11 +1,13 @@
 -- What the definitions come to, in the terms of netgroup(5).
-use Rattle.std.specs.Prelude.{◌≡◌, ◌↔◌, ℕ, ◌&&◌, Bool, true, false, not, List, [], ◌∷◌, ◌++◌, filter}
+use Rattle.std.specs.Prelude.{◌≡◌, ◌↔◌, ℕ, ◌&&◌, Bool, true, false, not, List, [], ◌∷◌, ◌++◌, Some, Err, filter, slice_get}
 use Rattle.std.specs.List.{flat_map, list_all, list_any}
 use Rattle.std.specs.Str.{bytes_eq}
 use Rattle.desk_text.specs.Bytes.{is_blank}
-use Rattle.desk_netgroup.specs.Netgroups.{AreDistinct, AreHostsOf, hosts_of, is_among, members_of}
+use Rattle.desk_text.specs.Lines.{LogicalLine}
+use Rattle.desk_netgroup.specs.Netgroups.{AreDistinct, AreHostsOf, faults_after, hosts_of, is_among, members_of, netgroup_faults, read_netgroups, with_lines}
 use Rattle.desk_netgroup.specs.Token.{begins_with_word, is_of_word, tokens}
 use Rattle.desk_netgroup.specs.Walk.{hosts_in_order}
+use Rattle.desk_netgroup.specs.declared.faults.GroupFault.{GroupFault}
 use Rattle.desk_netgroup.specs.declared.group_line.GroupLine.{GroupLine}
 use Rattle.desk_netgroup.specs.declared.group_line.Member.{Member}
 use Rattle.desk_netgroup.specs.declared.group_line.Member.TheVariants.{Group, Host}
@@ -66,3 +68,12 @@ Leads lines group (inner ∷ chain) host = (list_any (is_group inner) (members_o
 -- a host is a group's exactly if some chain leads to it
 abbrev pub HostsAreReached : Type 0
 HostsAreReached = (lines : List GroupLine) (group host : List ℕ) → (is_among host (hosts_of lines group) ≡ true) ↔ ((chain : List (List ℕ)) × Leads lines group chain host)
+
+-- The fault that a refused file reports is the first of its faults; and a file that has one is refused.
+abbrev pub FirstOfFaultsIsReported : Type 0
+FirstOfFaultsIsReported = (text : List ℕ) (fault : GroupFault) → (read_netgroups text ≡ Err fault) ↔ (slice_get (netgroup_faults text) 0 ≡ Some fault)
+
+-- The faults of lines and further ones: those of the lines, and those of the further ones after the groups that the good
+-- ones among the lines define.
+abbrev pub FaultsFollowGoodLines : Type 0
+FaultsFollowGoodLines = (lines more : List LogicalLine) → faults_after [] (lines ++ more) ≡ faults_after [] lines ++ faults_after (with_lines [] lines) more

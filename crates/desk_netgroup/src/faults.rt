@@ -3,6 +3,7 @@
 ghost use Rattle.std.specs.Prelude.{◌≡◌};
 ghost use Rattle.desk_netgroup.specs.Faults.{rule_name, rule_number};
 
+use desk_text::Place;
 use thiserror::Error;
 
 /// Why a line is refused. Of several rules that a line breaks the first is named in the order
@@ -48,4 +49,11 @@ pub struct GroupFault {
     pub line: u32,
     pub rule: GroupRule,
     pub other: Option<u32>,
+}
+
+/// A faulty line with the first rule that it breaks, and the place of the slice at fault.
+#[derive(Clone, Copy)]
+pub struct PlacedFault {
+    pub fault: GroupFault,
+    pub place: Place,
 }

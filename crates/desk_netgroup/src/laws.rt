@@ -1,6 +1,6 @@
 //! What the definitions of this crate come to, each as a function that does nothing.
 
-ghost use Rattle.desk_netgroup.specs.Laws.{HostsAreLeast, HostsAreReached, OrderKeepsTheHosts, TokensAreTheText};
+ghost use Rattle.desk_netgroup.specs.Laws.{FaultsFollowGoodLines, FirstOfFaultsIsReported, HostsAreLeast, HostsAreReached, OrderKeepsTheHosts, TokensAreTheText};
 
 /// Says that the tokens of a text are its characters without the blanks, and that two words stand
 /// side by side only with a blank between them.
@@ -24,4 +24,15 @@ pub fn hosts_are_reached()
 /// each once.
 pub fn order_keeps_the_hosts()
     ensures { OrderKeepsTheHosts }
+{}
+
+/// Says that the fault that a refused file reports is the first of those that it is told to have.
+pub fn first_of_faults_is_reported()
+    ensures { FirstOfFaultsIsReported }
+{}
+
+/// Says that the faults of lines and further ones are those of the lines, and those of the further
+/// ones after the groups that the good lines among them define.
+pub fn faults_follow_good_lines()
+    ensures { FaultsFollowGoodLines }
 {}

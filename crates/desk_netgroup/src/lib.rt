@@ -19,10 +19,11 @@ mod index;
 pub mod laws;
 mod line;
 pub mod netgroups;
+mod slices;
 pub mod token;
 mod walk;
 
-pub use faults::{GroupFault, GroupRule};
+pub use faults::{GroupFault, GroupRule, PlacedFault};
 pub use group_line::{GroupLine, Member};
 pub use netgroups::Netgroups;
 pub use token::{Token, tokens};

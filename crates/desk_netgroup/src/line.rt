@@ -18,7 +18,7 @@ use desk_text::{Line, ReadError, Sequence, Text};
 use std::alloc::{AllocError, Global};
 
 /// The longest word, in bytes.
-const LONGEST_WORD: usize = 255;
+pub(crate) const LONGEST_WORD: usize = 255;
 
 /// Reads the group that a line defines after earlier ones, or names the first rule that it breaks.
 pub fn read_line(

@@ -1,16 +1,19 @@
 //! The groups of a netgroup file. (netgroup(5))
 
 ghost use Rattle.std.specs.Prelude.{◌≡◌, ◌≤◌, [], ◌∷◌, ◌++◌, IfOk, MatchOption, None, IfSome, IsSome, length, map, string_bytes};
+ghost use Rattle.std.specs.List.{All};
 ghost use Rattle.std.specs.Option.{option_copied};
 ghost use Rattle.desk_text.specs.Reading.{Reads};
+ghost use Rattle.desk_netgroup.specs.Faults.{IsPlaced};
 ghost use Rattle.desk_netgroup.specs.GroupLine.{group_named};
-ghost use Rattle.desk_netgroup.specs.Netgroups.{AreDistinct, AreHostsOf, read_netgroups};
+ghost use Rattle.desk_netgroup.specs.Netgroups.{AreDistinct, AreHostsOf, netgroup_faults, read_netgroups};
 ghost use Rattle.desk_netgroup.specs.Walk.{hosts_in_order};
 
-use crate::faults::GroupFault;
+use crate::faults::{GroupFault, PlacedFault};
 use crate::group_line::GroupLine;
 use crate::index::{add_first, line_at};
 use crate::line::read_line;
+use crate::slices::with_place;
 use crate::walk::{each_once, met_hosts};
 use desk_text::{ReadError, Sequence, logical_lines};
 use std::alloc::{AllocError, Global};
@@ -61,6 +64,26 @@ impl Netgroups {
             groups = groups.with_group(alloc, group)?;
         }
         Ok(groups)
+    }
+
+    /// Finds the faults of a netgroup file: all its faulty lines, in order, each with the first rule that it breaks after
+    /// the groups that the earlier good lines define, and the place of the slice at fault. `read` reports the first of them.
+    pub fn faults(alloc: Global, text: &str) -> Result<Sequence<PlacedFault>, AllocError>
+        requires { length text.now ≤ 4294967294 }
+        ensures faults { IfOk result (λ found. map (λ one. one.fault) found ≡ netgroup_faults text.now) }
+        ensures placed { IfOk result (All (IsPlaced text.now)) }
+    {
+        let lines = logical_lines(alloc, text)?;
+        let mut groups = Netgroups::new(alloc);
+        let mut found = Sequence::new(alloc);
+        for line in &lines {
+            match ReadError::split(read_line(alloc, line, &groups))? {
+                Ok(group) => groups = groups.with_group(alloc, group)?,
+                Err(fault) => found.push(with_place(alloc, line, fault)?)?,
+            }
+        }
+        drop(groups);
+        Ok(found)
     }
 
     /// Finds the hosts of a group, with those of its member groups at any depth: each once, in the

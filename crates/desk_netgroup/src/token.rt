@@ -70,7 +70,7 @@ fn push_mark(tokens: &mut Vec<Token>, c: u8) -> Result<(), AllocError>
 }
 
 /// Tells whether a byte belongs to a word.
-fn is_of_word(c: u8) -> bool
+pub(crate) fn is_of_word(c: u8) -> bool
     ensures { result ≡ spec.is_of_word c }
 {
     !(c == b' ' || c == b'\t' || c == b'(' || c == b')' || c == b',')
