@@ -38,11 +38,11 @@ covers_only net address ok e =
     ap (λ (first : ℕ). let b : Block = record { first = first; prefix = net.prefix } in b) (sym (ap (λ (n : ℕ). n * s) q ∙ ok.no_host_bits))
 
 -- the one key that matches the address with a weight
-abbrev key_for : ℕ → ℕ → LineKey
+abbrev pub key_for : ℕ → ℕ → LineKey
 key_for address weight = cond (eqb weight 34) (Host address) (cond (eqb weight 0) Everybody (Network (block_of address (weight - 1))))
 
 module _ (address : ℕ) where
-  key_is : (key : LineKey) (weight : ℕ) → IsLineKey key → key_weight address key ≡ Some weight → key ≡ key_for address weight
+  pub key_is : (key : LineKey) (weight : ℕ) → IsLineKey key → key_weight address key ≡ Some weight → key ≡ key_for address weight
   key_is (Host host) weight ok e =
       let s = cond_some (eqb host address) 34 weight e in
       ap Host (eqb-true host address s.0) ∙ sym (cond-true (eqb weight 34) (Host address) (cond (eqb weight 0) Everybody (Network (block_of address (weight - 1)))) (eq-eqb weight 34 (sym s.1)))
@@ -58,7 +58,7 @@ module _ (address : ℕ) where
       ∙ cond-true (eqb weight 0) Everybody (Network (block_of address (weight - 1))) (eq-eqb weight 0 (sym z)))
 
   -- a line that matches the address has a key that does so with its weight
-  key_of : (who : Clients) (addresses : List ℕ) (weight : ℕ) → address < 2 ^ 32 → HasBlock who → weight_by who addresses address ≡ Some weight
+  pub key_of : (who : Clients) (addresses : List ℕ) (weight : ℕ) → address < 2 ^ 32 → HasBlock who → weight_by who addresses address ≡ Some weight
       → (key : LineKey) × IsLineKey key × (has_key_by who addresses key ≡ true) × (key_weight address key ≡ Some weight)
   key_of (clients.Hosts names) addresses weight small ok e =
       let s = cond_some (list_any (λ other. eqb other address) addresses) 34 weight e in
@@ -68,7 +68,7 @@ module _ (address : ℕ) where
   key_of clients.World addresses weight small ok e = (Everybody, tt, refl, e)
 
   -- a line with a key matches the address as the key does
-  weight_from : (who : Clients) (addresses : List ℕ) (key : LineKey) (weight : ℕ) → has_key_by who addresses key ≡ true → key_weight address key ≡ Some weight → weight_by who addresses address ≡ Some weight
+  pub weight_from : (who : Clients) (addresses : List ℕ) (key : LineKey) (weight : ℕ) → has_key_by who addresses key ≡ true → key_weight address key ≡ Some weight → weight_by who addresses address ≡ Some weight
   weight_from (clients.Hosts names) addresses (Host host) weight h e =
       let s = cond_some (eqb host address) 34 weight e in
       cond-true (list_any (λ other. eqb other address) addresses) (Some 34) None (ap (λ n. list_any (λ other. eqb other n) addresses) (sym (eqb-true host address s.0)) ∙ h) ∙ ap (λ (n : ℕ). Some n) s.1
@@ -84,7 +84,7 @@ module _ (address : ℕ) where
   weight_from clients.World addresses Everybody weight h e = e
 
   -- a key that matches the address has no greater least address
-  least_up_to : (key : LineKey) (weight : ℕ) → IsLineKey key → key_weight address key ≡ Some weight → least_of key ≤ address
+  pub least_up_to : (key : LineKey) (weight : ℕ) → IsLineKey key → key_weight address key ≡ Some weight → least_of key ≤ address
   least_up_to (Host host) weight ok e = (let s = cond_some (eqb host address) 34 weight e in let h = eqb-true host address s.0 in omega arith)
   least_up_to (Network net) weight ok e =
       let s = cond_some (covers net address) (net.prefix + 1) weight e in
@@ -97,23 +97,23 @@ module _ (address : ℕ) where
   least_up_to Everybody weight ok e = omega arith
 
 -- a key matches its own least address
-weight_at_least : (key : LineKey) → (weight : ℕ) × (key_weight (least_of key) key ≡ Some weight)
+pub weight_at_least : (key : LineKey) → (weight : ℕ) × (key_weight (least_of key) key ≡ Some weight)
 weight_at_least (Host host) = (34, cond-true (eqb host host) (Some 34) None (eq-eqb host host refl))
 weight_at_least (Network net) = (net.prefix + 1, cond-true (covers net net.first) (Some (net.prefix + 1)) None (eq-eqb (net.first / block_size net.prefix) (net.first / block_size net.prefix) refl))
 weight_at_least Everybody = (0, refl)
 
-least_small : (key : LineKey) → IsLineKey key → least_of key < 2 ^ 32
+pub least_small : (key : LineKey) → IsLineKey key → least_of key < 2 ^ 32
 least_small (Host host) ok = ok
 least_small (Network net) ok = ok.first
 least_small Everybody ok = omega arith
 
 -- ---- the first line of a list that passes
 
-some_is : (o : Option ℕ) → IsSome o → (w : ℕ) × (o ≡ Some w)
+pub some_is : (o : Option ℕ) → IsSome o → (w : ℕ) × (o ≡ Some w)
 some_is None h = absurd (true≢false (sym h))
 some_is (Some w) h = (w, refl)
 
-first_up_to : (p : Row → Bool) (xs : List Row) (j : ℕ) (d : Row) → j < length xs → p (get_or xs j d) ≡ true
+pub first_up_to : (p : Row → Bool) (xs : List Row) (j : ℕ) (d : Row) → j < length xs → p (get_or xs j d) ≡ true
     → (i : ℕ) × (i ≤ j) × (find p xs ≡ Some (get_or xs i d)) × (p (get_or xs i d) ≡ true)
 first_up_to p [] j d l e = absurd (omega arith)
 first_up_to p (x ∷ xs) zero d l e = (0, omega arith, cond-true (p x) (Some x) (find p xs) e, e)
@@ -123,7 +123,7 @@ first_up_to p (x ∷ xs) (suc j) d l e =
       | inr later ↦ (let r = first_up_to p xs j d (omega arith) e in (suc r.0, (let h = r.1 in omega arith), cond-false (p x) (Some x) (find p xs) later ∙ r.2, r.3))
     ]
 
-found_is : (p : Row → Bool) (xs : List Row) (x : Row) → find p xs ≡ Some x → Contains xs x × (p x ≡ true)
+pub found_is : (p : Row → Bool) (xs : List Row) (x : Row) → find p xs ≡ Some x → Contains xs x × (p x ≡ true)
 found_is p [] x e = cc
 found_is p (y ∷ ys) x e =
     elim (cases_Bool (p y)) [

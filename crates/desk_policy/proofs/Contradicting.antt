@@ -27,7 +27,7 @@ module _ (rows : List Row) (ascending : AreAscending rows) where
       omega arith
 
   -- a smaller line stands at an earlier place
-  places_rise : (i j : ℕ) (x y : Row) → i < length rows → j < length rows → get_or rows i x ≡ x → get_or rows j y ≡ y → line_of x < line_of y → i < j
+  pub places_rise : (i j : ℕ) (x y : Row) → i < length rows → j < length rows → get_or rows i x ≡ x → get_or rows j y ≡ y → line_of x < line_of y → i < j
   places_rise i j x y il jl p q h =
       elim (cases_order i j) as (λ _. i < j) [
         | inl e ↦ absurd (let a : line_of (get_or rows i x) ≡ line_of x = ap line_of p in
@@ -37,15 +37,15 @@ module _ (rows : List Row) (ascending : AreAscending rows) where
         | inr s ↦ elim s as (λ _. i < j) [ inl lt ↦ lt | inr gt ↦ absurd (let r = lines_rise j i y x gt il q p in omega arith) ]
       ]
 
-  Contains_below : (n i : ℕ) (x : Row) → i < n → n ≤ length rows → get_or rows i x ≡ x → Contains (take n rows) x
+  pub Contains_below : (n i : ℕ) (x : Row) → i < n → n ≤ length rows → get_or rows i x ≡ x → Contains (take n rows) x
   Contains_below n i x lt le e = (i, simp length-take (omega arith), get_or-take n rows i x lt ∙ e)
 
-  Contains_whole : (n : ℕ) (x : Row) → n ≤ length rows → Contains (take n rows) x → Contains rows x
+  unfoldable pub Contains_whole : (n : ℕ) (x : Row) → n ≤ length rows → Contains (take n rows) x → Contains rows x
   Contains_whole n x le c =
       let l : c.0 < n = (let h : c.0 < length (take n rows) = c.1 in let e = length-take n rows in omega arith) in
       (c.0, omega arith, sym (get_or-take n rows c.0 x l) ∙ c.2)
 
-  same_at : (i : ℕ) (x y : Row) → i < length rows → get_or rows i x ≡ x → get_or rows i y ≡ y → x ≡ y
+  pub same_at : (i : ℕ) (x y : Row) → i < length rows → get_or rows i x ≡ x → get_or rows i y ≡ y → x ≡ y
   same_at i x y l p q = sym p ∙ get_or_default rows i x y l ∙ q
 
   -- ---- a line against the earlier ones

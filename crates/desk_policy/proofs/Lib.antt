@@ -15,6 +15,8 @@ pub mod Lesser
 pub mod FilesRead
 pub mod Chain
 pub mod Gathered
+pub mod FirstDiffers
+pub mod LeastOfAll
 pub mod SiteLaws
 pub mod OwnDirectories
 pub mod Compiling

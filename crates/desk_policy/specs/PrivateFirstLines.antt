@@ -1,6 +1,6 @@
 -- What the private contracts of the search for contradictions cite: the keys under which lines of a file system may clash.
 -- Two lines match an address with equal weight exactly if they have one key that matches it.
-use Rattle.std.specs.Prelude.{◌≡◌, ◌≢◌, ◌⊎◌, ℕ, ◌+◌, ◌<◌, ◌≤◌, ◌^◌, ◌==◌, ◌&&◌, Bool, true, false, nat_lt, List, Option, Some, None, find, if◌then◌else◌}
+use Rattle.std.specs.Prelude.{◌≡◌, ◌≢◌, ◌⊎◌, ℕ, ◌+◌, ◌<◌, ◌≤◌, ◌^◌, ◌==◌, ◌&&◌, Bool, true, false, nat_lt, List, [], ◌∷◌, Option, Some, None, find, if◌then◌else◌}
 use Rattle.std.specs.BTreeMap.{get}
 use Rattle.std.specs.List.{position}
 use Rattle.std.specs.Option.{option_or}
@@ -13,6 +13,7 @@ use Rattle.desk_exports.specs.declared.entry.Clients.{Clients}
 use Rattle.desk_exports.specs.declared.entry.Clients.TheVariants as clients
 use Rattle.desk_exports.specs.declared.entry.Terms.{Terms}
 use Rattle.desk_policy.specs.Weights.{name_weight}
+use Rattle.desk_policy.specs.declared.contradiction.Contradiction.{Contradiction}
 use Rattle.desk_policy.specs.declared.first_lines.Clash.{Clash}
 use Rattle.desk_policy.specs.declared.first_lines.FirstLines.{FirstLines}
 use Rattle.desk_policy.specs.declared.row.Row.{Row}
@@ -118,6 +119,11 @@ abbrev pub earlier_clash : Option Clash → Option Clash → Option Clash
 earlier_clash None other = other
 earlier_clash (Some found) None = Some found
 earlier_clash (Some found) (Some other) = if nat_lt other.line found.line then Some other else Some found
+
+-- the contradiction of a line by its clash
+abbrev pub contradiction_of : ℕ → Option Clash → List Contradiction
+contradiction_of line None = []
+contradiction_of line (Some found) = record { line = line; other = found.line; address = found.address } ∷ []
 
 -- networks by prefix, and then by first address
 abbrev pub network_cmp : (x y : ℕ × ℕ) → Ordering

@@ -1,13 +1,14 @@
 //! Whether the lines of a policy contradict each other: two lines of a file system match one address with equal weight, and
 //! have different terms.
 
-ghost use Rattle.std.specs.Prelude.{IfOk};
-ghost use Rattle.desk_policy.specs.Contradiction.{IsFoundIn};
+ghost use Rattle.std.specs.Prelude.{◌≡◌, ◌++◌, IfOk, OnOk, slice_get};
+ghost use Rattle.desk_policy.specs.Contradiction.{AreContradictions, IsFoundIn};
 ghost use Rattle.desk_policy.specs.Policy.{AreAscending};
+ghost use Rattle.desk_policy.specs.PrivateFirstLines.{contradiction_of};
 
-use crate::first_lines::FirstLines;
+use crate::first_lines::{Clash, FirstLines};
 use crate::row::Row;
-use desk_text::Addr;
+use desk_text::{Addr, Sequence};
 use std::alloc::{AllocError, Global};
 
 /// Two lines of a file system that contradict each other, the earlier one as `other`, and the least address at which they do.
@@ -37,4 +38,40 @@ pub fn contradiction_in(alloc: Global, rows: &[Row]) -> Result<Option<Contradict
         firsts.add_line(i, row)?;
     }
     Ok(None)
+}
+
+/// Lists the lines of a file system that contradict an earlier one: each that has other terms than the first line under one
+/// of its keys, with the first such line, and the least address. The first of them is what `contradiction_in` finds.
+pub fn contradictions(alloc: Global, rows: &[Row]) -> Result<Sequence<Contradiction>, AllocError>
+    requires { AreAscending rows.now }
+    ensures all { IfOk result (AreContradictions rows.now rows.now) }
+    ensures least { IfOk result (λ found. IsFoundIn rows.now (slice_get found 0)) }
+{
+    let mut firsts = FirstLines::new(alloc);
+    let mut found = Sequence::new(alloc);
+    for place in 0..rows.len() {
+        let row = &rows[place];
+        let clash = firsts.clash(&rows[..place], row);
+        push_clash(&mut found, row.entry.line, clash)?;
+        firsts.add_line(place, row)?;
+    }
+    Ok(found)
+}
+
+/// Adds the contradiction of the line with this number, if it clashes with an earlier one.
+fn push_clash(
+    found: &mut Sequence<Contradiction>,
+    line: u32,
+    clash: Option<Clash>,
+) -> Result<(), AllocError>
+    ensures { OnOk result (found.new ≡ found.old ++ contradiction_of line clash) }
+{
+    if let Some(clash) = clash {
+        found.push(Contradiction {
+            line,
+            other: clash.line,
+            address: clash.address,
+        })?;
+    }
+    Ok(())
 }

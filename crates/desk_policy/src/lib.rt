@@ -35,7 +35,7 @@ pub mod warning;
 mod weights;
 
 pub use acting::act_as;
-pub use contradiction::{Contradiction, contradiction_in};
+pub use contradiction::{Contradiction, contradiction_in, contradictions};
 pub use laws::{
     addresses_are_unique, ascending_entries_ascend_in_each_file, each_has_its_lines,
     each_has_its_own_lines, first_faulty_file_is_reported, least_lines_are_named,
