@@ -21,3 +21,6 @@ pub mod FileSystemsTextLemmas
 pub mod FaultLemmas
 pub mod FirstOfFaults
 pub mod MountPoints
+pub mod QuotedFaultLemmas
+pub mod FirstOfLineFaults
+pub mod FirstOfQuotedFaults

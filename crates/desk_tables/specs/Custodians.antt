@@ -1,5 +1,5 @@
 -- The custodians of a site, and the digests of their keys. (this project's own)
-use Rattle.std.specs.Prelude.{ℕ, Bool, false, not, ◌==◌, ◌&&◌, ◌||◌, nat_le, List, [], ◌∷◌, Option, Some, None, Result, Ok, Err, find, length, is_err, codes, slice_index_or}
+use Rattle.std.specs.Prelude.{ℕ, Bool, false, not, ◌==◌, ◌&&◌, ◌||◌, nat_le, List, [], ◌∷◌, Option, Some, None, Result, Ok, Err, find, length, map, is_err, codes, slice_index_or}
 use Rattle.std.specs.List.{filter_map, list_all, list_any}
 use Rattle.std.specs.Option.{option_map}
 use Rattle.std.specs.Result.{result_ok}
@@ -7,7 +7,7 @@ use Rattle.std.specs.Str.{bytes_eq}
 use Rattle.hex.specs.Hex.{decode_sized}
 use Rattle.desk_text.specs.Lines.{LogicalLine, logical_lines}
 use Rattle.desk_tables.specs.Rules.{unless_rule}
-use Rattle.desk_tables.specs.QuotedLines.{line_values, lines_table}
+use Rattle.desk_tables.specs.QuotedLines.{faults_after, line_values, lines_table, with_lines}
 use Rattle.desk_tables.specs.declared.custodians.Custodian.{Custodian}
 use Rattle.desk_tables.specs.Rules.{TableFault}
 use Rattle.desk_tables.specs.declared.rules.TableRule.{TableRule}
@@ -89,3 +89,25 @@ with_site (Err fault) = Err fault
 -- what a text of custodians answers: its custodians in order, or its first fault
 abbrev pub read_custodians : List ℕ → Result (List Custodian) TableFault
 read_custodians text = with_site (lines_table line_answer (logical_lines text))
+
+-- what a line answers behind lines that list these custodians
+abbrev pub row_answer : List Custodian → LogicalLine → Result (Option Custodian) TableRule
+row_answer rows line = values_answer (map (λ row. row.name) rows) (line_values line)
+
+-- the fault of a table in which this was found as `site`
+abbrev pub site_faults : Option Custodian → List TableFault
+site_faults (Some site) = []
+site_faults None = record { line = 0; rule = rule.Custodian } ∷ []
+
+-- the faults of lines that list these custodians; if there are none, `site` must be among them
+abbrev pub or_missing_site : List Custodian → List TableFault → List TableFault
+or_missing_site rows [] = site_faults (custodian_named rows (codes "site"))
+or_missing_site rows (fault ∷ more) = fault ∷ more
+
+-- the faults of lines of custodians, and then of the table as a whole
+abbrev pub table_faults : List LogicalLine → List TableFault
+table_faults lines = or_missing_site (with_lines row_answer [] lines) (faults_after row_answer [] lines)
+
+-- the faults of a text of custodians
+abbrev pub custodian_faults : List ℕ → List TableFault
+custodian_faults text = table_faults (logical_lines text)

@@ -7,9 +7,9 @@ use Rattle.std.specs.Str.{bytes_eq}
 use Rattle.desk_text.specs.Lines.{LogicalLine, logical_lines}
 use Rattle.desk_text.specs.Path.{read_path, are_printed_alike}
 use Rattle.desk_text.specs.declared.path.PathFault.{PathFault}
-use Rattle.desk_tables.specs.FileSystems.{is_before}
+use Rattle.desk_tables.specs.FileSystems.{is_before, mount_points}
 use Rattle.desk_tables.specs.Rules.{unless_rule}
-use Rattle.desk_tables.specs.QuotedLines.{line_values, lines_table}
+use Rattle.desk_tables.specs.QuotedLines.{faults_after, line_values, lines_table}
 use Rattle.desk_tables.specs.Rules.{TableFault}
 use Rattle.desk_tables.specs.declared.rules.TableRule.{TableRule}
 use Rattle.desk_tables.specs.declared.rules.TableRule.TheVariants as rule
@@ -84,6 +84,14 @@ in_order (Err fault) = Err fault
 -- what a text of file systems answers: its mount points in byte order of their printed forms, or its first fault
 abbrev pub read_filesystems : List ℕ → Result (List Mount) TableFault
 read_filesystems text = in_order (lines_table line_answer (logical_lines text))
+
+-- what a line answers behind lines that list these mount points
+abbrev pub row_answer : List Mount → LogicalLine → Result (Option Mount) TableRule
+row_answer rows line = values_answer line.number (length rows) (mount_points rows) (line_values line)
+
+-- the faults of a text of file systems
+abbrev pub filesystem_faults : List ℕ → List TableFault
+filesystem_faults text = faults_after row_answer [] (logical_lines text)
 
 -- whether a custodian keeps a file system: it is one of those listed for its mount point
 abbrev pub keeps : List Mount → List ℕ → ℕ → Bool

@@ -79,6 +79,7 @@ pub record FirstOfFaultsIsReported : Type 0 where
   pub of_networks : (text : List ℕ) (fault : TableFault) → (networks.read_networks text ≡ Err fault) ↔ IsFirstOf fault (networks.network_faults text)
   pub of_users : (text : List ℕ) (fault : TableFault) → (users.read_users text ≡ Err fault) ↔ IsFirstOf fault (users.user_faults text)
   pub of_groups : (text : List ℕ) (fault : TableFault) → (groups.read_groups text ≡ Err fault) ↔ IsFirstOf fault (groups.group_faults text)
+  pub of_filesystems : (text : List ℕ) (fault : TableFault) → (filesystems.read_filesystems text ≡ Err fault) ↔ IsFirstOf fault (filesystems.filesystem_faults text)
 
 -- A line that breaks no rule has its row.
 pub record GoodLinesHaveRows : Type 0 where

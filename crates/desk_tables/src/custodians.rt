@@ -1,21 +1,24 @@
 //! Custodians, and the digests of their keys. (this project's own)
 
-ghost use Rattle.std.specs.Prelude.{◌≡◌, ◌≤◌, List, Ok, Some, length, map};
-ghost use Rattle.std.specs.List.{list_all};
+ghost use Rattle.std.specs.Prelude.{◌≡◌, ◌≤◌, ◌++◌, ◌∷◌, [], IfOk, List, None, Ok, OnOk, Some, length, map};
+ghost use Rattle.std.specs.List.{All, list_all};
 ghost use Rattle.std.specs.Option.{option_copied};
 ghost use Rattle.desk_text.specs.Reading.{Reads, ReadsAs};
 ghost use Rattle.desk_text.specs.Lines.{logical_lines};
 ghost use Rattle.desk_tables.specs.Custodians as spec;
+ghost use Rattle.desk_tables.specs.Faults.{IsOnLineOrWhole};
 ghost use Rattle.desk_tables.specs.PrivateIndex.{HasDigests};
 ghost use Rattle.desk_tables.specs.QuotedLines.{line_values, lines_table};
 ghost use Rattle.desk_tables.specs.declared.custodians.Custodian.{Custodian};
+ghost use Rattle.desk_tables.specs.declared.rules.TableRule.TheVariants as TableRule;
 
+use crate::faults::PlacedFault;
 use crate::index::add_first;
-use crate::quoted_lines::{at_line, line_values};
+use crate::quoted_lines::{at_line, line_values, make_fault};
 use crate::rules::{TableFault, TableRule};
 use desk_text::{Line, LineFault, ReadError, Sequence, Text, logical_lines};
 use hex::FromHex;
-use std::alloc::Global;
+use std::alloc::{AllocError, Global};
 use std::collections::BTreeMap;
 use std::marker::Model;
 
@@ -66,6 +69,31 @@ impl Custodians {
         Ok(table)
     }
 
+    /// Finds the faults of a text of custodians: all its faulty lines, in order, each with the first rule that it breaks
+    /// after the custodians that the earlier good lines list, and the place of the slice at fault; if no line is faulty
+    /// and `site` is not listed, the fault of line 0. `read` reports the first of them.
+    pub fn faults(alloc: Global, text: &str) -> Result<Sequence<PlacedFault>, AllocError>
+        requires { length text.now ≤ 4294967294 }
+        ensures faults { IfOk result (λ found. map (λ one. one.fault) found ≡ spec.custodian_faults text.now) }
+        ensures placed { IfOk result (All (IsOnLineOrWhole text.now)) }
+    {
+        let lines = logical_lines(alloc, text)?;
+        let mut digests = BTreeMap::new(alloc);
+        let mut found = Sequence::new(alloc);
+        for line in &lines {
+            match ReadError::split(read_line(alloc, line, &digests))? {
+                Ok(row) => add_digest(alloc, &mut digests, row)?,
+                Err(rule) => found.push(make_fault(alloc, line, rule)?)?,
+            }
+        }
+        let has_site = digests.contains_key("site");
+        drop(digests);
+        if found.is_empty() && !has_site {
+            found.push(missing_site())?;
+        }
+        Ok(found)
+    }
+
     /// Finds the digest of the key of the custodian of this name.
     pub fn digest_of(&self, name: &str) -> Option<&[u8; 32]>
         ensures { option_copied result ≡ spec.digest_of self.now name.now }
@@ -79,6 +107,33 @@ impl Custodians {
     {
         self.rows.as_slice()
     }
+}
+
+/// Makes the fault of a table that does not list `site`.
+fn missing_site() -> PlacedFault
+    ensures fault { result.fault ≡ record { line = 0; rule = TableRule.Custodian } }
+    ensures whole { result.place ≡ None }
+{
+    PlacedFault {
+        fault: LineFault {
+            line: 0,
+            rule: TableRule::Custodian,
+        },
+        place: None,
+    }
+}
+
+/// Adds the digest of one custodian more.
+fn add_digest(
+    alloc: Global,
+    digests: &mut BTreeMap<String, [u8; 32]>,
+    row: Custodian,
+) -> Result<(), AllocError>
+    ensures { OnOk result ((before : List Custodian) → HasDigests before digests.old → HasDigests (before ++ row ∷ []) digests.new) }
+{
+    add_first(alloc, digests, row.name.as_str(), row.digest)?;
+    drop(row);
+    Ok(())
 }
 
 /// Reads the custodian of each line, in order, or the first fault.

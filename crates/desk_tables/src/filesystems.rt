@@ -6,11 +6,13 @@ ghost use Rattle.desk_text.specs.Path.{is_under, path_text};
 ghost use Rattle.std.specs.List.{list_any};
 ghost use Rattle.std.specs.Str.{bytes_eq};
 ghost use Rattle.desk_text.specs.Reading.{Reads};
-ghost use Rattle.desk_tables.specs.FileSystemsText.{keeps, read_filesystems};
+ghost use Rattle.desk_tables.specs.Faults.{IsOnLine};
+ghost use Rattle.desk_tables.specs.FileSystemsText.{filesystem_faults, keeps, read_filesystems};
 ghost use Rattle.desk_tables.specs.FileSystems.{AreAscending, IsTableOf, TooMany, fs_of, unkept};
 ghost use Rattle.desk_tables.specs.PrivateFileSystems.{IsLastAbove};
 
-use crate::filesystems_text::read_mounts;
+use crate::faults::PlacedFault;
+use crate::filesystems_text::{find_faults, read_mounts};
 use crate::rules::TableFault;
 use desk_text::{Path, ReadError, Sequence, Text};
 use std::alloc::{AllocError, Global};
@@ -80,6 +82,17 @@ impl FileSystems {
     {
         let mounts = Sequence::from_vec(read_mounts(alloc, text)?);
         Ok(FileSystems { mounts })
+    }
+
+    /// Finds the faults of a text of file systems: all its faulty lines, in order, each with the first rule that it breaks
+    /// after the mount points that the earlier good lines list, and the place of the slice at fault. `read` reports the
+    /// first of them.
+    pub fn faults(alloc: Global, text: &str) -> Result<Sequence<PlacedFault>, AllocError>
+        requires { length text.now ≤ 4294967294 }
+        ensures faults { IfOk result (λ found. map (λ one. one.fault) found ≡ filesystem_faults text.now) }
+        ensures placed { IfOk result (All (IsOnLine text.now)) }
+    {
+        find_faults(alloc, text)
     }
 
     /// Finds the file system of a path: the longest mount point that the path is or lies below. In byte order a longer

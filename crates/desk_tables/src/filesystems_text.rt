@@ -1,16 +1,18 @@
 //! The text of the file systems: mount points, each with its custodians. (this project's own)
 
-ghost use Rattle.std.specs.Prelude.{◌≡◌, ◌≤◌, IfOk, Ok, Some, length};
-ghost use Rattle.std.specs.List.{list_any, prefix_len};
+ghost use Rattle.std.specs.Prelude.{◌≡◌, ◌≤◌, IfOk, Ok, Some, length, map};
+ghost use Rattle.std.specs.List.{All, list_any, prefix_len};
 ghost use Rattle.std.specs.Result.{result_map_both};
 ghost use Rattle.desk_text.specs.Path.{read_path, are_printed_alike};
 ghost use Rattle.desk_text.specs.Reading.{Reads, ReadsAs};
+ghost use Rattle.desk_tables.specs.Faults.{IsOnLine};
 ghost use Rattle.desk_tables.specs.FileSystemsText as spec;
 ghost use Rattle.desk_tables.specs.FileSystems.{AreAscending, is_before, mount_points};
 ghost use Rattle.desk_tables.specs.QuotedLines.{line_values};
 
+use crate::faults::PlacedFault;
 use crate::filesystems::{MOST_MOUNT_POINTS, Mount};
-use crate::quoted_lines::{at_line, line_values};
+use crate::quoted_lines::{at_line, line_values, make_fault};
 use crate::rules::{TableFault, TableRule};
 use desk_text::{Line, Path, ReadError, Sequence, Text, logical_lines};
 use std::alloc::{AllocError, Global};
@@ -30,6 +32,26 @@ pub fn read_mounts(alloc: Global, text: &str) -> Result<Vec<Mount>, ReadError<Ta
         table.insert(place, mount)?;
     }
     Ok(table)
+}
+
+/// Finds the faults of a text of file systems: all its faulty lines, in order, each with the first rule that it breaks
+/// after the mount points that the earlier good lines list.
+pub fn find_faults(alloc: Global, text: &str) -> Result<Sequence<PlacedFault>, AllocError>
+    requires { length text.now ≤ 4294967294 }
+    ensures faults { IfOk result (λ found. map (λ one. one.fault) found ≡ spec.filesystem_faults text.now) }
+    ensures placed { IfOk result (All (IsOnLine text.now)) }
+{
+    let lines = logical_lines(alloc, text)?;
+    let mut listed = Vec::new(alloc);
+    let mut found = Sequence::new(alloc);
+    for line in &lines {
+        match ReadError::split(read_line(alloc, line, listed.as_slice()))? {
+            Ok(mount) => listed.push(mount)?,
+            Err(rule) => found.push(make_fault(alloc, line, rule)?)?,
+        }
+    }
+    drop(listed);
+    Ok(found)
 }
 
 /// Reads the mount point that a line lists, or the first rule that it breaks, if these are listed before.

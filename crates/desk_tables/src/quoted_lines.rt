@@ -1,15 +1,20 @@
 //! Lines of words with quotes, as the tables of file systems and custodians have them.
 
-ghost use Rattle.std.specs.Prelude.{◌≡◌, IfOk, Option, Result, Some, map};
+ghost use Rattle.std.specs.Prelude.{◌≡◌, ℕ, IfOk, List, Option, Result, Some, map};
+ghost use Rattle.std.specs.List.{IsAmong};
+ghost use Rattle.desk_text.specs.Lines.{logical_lines};
+ghost use Rattle.desk_text.specs.Place.{IsOfLine, LiesIn};
 ghost use Rattle.desk_text.specs.Reading.{ReadsAs};
 ghost use Rattle.desk_text.specs.Views.{word_of};
 ghost use Rattle.desk_text.specs.Word.{word_value};
+ghost use Rattle.desk_tables.specs.Faults.{IsOnLine};
 ghost use Rattle.desk_tables.specs.QuotedLines.{line_values};
 ghost use Rattle.desk_tables.specs.PrivateQuotedLines.{at_line};
 ghost use Rattle.desk_tables.specs.declared.rules.TableRule.{TableRule};
 
+use crate::faults::{PlacedFault, Slice};
 use crate::rules::{TableFault, TableRule};
-use desk_text::{Line, LineFault, ReadError, Text, Word, unquote, words};
+use desk_text::{Line, LineFault, Place, ReadError, Text, Word, unquote, words};
 use std::alloc::{AllocError, Global};
 
 /// Reads the values of the words of a line. A quote that does not close breaks the rule on fields.
@@ -47,5 +52,59 @@ pub fn at_line<Row>(
         Ok(row) => Ok(row),
         Err(ReadError::Memory) => Err(ReadError::Memory),
         Err(ReadError::Fault(rule)) => Err(ReadError::Fault(LineFault { line: number, rule })),
+    }
+}
+
+/// Makes the fault of a line that breaks this rule first, at its place.
+pub fn make_fault(alloc: Global, line: &Line, rule: TableRule) -> Result<PlacedFault, AllocError>
+    ensures fault { IfOk result (λ made. made.fault ≡ record { line = line.now.number; rule = rule }) }
+    ensures placed { IfOk result (λ made. (text : List ℕ) → IsAmong (logical_lines text) line.now → IsOnLine text made) }
+{
+    let place = place_at_fault(alloc, line, rule)?;
+    let number = line.number();
+    Ok(PlacedFault {
+        fault: LineFault { line: number, rule },
+        place: Some(place),
+    })
+}
+
+/// Makes the place of the slice at fault of a line whose first broken rule this is: the word that breaks it, or the first
+/// physical line.
+fn place_at_fault(alloc: Global, line: &Line, rule: TableRule) -> Result<Place, AllocError>
+    ensures lies { IfOk result (λ place. (text : List ℕ) → IsAmong (logical_lines text) line.now → LiesIn text place) }
+    ensures own { IfOk result (λ place. (text : List ℕ) → IsAmong (logical_lines text) line.now → IsOfLine line.now place) }
+{
+    let slice = match words(alloc, line) {
+        Ok(words) => word_at_fault(words.as_slice(), rule),
+        Err(ReadError::Fault(_)) => None,
+        Err(ReadError::Memory) => return Err(AllocError),
+    };
+    let slice = slice.unwrap_or(first_line_slice(line));
+    Ok(Place::in_line(line, slice.start, slice.end))
+}
+
+/// Finds where the word that breaks a rule begins and ends in the whole text.
+fn word_at_fault(words: &[Word], rule: TableRule) -> Option<Slice> {
+    let place = match rule {
+        TableRule::Name | TableRule::Duplicate | TableRule::BadPath => 0,
+        TableRule::Digest => 1,
+        _ => return None,
+    };
+    let word = words.get(place)?;
+    Some(slice_of(word.start, word.raw))
+}
+
+/// Finds where the first physical line begins and ends in the whole text.
+fn first_line_slice(line: &Line) -> Slice {
+    match line.parts().first() {
+        Some(part) => slice_of(part.start, part.whole),
+        None => slice_of(0, ""),
+    }
+}
+
+fn slice_of(start: usize, text: &str) -> Slice {
+    Slice {
+        start,
+        end: start.saturating_add(text.len()),
     }
 }
