@@ -93,11 +93,11 @@ name_of_row words None row h = absurd (cc)
 name_of_row words (Some d) row h = let same : record { name = name_word words; digest = d } ≡ row = cc in ap (λ (k : Custodian). k.name) same
 
 -- a row's name is the name that its line lists
-named_on : (before : List (List ℕ)) (words : Result (List (List ℕ)) TableRule) (row : Custodian) → values_answer before words ≡ Ok (Some row) → name_in words ≡ Some row.name
+pub named_on : (before : List (List ℕ)) (words : Result (List (List ℕ)) TableRule) (row : Custodian) → values_answer before words ≡ Ok (Some row) → name_in words ≡ Some row.name
 named_on before (Ok words) row h = ap Some (name_of_row words (result_ok (decode_sized (digest_word words) 32)) row (unless_ok (find (breaks before words) rules) (row_of words) row h))
 named_on before (Err rule) row h = absurd (cc)
 
-names-append : (rows : List Custodian) (row : Custodian) → names (rows ++ row ∷ []) ≡ names rows ++ row.name ∷ []
+pub names-append : (rows : List Custodian) (row : Custodian) → names (rows ++ row ∷ []) ≡ names rows ++ row.name ∷ []
 names-append [] row = refl
 names-append (other ∷ rows) row = ap (λ ns. other.name ∷ ns) (names-append rows row)
 

@@ -8,7 +8,7 @@ use Rattle.desk_tables.specs.Networks as networks
 use Rattle.desk_tables.specs.Rows.{answered_lines}
 use Rattle.desk_tables.specs.Users as users
 use Rattle.desk_tables.proofs.FirstOfLineFaults.{refused_with_first}
-use Rattle.desk_tables.proofs.FirstOfQuotedFaults.{of_filesystems}
+use Rattle.desk_tables.proofs.FirstOfQuotedFaults.{of_custodians, of_filesystems}
 
 pub first_of_faults_is_reported : FirstOfFaultsIsReported
 first_of_faults_is_reported = record {
@@ -17,4 +17,5 @@ first_of_faults_is_reported = record {
   of_users = λ text fault. refused_with_first (users.user_faults text) (filter_map value_of (answered_lines users.line_answer text)) fault;
   of_groups = λ text fault. refused_with_first (groups.group_faults text) (filter_map value_of (answered_lines groups.line_answer text)) fault;
   of_filesystems = of_filesystems;
+  of_custodians = of_custodians;
 }

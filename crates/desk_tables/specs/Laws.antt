@@ -80,6 +80,7 @@ pub record FirstOfFaultsIsReported : Type 0 where
   pub of_users : (text : List ℕ) (fault : TableFault) → (users.read_users text ≡ Err fault) ↔ IsFirstOf fault (users.user_faults text)
   pub of_groups : (text : List ℕ) (fault : TableFault) → (groups.read_groups text ≡ Err fault) ↔ IsFirstOf fault (groups.group_faults text)
   pub of_filesystems : (text : List ℕ) (fault : TableFault) → (filesystems.read_filesystems text ≡ Err fault) ↔ IsFirstOf fault (filesystems.filesystem_faults text)
+  pub of_custodians : (text : List ℕ) (fault : TableFault) → (custodians.read_custodians text ≡ Err fault) ↔ IsFirstOf fault (custodians.custodian_faults text)
 
 -- A line that breaks no rule has its row.
 pub record GoodLinesHaveRows : Type 0 where
