@@ -20,7 +20,7 @@ use Rattle.desk_policy.specs.Site.{SiteTexts}
 use Rattle.desk_policy.specs.SiteFault.{exports_name, table_fault}
 use Rattle.desk_policy.specs.Unlisted.{unlisted_line}
 use Rattle.desk_policy.specs.declared.site_fault.SiteFault.{SiteFault}
-use Rattle.desk_core.specs.Judging.{IsFileName, exports_place, is_known, is_of_seven}
+use Rattle.desk_core.specs.Judging.{IsFileName, exports_place, is_of_seven}
 use Rattle.desk_core.specs.Laws.{KnownFilesHaveNames}
 use Rattle.desk_core.specs.Site.{policy_of, policy_read}
 

@@ -8,7 +8,7 @@ use Rattle.std.proofs.lemmas.List.Elements.{All-from_recursion}
 use Rattle.desk_text.specs.Laws.{WrittenPathsReadBack}
 use Rattle.desk_text.specs.Lines.{LogicalLine, logical_lines}
 use Rattle.desk_text.specs.Path.{path_text, read_path}
-use Rattle.desk_text.specs.Reading.{AnsweredLine, answered_value, fault_of, unless_fault, value_of}
+use Rattle.desk_text.specs.Reading.{answered_value, fault_of, unless_fault, value_of}
 use Rattle.desk_text.specs.declared.path.PathFault.{PathFault}
 use Rattle.desk_tables.specs.FileSystems.{is_before}
 use Rattle.desk_tables.specs.FileSystemsText.{breaks, in_order, line_answer, path_word, paths_on, put, put_all, read_filesystems, row_of, rules, values_answer}
