@@ -192,7 +192,7 @@ module _ {V : Type 0} (newest_more : NewestOfALongerHistory) (keeps : StoredEdit
   edited_untold failure untold other opened same crash = record {
     number = tt;
     step = λ clean history pending stands.
-        let Q : Option Answer → Type 0 = λ t. StepsOn old new before before e t history pending in
+        let Q : Option Answer → Type 0 = λ t. StepsOn new before e t history pending in
         subst Q (sym untold) (record { answered = tt; stands = stands_yet clean (opened clean) (same clean) crash history pending stands });
     unanswered = λ _. none;
     unchanged = λ _. refl;

@@ -108,7 +108,7 @@ CommitsOne state e None old trees =
     × AddsTo (row_of (revision_of e)) old trees
 
 -- an edit is answered by the history at which the desk stands, and the desk then stands at the history after it
-pub record StepsOn {V : Type 0} (old new : State) (before after : Kept V) (e : Edit) (answer : Option Answer) (history pending : List Revision) : Type 0 where
+pub record StepsOn {V : Type 0} (new : State) (after : Kept V) (e : Edit) (answer : Option Answer) (history pending : List Revision) : Type 0 where
   pub answered : IsAnswered history e answer
   pub stands : Stands new after (history ++ added_if e answer) (pending_after pending e answer)
 
@@ -127,7 +127,7 @@ pub record IsAccepted {V : Type 0} (in_force : V → Content) (state : Kept V) (
 -- what an edit did to a desk, all together (each part is a clause of `edit`)
 pub record IsEdited {V : Type 0} (old new : State) (before after : Kept V) (e : Edit) (result : Result Done DeskError) : Type 0 where
   pub number : IfOk result (λ done. done.rev ≡ e.base + 1)
-  pub step : HasCleanDisk new → (history pending : History) → Stands old before history pending → StepsOn old new before after e (told result) history pending
+  pub step : HasCleanDisk new → (history pending : History) → Stands old before history pending → StepsOn new after e (told result) history pending
   pub unanswered : told result ≡ None → first_case (newest_in before.heads) e ≡ None
   pub unchanged : added_if e (told result) ≡ [] → after ≡ before
   pub tables : HasCleanDisk new → IsTrue new.is_open → added_if e (told result) ≡ [] → new.committed ≡ old.committed
@@ -156,6 +156,10 @@ module _ {S V : Type 0} (g : Ghosts S) where
 
   abbrev pub StandsAt : Shown S V → History → History → Type 0
   StandsAt d history pending = Stands (state g d.conn) d.state history pending
+
+  -- an edit is answered by the history at which the desk stood, and it stands at the history after it
+  abbrev pub StepsTo : Shown S V → Edit → Option Answer → History → History → Type 0
+  StepsTo d e answer history pending = StepsOn (state g d.conn) d.state e answer history pending
 
   -- a desk after a call that changes nothing
   abbrev pub StaysAsItWas : Shown S V → Shown S V → Type 0

@@ -37,7 +37,7 @@ StoredEditsKeepSiteHistories =
 abbrev pub EditedOnce : {V : Type 0} → State → Kept V → Exchange → State → Kept V → Type 0
 EditedOnce old before x new after =
     (doubt old.is_clean ≤ doubt new.is_clean)
-    × (HasCleanDisk new → (history pending : History) → Stands old before history pending → StepsOn old new before after x.edit x.answer history pending)
+    × (HasCleanDisk new → (history pending : History) → Stands old before history pending → StepsOn new after x.edit x.answer history pending)
 
 -- a desk after edits, one after another
 abbrev pub EditedBy : {S V : Type 0} → Ghosts S → Shown S V → List (Exchange × Shown S V) → Shown S V → Type 0

@@ -8,7 +8,7 @@ ghost use Rattle.desk_core.specs.Head.{newest_in};
 ghost use Rattle.desk_core.specs.History.{added_if, newest_of, revisions_of};
 ghost use Rattle.desk_core.specs.Judging.{first_case};
 ghost use Rattle.desk_core.specs.Site.{IsInForce, site_in};
-ghost use Rattle.desk_store.specs.Desk.{CommitsOne, History, IsAccepted, IsEdited, Stands, Stays, StepsOn, revision_at, stored_of, told};
+ghost use Rattle.desk_store.specs.Desk.{CommitsOne, HasGoodDisk, History, IsAccepted, IsEdited, StandsAt, StaysAsItWas, StepsTo, revision_at, stored_of, told};
 ghost use Rattle.desk_store.specs.Rows.{IsOfStore};
 ghost use Rattle.desk_store.specs.Tables.{LeavesCommit};
 ghost use Rattle.desk_store.specs.declared.error.DeskError.TheVariants as error;
@@ -66,7 +66,7 @@ impl<S: Alter + Drop, V: PolicyView + Drop> Desk<S, V> {
     pub fn view(&self) -> &V
         ensures value { result.now ≡ self.now.state.view }
         ensures in_force { IsInForce (site_in (newest_in self.now.state.heads)) (V.in_force result.now) }
-        ensures stood_at { (history pending : History) → Stands (state S.Store self.now.conn) self.now.state history pending
+        ensures stood_at { (history pending : History) → StandsAt S.Store self.now history pending
             → IsInForce (site_in (newest_of history)) (V.in_force result.now) }
     {
         self.current.view()
@@ -75,7 +75,7 @@ impl<S: Alter + Drop, V: PolicyView + Drop> Desk<S, V> {
     /// Finds the newest revision of a file. This takes no statement.
     pub fn newest(&self, file: &str) -> Option<&Head>
         ensures newest { option_copied result ≡ newest_in self.now.state.heads file.now }
-        ensures stood_at { (history pending : History) → Stands (state S.Store self.now.conn) self.now.state history pending
+        ensures stood_at { (history pending : History) → StandsAt S.Store self.now history pending
             → option_copied result ≡ newest_of history file.now }
     {
         self.current.newest(file)
@@ -86,21 +86,21 @@ impl<S: Alter + Drop, V: PolicyView + Drop> Desk<S, V> {
         ensures number { IfOk result (λ done. done.rev ≡ edit.now.base + 1) }
 
         // Wherever the desk stood, the edit is answered by that history, and the desk stands at the history after it.
-        ensures step { HasCleanDisk (state S.Store self.new.conn) → (history pending : History)
-            → Stands (state S.Store self.old.conn) self.old.state history pending
-            → StepsOn (state S.Store self.old.conn) (state S.Store self.new.conn) self.old.state self.new.state (asked edit.now) (told result) history pending }
+        ensures step { HasGoodDisk S.Store self.new → (history pending : History)
+            → StandsAt S.Store self.old history pending
+            → StepsTo S.Store self.new (asked edit.now) (told result) history pending }
         ensures unanswered { told result ≡ None → first_case (newest_in self.old.state.heads) (asked edit.now) ≡ None }
         ensures schema { result ≢ Err error.Schema }
 
         // What was not stored changed nothing.
         ensures unchanged { added_if (asked edit.now) (told result) ≡ [] → self.new.state ≡ self.old.state }
-        ensures tables { HasCleanDisk (state S.Store self.new.conn) → IsTrue (state S.Store self.new.conn).is_open → added_if (asked edit.now) (told result) ≡ []
+        ensures tables { HasGoodDisk S.Store self.new → IsTrue (state S.Store self.new.conn).is_open → added_if (asked edit.now) (told result) ≡ []
             → (state S.Store self.new.conn).committed ≡ (state S.Store self.old.conn).committed }
 
         // A crash at any moment leaves what it could before, or the edit's one commit; once it is answered as stored, that.
         ensures crash { Survives (state S.Store self.old.conn) (state S.Store self.new.conn)
             (CommitsOne self.old.state (asked edit.now) (told result) (state S.Store self.old.conn).committed) }
-        ensures durable { HasCleanDisk (state S.Store self.new.conn) → added_if (asked edit.now) (told result) ≢ [] → LeavesCommit (state S.Store self.new.conn) }
+        ensures durable { HasGoodDisk S.Store self.new → added_if (asked edit.now) (told result) ≢ [] → LeavesCommit (state S.Store self.new.conn) }
     {
         self.judged(alloc, edit)
     }
@@ -112,9 +112,9 @@ impl<S: Alter + Drop, V: PolicyView + Drop> Desk<S, V> {
         file: &str,
         rev: u32,
     ) -> Result<Option<Revision>, DeskError>
-        ensures stays { Stays (state S.Store self.old.conn) (state S.Store self.new.conn) self.old.state self.new.state }
-        ensures found { HasCleanDisk (state S.Store self.new.conn) → (history pending : History)
-            → Stands (state S.Store self.old.conn) self.old.state history pending
+        ensures stays { StaysAsItWas S.Store self.old self.new }
+        ensures found { HasGoodDisk S.Store self.new → (history pending : History)
+            → StandsAt S.Store self.old history pending
             → IfOk result (λ found. found ≡ stored_of (revision_at history file.now rev)) }
         ensures errors { IfErr result IsOfStore }
         ensures crash { Survives (state S.Store self.old.conn) (state S.Store self.new.conn) (λ _. ⊥) }
@@ -131,9 +131,9 @@ impl<S: Alter + Drop, V: PolicyView + Drop> Desk<S, V> {
         alloc: Global,
         file: &str,
     ) -> Result<Sequence<(u32, Text)>, DeskError>
-        ensures stays { Stays (state S.Store self.old.conn) (state S.Store self.new.conn) self.old.state self.new.state }
-        ensures found { HasCleanDisk (state S.Store self.new.conn) → (history pending : History)
-            → Stands (state S.Store self.old.conn) self.old.state history pending
+        ensures stays { StaysAsItWas S.Store self.old self.new }
+        ensures found { HasGoodDisk S.Store self.new → (history pending : History)
+            → StandsAt S.Store self.old history pending
             → IfOk result (λ found. found ≡ map (λ r. (r.rev, r.author)) (revisions_of file.now history)) }
         ensures errors { IfErr result IsOfStore }
         ensures crash { Survives (state S.Store self.old.conn) (state S.Store self.new.conn) (λ _. ⊥) }
