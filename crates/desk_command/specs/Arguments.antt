@@ -5,6 +5,12 @@ use Rattle.std.specs.Result.{result_ok}
 use Rattle.std.specs.String.{string_bytes}
 use Rattle.desk_text.specs.Address.{number_of, read_addr}
 use Rattle.desk_text.specs.Path.{read_path}
+use Rattle.desk_tables.specs.CredentialText.{read_credential}
+use Rattle.desk_tables.specs.Rules.{TableFault}
+use Rattle.desk_tables.specs.declared.credential_text.CredFault.{CredFault}
+use Rattle.desk_tables.specs.declared.credentials.Cred.{Cred}
+use Rattle.desk_tables.specs.declared.groups.Group.{Group}
+use Rattle.desk_tables.specs.declared.users.User.{User}
 use Rattle.desk_text.specs.declared.address.AddrFault.{AddrFault}
 use Rattle.desk_text.specs.declared.path.PathFault.{PathFault}
 use Rattle.desk_tables.specs.FileSystems.{IsTableOf, TooMany}
@@ -69,3 +75,28 @@ pub record IsRequest (host dir : List ℕ) (mounts : List (List ℕ)) (request :
   pub path : read_path dir ≡ Ok request.path
   pub mounts_read : first_bad_path mounts ≡ None
   pub table : IsTableOf (paths_of mounts) request.filesystems
+
+-- what CRED stands for with these users and groups, if it is given and neither table has a fault
+abbrev pub own_answer : Option (List ℕ) → Result (List User) TableFault → Result (List Group) TableFault → Option (Result Cred CredFault)
+own_answer (Some word) (Ok users) (Ok groups) = read_credential users groups word
+own_answer word users groups = None
+
+-- the credential that CRED stands for, if it is one
+abbrev pub good_own : Option (Result Cred CredFault) → Option Cred
+good_own (Some (Ok own)) = Some own
+good_own answer = None
+
+-- the failure names CRED with its fault; out of memory says nothing
+abbrev pub IsBadOwn : Option (List ℕ) → Option (Result Cred CredFault) → Failure → Type 0
+IsBadOwn (Some word) (Some (Err bad)) other = IsRefusal name.Credential word (fault.Credential bad) other
+IsBadOwn word answer other = other ≡ failure.Memory
+
+-- CRED is not bad
+abbrev pub IsNotBad : Option (Result Cred CredFault) → Type 0
+IsNotBad (Some (Err bad)) = ⊥
+IsNotBad answer = Unit {0}
+
+-- the credential that CRED stands for, or why it stands for none
+abbrev pub AnswersOwn : Option (List ℕ) → Option (Result Cred CredFault) → Result (Option Cred) Failure → Type 0
+AnswersOwn word answer (Ok own) = IsNotBad answer × (own ≡ good_own answer)
+AnswersOwn word answer (Err other) = IsBadOwn word answer other

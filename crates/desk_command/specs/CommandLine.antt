@@ -14,9 +14,22 @@ word name = record (new_rule name) { required = true; action = Some Set }
 abbrev pub mount_words : Rule
 mount_words = record (word (codes "MOUNT")) { range = Some (record { start_inclusive = 1; end_inclusive = usize_max }) }
 
--- `try FILE HOST DIR MOUNT..`
+-- an option with one value
+abbrev pub option : List ℕ → Rule
+option name = record (new_rule name) { long = Some name; action = Some Set; value_names = 1 }
+
+-- the same with the options of the tables
+abbrev pub with_tables : App → App
+with_tables app =
+    with_rule (with_rule (with_rule (with_rule (with_rule app (option (codes "hosts"))) (option (codes "networks"))) (option (codes "passwd"))) (option (codes "group"))) (option (codes "netgroup"))
+
+-- the arguments of `try FILE HOST DIR MOUNT..`
+abbrev pub try_arguments : App
+try_arguments = with_rule (with_rule (with_rule (with_rule (new_app (codes "try")) (word (codes "FILE"))) (word (codes "HOST"))) (word (codes "DIR"))) mount_words
+
+-- `try` with its options
 abbrev pub try_command : App
-try_command = with_rule (with_rule (with_rule (with_rule (new_app (codes "try")) (word (codes "FILE"))) (word (codes "HOST"))) (word (codes "DIR"))) mount_words
+try_command = with_rule (with_tables try_arguments) (option (codes "as"))
 
 -- `split FILE FILESYSTEMS`
 abbrev pub split_command : App
@@ -48,25 +61,46 @@ faults_of words = fault_of command_line (line_of words)
 abbrev pub AskForHelp : List (List ℕ) → Type 0
 AskForHelp words = IsAmong DisplayHelp (faults_of words) ⊎ IsAmong DisplayVersion (faults_of words)
 
+-- the words of the options that name files of tables
+pub record TableWords : Type 0 where
+  pub hosts : Option (List ℕ)
+  pub networks : Option (List ℕ)
+  pub passwd : Option (List ℕ)
+  pub group : Option (List ℕ)
+  pub netgroup : Option (List ℕ)
+
+-- those among the arguments that clap finds
+abbrev pub table_words_in : List Row → TableWords
+table_words_in rows = record {
+  hosts = first_of (codes "hosts") rows;
+  networks = first_of (codes "networks") rows;
+  passwd = first_of (codes "passwd") rows;
+  group = first_of (codes "group") rows;
+  netgroup = first_of (codes "netgroup") rows;
+}
+
 -- the words of `try`
 pub record TryWords : Type 0 where
   pub file : List ℕ
   pub host : List ℕ
   pub dir : List ℕ
   pub mounts : List (List ℕ)
+  pub tables : TableWords
+  pub credential : Option (List ℕ)
 
-abbrev pub words_of_try : List ℕ → List ℕ → List ℕ → List (List ℕ) → TryWords
-words_of_try file host dir mounts = record { file = file; host = host; dir = dir; mounts = mounts }
+abbrev pub words_of_try : List ℕ → List ℕ → List ℕ → List (List ℕ) → TableWords → Option (List ℕ) → TryWords
+words_of_try file host dir mounts tables credential = record { file = file; host = host; dir = dir; mounts = mounts; tables = tables; credential = credential }
 
--- the words of `try` by those of FILE, HOST, DIR and MOUNT.., if none is missing
-abbrev pub try_words_from : Option (List ℕ) → Option (List ℕ) → Option (List ℕ) → Option (List (List ℕ)) → Option TryWords
-try_words_from (Some file) (Some host) (Some dir) (Some mounts) = Some (words_of_try file host dir mounts)
-try_words_from file host dir mounts = None
+-- the words of `try` by those of FILE, HOST, DIR and MOUNT.., if none is missing, and by those of its options
+abbrev pub try_words_from : Option (List ℕ) → Option (List ℕ) → Option (List ℕ) → Option (List (List ℕ)) → TableWords → Option (List ℕ) → Option TryWords
+try_words_from (Some file) (Some host) (Some dir) (Some mounts) tables credential = Some (words_of_try file host dir mounts tables credential)
+try_words_from file host dir mounts tables credential = None
 
 -- the words of `try` among the arguments that clap finds
 abbrev pub try_words_in : List Row → Option TryWords
 try_words_in rows =
     try_words_from (first_of (codes "FILE") rows) (first_of (codes "HOST") rows) (first_of (codes "DIR") rows) (all_of (codes "MOUNT") rows)
+    (table_words_in rows) (first_of (codes "as") rows)
 
 -- the words of `split`
 pub record SplitWords : Type 0 where

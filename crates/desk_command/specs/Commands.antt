@@ -10,7 +10,7 @@ use Rattle.desk_command.specs.Files.{IsSystem}
 use Rattle.desk_command.specs.Input.{first_line, words_of}
 use Rattle.desk_command.specs.Output.{printed, status_of}
 use Rattle.desk_command.specs.SplitCommand.{AnswersSplit}
-use Rattle.desk_command.specs.TryCommand.{AnswersFile}
+use Rattle.desk_command.specs.TryCommand.{AnswersTry}
 use Rattle.desk_command.specs.Words.{IsMissing}
 use Rattle.desk_command.specs.declared.failure.Failure.{Failure}
 use Rattle.desk_command.specs.declared.failure.Failure.TheVariants.{FirstLine, Memory, Usage, Word}
@@ -50,7 +50,7 @@ IsNoCommand words (Err failure) = IsBadWord words failure
 
 -- the answer to a command over an input that has these bytes, if a contract can name them
 abbrev pub AnswersGiven : CommandWords → Option (List ℕ) → Result Output Failure → Type 0
-AnswersGiven (Try words) known result = AnswersFile words known result
+AnswersGiven (Try words) known result = AnswersTry words known result
 AnswersGiven (Split words) known result = AnswersSplit words known result
 
 -- the answer to what clap finds: that to the command, or that a word is missing

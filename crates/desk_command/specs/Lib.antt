@@ -7,6 +7,7 @@ pub mod Input
 pub mod Output
 pub mod SplitCommand
 pub mod SplitText
+pub mod TableFiles
 pub mod TryCommand
 pub mod TryText
 pub mod Words

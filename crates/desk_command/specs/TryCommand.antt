@@ -1,55 +1,76 @@
--- The output of `try` by the bytes of FILE. (this project's own)
-use Rattle.std.specs.Prelude.{◌⊎◌, ℕ, List, Option, Result, Ok, Err}
+-- The output of `try` by its files. (this project's own)
+use Rattle.std.specs.Prelude.{◌≡◌, ◌⊎◌, ℕ, Bool, true, false, List, [], ◌∷◌, Option, Some, Result, Ok, Err, IsErrAnd}
 use Rattle.desk_text.specs.Address.{number_of, read_addr}
 use Rattle.desk_text.specs.Path.{read_path}
-use Rattle.desk_policy.specs.Parsing.{read_whole_policy}
+use Rattle.desk_tables.specs.Groups.{read_groups}
+use Rattle.desk_tables.specs.Users.{read_users}
+use Rattle.desk_tables.specs.declared.credential_text.CredFault.{CredFault}
+use Rattle.desk_tables.specs.declared.credentials.Cred.{Cred}
+use Rattle.desk_policy.specs.Parsing.{read_tables, read_whole_with}
 use Rattle.desk_policy.specs.Policy.{Content}
 use Rattle.desk_policy.specs.View.{IsFaultOf}
+use Rattle.desk_policy.specs.declared.parsing.SiteTables.{SiteTables}
 use Rattle.desk_policy.specs.declared.site_fault.SiteFault.{SiteFault}
-use Rattle.desk_command.specs.Arguments.{IsBadArgument, IsRequest}
+use Rattle.desk_command.specs.Arguments.{IsBadArgument, IsBadOwn, IsRequest, good_own, own_answer}
 use Rattle.desk_command.specs.CommandLine.{TryWords}
-use Rattle.desk_command.specs.Files.{IsContents, IsFileFailure, IsUnread}
-use Rattle.desk_command.specs.Input.{text_of}
+use Rattle.desk_command.specs.Files.{ReadsInTurn, name_input_twice}
+use Rattle.desk_command.specs.TableFiles.{whole_files}
 use Rattle.desk_command.specs.TryText.{IsAnswerBy, answer_of}
+use Rattle.desk_command.specs.declared.arguments.Request.{Request}
 use Rattle.desk_command.specs.declared.failure.Failure.{Failure}
-use Rattle.desk_command.specs.declared.failure.Failure.TheVariants.{Memory}
-use Rattle.desk_command.specs.declared.failure.ReadFailure.TheVariants.{Text}
-use Rattle.desk_command.specs.declared.files.FileArgument.TheVariants.{File}
-use Rattle.desk_command.specs.declared.input.TextFault.{TextFault}
+use Rattle.desk_command.specs.declared.failure.Failure.TheVariants.{InputTwice, Memory}
 use Rattle.desk_command.specs.declared.output.Output.{Output}
 use Rattle.desk_command.specs.declared.output.Output.TheVariants.{Faulty, Tried}
-use Rattle.desk_command.specs.declared.arguments.Request.{Request}
 
 -- the output tells the verdict for an address and a path by what a text is read as, or the text's fault; out of memory says
 -- nothing
-abbrev pub Tells : Result Content SiteFault → ℕ → List (List ℕ) → Result Output Failure → Type 0
-Tells read address path (Ok (Tried tried)) = IsAnswerBy read address path (answer_of tried)
-Tells read address path (Ok (Faulty fault)) = IsFaultOf read fault
-Tells read address path (Err Memory) = Unit {0}
-Tells read address path result = ⊥
+abbrev pub Tells : Result Content SiteFault → Option Cred → ℕ → List (List ℕ) → Result Output Failure → Type 0
+Tells read own address path (Ok (Tried tried)) = IsAnswerBy read own address path (answer_of tried)
+Tells read own address path (Ok (Faulty fault)) = IsFaultOf read fault
+Tells read own address path (Err Memory) = Unit {0}
+Tells read own address path result = ⊥
 
--- the output answers a request by a text, or says why the bytes of the file are not taken as one
-abbrev pub AnswersTry : List ℕ → Request → Result (List ℕ) TextFault → Result Output Failure → Type 0
-AnswersTry file request (Ok text) result = Tells (read_whole_policy request.filesystems text) (number_of request.address) request.path result
-AnswersTry file request (Err fault) (Err failure) = IsFileFailure File file (Text fault) failure
-AnswersTry file request (Err fault) (Ok output) = ⊥
+-- the output tells the fault of a table; out of memory says nothing
+abbrev pub TellsFault : SiteFault → Result Output Failure → Type 0
+TellsFault fault (Ok (Faulty found)) = found ≡ fault
+TellsFault fault (Err Memory) = Unit {0}
+TellsFault fault result = ⊥
 
--- the output answers a request that these words write, by these bytes
-pub record AnswersBytes (file host dir : List ℕ) (mounts : List (List ℕ)) (bytes : List ℕ) (result : Result Output Failure) : Type 0 where
+-- the output answers a request by these tables, or tells the fault of one, and by an exports text
+abbrev pub TellsWith : Result SiteTables SiteFault → List ℕ → Option Cred → Request → Result Output Failure → Type 0
+TellsWith (Ok tables) text own request result = Tells (read_whole_with tables request.filesystems text) own (number_of request.address) request.path result
+TellsWith (Err fault) text own request result = TellsFault fault result
+
+-- the same by what CRED stands for; if it is bad, that comes first
+abbrev pub TellsAs : Option (List ℕ) → Option (Result Cred CredFault) → Result SiteTables SiteFault → List ℕ → Request → Result Output Failure → Type 0
+TellsAs word (Some (Err bad)) tables text request result = IsErrAnd result (IsBadOwn word (Some (Err bad)))
+TellsAs word answer tables text request result = TellsWith tables text (good_own answer) request result
+
+-- the answer to a request by the texts that were read, in the order of the files; or why a file has no text
+abbrev pub AnswersTexts : Option (List ℕ) → Request → Result (List (List ℕ)) Failure → Result Output Failure → Type 0
+AnswersTexts word request (Ok (hosts ∷ networks ∷ passwd ∷ group ∷ netgroup ∷ text ∷ [])) result =
+    TellsAs word (own_answer word (read_users passwd) (read_groups group)) (read_tables hosts networks passwd group netgroup) text request result
+AnswersTexts word request (Ok other) result = ⊥
+AnswersTexts word request (Err failure) result = result ≡ Err failure
+
+-- the answer to a request by the files that the words name
+pub record AnswersFiles (words : TryWords) (request : Request) (known : Option (List ℕ)) (result : Result Output Failure) : Type 0 where
+  pub read : Result (List (List ℕ)) Failure
+  pub reads : ReadsInTurn (whole_files words.tables words.file) known read
+  pub answers : AnswersTexts words.credential request read result
+
+-- the same, if at most one of the files is to be standard input
+abbrev pub AnswersFilesIf : Bool → TryWords → Request → Option (List ℕ) → Result Output Failure → Type 0
+AnswersFilesIf true words request known result = result ≡ Err InputTwice
+AnswersFilesIf false words request known result = AnswersFiles words request known result
+
+-- the answer to the request that the words write
+pub record AnswersRequest (words : TryWords) (known : Option (List ℕ)) (result : Result Output Failure) : Type 0 where
   pub request : Request
-  pub written : IsRequest host dir mounts request
-  pub answers : AnswersTry file request (text_of bytes) result
+  pub written : IsRequest words.host words.dir words.mounts request
+  pub answers : AnswersFilesIf (name_input_twice (whole_files words.tables words.file)) words request known result
 
--- What `try` answers to FILE HOST DIR MOUNT.. where FILE has these bytes: the answer to the request that the words write;
--- or which word cannot be parsed; or that FILE could not be read.
-abbrev pub AnswersWords : List ℕ → List ℕ → List ℕ → List (List ℕ) → List ℕ → Result Output Failure → Type 0
-AnswersWords file host dir mounts bytes (Ok output) = AnswersBytes file host dir mounts bytes (Ok output)
-AnswersWords file host dir mounts bytes (Err failure) =
-    AnswersBytes file host dir mounts bytes (Err failure)
-    ⊎ (IsBadArgument host (read_addr host) dir (read_path dir) mounts failure ⊎ IsUnread File file failure)
-
--- the answer of `try` to its words by the bytes of FILE
-pub record AnswersFile (words : TryWords) (known : Option (List ℕ)) (result : Result Output Failure) : Type 0 where
-  pub bytes : List ℕ
-  pub contents : IsContents words.file known bytes
-  pub answers : AnswersWords words.file words.host words.dir words.mounts bytes result
+-- the answer of `try` to its words: that to the request that they write, or which word cannot be parsed
+abbrev pub AnswersTry : TryWords → Option (List ℕ) → Result Output Failure → Type 0
+AnswersTry words known result =
+    AnswersRequest words known result ⊎ IsErrAnd result (IsBadArgument words.host (read_addr words.host) words.dir (read_path words.dir) words.mounts)

@@ -1,8 +1,11 @@
 -- What `try` answers over an exports text. (this project's own)
-use Rattle.std.specs.Prelude.{◌≡◌, ℕ, Bool, List, Result, Ok, Err, is_ok}
+use Rattle.std.specs.Prelude.{◌≡◌, ◌++◌, ℕ, Bool, List, [], Option, Some, None, Result, Ok, Err, codes, is_ok}
 use Rattle.std.specs.String.{string_bytes}
 use Rattle.desk_text.specs.declared.reading.ReadError.{ReadError}
 use Rattle.desk_text.specs.declared.reading.ReadError.TheVariants.{Fault, Memory}
+use Rattle.desk_tables.specs.Credentials.{cred_text}
+use Rattle.desk_tables.specs.declared.credentials.Cred.{Cred}
+use Rattle.desk_policy.specs.Acting.{act_as}
 use Rattle.desk_policy.specs.Contradiction.{HasNoContradiction}
 use Rattle.desk_policy.specs.Policy.{Content}
 use Rattle.desk_policy.specs.Prints.{verdict_line}
@@ -21,22 +24,28 @@ pub record Answer : Type 0 where
 abbrev pub answer_of : Tried → Answer
 answer_of tried = record { granted = tried.granted; line = string_bytes tried.line }
 
--- the answer that tells a verdict: granted just where the verdict grants
-abbrev pub answer_on : Content → Result Grant Denial → Answer
-answer_on content verdict = record { granted = is_ok verdict; line = verdict_line content verdict }
+-- as whom a client with this credential acts, behind a verdict that grants
+abbrev pub acting_text : Result Grant Denial → Option Cred → List ℕ
+acting_text (Ok grant) (Some own) = codes " as " ++ cred_text (act_as grant.terms own)
+acting_text verdict own = []
+
+-- the answer that tells a verdict: granted just where the verdict grants, and as whom the client acts if its credential is
+-- given
+abbrev pub answer_on : Content → Option Cred → Result Grant Denial → Answer
+answer_on content own verdict = record { granted = is_ok verdict; line = verdict_line content verdict ++ acting_text verdict own }
 
 -- the answer of a policy for an address and a path
-abbrev pub policy_answer : Content → ℕ → List (List ℕ) → Answer
-policy_answer content address path = answer_on content (verdict_of content address path)
+abbrev pub policy_answer : Content → Option Cred → ℕ → List (List ℕ) → Answer
+policy_answer content own address path = answer_on content own (verdict_of content address path)
 
 -- the answer tells the verdict by the policy that a text writes, which has no contradiction
-abbrev pub IsAnswerBy : Result Content SiteFault → ℕ → List (List ℕ) → Answer → Type 0
-IsAnswerBy (Ok policy) address path answer = HasNoContradiction policy × (answer ≡ policy_answer policy address path)
-IsAnswerBy (Err fault) address path answer = ⊥
+abbrev pub IsAnswerBy : Result Content SiteFault → Option Cred → ℕ → List (List ℕ) → Answer → Type 0
+IsAnswerBy (Ok policy) own address path answer = HasNoContradiction policy × (answer ≡ policy_answer policy own address path)
+IsAnswerBy (Err fault) own address path answer = ⊥
 
--- What `try` answers for an address and a path by what a text is read as: the verdict, or the text's fault, which is that
+-- What `try` answers to a client with this credential, if it is given, for an address and a path by what a text is read as: the verdict, or the text's fault, which is that
 -- of its first faulty line or else its least contradiction. Out of memory says nothing.
-abbrev pub Tries : Result Content SiteFault → ℕ → List (List ℕ) → Result Tried (ReadError SiteFault) → Type 0
-Tries read address path (Ok tried) = IsAnswerBy read address path (answer_of tried)
-Tries read address path (Err (Fault fault)) = IsFaultOf read fault
-Tries read address path (Err Memory) = Unit {0}
+abbrev pub Tries : Result Content SiteFault → Option Cred → ℕ → List (List ℕ) → Result Tried (ReadError SiteFault) → Type 0
+Tries read own address path (Ok tried) = IsAnswerBy read own address path (answer_of tried)
+Tries read own address path (Err (Fault fault)) = IsFaultOf read fault
+Tries read own address path (Err Memory) = Unit {0}

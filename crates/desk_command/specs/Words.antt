@@ -1,6 +1,8 @@
 -- The command that `clap` finds, with its words. (this project's own)
 use Rattle.std.specs.Prelude.{◌≡◌, map, Option, Some, None, Result, Ok, Err}
+use Rattle.std.specs.Option.{option_map}
 use Rattle.desk_command.specs.CommandLine.{CommandWords, SplitWords, TryWords, Try as AsksTry, Split as AsksSplit, words_of_split, words_of_try}
+use Rattle.desk_command.specs.TableFiles.{given_tables}
 use Rattle.desk_command.specs.declared.failure.Failure.{Failure}
 use Rattle.desk_command.specs.declared.failure.Failure.TheVariants.{Missing}
 use Rattle.desk_command.specs.declared.split_command.SplitWords.{SplitWords as LentSplitWords}
@@ -10,7 +12,9 @@ use Rattle.desk_command.specs.declared.words.CommandWords.TheVariants as lent
 
 -- the words of a command by value
 abbrev pub given_try : LentTryWords → TryWords
-given_try words = words_of_try words.file.now words.host.now words.dir.now (map (λ word. word.now) words.mounts.now)
+given_try words =
+    words_of_try words.file.now words.host.now words.dir.now (map (λ word. word.now) words.mounts.now)
+    (given_tables words.tables) (option_map (λ word. word.now) words.credential)
 
 abbrev pub given_split : LentSplitWords → SplitWords
 given_split words = words_of_split words.file.now words.filesystems.now

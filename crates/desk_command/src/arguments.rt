@@ -1,15 +1,19 @@
 //! The arguments of `try`: HOST, DIR and MOUNT.
 
-ghost use Rattle.std.specs.Prelude.{◌≡◌, MatchResult, None, map};
+ghost use Rattle.std.specs.Prelude.{◌≡◌, ◌≤◌, MatchResult, None, Ok, Some, length, map};
+ghost use Rattle.std.specs.Option.{option_map};
 ghost use Rattle.desk_text.specs.Address.{number_of, read_addr};
 ghost use Rattle.desk_text.specs.Path.{read_path};
+ghost use Rattle.desk_tables.specs.CredentialText.{read_credential as read_cred};
 ghost use Rattle.desk_tables.specs.FileSystems.{IsTableOf};
-ghost use Rattle.desk_command.specs.Arguments.{AnswersArgument, IsBadArgument, IsBadMount, IsNoTable, IsRefusal, IsRequest, first_bad_path, paths_of};
+ghost use Rattle.desk_tables.specs.Groups.{read_groups};
+ghost use Rattle.desk_tables.specs.Users.{read_users};
+ghost use Rattle.desk_command.specs.Arguments.{AnswersArgument, AnswersOwn, IsBadArgument, IsBadMount, IsNoTable, IsRefusal, IsRequest, first_bad_path, own_answer, paths_of};
 ghost use Rattle.desk_command.specs.declared.arguments.Argument.TheVariants.{Host};
 ghost use Rattle.desk_command.specs.declared.arguments.ArgumentFault.TheVariants as fault;
 
 use crate::failure::Failure;
-use desk_tables::FileSystems;
+use desk_tables::{Cred, CredFault, FileSystems, Groups, Users, credential};
 use desk_text::{Addr, AddrFault, Path, PathFault, ReadError};
 use std::alloc::Global;
 use std::fmt;
@@ -20,6 +24,8 @@ pub enum Argument {
     Host,
     Dir,
     Mount,
+    /// The client's own credential.
+    Credential,
 }
 
 /// Why an argument cannot be parsed.
@@ -27,6 +33,7 @@ pub enum Argument {
 pub enum ArgumentFault {
     Address(AddrFault),
     Path(PathFault),
+    Credential(CredFault),
 }
 
 /// An argument that cannot be parsed.
@@ -117,6 +124,66 @@ fn read_mount_points(alloc: Global, words: &[&str]) -> Result<Vec<Path>, Failure
     Ok(mount_points)
 }
 
+/// Parses CRED, if it is given, with the users and groups that these texts list. If one of these texts has a fault, that is
+/// reported later, and CRED is not looked at.
+pub fn read_credential(
+    alloc: Global,
+    word: Option<&str>,
+    passwd: &str,
+    group: &str,
+) -> Result<Option<Cred>, Failure>
+    requires passwd { length passwd.now ≤ 4294967294 }
+    requires group { length group.now ≤ 4294967294 }
+    ensures { let given = option_map (λ word. word.now) word.entry in
+        AnswersOwn given (own_answer given (read_users passwd.now) (read_groups group.now)) result }
+{
+    let Some(word) = word else {
+        return Ok(None);
+    };
+    match Users::read(alloc, passwd) {
+        Ok(users) => read_with_users(alloc, word, &users, group),
+        Err(ReadError::Fault(_)) => Ok(None),
+        Err(ReadError::Memory) => Err(Failure::Memory),
+    }
+}
+
+/// Parses CRED with these users and the groups that a text lists.
+fn read_with_users(
+    alloc: Global,
+    word: &str,
+    users: &Users,
+    group: &str,
+) -> Result<Option<Cred>, Failure>
+    requires { length group.now ≤ 4294967294 }
+    ensures { AnswersOwn (Some word.now) (own_answer (Some word.now) (Ok users.now) (read_groups group.now)) result }
+{
+    match Groups::read(alloc, group) {
+        Ok(groups) => parse_credential(alloc, word, users, &groups),
+        Err(ReadError::Fault(_)) => Ok(None),
+        Err(ReadError::Memory) => Err(Failure::Memory),
+    }
+}
+
+/// Parses CRED with these users and groups.
+fn parse_credential(
+    alloc: Global,
+    word: &str,
+    users: &Users,
+    groups: &Groups,
+) -> Result<Option<Cred>, Failure>
+    ensures { AnswersOwn (Some word.now) (read_cred users.now groups.now word.now) result }
+{
+    match credential(users, groups, word) {
+        Ok(own) => Ok(Some(own)),
+        Err(fault) => Err(bad_argument(
+            alloc,
+            Argument::Credential,
+            word,
+            ArgumentFault::Credential(fault),
+        )),
+    }
+}
+
 /// Returns the failure of an argument that cannot be parsed.
 fn bad_argument(alloc: Global, argument: Argument, word: &str, fault: ArgumentFault) -> Failure
     ensures { IsRefusal argument word.now fault result }
@@ -137,11 +204,13 @@ impl fmt::Display for BadArgument {
             Argument::Host => "HOST",
             Argument::Dir => "DIR",
             Argument::Mount => "MOUNT",
+            Argument::Credential => "--as",
         };
         let word = self.word.as_str();
         match self.fault {
             ArgumentFault::Address(fault) => write!(f, "{name} {word:?}: {fault:?}: {fault}"),
             ArgumentFault::Path(fault) => write!(f, "{name} {word:?}: {fault:?}: {fault}"),
+            ArgumentFault::Credential(fault) => write!(f, "{name} {word:?}: {fault:?}: {fault}"),
         }
     }
 }

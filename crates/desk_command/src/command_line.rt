@@ -27,17 +27,57 @@ pub fn command<'a>(alloc: Global) -> Result<Command<'a>, AllocError>
         .subcommand(split_command(alloc)?)
 }
 
-/// Makes the command line of `try FILE HOST DIR MOUNT...`
+/// Makes the command line of `try FILE HOST DIR MOUNT...`, with its options.
 fn try_command<'a>(alloc: Global) -> Result<Command<'a>, AllocError>
     ensures shape { IfOk result (λ command. app_of command ≡ spec.try_command) }
+    ensures local { IfOk result (λ command. (out-Command command).has_globals ≡ false) }
+{
+    with_tables(alloc, try_arguments(alloc)?)?.arg(option(
+        alloc,
+        "as",
+        "CRED",
+        "The client's credential, as USER or USER:GROUP:...; a granted line says as whom it acts",
+    ))
+}
+
+/// Adds the options that name the files of tables.
+fn with_tables<'a>(alloc: Global, command: Command<'a>) -> Result<Command<'a>, AllocError>
+    requires { (out-Command command).has_globals ≡ false }
+    ensures shape { IfOk result (λ with. app_of with ≡ spec.with_tables (app_of command.entry)) }
+    ensures local { IfOk result (λ with. (out-Command with).has_globals ≡ false) }
+{
+    command
+        .arg(option(alloc, "hosts", "FILE", "The file hosts(5)"))?
+        .arg(option(alloc, "networks", "FILE", "The file networks(5)"))?
+        .arg(option(alloc, "passwd", "FILE", "The file passwd(5)"))?
+        .arg(option(alloc, "group", "FILE", "The file group(5)"))?
+        .arg(option(alloc, "netgroup", "FILE", "The file netgroup(5)"))
+}
+
+/// Makes an option with one value.
+fn option<'a>(alloc: Global, name: &'a str, value: &'a str, help: &'a str) -> Arg<'a>
+    ensures rule { rule_of result ≡ spec.option name.entry.now }
+    ensures local { result.global ≡ false }
+{
+    Arg::new(alloc, name)
+        .long(name)
+        .value_name(value)
+        .action(ArgAction::Set)
+        .help(help)
+}
+
+/// Makes the command line of `try FILE HOST DIR MOUNT...` without its options.
+fn try_arguments<'a>(alloc: Global) -> Result<Command<'a>, AllocError>
+    ensures shape { IfOk result (λ command. app_of command ≡ spec.try_arguments) }
     ensures local { IfOk result (λ command. (out-Command command).has_globals ≡ false) }
 {
     let mounts = word(alloc, "MOUNT", "The mount points of the file systems").num_args(1..);
     Command::new(alloc, "try")
         .about("Decides one mount request by an exports file")
         .after_help(
-            "It is given no tables: names of hosts stand for nothing, credentials are written in numbers\n\
-             with a colon (0:0), and names of networks are unknown.",
+            "A table that is not given is empty: names of hosts then stand for nothing, credentials are\n\
+             written in numbers with a colon (0:0), and names of networks are unknown. One file may be -,\n\
+             standard input.",
         )
         .arg(word(alloc, "FILE", "The exports text; - is standard input"))?
         .arg(word(alloc, "HOST", "The IPv4 address of the client"))?

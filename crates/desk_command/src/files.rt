@@ -3,7 +3,8 @@
 ghost use Rattle.std.specs.Prelude.{◌≡◌, ◌≢◌, ◌≤◌, ◌==◌, IfErr, IfOk, IfSome, codes, length, take};
 ghost use Rattle.std.specs.String.{string_bytes};
 ghost use Rattle.desk_command.specs.Files as spec;
-ghost use Rattle.desk_command.specs.Files.{IsUnread, ReadsText};
+ghost use Rattle.std.specs.Option.{option_map};
+ghost use Rattle.desk_command.specs.Files.{IsUnread, Leaves, ReadsIfGiven, ReadsText};
 
 use crate::failure::{Failure, ReadFailure};
 use crate::input::{read_bytes, text_of};
@@ -18,6 +19,11 @@ pub enum FileArgument {
     File,
     /// The text of the file systems.
     FileSystems,
+    Hosts,
+    Networks,
+    Passwd,
+    Group,
+    Netgroup,
 }
 
 impl FileArgument {
@@ -26,6 +32,11 @@ impl FileArgument {
         match self {
             FileArgument::File => "FILE",
             FileArgument::FileSystems => "FILESYSTEMS",
+            FileArgument::Hosts => "--hosts",
+            FileArgument::Networks => "--networks",
+            FileArgument::Passwd => "--passwd",
+            FileArgument::Group => "--group",
+            FileArgument::Netgroup => "--netgroup",
         }
     }
 }
@@ -52,6 +63,23 @@ pub fn read_text<I: BufRead>(
     match text_of(bytes) {
         Ok(text) => Ok(text),
         Err(fault) => Err(Failure::of_file(rt.alloc(), argument, word, ReadFailure::Text(fault))),
+    }
+}
+
+/// Reads the text of the file that a word names, or the empty text if there is no word.
+pub fn read_if_given<I: BufRead>(
+    rt: &HostRuntime,
+    argument: FileArgument,
+    word: Option<&str>,
+    input: &mut I,
+) -> Result<String, Failure>
+    ensures text { ReadsIfGiven argument (option_map (λ word. word.now) word.entry) (I.remaining input.old) result }
+    ensures short { IfOk result (λ text. length (string_bytes text) ≤ 16777216) }
+    ensures left { Leaves (option_map (λ word. word.now) word.entry) (I.remaining input.old) (I.remaining input.new) }
+{
+    match word {
+        Some(word) => read_text(rt, argument, word, input),
+        None => Ok(String::new(rt.alloc())),
     }
 }
 

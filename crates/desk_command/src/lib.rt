@@ -23,6 +23,7 @@ mod input;
 mod output;
 mod split_command;
 pub mod split_text;
+mod table_files;
 mod try_command;
 pub mod try_text;
 mod words;

@@ -5,7 +5,7 @@ use Rattle.clap.specs.Words.{Rule, app_of, new_app, rule_of, with_rule}
 use Rattle.clap.specs.declared.builder.range.ValueRange.{ValueRange}
 use Rattle.clap.specs.declared.builder.Command.TheViews.{out-Command}
 use Rattle.desk_command.specs.CommandLine as spec
-use Rattle.desk_command.proofs.command_line.try_command.Goals as goal
+use Rattle.desk_command.proofs.command_line.try_arguments.Goals as goal
 
 range_is : (given : Option ValueRange) (range : ValueRange) → IsSomeAnd given (λ found. found ≡ range) → given ≡ Some range
 range_is None range same = elim same [ ]

@@ -1,0 +1,19 @@
+-- At most one file is standard input, so that they are read in turn.
+use Rattle.std.proofs.Common.{◌≡◌, Err, Ok, false, refl, rules, subst, sym}
+use Rattle.desk_command.specs.Files.{name_input_twice}
+use Rattle.desk_command.specs.TableFiles.{given_tables, texts_of, whole_files}
+use Rattle.desk_command.specs.TryCommand.{AnswersFilesIf}
+use Rattle.desk_command.specs.Words.{given_try}
+use Rattle.desk_command.proofs.try_command.answer_request.Goals as goal
+
+pub returns-in-Ok : goal.returns-in-Ok
+returns-in-Ok g c =
+    let once : name_input_twice (whole_files (given_tables c.args.words.tables) c.args.words.file.now) ≡ false = search rules in
+    subst (λ twice. AnswersFilesIf twice (given_try c.args.words) c.args.request (g.I.Read.remaining c.args.input.now) c.answer_texts.result) (sym once)
+    (record { read = Ok (texts_of c.in-Ok.texts); reads = c.in-Ok.ensures.texts; answers = c.answer_texts.ensures })
+
+pub returns-in-Err : goal.returns-in-Err
+returns-in-Err g c =
+    let once : name_input_twice (whole_files (given_tables c.args.words.tables) c.args.words.file.now) ≡ false = search rules in
+    subst (λ twice. AnswersFilesIf twice (given_try c.args.words) c.args.request (g.I.Read.remaining c.args.input.now) (Err c.in-Err.failure)) (sym once)
+    (record { read = Err c.in-Err.failure; reads = c.in-Err.ensures.texts; answers = refl })
