@@ -1,14 +1,18 @@
 //! The cases of an edit that are checked before the site with its text is. None of them takes memory.
 
-ghost use Rattle.std.specs.Prelude.{◌≡◌, find};
+ghost use Rattle.std.specs.Prelude.{◌≡◌, ◌↔◌, ℕ, IfOk, IsTrue, List, Ok, find};
 ghost use Rattle.std.specs.Option.{option_copied, option_map};
 ghost use Rattle.desk_core.specs.Edit.{asked};
+ghost use Rattle.desk_text.specs.Path.{path_text, read_path};
 ghost use Rattle.desk_core.specs.Judging as spec;
 
 use crate::edit::Edit;
 use crate::head::{Head, LAST_REVISION, newest_number};
 use desk_tables::{Custodians, FileSystems, FsId};
+use desk_text::laws::written_paths_read_back;
+use desk_text::{Path, ReadError};
 use sha2::{Digest, Sha256};
+use std::alloc::{AllocError, Global};
 
 /// The most bytes that the text of an edit may have.
 const LONGEST_EDIT: usize = 65_536;
@@ -121,6 +125,35 @@ fn is_of_seven(file: &str) -> bool
         "custodians" | "filesystems" | "hosts" | "networks" | "passwd" | "group" | "netgroup" =>
             true,
         _ => false,
+    }
+}
+
+/// Tests whether a file may have this name: that of one of the seven, or `exports:` and a path in printed form.
+pub fn is_file_name(alloc: Global, file: &str) -> Result<bool, AllocError>
+    ensures { IfOk result (λ named. IsTrue named ↔ spec.IsFileName file.now) }
+{
+    if is_of_seven(file) {
+        return Ok(true);
+    }
+    match file.strip_prefix("exports:") {
+        Some(mount) => is_printed_path(alloc, mount),
+        None => Ok(false),
+    }
+}
+
+/// Tests whether a text is a path in printed form.
+fn is_printed_path(alloc: Global, text: &str) -> Result<bool, AllocError>
+    ensures { IfOk result (λ printed. IsTrue printed ↔ ((path : List (List ℕ)) × (read_path (path_text path) ≡ Ok path) × (text.now ≡ path_text path))) }
+{
+    written_paths_read_back();
+    match Path::read(alloc, text) {
+        Ok(path) => {
+            let printed = path.text() == text;
+            drop(path);
+            Ok(printed)
+        }
+        Err(ReadError::Fault(_)) => Ok(false),
+        Err(ReadError::Memory) => Err(AllocError),
     }
 }
 
