@@ -21,7 +21,7 @@ use Rattle.desk_store.specs.declared.desk.Revision.{Revision as Found}
 use Rattle.desk_store.proofs.OneHistory.{AreNumbered, default, from_filter, from_map, in_filter, in_map, rev_at, shift}
 
 -- the only one that passes is found
-find_only : {X : Type 0} (p : X → Bool) (xs : List X) (r : X) → Contains xs r → p r ≡ true → ((x : X) → Contains xs x → p x ≡ true → x ≡ r) → find p xs ≡ Some r
+pub find_only : {X : Type 0} (p : X → Bool) (xs : List X) (r : X) → Contains xs r → p r ≡ true → ((x : X) → Contains xs x → p x ≡ true → x ≡ r) → find p xs ≡ Some r
 find_only p [] r (k, below, is) own only = absurd (omega arith)
 find_only p (x ∷ xs) r h own only =
     let rest : Contains xs r → find p xs ≡ Some r = λ more. find_only p xs r more own (λ y there passes. only y (shift x xs y there) passes) in
@@ -34,7 +34,7 @@ find_only p (x ∷ xs) r h own only =
     behind fails (zero, below, is) = absurd (let e : p r ≡ false = ap p (sym is) ∙ fails in cc)
     behind fails (suc k, below, is) = (k, omega arith, is)
 
-find_none : {X : Type 0} (p : X → Bool) (xs : List X) → ((x : X) → Contains xs x → p x ≡ true → ⊥) → find p xs ≡ None
+pub find_none : {X : Type 0} (p : X → Bool) (xs : List X) → ((x : X) → Contains xs x → p x ≡ true → ⊥) → find p xs ≡ None
 find_none p [] fails = refl
 find_none p (x ∷ xs) fails =
     let rest : find p xs ≡ None = find_none p xs (λ y there passes. fails y (shift x xs y there) passes) in
@@ -44,7 +44,7 @@ find_none p (x ∷ xs) fails =
     ]
 
 -- of numbered revisions two with one number are one
-one_number : (xs : List Revision) (a b : Revision) → AreNumbered xs → Contains xs a → Contains xs b → a.rev ≡ b.rev → a ≡ b
+pub one_number : (xs : List Revision) (a b : Revision) → AreNumbered xs → Contains xs a → Contains xs b → a.rev ≡ b.rev → a ≡ b
 one_number xs a b numbered (i, at_i, is_i) (j, at_j, is_j) same =
     let first : a.rev ≡ 1 + i = ap (λ (r : Revision). r.rev) (sym is_i) ∙ rev_at xs i a numbered at_i in
     let second : b.rev ≡ 1 + j = ap (λ (r : Revision). r.rev) (sym is_j) ∙ rev_at xs j b numbered at_j in

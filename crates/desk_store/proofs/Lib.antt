@@ -12,4 +12,7 @@ pub mod EditStep
 pub mod OneHistory
 pub mod FoundRows
 pub mod ListedRows
+pub mod NextNumbers
+pub mod SortedNumbers
+pub mod StoredRows
 pub mod TreesApart

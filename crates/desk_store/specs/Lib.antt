@@ -5,3 +5,4 @@ pub mod Rows
 pub mod Laws
 pub mod Open
 pub mod Create
+pub mod Newest

@@ -8,9 +8,14 @@ use Rattle.sqlite.specs.Schema.{Schema}
 use Rattle.desk_core.specs.Head.{Revision}
 use Rattle.desk_store.specs.Desk.{IsSiteHistory, LeavesTables, Shown, Stands}
 use Rattle.desk_store.specs.History.{Holds}
+use Rattle.desk_store.specs.Rows.{IsOfStore}
 use Rattle.desk_store.specs.Tables.{file_rev_table, meta_table, table_in}
 use Rattle.desk_store.specs.declared.error.DeskError.{DeskError}
 use Rattle.desk_store.specs.declared.error.DeskError.TheVariants as error
+
+-- what opening may answer: the database is not one of this project, there is no memory, or a statement was refused
+abbrev pub IsOfOpening : DeskError → Type 0
+IsOfOpening e = (e ≡ error.Schema) ⊎ IsOfStore e
 
 -- the tables that the schema declares under the two names, if any, are the project's
 pub record IsOurs (schema : Schema) : Type 0 where

@@ -14,7 +14,9 @@ pub mod declared;
 pub mod desk;
 pub mod error;
 pub mod laws;
+mod newest;
 mod rows;
+mod stored;
 mod tables;
 
 pub use declared::{declares_file_rev, declares_meta};

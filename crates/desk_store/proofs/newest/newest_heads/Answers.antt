@@ -1,0 +1,33 @@
+use Rattle.std.proofs.Common.{◌≡◌, ◌==◌, ◌∙◌, ap, sym, subst, Err, List}
+use Rattle.std.specs.Prelude.{Contains, IsPermutation}
+use Rattle.std.proofs.lemmas.List.Sorted.{Contains-permutation, IsPermutation-sym, IsPermutation-trans}
+use Rattle.desk_core.specs.Head.{Revision, newest_in}
+use Rattle.desk_core.specs.History.{IsHistory}
+use Rattle.desk_store.specs.Newest.{AreNewest, number_in}
+use Rattle.desk_store.specs.declared.error.DeskError.TheVariants as error
+use Rattle.desk_store.proofs.OneHistory.{from_filter}
+use Rattle.desk_store.proofs.NextNumbers.{newest_chosen}
+use Rattle.desk_store.proofs.SortedNumbers.{sorted_history}
+use Rattle.desk_store.proofs.newest.newest_heads.Goals as goal
+
+pub returns-in-Ok-newest_numbers-clause-newest : goal.returns-in-Ok-newest_numbers-clause-newest
+returns-in-Ok-newest_numbers-clause-newest c =
+    let sorted : List Revision = c.in-Ok.revisions.items in
+    let numbers = c.in-Ok-newest_numbers.numbers in
+    let numbered : IsHistory sorted = subst IsHistory c.as_slice.ensures.value c.in-Ok-newest_numbers.ensures.history in
+    let newest : AreNewest numbers sorted = subst (λ xs. AreNewest numbers xs) c.as_slice.ensures.value c.in-Ok-newest_numbers.ensures.newest in
+    (sorted, c.in-Ok.ensures.same, numbered, ap newest_in c.keep_newest.ensures ∙ newest_chosen numbers sorted numbered newest)
+
+pub returns-in-Ok-newest_numbers-clause-among : goal.returns-in-Ok-newest_numbers-clause-among
+returns-in-Ok-newest_numbers-clause-among c = λ head there.
+    let sorted : List Revision = c.in-Ok.revisions.items in
+    let numbers = c.in-Ok-newest_numbers.numbers in
+    let from = from_filter (λ (r : Revision). number_in numbers r.file == r.rev) sorted head (subst (λ xs. Contains xs head) c.keep_newest.ensures there) in
+    Contains-permutation sorted c.args.revisions.items head (IsPermutation-sym c.args.revisions.items sorted c.in-Ok.ensures.same) from.0
+
+pub returns-in-Err-clause-gap : goal.returns-in-Err-clause-gap
+returns-in-Err-clause-gap c = λ schema history same whole.
+    let sorted : List Revision = c.in-Ok.revisions.items in
+    let told : c.in-Err.e ≡ error.Schema = cc in
+    let moved : IsPermutation sorted history = IsPermutation-trans sorted c.args.revisions.items history (IsPermutation-sym c.args.revisions.items sorted c.in-Ok.ensures.same) same in
+    c.in-Err.ensures.gap (ap Err told) (subst IsHistory (sym c.as_slice.ensures.value) (sorted_history sorted history c.in-Ok.ensures.order moved whole))
