@@ -1,11 +1,14 @@
-use Rattle.std.proofs.Common.{◌≡◌, ◌∙◌, ap, sym, refl, ℕ, List, Bool, true, false, cond, Option, Some, unwrap_or}
+use Rattle.std.proofs.Common.{◌≡◌, ◌∙◌, ap, sym, refl, ℕ, List, Bool, true, false, cond, Option, Some, unwrap_or, Result, Ok, Err, OnOk, is_err}
 use Rattle.std.specs.Prelude.{string_bytes}
 use Rattle.std.specs.BTreeMap.{get_by_text}
 use Rattle.std.specs.Str.{bytes_eq}
 use Rattle.std.proofs.lemmas.Map.Text.{btree_map_updates_text}
 use Rattle.desk_store.specs.Newest.{number_in}
-use Rattle.desk_store.proofs.FoundRows.{on_ok}
 use Rattle.desk_store.proofs.newest.keep_number.Goals as goal
+
+on_ok : {A E : Type 0} (r : Result A E) (P : Type 0) → is_err r ≡ false → OnOk r P → P
+on_ok (Ok x) P ok h = h
+on_ok (Err e) P ok h = absurd (cc)
 
 step : (b : Bool) (number : ℕ) (old : Option ℕ) → unwrap_or (cond b (Some number) old) 0 ≡ cond b number (unwrap_or old 0)
 step true number old = refl
