@@ -1,0 +1,60 @@
+"""Builds the program of a benchmark, and measures its runs.
+
+The program is a crate of its own, added to a copy of the tree, so that the repository has no crate that is there for
+the benchmark alone.
+"""
+
+import os
+import pathlib
+import shutil
+import subprocess
+import sys
+
+RUNS = 5
+TOP = pathlib.Path(__file__).resolve().parent.parent
+
+
+def build(tree, name, crates, libraries, words):
+    """Proves and builds bench/NAME.rt.in over these crates and libraries of the kit, in a copy of the tree, runs it once
+    with these words, and returns where it is."""
+    # (so that the libraries stand proved in out/)
+    subprocess.run([TOP / "prove"], check=True, stdout=subprocess.DEVNULL)
+    for crate in crates:
+        for part in ("src", "specs", "proofs", "out/rlib"):
+            source = TOP / "crates" / crate / part
+            if source.is_dir():
+                shutil.copytree(source, tree / "crates" / crate / part)
+    shutil.copy(TOP / "HANDLES", tree)
+    lines = [line for line in (TOP / "crates.txt").read_text().splitlines() if line.split(":")[0] in crates]
+    lines.append(f"{name}_bench: {libraries}")
+    (tree / "crates.txt").write_text("\n".join(lines) + "\n")
+    crate = tree / "crates" / f"{name}_bench"
+    (crate / "src").mkdir(parents=True)
+    shutil.copy(TOP / "bench" / f"{name}.rt.in", crate / "src" / "main.rt")
+    print(f"bench/{name}: proving and building the benchmark itself", file=sys.stderr)
+    done = subprocess.run(["rt", "run", "--", *words], cwd=crate, capture_output=True, text=True)
+    if done.returncode != 0:
+        sys.exit(done.stdout + done.stderr)
+    return crate / "out" / f"{name}_bench"
+
+
+def write_site(folder, files):
+    """Writes the texts of a site, each given by its lines, and returns their folder. Unless they say otherwise, `site`
+    keeps `/a` alone. They are written line by line, since the peak memory of a child counts what this process held when it
+    began."""
+    (folder / "exports").mkdir(parents=True)
+    for name, lines in {"custodians": [f"site {'0' * 64}\n"], "filesystems": ["/a site\n"], **files}.items():
+        with open(folder / name, "w", encoding="utf-8") as text:
+            text.writelines(lines)
+    return folder
+
+
+def run(words):
+    """What one run prints, and its peak memory in MB."""
+    child = subprocess.Popen(words, stdout=subprocess.PIPE, text=True)
+    answer = child.stdout.read()
+    _, status, usage = os.wait4(child.pid, 0)
+    child.returncode = os.waitstatus_to_exitcode(status)
+    if child.returncode != 0:
+        sys.exit(f"{words}: status {child.returncode}: {answer}")
+    return answer, usage.ru_maxrss * 1024 / 1e6
