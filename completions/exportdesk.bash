@@ -1,19 +1,40 @@
 # Completes the words of exportdesk in bash.
 _exportdesk()
 {
-    local word=${COMP_WORDS[COMP_CWORD]} choices=--help
+    local word=${COMP_WORDS[COMP_CWORD]} before=${COMP_WORDS[COMP_CWORD - 1]} choices=--help
+    local command=${COMP_WORDS[1]} count=0 skip='' place
     COMPREPLY=()
     if [ "$COMP_CWORD" -eq 1 ]; then
-        choices='try split --help --version'
-    elif [[ $word != -* || $word == - ]]; then
-        compopt -o filenames
-        case ${COMP_WORDS[1]}:$COMP_CWORD in
-        try:2 | split:[23]) mapfile -t COMPREPLY < <(compgen -f -- "$word") ;;
-        try:3) ;;
-        try:*) mapfile -t COMPREPLY < <(compgen -d -- "$word") ;;
-        esac
+        mapfile -t COMPREPLY < <(compgen -W 'try split --help --version' -- "$word")
         return
     fi
-    mapfile -t COMPREPLY < <(compgen -W "$choices" -- "$word")
+    # The arguments before this word, without options and their values.
+    for ((place = 2; place < COMP_CWORD; place++)); do
+        case $skip${COMP_WORDS[place]} in
+        --hosts | --networks | --passwd | --group | --netgroup | --as) skip=value ;;
+        value*) skip='' ;;
+        -?*) ;;
+        *) count=$((count + 1)) ;;
+        esac
+    done
+    if [ "$command" = try ]; then
+        choices='--hosts --networks --passwd --group --netgroup --as --help'
+    fi
+    case $command:$before:$word in
+    try:--hosts:* | try:--networks:* | try:--passwd:* | try:--group:* | try:--netgroup:*)
+        compopt -o filenames
+        mapfile -t COMPREPLY < <(compgen -f -- "$word")
+        ;;
+    try:--as:*) ;;
+    *:-?*) mapfile -t COMPREPLY < <(compgen -W "$choices" -- "$word") ;;
+    *)
+        compopt -o filenames
+        case $command:$count in
+        try:0 | split:[01]) mapfile -t COMPREPLY < <(compgen -f -- "$word") ;;
+        try:1) ;;
+        try:*) mapfile -t COMPREPLY < <(compgen -d -- "$word") ;;
+        esac
+        ;;
+    esac
 }
 complete -F _exportdesk exportdesk
