@@ -1,4 +1,4 @@
--- What making a database promises. (this project's own)
+-- What making a database is to promise: no contract cites it yet. (this project's own)
 use Rattle.std.specs.Prelude.{◌≡◌, ◌⊎◌, ℕ, Bool, true, false, List, [], ◌∷◌, ◌++◌, Option, Some, None, Result, Ok, Err, IsTrue, codes, find, is_some, length, map, nat_lt, if◌then◌else◌, ◌||◌}
 use Rattle.std.specs.List.{AllByRecursion}
 use Rattle.std.specs.Option.{option_map}

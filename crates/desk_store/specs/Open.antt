@@ -1,4 +1,4 @@
--- What opening a desk promises. (this project's own)
+-- What opening a desk is to promise: only its errors are cited by a contract yet. (this project's own)
 use Rattle.std.specs.Prelude.{◌≡◌, ◌⊎◌, ℕ, List, [], Some, None, Result, Ok, Err, codes}
 use Rattle.sqlite_trees.specs.declared.store.Store.{Ghosts}
 use Rattle.sqlite.specs.Held.{Held, state}
