@@ -55,7 +55,7 @@ pub record IsSiteHistory (history : List Revision) : Type 0 where
   pub consistent : IsConsistent (site_in (newest_of history))
 
 -- what a crash may leave: the history, or it and one of the revisions whose edits had no answer since the last one stored;
--- a desk can be opened on either
+-- either is the history of a site
 abbrev pub LeavesHistory : (Trees → Type 0) → List Revision → List Revision → Type 0
 LeavesHistory may_leave history pending =
     (trees : Trees) → may_leave trees → (db : Database) × (trees ≡ db.trees)
