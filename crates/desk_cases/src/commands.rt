@@ -10,7 +10,8 @@
 //!
 //! A block is a command (`terminal`), its standard input up to a line `END` if its line ends in ` <<END`, what it prints
 //! on standard output, what it prints on standard error with `!` and a blank before each line (`!` alone before an empty
-//! one), and in brackets its exit status. A carriage return in what it prints is written `\r`. Between blocks empty lines and those that begin with `#` are skipped.
+//! one), and in brackets its exit status. A carriage return in what it prints is written `\r`. Between blocks empty lines
+//! and those that begin with `#` are skipped.
 
 use crate::report::Report;
 use crate::terminal;

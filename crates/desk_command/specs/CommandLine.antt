@@ -18,7 +18,7 @@ mount_words = record (word (codes "MOUNT")) { range = Some (record { start_inclu
 abbrev pub option : List ℕ → Rule
 option name = record (new_rule name) { long = Some name; action = Some Set; value_names = 1 }
 
--- the same with the options of the tables
+-- a command with the options of the tables too
 abbrev pub with_tables : App → App
 with_tables app =
     with_rule (with_rule (with_rule (with_rule (with_rule app (option (codes "hosts"))) (option (codes "networks"))) (option (codes "passwd"))) (option (codes "group"))) (option (codes "netgroup"))

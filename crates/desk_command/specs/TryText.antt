@@ -43,8 +43,9 @@ abbrev pub IsAnswerBy : Result Content SiteFault → Option Cred → ℕ → Lis
 IsAnswerBy (Ok policy) own address path answer = HasNoContradiction policy × (answer ≡ policy_answer policy own address path)
 IsAnswerBy (Err fault) own address path answer = ⊥
 
--- What `try` answers to a client with this credential, if it is given, for an address and a path by what a text is read as: the verdict, or the text's fault, which is that
--- of its first faulty line or else its least contradiction. Out of memory says nothing.
+-- What `try` answers to a client with this credential, if it is given, for an address and a path by what a text is read
+-- as: the verdict, or the text's fault, which is that of its first faulty line or else its least contradiction. Out of
+-- memory says nothing.
 abbrev pub Tries : Result Content SiteFault → Option Cred → ℕ → List (List ℕ) → Result Tried (ReadError SiteFault) → Type 0
 Tries read own address path (Ok tried) = IsAnswerBy read own address path (answer_of tried)
 Tries read own address path (Err (Fault fault)) = IsFaultOf read fault

@@ -1,4 +1,4 @@
-//! The arguments of `try`: HOST, DIR and MOUNT.
+//! The arguments of `try`: HOST, DIR, MOUNT and CRED.
 
 ghost use Rattle.std.specs.Prelude.{◌≡◌, ◌≤◌, MatchResult, None, Ok, Some, length, map};
 ghost use Rattle.std.specs.Option.{option_map};

@@ -47,11 +47,26 @@ fn with_tables<'a>(alloc: Global, command: Command<'a>) -> Result<Command<'a>, A
     ensures local { IfOk result (λ with. (out-Command with).has_globals ≡ false) }
 {
     command
-        .arg(option(alloc, "hosts", "FILE", "The file hosts(5)"))?
-        .arg(option(alloc, "networks", "FILE", "The file networks(5)"))?
-        .arg(option(alloc, "passwd", "FILE", "The file passwd(5)"))?
-        .arg(option(alloc, "group", "FILE", "The file group(5)"))?
-        .arg(option(alloc, "netgroup", "FILE", "The file netgroup(5)"))
+        .arg(option(
+            alloc,
+            "hosts",
+            "FILE",
+            "The addresses of names, as in hosts(5)",
+        ))?
+        .arg(option(
+            alloc,
+            "networks",
+            "FILE",
+            "The numbers of networks, as in networks(5)",
+        ))?
+        .arg(option(alloc, "passwd", "FILE", "The users, as in passwd(5)"))?
+        .arg(option(alloc, "group", "FILE", "The groups, as in group(5)"))?
+        .arg(option(
+            alloc,
+            "netgroup",
+            "FILE",
+            "The netgroups, as in netgroup(5)",
+        ))
 }
 
 /// Makes an option with one value.

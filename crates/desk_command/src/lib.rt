@@ -1,7 +1,7 @@
 //! The commands of the program: from words and input to what is printed and an exit status.
 //!
 //! Its promise: [`run`] returns the status of an answer to just its words, and prints just this answer. Help is printed
-//! only if the words ask for it, and a mount is granted only if the verdict over the bytes of FILE grants it. What only
+//! only if the words ask for it, and a mount is granted only if the verdict over the bytes of its files grants it. What only
 //! the system decides, as the bytes of a file that is opened by name, is left open; and a run may end with the status 4,
 //! as if memory ran out.
 //!

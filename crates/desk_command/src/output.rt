@@ -21,7 +21,7 @@ pub enum Output {
     Help(String),
     /// The answer of `try` to a text that is consistent.
     Tried(Tried),
-    /// The fault of the exports text: its first faulty line, or its least contradiction.
+    /// The fault of the first faulty table, or of the exports text: its first faulty line, or its least contradiction.
     Faulty(SiteFault),
     /// The texts that `split` makes.
     Split(String),
