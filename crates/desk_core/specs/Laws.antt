@@ -84,3 +84,7 @@ NewestOfALongerHistory = (history : List Revision) (revision : Revision) → new
 -- A file that the policy of a site knows has a name that a file may have.
 abbrev pub KnownFilesHaveNames : Type 0
 KnownFilesHaveNames = (texts : SiteTexts) (file : List ℕ) → is_known (policy_of texts).table file ≡ true → IsFileName file
+
+-- A consistent site has no fault.
+abbrev pub ConsistentSitesHaveNoFault : Type 0
+ConsistentSitesHaveNoFault = (texts : SiteTexts) (fault : SiteFault) → IsConsistent texts → HasFault texts fault → ⊥

@@ -1,6 +1,6 @@
 //! What the definitions of this crate come to, each as a function that does nothing.
 
-ghost use Rattle.desk_core.specs.Laws.{AnswersAreRight, EditsTakeEffect, HistoriesStayNumbered, KnownFilesHaveNames, NewestOfALongerHistory, StoredEditsKeepTheNumbers};
+ghost use Rattle.desk_core.specs.Laws.{AnswersAreRight, ConsistentSitesHaveNoFault, EditsTakeEffect, HistoriesStayNumbered, KnownFilesHaveNames, NewestOfALongerHistory, StoredEditsKeepTheNumbers};
 
 use desk_tables::laws::mount_points_read_back;
 
@@ -38,3 +38,8 @@ pub fn known_files_have_names()
 {
     mount_points_read_back()
 }
+
+/// A consistent site has no fault: each fault that is named is that of a faulty file or of two lines that contradict.
+pub fn consistent_sites_have_no_fault()
+    ensures { ConsistentSitesHaveNoFault }
+{}

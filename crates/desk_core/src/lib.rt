@@ -24,7 +24,7 @@ pub use edit::{Edit, Refusal};
 pub use head::{Head, can_be_kept};
 pub use judging::{Case, is_file_name};
 pub use laws::{
-    answers_are_right, edits_take_effect, histories_stay_numbered, known_files_have_names,
-    newest_of_a_longer_history, stored_edits_keep_the_numbers,
+    answers_are_right, consistent_sites_have_no_fault, edits_take_effect, histories_stay_numbered,
+    known_files_have_names, newest_of_a_longer_history, stored_edits_keep_the_numbers,
 };
 pub use state::{Accepted, Judged, State};
