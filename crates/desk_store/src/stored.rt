@@ -7,14 +7,13 @@ ghost use Rattle.desk_core.specs.Head.{Revision};
 ghost use Rattle.desk_store.specs.Desk.{History, IsStorable};
 ghost use Rattle.desk_store.specs.History.{row_of};
 ghost use Rattle.desk_store.specs.Open.{IsOfOpening};
-ghost use Rattle.desk_store.specs.Rows.{IsOfStore};
 ghost use Rattle.desk_store.specs.Tables.{revision_row};
 ghost use Rattle.desk_store.specs.declared.error.DeskError.TheVariants as error;
 
-use crate::error::{DeskError, StoreFault, Task};
+use crate::error::DeskError;
 use desk_core::{Head, is_file_name};
 use desk_text::Text;
-use sqlite::{Error, Row};
+use sqlite::Row;
 use sqlite_value::value::ValueRef;
 use std::alloc::{AllocError, Global};
 
@@ -127,10 +126,10 @@ fn revision_of(
         return Err(DeskError::Schema);
     };
     let Ok(file) = std::str::from_utf8(file) else {
-        return Err(unreadable(0));
+        return Err(DeskError::Schema);
     };
     let Ok(author) = std::str::from_utf8(author) else {
-        return Err(unreadable(2));
+        return Err(DeskError::Schema);
     };
     let Ok(named) = is_file_name(alloc, file) else {
         return Err(DeskError::Memory);
@@ -153,15 +152,5 @@ fn copied(alloc: Global, file: &str, rev: u32, author: &str, body: &str) -> Resu
         rev,
         author: Text::copy(alloc, author)?,
         body: Text::copy(alloc, body)?,
-    })
-}
-
-/// Tells that a name in a column of a revision's row is not UTF-8.
-fn unreadable(column: usize) -> DeskError
-    ensures { IsOfStore result }
-{
-    DeskError::Store(StoreFault {
-        task: Task::ReadRevisions,
-        error: Error::Utf8Error(column),
     })
 }
