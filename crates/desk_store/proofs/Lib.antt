@@ -13,6 +13,8 @@ pub mod OneHistory
 pub mod FoundRows
 pub mod ListedRows
 pub mod NextNumbers
+pub mod OneOrder
+pub mod SiteRows
 pub mod SortedNumbers
 pub mod StoredRows
 pub mod TreesApart

@@ -126,7 +126,7 @@ module _ {Y : Type 0} where
       let next = is_next (take i xs) (drop (suc i) xs) r h.0 (subst IsHistory split whole) in
       gap (next ∙ ap (λ n. n + 1) (sym (h.1 r.file)))
 
-slice_at : (xs : List Revision) (k : ℕ) (d : Revision) → k < length xs → slice_get xs k ≡ Some (get_or xs k d)
+pub slice_at : (xs : List Revision) (k : ℕ) (d : Revision) → k < length xs → slice_get xs k ≡ Some (get_or xs k d)
 slice_at [] k d below = absurd (omega arith)
 slice_at (x ∷ xs) zero d below = refl
 slice_at (x ∷ xs) (suc k) d below = slice_at xs k d (omega arith)

@@ -15,6 +15,7 @@ pub mod desk;
 pub mod error;
 pub mod laws;
 mod newest;
+mod opening;
 mod rows;
 mod stored;
 mod tables;
