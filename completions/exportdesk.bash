@@ -2,7 +2,7 @@
 _exportdesk()
 {
     local word=${COMP_WORDS[COMP_CWORD]} before=${COMP_WORDS[COMP_CWORD - 1]} choices=--help
-    local command=${COMP_WORDS[1]} count=0 skip='' place
+    local command=${COMP_WORDS[1]} count=0 is_value=no place
     COMPREPLY=()
     if [ "$COMP_CWORD" -eq 1 ]; then
         mapfile -t COMPREPLY < <(compgen -W 'try split --help --version' -- "$word")
@@ -10,15 +10,22 @@ _exportdesk()
     fi
     # The arguments before this word, without options and their values.
     for ((place = 2; place < COMP_CWORD; place++)); do
-        case $skip${COMP_WORDS[place]} in
-        --hosts | --networks | --passwd | --group | --netgroup | --as) skip=value ;;
-        value*) skip='' ;;
-        -?*) ;;
+        # (readline takes `=` for a word of its own)
+        case $is_value:${COMP_WORDS[place]} in
+        no:--hosts | no:--networks | no:--passwd | no:--group | no:--netgroup | no:--as) is_value=yes ;;
+        yes:=) ;;
+        yes:*) is_value=no ;;
+        no:-?*) ;;
         *) count=$((count + 1)) ;;
         esac
     done
     if [ "$command" = try ]; then
         choices='--hosts --networks --passwd --group --netgroup --as --help'
+    fi
+    if [ "$word" = = ]; then
+        word=''
+    elif [ "$before" = = ]; then
+        before=${COMP_WORDS[COMP_CWORD - 2]}
     fi
     case $command:$before:$word in
     try:--hosts:* | try:--networks:* | try:--passwd:* | try:--group:* | try:--netgroup:*)
