@@ -13,6 +13,7 @@ pub mod OneHistory
 pub mod FoundRows
 pub mod ListedRows
 pub mod NextNumbers
+pub mod OneHead
 pub mod OneOrder
 pub mod SiteRows
 pub mod SortedNumbers

@@ -3,7 +3,7 @@
 ghost use Rattle.std.specs.Prelude.{◌≡◌, ◌≢◌, ◌+◌, ◌==◌, ℕ, List, Contains, Err, IfErr, IfOk, IsPermutation, OnOk, filter, if◌then◌else◌};
 ghost use Rattle.std.specs.List.Sorted.{IsNonDecreasingBy};
 ghost use Rattle.std.specs.Str.{bytes_eq};
-ghost use Rattle.desk_core.specs.Head.{Revision, newest_in};
+ghost use Rattle.desk_core.specs.Head.{Revision, StandOnce, newest_in};
 ghost use Rattle.desk_core.specs.History.{IsHistory, newest_of};
 ghost use Rattle.desk_store.specs.Newest.{AreNewest, number_in};
 ghost use Rattle.desk_store.specs.Open.{IsOfOpening};
@@ -18,6 +18,7 @@ use std::collections::BTreeMap;
 pub(crate) fn newest_heads(alloc: Global, revisions: Vec<Head>) -> Result<Vec<Head>, DeskError>
     ensures newest { IfOk result (λ heads. (history : List Revision) × IsPermutation revisions.items history × IsHistory history × (newest_in heads.items ≡ newest_of history)) }
     ensures among { IfOk result (λ heads. (head : Revision) → Contains heads.items head → Contains revisions.items head) }
+    ensures once { IfOk result (λ heads. StandOnce heads.items) }
     ensures gap { result ≡ Err error.Schema → (history : List Revision) → IsPermutation revisions.items history → IsHistory history → ⊥ }
     ensures errors { IfErr result IsOfOpening }
 {

@@ -2,7 +2,7 @@
 
 ghost use Rattle.std.specs.Prelude.{◌≡◌, Err, IfErr, IfOk, IsPermutation, All, map};
 ghost use Rattle.std.specs.List.{list_all};
-ghost use Rattle.desk_core.specs.Head.{CanBeKept, newest_in};
+ghost use Rattle.desk_core.specs.Head.{CanBeKept, StandOnce, newest_in};
 ghost use Rattle.desk_core.specs.History.{newest_of};
 ghost use Rattle.desk_core.specs.Judging.{seven};
 ghost use Rattle.desk_core.specs.Site.{IsConsistent, site_in};
@@ -63,6 +63,7 @@ pub(crate) fn state_in<V: PolicyView + Drop>(
     rows: &[Row],
 ) -> Result<State<V>, DeskError>
     ensures history { IfOk result (λ state. (history : History) × IsSiteHistory history × IsPermutation (map row_of history) rows.now × (newest_in state.heads ≡ newest_of history)) }
+    ensures once { IfOk result (λ state. StandOnce state.heads) }
     ensures foreign { result ≡ Err error.Schema → (history : History) → IsSiteHistory history → IsPermutation (map row_of history) rows.now → ⊥ }
     ensures errors { IfErr result IsOfOpening }
 {

@@ -1,12 +1,13 @@
 use Rattle.std.proofs.Common.{◌≡◌, ◌==◌, ◌∙◌, ap, sym, subst, Err, List}
 use Rattle.std.specs.Prelude.{Contains, IsPermutation}
 use Rattle.std.proofs.lemmas.List.Sorted.{Contains-permutation, IsPermutation-sym, IsPermutation-trans}
-use Rattle.desk_core.specs.Head.{Revision, newest_in}
+use Rattle.desk_core.specs.Head.{Revision, StandOnce, newest_in}
 use Rattle.desk_core.specs.History.{IsHistory}
 use Rattle.desk_store.specs.Newest.{AreNewest, number_in}
 use Rattle.desk_store.specs.declared.error.DeskError.TheVariants as error
 use Rattle.desk_store.proofs.OneHistory.{from_filter}
 use Rattle.desk_store.proofs.NextNumbers.{newest_chosen}
+use Rattle.desk_store.proofs.OneHead.{chosen_once}
 use Rattle.desk_store.proofs.SortedNumbers.{sorted_history}
 use Rattle.desk_store.proofs.newest.newest_heads.Goals as goal
 
@@ -24,6 +25,11 @@ returns-in-Ok-newest_numbers-clause-among c = λ head there.
     let numbers = c.in-Ok-newest_numbers.numbers in
     let from = from_filter (λ (r : Revision). number_in numbers r.file == r.rev) sorted head (subst (λ xs. Contains xs head) c.keep_newest.ensures there) in
     Contains-permutation sorted c.args.revisions.items head (IsPermutation-sym c.args.revisions.items sorted c.in-Ok.ensures.same) from.0
+
+pub returns-in-Ok-newest_numbers-clause-once : goal.returns-in-Ok-newest_numbers-clause-once
+returns-in-Ok-newest_numbers-clause-once c =
+    let numbered : IsHistory c.in-Ok.revisions.items = subst IsHistory c.as_slice.ensures.value c.in-Ok-newest_numbers.ensures.history in
+    subst StandOnce (sym c.keep_newest.ensures) (chosen_once c.in-Ok-newest_numbers.numbers c.in-Ok.revisions.items numbered)
 
 pub returns-in-Err-clause-gap : goal.returns-in-Err-clause-gap
 returns-in-Err-clause-gap c = λ schema history same whole.

@@ -1,7 +1,7 @@
-use Rattle.std.proofs.Common.{◌≡◌, ◌∙◌, ap, sym, Err, List}
+use Rattle.std.proofs.Common.{◌≡◌, ◌∙◌, ap, sym, subst, Err, List}
 use Rattle.std.specs.List.{list_all}
 use Rattle.std.proofs.lemmas.Result.{err_from_is_err_and}
-use Rattle.desk_core.specs.Head.{Revision}
+use Rattle.desk_core.specs.Head.{Revision, StandOnce}
 use Rattle.desk_core.specs.Judging.{seven}
 use Rattle.desk_store.specs.Newest.{has_revision}
 use Rattle.desk_store.specs.declared.error.DeskError.TheVariants as error
@@ -35,6 +35,10 @@ returns-clause-history g c =
     (λ state made consistent. site_history c.args.rows.now c.in_ok-revisions.revisions.items c.in_ok-heads.heads.items c.in_ok-revisions.ensures.read c.in_ok-heads.ensures.newest
     c.in_ok-revisions.ensures.storable (of_heads ∙ sym c.has_the_seven.ensures ∙ c.if-not-has_the_seven.false) consistent state.heads made)
     c.state_of.ensures.made c.state_of.ensures.consistent
+
+pub returns-clause-once : goal.returns-clause-once
+returns-clause-once g c =
+    if_both c.state_of.result _ _ _ (λ state made made'. subst StandOnce (sym made) c.in_ok-heads.ensures.once) c.state_of.ensures.made c.state_of.ensures.made
 
 pub returns-clause-foreign : goal.returns-clause-foreign
 returns-clause-foreign g c = λ schema history site same.
