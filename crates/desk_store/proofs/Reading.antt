@@ -2,7 +2,7 @@
 use Rattle.std.proofs.Common.{◌≡◌, ◌⊎◌, inl, inr, ℕ, List, [], codes, false, nat_le, ◌^◌, ◌<◌, Some, None, Option, Ok, Err, Result, IsTrue, IfOk, IfErr, OnOk, refl, sym, subst, ◌∙◌, arith}
 use Rattle.std.specs.Prelude.{IsPermutation}
 use Rattle.sqlite.specs.Order.{Row}
-use Rattle.sqlite.specs.Tree.{Trees}
+use Rattle.sqlite.specs.Schema.{Schema}
 use Rattle.sqlite.specs.Effect.{Database}
 use Rattle.sqlite.specs.Listing.{understood}
 use Rattle.sqlite.specs.State.{State, HasCleanDisk, Survives, IsUnchanged, IsRolledBack, Shown, ShowsRows, CommitsShowing, FailsToQuery, FailsToShow}
@@ -13,26 +13,44 @@ use Rattle.sqlite.specs.declared.error.Error.{Error}
 use Rattle.sqlite.proofs.Callers.{IsPlain, reads_as, never_commits}
 use Rattle.sqlite.proofs.StateLemmas.{survives_then}
 use Rattle.desk_store.proofs.Inserting.{placed, rows_are, rest_after_error, not_run}
-use Rattle.desk_store.proofs.SelectText.{select_is, select_plain, select_unlisted, answers}
-use Rattle.desk_store.specs.Tables.{select_revisions, rows_of, file_rev_table, HasTables, IsAtRest}
+use Rattle.desk_store.proofs.SelectText.{select_is, select_plain, select_unlisted, revision_answers, version_is, version_plain, version_unlisted, version_answers}
+use Rattle.desk_store.specs.Tables.{select_revisions, select_version, rows_of, file_rev_table, meta_table, HasTables, IsAtRest}
 
 low_of : (tree : ℕ) → tree < 65536 → nat_le (2 ^ 31) tree ≡ false
 low_of tree low = lt-leb (2 ^ 31) tree (omega arith)
 
--- the rows that the query shows
-pub shows_rows : (old new : State) (rows : List Row) → HasTables old.now.schema → Shown select_revisions [] old new rows → IsPermutation (rows_of old.now (codes "file_rev")) rows
-shows_rows old new rows has h =
-    let at = placed old.now.schema (codes "file_rev") (file_rev_table has.tree) has.file_rev in
-    let low = low_of has.tree has.low in
-    let plain = select_plain old.now.schema at.0 has.tree at.1 at.2 has.alone low in
-    let reads = reads_as select_revisions [] old new old.now.schema refl _ (select_is old.now.schema at.0 has.tree at.1 at.2 has.alone low) plain
-    (select_unlisted old.now.schema at.0 has.tree at.1 at.2 has.alone low) rows h in
-    subst (λ before. IsPermutation before rows) (sym (rows_are old.now (codes "file_rev") (file_rev_table has.tree) has.file_rev)) (answers has.tree low old.now.trees rows reads.answer)
+-- a query that shows the rows of one of the two tables, as the schema has them
+pub record IsWhole (sql name : List ℕ) : Type 1 where
+  pub plain : (schema : Schema) → HasTables schema → IsPlain (understood schema sql)
+  pub rows : (old new : State) (rows : List Row) → HasTables old.now.schema → Shown sql [] old new rows → IsPermutation (rows_of old.now name) rows
 
-commits_none : (old : State) (trees : Trees) → HasTables old.now.schema → ¬ CommitsShowing select_revisions [] old trees
-commits_none old trees has =
-    let at = placed old.now.schema (codes "file_rev") (file_rev_table has.tree) has.file_rev in
-    never_commits select_revisions [] old trees (select_plain old.now.schema at.0 has.tree at.1 at.2 has.alone (low_of has.tree has.low))
+pub revisions_whole : IsWhole select_revisions (codes "file_rev")
+revisions_whole = record {
+  plain = λ schema has.
+      let at = placed schema (codes "file_rev") (file_rev_table has.tree) has.file_rev in
+      select_plain schema at.0 has.tree at.1 at.2 has.alone (low_of has.tree has.low);
+  rows = λ old new rows has h.
+      let at = placed old.now.schema (codes "file_rev") (file_rev_table has.tree) has.file_rev in
+      let low = low_of has.tree has.low in
+      let plain = select_plain old.now.schema at.0 has.tree at.1 at.2 has.alone low in
+      let reads = reads_as select_revisions [] old new old.now.schema refl _ (select_is old.now.schema at.0 has.tree at.1 at.2 has.alone low) plain
+      (select_unlisted old.now.schema at.0 has.tree at.1 at.2 has.alone low) rows h in
+      subst (λ before. IsPermutation before rows) (sym (rows_are old.now (codes "file_rev") (file_rev_table has.tree) has.file_rev)) (revision_answers has.tree low old.now.trees rows reads.answer);
+}
+
+pub versions_whole : IsWhole select_version (codes "meta")
+versions_whole = record {
+  plain = λ schema has.
+      let at = placed schema (codes "meta") (meta_table has.meta_tree) has.meta in
+      version_plain schema at.0 has.meta_tree at.1 at.2 has.meta_alone (low_of has.meta_tree has.meta_low);
+  rows = λ old new rows has h.
+      let at = placed old.now.schema (codes "meta") (meta_table has.meta_tree) has.meta in
+      let low = low_of has.meta_tree has.meta_low in
+      let plain = version_plain old.now.schema at.0 has.meta_tree at.1 at.2 has.meta_alone low in
+      let reads = reads_as select_version [] old new old.now.schema refl _ (version_is old.now.schema at.0 has.meta_tree at.1 at.2 has.meta_alone low) plain
+      (version_unlisted old.now.schema at.0 has.meta_tree at.1 at.2 has.meta_alone low) rows h in
+      subst (λ before. IsPermutation before rows) (sym (rows_are old.now (codes "meta") (meta_table has.meta_tree) has.meta)) (version_answers has.meta_tree low old.now.trees rows reads.answer);
+}
 
 shown_by : (old new : State) (sql : List ℕ) (c : Compiled) (params : Row) (rows : List Row) (returning : Option Returning) → returning ≡ None → ShowsRows old new sql c params rows returning → IsUnchanged old new
 shown_by old new sql c params rows None none h = h.3
@@ -53,9 +71,9 @@ unfolding FailsToQuery
 query_failed old new sql params e (inl h) = not_run old new sql params e h
 query_failed old new sql params e (inr h) = failed_by old new sql h.0 _ e h.0.returning h.2
 
-pub record IsRead {X : Type 0} (items : X → List Row) (old new : State) (result : Result X Error) : Type 0 where
+pub record IsRead {X : Type 0} (name : List ℕ) (items : X → List Row) (old new : State) (result : Result X Error) : Type 0 where
   pub rest : IsAtRest new
-  pub rows : IfOk result (λ rows. IsPermutation (rows_of old.committed (codes "file_rev")) (items rows))
+  pub rows : IfOk result (λ rows. IsPermutation (rows_of old.committed name) (items rows))
   pub live : OnOk result (IsTrue new.is_open)
   pub unchanged : IsTrue new.is_open → new.committed ≡ old.committed
 
@@ -63,35 +81,34 @@ tables_now : (s : State) → IsAtRest s → IsTrue s.is_open → HasTables s.now
 tables_now s rest live = subst (λ (d : Database). HasTables d.schema) (sym (rest.settled live)) (rest.tables live)
 
 -- a query that was prepared first reads the rows, or fails and changes nothing
-pub reads : {X : Type 0} (items : X → List Row) (old mid new : State) (sql : List ℕ) (result : Result X Error) → IsAtRest old → (sql ≡ select_revisions) × IsUnchanged old mid
-    → IfOk result (λ rows. Shown sql [] mid new (items rows)) → IfErr result (FailsToQuery sql [] mid new) → IsRead items old new result
-reads items old mid new sql (Ok rows) rest prepared ok err =
+pub reads : {X : Type 0} (query name : List ℕ) (whole : IsWhole query name) (items : X → List Row) (old mid new : State) (sql : List ℕ) (result : Result X Error) → IsAtRest old → (sql ≡ query) × IsUnchanged old mid
+    → IfOk result (λ rows. Shown sql [] mid new (items rows)) → IfErr result (FailsToQuery sql [] mid new) → IsRead name items old new result
+reads query name whole items old mid new sql (Ok rows) rest prepared ok err =
     let before = rest_after_error old mid rest (inl prepared.1) in
     let live = prepared.1.0.is_open in
     let has = tables_now mid before.0 live in
-    let shown : Shown select_revisions [] mid new (items rows) = rw (prepared.0) at ok in
-    let at = placed mid.now.schema (codes "file_rev") (file_rev_table has.tree) has.file_rev in
-    let same = shown_unchanged mid new select_revisions [] (items rows) (select_plain mid.now.schema at.0 has.tree at.1 at.2 has.alone (low_of has.tree has.low)) shown in
+    let shown : Shown query [] mid new (items rows) = rw (prepared.0) at ok in
+    let same = shown_unchanged mid new query [] (items rows) (whole.plain mid.now.schema has) shown in
     let after = rest_after_error mid new before.0 (inl same) in
     record {
       rest = after.0;
-      rows = subst (λ (d : Database). IsPermutation (rows_of d (codes "file_rev")) (items rows)) (before.0.settled live ∙ before.1 live) (shows_rows mid new (items rows) has shown);
+      rows = subst (λ (d : Database). IsPermutation (rows_of d name) (items rows)) (before.0.settled live ∙ before.1 live) (whole.rows mid new (items rows) has shown);
       live = same.0.is_open;
       unchanged = λ later. after.1 later ∙ before.1 live;
     }
-reads items old mid new sql (Err e) rest prepared ok err =
+reads query name whole items old mid new sql (Err e) rest prepared ok err =
     let before = rest_after_error old mid rest (inl prepared.1) in
     let after = rest_after_error mid new before.0 (query_failed mid new sql [] e err) in
     record { rest = after.0; rows = tt; live = tt; unchanged = λ live. after.1 live ∙ before.1 prepared.1.0.is_open }
 
-pub read_crash : (old mid new : State) (sql : List ℕ) → (HasCleanDisk old → IsAtRest old) → (HasCleanDisk mid → (sql ≡ select_revisions) × IsUnchanged old mid)
+pub read_crash : (query name : List ℕ) (whole : IsWhole query name) (old mid new : State) (sql : List ℕ) → (HasCleanDisk old → IsAtRest old) → (HasCleanDisk mid → (sql ≡ query) × IsUnchanged old mid)
     → Survives old mid (λ _. ⊥) → Survives mid new (CommitsShowing sql [] mid) → Survives old new (λ _. ⊥)
-read_crash old mid new sql rest prepared first then =
+read_crash query name whole old mid new sql rest prepared first then =
     survives_then old mid new (λ _. ⊥) (CommitsShowing sql [] mid) (λ _. ⊥) (λ clean trees none. none)
     (λ clean trees h.
     let early : HasCleanDisk mid = omega (arith, then.clean) in
     let start : HasCleanDisk old = omega (arith, first.clean) in
     let same = prepared early in
     let before = rest_after_error old mid (rest start) (inl same.1) in
-    commits_none mid trees (tables_now mid before.0 same.1.0.is_open) (rw (same.0) at h))
+    never_commits query [] mid trees (whole.plain mid.now.schema (tables_now mid before.0 same.1.0.is_open)) (rw (same.0) at h))
     first then

@@ -1,7 +1,8 @@
 //! The state that the rows of a database stand for.
 
-ghost use Rattle.std.specs.Prelude.{◌≡◌, Err, IfErr, IfOk, IsPermutation, All, map};
+ghost use Rattle.std.specs.Prelude.{◌≡◌, ◌↔◌, ◌∷◌, [], pos, Err, IfErr, IfOk, IsPermutation, IsTrue, All, map};
 ghost use Rattle.std.specs.List.{list_all};
+ghost use Rattle.sqlite.specs.declared.types.Value.TheVariants.{Int};
 ghost use Rattle.desk_core.specs.Head.{CanBeKept, StandOnce, newest_in};
 ghost use Rattle.desk_core.specs.History.{newest_of};
 ghost use Rattle.desk_core.specs.Judging.{seven};
@@ -14,7 +15,7 @@ ghost use Rattle.desk_store.specs.declared.error.DeskError.TheVariants as error;
 
 use crate::error::DeskError;
 use crate::newest::newest_heads;
-use crate::stored::revisions_in;
+use crate::stored::{number_in, revisions_in};
 use desk_core::{Head, State, consistent_sites_have_no_fault};
 use desk_policy::PolicyView;
 use desk_text::ReadError;
@@ -39,6 +40,29 @@ fn has_file(heads: &[Head], file: &str) -> bool
     ensures { result ≡ has_revision heads.now file.now }
 {
     heads.iter().any(|head| head.file.as_str() == file)
+}
+
+/// Tests whether the rows of `meta` are the one row 1.
+pub(crate) fn is_version_one(rows: &[Row]) -> bool
+    ensures { IsTrue result ↔ (rows.now ≡ (Int (pos 1) ∷ []) ∷ []) }
+{
+    match rows {
+        [row] => is_one(row),
+        _ => false,
+    }
+}
+
+/// Tests whether a row is the number 1 and nothing else.
+fn is_one(row: &Row) -> bool
+    ensures { IsTrue result ↔ (row.now ≡ Int (pos 1) ∷ []) }
+{
+    if row.column_count() != 1 {
+        return false;
+    }
+    match number_in(row, 0) {
+        Some(number) => number == 1,
+        None => false,
+    }
 }
 
 /// Makes the state of the newest revisions; `Schema` if the site that they write is not consistent.

@@ -97,7 +97,7 @@ fn bytes_in(row: &Row, at: usize) -> Option<&[u8]>
 }
 
 /// Reads the number below 2^32 in a column.
-fn number_in(row: &Row, at: usize) -> Option<u32>
+pub(crate) fn number_in(row: &Row, at: usize) -> Option<u32>
     ensures { MatchOption result ((number : ℕ) → number < 2 ^ 32 → at < length row.now → column row.now at ≡ Int (pos number) → ⊥) (λ number. column row.now at ≡ Int (pos number)) }
 {
     match row.get_ref(at) {

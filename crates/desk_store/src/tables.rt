@@ -1,4 +1,4 @@
-//! The statements that read and write the table of revisions.
+//! The statements that read and write the two tables.
 
 ghost use Rattle.std.specs.Prelude.{◌≡◌, IsTrue, OnOk, OnErr, IfOk, IsPermutation, codes};
 ghost use Rattle.std.specs.Str.{IsUtf8};
@@ -44,5 +44,19 @@ pub(crate) fn read_revisions<S: Alter>(conn: &mut Connection<S>) -> Result<Vec<R
     ensures crash { Survives (state S.Store conn.old) (state S.Store conn.new) (λ _. ⊥) }
 {
     let select = conn.prepare("SELECT * FROM file_rev")?;
+    select.query_all(conn, &[])
+}
+
+/// Reads the rows of the database's versions.
+pub(crate) fn read_versions<S: Alter>(conn: &mut Connection<S>) -> Result<Vec<Row>, Error>
+    requires { HasCleanDisk (state S.Store conn.old) → IsAtRest (state S.Store conn.old) }
+    ensures rest { HasCleanDisk (state S.Store conn.new) → IsAtRest (state S.Store conn.new) }
+    ensures rows { HasCleanDisk (state S.Store conn.new) → IfOk result (λ rows. IsPermutation (rows_of (state S.Store conn.old).committed (codes "meta")) rows.items) }
+    ensures opened { HasCleanDisk (state S.Store conn.new) → IsTrue (state S.Store conn.new).is_open → IsTrue (state S.Store conn.old).is_open }
+    ensures live { HasCleanDisk (state S.Store conn.new) → OnOk result (IsTrue (state S.Store conn.new).is_open) }
+    ensures unchanged { HasCleanDisk (state S.Store conn.new) → IsTrue (state S.Store conn.new).is_open → (state S.Store conn.new).committed ≡ (state S.Store conn.old).committed }
+    ensures crash { Survives (state S.Store conn.old) (state S.Store conn.new) (λ _. ⊥) }
+{
+    let select = conn.prepare("SELECT * FROM meta")?;
     select.query_all(conn, &[])
 }
