@@ -10,6 +10,7 @@ pub mod EditRuns
 pub mod SiteHistories
 pub mod EditStep
 pub mod OneHistory
+pub mod FirstTables
 pub mod FoundRows
 pub mod ListedRows
 pub mod NextNumbers
