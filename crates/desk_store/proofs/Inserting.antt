@@ -118,6 +118,10 @@ pub was_open : (old new : State) → IsUnchanged old new ⊎ IsRolledBack old ne
 was_open old new (inl same) live = same.0.was_open
 was_open old new (inr back) live = back.was_open live
 
+pub kept_commit : (old new : State) → IsUnchanged old new ⊎ IsRolledBack old new → IsTrue new.is_open → new.committed ≡ old.committed
+kept_commit old new (inl same) live = same.0.committed_is
+kept_commit old new (inr back) live = (back.undone live).1
+
 -- after the row was written
 pub rest_after_insert : (old new : State) (file : List ℕ) (rev : ℕ) (author body : List ℕ) (count : ℕ) → IsAtRest old → IsTrue old.is_open → Executes insert_revision (given file rev author body) old new (Ok count)
     → IsAtRest new × Adds (revision_row file rev author body) old.committed new.committed × IsTrue new.is_open

@@ -1,11 +1,12 @@
 //! The statements that read and write the two tables.
 
-ghost use Rattle.std.specs.Prelude.{◌≡◌, IsTrue, OnOk, OnErr, IfOk, IsPermutation, codes};
+ghost use Rattle.std.specs.Prelude.{◌≡◌, false, IsTrue, OnOk, OnErr, IfOk, IsPermutation, codes};
 ghost use Rattle.std.specs.Str.{IsUtf8};
 ghost use Rattle.sqlite.specs.State.{HasCleanDisk, Survives};
 ghost use Rattle.sqlite.specs.Held.{state};
-ghost use Rattle.desk_store.specs.Tables.{IsAtRest, Adds, AddsWhileOpen, LeavesCommit, revision_row, rows_of};
+ghost use Rattle.desk_store.specs.Tables.{HasTables, IsAtRest, Adds, AddsWhileOpen, LeavesCommit, revision_row, rows_of};
 
+use crate::declared::has_tables;
 use sqlite::{Alter, Connection, Error, Row, params};
 
 /// Adds one revision, in a commit of its own.
@@ -59,4 +60,18 @@ pub(crate) fn read_versions<S: Alter>(conn: &mut Connection<S>) -> Result<Vec<Ro
 {
     let select = conn.prepare("SELECT * FROM meta")?;
     select.query_all(conn, &[])
+}
+
+/// Looks whether the database has the two tables, each of them alone in its tree.
+pub(crate) fn sees_tables<S: Alter>(conn: &mut Connection<S>) -> Result<bool, Error>
+    requires autocommit { (state S.Store conn.old).in_transaction ≡ false }
+    ensures mode { (state S.Store conn.new).in_transaction ≡ false }
+    ensures rest { HasCleanDisk (state S.Store conn.new) → IfOk result (λ there. IsTrue there → IsAtRest (state S.Store conn.new)) }
+    ensures foreign { HasCleanDisk (state S.Store conn.new) → IfOk result (λ there. there ≡ false → HasTables (state S.Store conn.old).committed.schema → ⊥) }
+    ensures live { HasCleanDisk (state S.Store conn.new) → OnOk result (IsTrue (state S.Store conn.new).is_open) }
+    ensures unchanged { HasCleanDisk (state S.Store conn.new) → IsTrue (state S.Store conn.new).is_open → (state S.Store conn.new).committed ≡ (state S.Store conn.old).committed }
+    ensures crash { Survives (state S.Store conn.old) (state S.Store conn.new) (λ _. ⊥) }
+{
+    conn.prepare("SELECT 1")?;
+    Ok(conn.is_autocommit() && has_tables(conn.schema()))
 }
