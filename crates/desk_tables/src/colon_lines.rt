@@ -20,7 +20,8 @@ pub(crate) fn field(line: &str, place: usize) -> &str
     line.split(':').nth(place).unwrap_or("")
 }
 
-/// Finds where the field at a place, from 0, begins and ends; a line that has none there has the last one.
+/// Finds where the field at a place, from 0, begins and ends; a line that has none there has the last one. An empty field
+/// is shown by the colon behind it, and an empty last one by the colon before it.
 pub(crate) fn field_slice(line: &str, place: usize) -> Slice {
     let bytes = line.as_bytes();
     let mut start = 0;
@@ -28,14 +29,17 @@ pub(crate) fn field_slice(line: &str, place: usize) -> Slice {
     for (at, byte) in bytes.iter().enumerate() {
         if *byte == b':' {
             if left == 0 {
-                return Slice { start, end: at };
+                return Slice {
+                    start,
+                    end: if start < at { at } else { at + 1 },
+                };
             }
             left -= 1;
             start = at + 1;
         }
     }
     Slice {
-        start,
+        start: start.min(bytes.len().saturating_sub(1)),
         end: bytes.len(),
     }
 }

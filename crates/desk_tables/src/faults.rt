@@ -24,24 +24,14 @@ pub struct PlacedFault {
 
 /// A slice of a line, by where it begins and ends, in bytes.
 #[derive(Clone, Copy)]
-pub struct Slice {
+pub(crate) struct Slice {
     pub start: usize,
     pub end: usize,
 }
 
-impl Slice {
-    /// Returns the slice that is the whole line.
-    pub fn whole(line: &str) -> Slice {
-        Slice {
-            start: 0,
-            end: line.len(),
-        }
-    }
-}
-
 /// Finds the faults of a text of which each line is read by itself: all its faulty lines, in order, each with the first
 /// rule that it breaks. `locate` finds the slice of a line that breaks a rule.
-pub fn find_faults<
+pub(crate) fn find_faults<
     Row: Drop,
     F: Fn(Global, &str) -> Result<Option<Row>, ReadError<TableRule>>,
     L: Fn(&str, TableRule) -> Slice,

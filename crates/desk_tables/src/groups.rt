@@ -205,11 +205,12 @@ fn read_members(alloc: Global, text: &str) -> Result<Sequence<Text>, AllocError>
     Ok(members)
 }
 
-/// Finds the slice of a line at fault, if this is the first rule that it breaks.
+/// Finds the slice of a line at fault, if this is the first rule that it breaks: the field that breaks it, or of another
+/// number of fields the fifth, or the last.
 fn slice_at_fault(line: &str, rule: TableRule) -> Slice {
     match rule {
         TableRule::Number => field_slice(line, 2),
         TableRule::Name => field_slice(line, 0),
-        _ => Slice::whole(line),
+        _ => field_slice(line, 4),
     }
 }

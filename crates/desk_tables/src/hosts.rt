@@ -174,11 +174,11 @@ fn read_row(
     }))
 }
 
-/// Finds the slice of a line at fault, if this is the first rule that it breaks.
+/// Finds the slice of a line at fault, if this is the first rule that it breaks: the address, which is the only word of a
+/// line with too few, or the long name.
 fn slice_at_fault(line: &str, rule: TableRule) -> Slice {
     match rule {
-        TableRule::Number => word_slice(line, 0),
         TableRule::Name => long_word_slice(line),
-        _ => Slice::whole(line),
+        _ => word_slice(line, 0),
     }
 }

@@ -149,11 +149,12 @@ fn read_row(
     Ok(Some(NetworkName { number, names }))
 }
 
-/// Finds the slice of a line at fault, if this is the first rule that it breaks.
+/// Finds the slice of a line at fault, if this is the first rule that it breaks: the number, the long name, or the only word
+/// of a line with too few.
 fn slice_at_fault(line: &str, rule: TableRule) -> Slice {
     match rule {
         TableRule::Number => word_slice(line, 1),
         TableRule::Name => long_word_slice(line),
-        _ => Slice::whole(line),
+        _ => word_slice(line, 0),
     }
 }

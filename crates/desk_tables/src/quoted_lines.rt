@@ -12,7 +12,7 @@ ghost use Rattle.desk_tables.specs.QuotedLines.{line_values};
 ghost use Rattle.desk_tables.specs.PrivateQuotedLines.{at_line};
 ghost use Rattle.desk_tables.specs.declared.rules.TableRule.{TableRule};
 
-use crate::faults::{PlacedFault, Slice};
+use crate::faults::PlacedFault;
 use crate::rules::{TableFault, TableRule};
 use desk_text::{Line, LineFault, Place, ReadError, Text, Word, unquote, words};
 use std::alloc::{AllocError, Global};
@@ -68,43 +68,43 @@ pub fn make_fault(alloc: Global, line: &Line, rule: TableRule) -> Result<PlacedF
     })
 }
 
-/// Makes the place of the slice at fault of a line whose first broken rule this is: the word that breaks it, or the first
-/// physical line.
+/// Makes the place of the slice at fault of a line whose first broken rule this is: the quote that does not close, or the
+/// word that breaks it.
 fn place_at_fault(alloc: Global, line: &Line, rule: TableRule) -> Result<Place, AllocError>
     ensures lies { IfOk result (λ place. (text : List ℕ) → IsAmong (logical_lines text) line.now → LiesIn text place) }
     ensures own { IfOk result (λ place. (text : List ℕ) → IsAmong (logical_lines text) line.now → IsOfLine line.now place) }
 {
-    let slice = match words(alloc, line) {
-        Ok(words) => word_at_fault(words.as_slice(), rule),
-        Err(ReadError::Fault(_)) => None,
-        Err(ReadError::Memory) => return Err(AllocError),
-    };
-    let slice = slice.unwrap_or(first_line_slice(line));
-    Ok(Place::in_line(line, slice.start, slice.end))
-}
-
-/// Finds where the word that breaks a rule begins and ends in the whole text.
-fn word_at_fault(words: &[Word], rule: TableRule) -> Option<Slice> {
-    let place = match rule {
-        TableRule::Name | TableRule::Duplicate | TableRule::BadPath => 0,
-        TableRule::Digest => 1,
-        _ => return None,
-    };
-    let word = words.get(place)?;
-    Some(slice_of(word.start, word.raw))
-}
-
-/// Finds where the first physical line begins and ends in the whole text.
-fn first_line_slice(line: &Line) -> Slice {
-    match line.parts().first() {
-        Some(part) => slice_of(part.start, part.whole),
-        None => slice_of(0, ""),
+    match words(alloc, line) {
+        Ok(words) => Ok(place_of_word(line, words.as_slice(), rule)),
+        Err(ReadError::Fault(_)) => Ok(place_of_quote(line)),
+        Err(ReadError::Memory) => Err(AllocError),
     }
 }
 
-fn slice_of(start: usize, text: &str) -> Slice {
-    Slice {
-        start,
-        end: start.saturating_add(text.len()),
+/// Makes the place of the word that breaks a rule: the digest, the first word too many, or, if there are too few, the
+/// last one. Every other rule is broken by the first word.
+fn place_of_word(line: &Line, words: &[Word], rule: TableRule) -> Place
+    ensures lies { (text : List ℕ) → IsAmong (logical_lines text) line.now → LiesIn text result }
+    ensures own { (text : List ℕ) → IsAmong (logical_lines text) line.now → IsOfLine line.now result }
+{
+    let place = match rule {
+        TableRule::Fields => 2,
+        TableRule::Digest => 1,
+        _ => 0,
+    };
+    match words.get(place).or(words.last()) {
+        Some(word) => Place::of_word(line, word),
+        None => Place::of_first_line(line),
+    }
+}
+
+/// Makes the place of the quote that does not close.
+fn place_of_quote(line: &Line) -> Place
+    ensures lies { (text : List ℕ) → IsAmong (logical_lines text) line.now → LiesIn text result }
+    ensures own { (text : List ℕ) → IsAmong (logical_lines text) line.now → IsOfLine line.now result }
+{
+    match Place::of_open_quote(line) {
+        Some(place) => place,
+        None => Place::of_first_line(line),
     }
 }

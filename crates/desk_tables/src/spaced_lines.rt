@@ -70,12 +70,12 @@ fn is_long_name(name: &str) -> bool
 }
 
 /// Finds where the word at a place, from 0, begins and ends.
-pub fn word_slice(line: &str, place: usize) -> Slice {
+pub(crate) fn word_slice(line: &str, place: usize) -> Slice {
     nth_slice(before_comment(line), place, 1)
 }
 
 /// Finds where the first word of over 255 bytes begins and ends.
-pub fn long_word_slice(line: &str) -> Slice {
+pub(crate) fn long_word_slice(line: &str) -> Slice {
     nth_slice(before_comment(line), 0, 256)
 }
 

@@ -143,12 +143,13 @@ fn read_user(alloc: Global, line: &str) -> Result<Option<User>, ReadError<TableR
     Ok(Some(User { name, uid, gid }))
 }
 
-/// Finds the slice of a line at fault, if this is the first rule that it breaks.
+/// Finds the slice of a line at fault, if this is the first rule that it breaks: the field that breaks it, or of another
+/// number of fields the eighth, or the last.
 fn slice_at_fault(line: &str, rule: TableRule) -> Slice {
     match rule {
         TableRule::Number if read_number(field(line, 2)).is_some() => field_slice(line, 3),
         TableRule::Number => field_slice(line, 2),
         TableRule::Name => field_slice(line, 0),
-        _ => Slice::whole(line),
+        _ => field_slice(line, 7),
     }
 }

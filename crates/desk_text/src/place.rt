@@ -10,7 +10,7 @@ ghost use Rattle.desk_text.specs.Views.{line_of_part};
 ghost use Rattle.desk_text.specs.Word.{has_open_quote, line_has_open_quote};
 
 use crate::lines::{Line, Part};
-use crate::word::{atom_len, is_special};
+use crate::word::{Word, atom_len, is_special};
 
 /// A slice of a text: its physical line, from 1, and where it begins and ends within that line, in bytes.
 #[derive(Clone, Copy)]
@@ -23,7 +23,7 @@ pub struct Place {
 impl Place {
     /// Makes the place of a whole line, which is lent without its line end.
     pub fn of_line(line: u32, text: &str) -> Place
-        ensures line { result.line ≡ line }
+        ensures exact { result ≡ record { line = line; start = 0; end = length text.now } }
         ensures whole { LiesWithin text.now result }
     {
         Place {
@@ -59,6 +59,17 @@ impl Place {
             }
         }
         first_line(line)
+    }
+
+    /// Makes the place of a word of a logical line.
+    pub fn of_word(line: &Line, word: &Word) -> Place
+        ensures exact { word.now.start + length word.now.raw.now < 2 ^ 64 → (index : ℕ) (part : PhysicalLine)
+            → slice_get line.now.parts index ≡ Some part → HasSlice part word.now.start (word.now.start + length word.now.raw.now)
+            → IsPlaceOf line.now word.now.start (word.now.start + length word.now.raw.now) result }
+        ensures lies { (text : List ℕ) → IsAmong (logical_lines text) line.now → LiesIn text result }
+        ensures own { (text : List ℕ) → IsAmong (logical_lines text) line.now → IsOfLine line.now result }
+    {
+        Place::in_line(line, word.start, word.start.saturating_add(word.raw.len()))
     }
 
     /// Makes the place of the first quote of a line that does not close: it goes on to the end of its physical line.

@@ -9,7 +9,7 @@ returns-in-Some c = λ text among. record {
   index = 0;
   part = line_of_part c.in-Some.part.now;
   there = part_at c.parts.result.now c.args.line.now.parts 0 c.in-Some.part.now c.parts.ensures.parts (sym c.in-Some.ensures.value);
-  number = omega (arith, c.of_line.ensures.line, c.number.ensures);
+  number = ap (λ place. place.line) c.of_line.ensures.exact ∙ omega (arith, c.number.ensures);
   within = c.of_line.ensures.whole;
 }
 
