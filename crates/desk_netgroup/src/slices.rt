@@ -1,125 +1,202 @@
 //! Where a faulty line of a netgroup file breaks its rule.
 
-ghost use Rattle.std.specs.Prelude.{◌≡◌, IfOk, List, ℕ};
+ghost use Rattle.std.specs.Prelude.{◌≡◌, ◌<◌, IfOk, List, ℕ, length};
 ghost use Rattle.std.specs.List.{IsAmong};
+ghost use Rattle.std.specs.Str.{IsCharBoundary};
 ghost use Rattle.desk_text.specs.Lines.{logical_lines};
 ghost use Rattle.desk_text.specs.Place.{IsOfLine, LiesIn};
 
 use crate::faults::{GroupFault, GroupRule, PlacedFault};
 use crate::line::LONGEST_WORD;
-use crate::token::is_of_word;
-use desk_text::{Line, Place};
+use crate::token::{is_of_word, word_len};
+use desk_text::{Line, Place, is_blank};
 use std::alloc::{AllocError, Global};
 
-/// Where a word, or a parenthesis, begins and ends in the whole text, in bytes, and whether it begins with `#`.
+/// A token: where it begins in the whole text, in bytes, and how it is written.
 #[derive(Clone, Copy)]
-struct Slice {
+struct Slice<'a> {
     start: usize,
-    end: usize,
-    begins_with_hash: bool,
+    text: &'a str,
 }
 
-/// Adds the place of the slice at fault to the fault of a line: the `(` that is not closed, or the word. If it is in no
-/// one word, the place is the first physical line.
+/// What may stand next in a line: its name, a member, or a part of a triple.
+#[derive(Clone, Copy)]
+enum Expected {
+    Name,
+    Member,
+    Host,
+    FirstComma,
+    User,
+    SecondComma,
+    Domain,
+    Close,
+}
+
+/// Adds the place of the slice at fault to the fault of a line: the `(` that is not closed, the word, or the token where
+/// the form ends.
 pub fn with_place(alloc: Global, line: &Line, fault: GroupFault) -> Result<PlacedFault, AllocError>
     ensures fault { IfOk result (λ placed. placed.fault ≡ fault) }
     ensures lies { IfOk result (λ placed. (text : List ℕ) → IsAmong (logical_lines text) line.now → LiesIn text placed.place) }
     ensures own { IfOk result (λ placed. (text : List ℕ) → IsAmong (logical_lines text) line.now → IsOfLine line.now placed.place) }
 {
-    let words = line_words(alloc, line)?;
-    let slice = match fault.rule {
-        GroupRule::Unclosed => unclosed_slice(line),
-        rule => word_at_fault(words.as_slice(), rule),
-    };
-    drop(words);
-    let slice = slice.unwrap_or(first_line_slice(line));
-    let place = Place::in_line(line, slice.start, slice.end);
+    let tokens = line_tokens(alloc, line)?;
+    let slice = slice_at_fault(tokens.as_slice(), fault.rule);
+    drop(tokens);
+    let place = place_of(line, slice);
     Ok(PlacedFault { fault, place })
 }
 
-/// Finds the word that breaks a rule.
-fn word_at_fault(words: &[Slice], rule: GroupRule) -> Option<Slice> {
-    match rule {
-        GroupRule::BadTriple => words.iter().copied().find(|word| is_long(word)),
-        GroupRule::Unclosed => None,
-        GroupRule::Duplicate => words.first().copied(),
-        GroupRule::StrayComment => words
-            .iter()
-            .copied()
-            .skip(1)
-            .find(|word| word.begins_with_hash),
+/// Makes the place of the first member of this name, or host of this name, that a line lists. If it lists none, the place is
+/// that of the first physical line.
+pub fn place_of_member(alloc: Global, line: &Line, member: &str) -> Result<Place, AllocError>
+    ensures lies { IfOk result (λ place. (text : List ℕ) → IsAmong (logical_lines text) line.now → LiesIn text place) }
+    ensures own { IfOk result (λ place. (text : List ℕ) → IsAmong (logical_lines text) line.now → IsOfLine line.now place) }
+{
+    let tokens = line_tokens(alloc, line)?;
+    let slice = member_slice(tokens.as_slice(), member);
+    drop(tokens);
+    Ok(place_of(line, slice))
+}
+
+/// Makes the place of a slice, or of the first physical line of a logical line if there is none.
+fn place_of(line: &Line, slice: Option<Slice>) -> Place
+    ensures lies { (text : List ℕ) → IsAmong (logical_lines text) line.now → LiesIn text result }
+    ensures own { (text : List ℕ) → IsAmong (logical_lines text) line.now → IsOfLine line.now result }
+{
+    match slice {
+        Some(slice) => Place::in_line(
+            line,
+            slice.start,
+            slice.start.saturating_add(slice.text.len()),
+        ),
+        None => Place::of_first_line(line),
     }
 }
 
-fn is_long(word: &Slice) -> bool {
-    word.end.saturating_sub(word.start) > LONGEST_WORD
+/// Finds the token that breaks a rule.
+fn slice_at_fault<'a>(tokens: &[Slice<'a>], rule: GroupRule) -> Option<Slice<'a>> {
+    match rule {
+        GroupRule::BadTriple => long_word(tokens).or(form_end(tokens)),
+        GroupRule::Unclosed => open_parenthesis(tokens),
+        GroupRule::Duplicate => tokens.first().copied(),
+        GroupRule::StrayComment => stray_comment(tokens),
+    }
+}
+
+fn long_word<'a>(tokens: &[Slice<'a>]) -> Option<Slice<'a>> {
+    tokens
+        .iter()
+        .copied()
+        .find(|token| token.text.len() > LONGEST_WORD)
+}
+
+/// Finds the first word after the first that begins with `#`.
+fn stray_comment<'a>(tokens: &[Slice<'a>]) -> Option<Slice<'a>> {
+    tokens
+        .iter()
+        .copied()
+        .filter(|token| is_of_word(first_byte(token)))
+        .skip(1)
+        .find(|token| first_byte(token) == b'#')
 }
 
 /// Finds the first `(` that has no `)` after it.
-fn unclosed_slice(line: &Line) -> Option<Slice> {
+fn open_parenthesis<'a>(tokens: &[Slice<'a>]) -> Option<Slice<'a>> {
     let mut open = None;
-    for part in line.parts() {
-        open = open_after(open, part.start, part.text);
-    }
-    open
-}
-
-/// Finds the first `(` that has no `)` after it in a text that stands at this place, if this one is open before it.
-fn open_after(before: Option<Slice>, start: usize, text: &str) -> Option<Slice> {
-    let mut open = before;
-    for (at, byte) in text.as_bytes().iter().enumerate() {
-        if *byte == b')' {
+    for token in tokens {
+        if first_byte(token) == b')' {
             open = None;
-        } else if *byte == b'(' && open.is_none() {
-            open = Some(slice_at(start, at, at.saturating_add(1), *byte));
+        } else if first_byte(token) == b'(' && open.is_none() {
+            open = Some(*token);
         }
     }
     open
 }
 
-/// Lists the words of a line.
-fn line_words(alloc: Global, line: &Line) -> Result<Vec<Slice>, AllocError> {
-    let mut words = Vec::new(alloc);
-    for part in line.parts() {
-        push_words(&mut words, part.start, part.text)?;
-    }
-    Ok(words)
-}
-
-/// Adds the words of a text that stands at this place.
-fn push_words(words: &mut Vec<Slice>, start: usize, text: &str) -> Result<(), AllocError> {
-    let mut word = None;
-    for (at, byte) in text.as_bytes().iter().enumerate() {
-        if is_of_word(*byte) {
-            let slice = word.unwrap_or(slice_at(start, at, at, *byte));
-            word = Some(Slice {
-                end: start.saturating_add(at).saturating_add(1),
-                ..slice
-            });
-        } else if let Some(slice) = word {
-            words.push(slice)?;
-            word = None;
+/// Finds the token where the tokens of a line leave the form of a name and its members, or the last one.
+fn form_end<'a>(tokens: &[Slice<'a>]) -> Option<Slice<'a>> {
+    let mut expected = Expected::Name;
+    for token in tokens {
+        match after_token(expected, first_byte(token)) {
+            Some(next) => expected = next,
+            None => return Some(*token),
         }
     }
-    if let Some(slice) = word {
-        words.push(slice)?;
+    tokens.last().copied()
+}
+
+/// Tells what may stand behind a token that begins with this byte. If the token itself may not stand, there is nothing.
+fn after_token(expected: Expected, first: u8) -> Option<Expected> {
+    let is_word = is_of_word(first);
+    match expected {
+        Expected::Name if is_word => Some(Expected::Member),
+        Expected::Member if is_word || first == b',' => Some(Expected::Member),
+        Expected::Member if first == b'(' => Some(Expected::Host),
+        Expected::Host if is_word => Some(Expected::FirstComma),
+        Expected::Host | Expected::FirstComma if first == b',' => Some(Expected::User),
+        Expected::User if is_word => Some(Expected::SecondComma),
+        Expected::User | Expected::SecondComma if first == b',' => Some(Expected::Domain),
+        Expected::Domain if is_word => Some(Expected::Close),
+        Expected::Domain | Expected::Close if first == b')' => Some(Expected::Member),
+        _ => None,
+    }
+}
+
+/// Finds the first member of this name, or host of this name, among the tokens of a line.
+fn member_slice<'a>(tokens: &[Slice<'a>], member: &str) -> Option<Slice<'a>> {
+    let mut expected = Expected::Name;
+    for token in tokens {
+        if matches!(expected, Expected::Member | Expected::Host) && token.text == member {
+            return Some(*token);
+        }
+        expected = after_token(expected, first_byte(token))?;
+    }
+    None
+}
+/// Lists the tokens of a line.
+fn line_tokens<'a>(alloc: Global, line: &Line<'a>) -> Result<Vec<Slice<'a>>, AllocError> {
+    let mut tokens = Vec::new(alloc);
+    for part in line.parts() {
+        push_tokens(&mut tokens, part.start, part.text)?;
+    }
+    Ok(tokens)
+}
+
+/// Adds the tokens of a text that stands at this place.
+fn push_tokens<'a>(
+    tokens: &mut Vec<Slice<'a>>,
+    start: usize,
+    text: &'a str,
+) -> Result<(), AllocError> {
+    let mut rest = text;
+    while !rest.is_empty() {
+        let len = token_len(rest);
+        let at = start.saturating_add(text.len()).saturating_sub(rest.len());
+        if !is_blank(rest.as_bytes()[0]) {
+            tokens.push(Slice {
+                start: at,
+                text: &rest[..len],
+            })?;
+        }
+        rest = &rest[len..];
     }
     Ok(())
 }
 
-/// Makes the slice of the bytes from `from` to `to` of a text that stands at this place, which begins with this byte.
-fn slice_at(start: usize, from: usize, to: usize, first: u8) -> Slice {
-    Slice {
-        start: start.saturating_add(from),
-        end: start.saturating_add(to),
-        begins_with_hash: first == b'#',
+/// Counts the bytes of the token, or of the blank, that a text begins with.
+fn token_len(text: &str) -> usize
+    requires some { 0 < length text.now }
+    ensures boundary { IsCharBoundary text.now result }
+    ensures some { 0 < result }
+{
+    let len = word_len(text);
+    if len > 0 {
+        return len;
     }
+    1
 }
 
-/// Makes the slice that is the first physical line.
-fn first_line_slice(line: &Line) -> Slice {
-    match line.parts().first() {
-        Some(part) => slice_at(part.start, 0, part.whole.len(), 0),
-        None => slice_at(0, 0, 0, 0),
-    }
+/// Returns the byte that a token begins with.
+fn first_byte(token: &Slice) -> u8 {
+    token.text.as_bytes().first().copied().unwrap_or(0)
 }

@@ -50,7 +50,7 @@ pub(crate) fn push_tokens(
 }
 
 /// Counts the bytes of the word that a text begins with.
-fn word_len(text: &str) -> usize
+pub(crate) fn word_len(text: &str) -> usize
     ensures { result ≡ prefix_len spec.is_of_word text.now }
 {
     text.bytes().take_while(|c| is_of_word(*c)).count()
