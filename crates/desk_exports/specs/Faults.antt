@@ -1,14 +1,18 @@
 -- The faults of a text, each with the place of the slice at fault. (this project's own)
-use Rattle.std.specs.Prelude.{◌≡◌, ℕ, Bool, false, ◌&&◌, ◌+◌, nat_lt, List, Option, None, Some, drop, find, length, position, slice_get, take, is_err, if◌then◌else◌}
+use Rattle.std.specs.Prelude.{◌≡◌, ℕ, Bool, false, not, ◌&&◌, ◌+◌, ◌<◌, ◌^◌, nat_lt, List, Option, None, Some, Ok, drop, find, length, map, position, slice_get, take, is_err, if◌then◌else◌}
 use Rattle.std.specs.List.{IsAmong, range_with_len}
 use Rattle.std.specs.Option.{option_map_or, unwrap_or}
-use Rattle.desk_text.specs.Lines.{LogicalLine, logical_lines}
+use Rattle.std.specs.Str.{bytes_eq}
+use Rattle.desk_text.specs.Lines.{LogicalLine, PhysicalLine, logical_lines}
 use Rattle.desk_text.specs.Path.{is_absolute}
-use Rattle.desk_text.specs.Place.{IsOfLine, LiesIn}
+use Rattle.desk_text.specs.Place.{HasSlice, IsOfLine, IsPlaceOf, LiesIn}
+use Rattle.desk_text.specs.Word.{RawWord, read_words}
+use Rattle.desk_text.specs.declared.place.Place.{Place}
 use Rattle.desk_tables.specs.CredentialText.{cred_breaks, elements}
 use Rattle.desk_tables.specs.declared.credential_text.CredFault.{CredFault}
 use Rattle.desk_tables.specs.declared.credential_text.CredFault.TheVariants as cred
 use Rattle.desk_tables.specs.declared.filesystems.FsId.{FsId}
+use Rattle.desk_exports.specs.Grammar.{grammar_word}
 use Rattle.desk_exports.specs.Options.{gives_value, has_option, of_value, same_keyword, takes_value}
 use Rattle.desk_exports.specs.Rules.{is_bad_name, is_bad_prefix, is_elsewhere, is_not_root, is_unknown, lacks_value, mount_point}
 use Rattle.desk_exports.specs.Tables.{TableRows}
@@ -30,6 +34,21 @@ pub record IsPlaced (text : List ℕ) (placed : PlacedFault) : Type 0 where
   pub number : placed.fault.line ≡ line.number
   pub own : IsOfLine line placed.place
   pub lies : LiesIn text placed.place
+
+-- a word that has this value and does not begin with a dash
+abbrev pub is_written : List ℕ → GrammarWord → Bool
+is_written value word = not word.dashed && bytes_eq word.value value
+
+-- The place is that of the first of these words of a line that has this value and does not begin with a dash, if there is
+-- one and a physical line of the line has it.
+abbrev pub IsPlaceAmong : LogicalLine → List RawWord → List ℕ → Place → Type 0
+IsPlaceAmong line words value place = (index : ℕ) (word : RawWord) → position (is_written value) (map grammar_word words) ≡ Some index → slice_get words index ≡ Some word
+    → word.start + length word.raw < 2 ^ 64 → (k : ℕ) (part : PhysicalLine) → slice_get line.parts k ≡ Some part
+    → HasSlice part word.start (word.start + length word.raw) → IsPlaceOf line word.start (word.start + length word.raw) place
+
+-- The place is that of the first word of the line that has this value and does not begin with a dash, if each quote closes.
+abbrev pub IsPlaceOfWord : LogicalLine → List ℕ → Place → Type 0
+IsPlaceOfWord line value place = (words : List RawWord) → read_words line ≡ Ok words → IsPlaceAmong line words value place
 
 -- how many come before the first that passes the test; none, if none passes
 abbrev pub first_where : {X : Type 0} → (X → Bool) → List X → ℕ
