@@ -12,6 +12,7 @@ pub mod Splitting
 pub mod Prints
 pub mod Laws
 pub mod PrivateFaults
+pub mod PrivateParts
 pub mod PrivateFiles
 pub mod PrivateSplitting
 pub mod PrivateFlavours

@@ -3,7 +3,7 @@
 
 ghost use Rattle.std.specs.Prelude.{◌≡◌, ◌==◌, ◌+◌, ◌<◌, ◌≤◌, ℕ, IfOk, IfSome, List, drop, find, is_err, length, map, position, if◌then◌else◌};
 ghost use Rattle.std.specs.List.{IsAmong, range_with_len, slice_split};
-ghost use Rattle.desk_exports.specs.Faults as spec;
+ghost use Rattle.desk_exports.specs.Faults.{IsPlaceAmong, IsPlaceOfWord, is_written};
 ghost use Rattle.desk_exports.specs.Grammar.{pieces};
 ghost use Rattle.desk_exports.specs.Options.{gives_value, same_keyword};
 ghost use Rattle.desk_exports.specs.Rules as rules;
@@ -13,6 +13,7 @@ ghost use Rattle.desk_text.specs.Path.{is_absolute};
 ghost use Rattle.desk_text.specs.Place.{IsOfLine, LiesIn};
 ghost use Rattle.desk_text.specs.Views.{word_of};
 ghost use Rattle.desk_exports.specs.PrivateFaults.{IsOnLine};
+ghost use Rattle.desk_exports.specs.PrivateParts as spec;
 ghost use Rattle.desk_exports.specs.Tables.{table_rows};
 
 use crate::grammar::{
@@ -76,7 +77,7 @@ pub(crate) fn place_at_fault(
 /// Makes the place of the first word of a line that has this value and does not begin with a dash. If there is none, the
 /// place is that of the value of `-network`, or else of the first physical line.
 pub fn place_of_word(alloc: Global, line: &Line, value: &str) -> Result<Place, AllocError>
-    ensures word { IfOk result (spec.IsPlaceOfWord line.now value.now) }
+    ensures word { IfOk result (IsPlaceOfWord line.now value.now) }
     ensures lies { IfOk result (λ place. (text : List ℕ) → IsAmong (logical_lines text) line.now → LiesIn text place) }
     ensures own { IfOk result (λ place. (text : List ℕ) → IsAmong (logical_lines text) line.now → IsOfLine line.now place) }
 {
@@ -94,7 +95,7 @@ fn place_of_value(
     words: &[Word],
     value: &str,
 ) -> Result<Place, AllocError>
-    ensures word { IfOk result (spec.IsPlaceAmong line.now (map word_of words.now) value.now) }
+    ensures word { IfOk result (IsPlaceAmong line.now (map word_of words.now) value.now) }
     ensures on_line { IfOk result (IsOnLine line.now) }
 {
     let read = grammar_words(alloc, words)?;
@@ -109,7 +110,7 @@ fn place_of_value(
 
 /// Finds the word that has this value and does not begin with a dash.
 fn written_place(words: &[GrammarWord], value: &str) -> Option<usize>
-    ensures { result ≡ position (spec.is_written value.now) words.now }
+    ensures { result ≡ position (is_written value.now) words.now }
 {
     words
         .iter()

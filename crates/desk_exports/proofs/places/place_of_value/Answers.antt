@@ -21,5 +21,5 @@ returns-in-Some-clause-word c = λ index word first there fits k part has lies.
     let within : i < length words = omega (arith, same, slice_get_within (map word_of words) index word there, length-map words word_of) in
     let is = word_at words i _ word within (ap (slice_get (map word_of words)) (sym same) ∙ there) in
     subst (λ (w : RawWord). w.start + length w.raw < 2 ^ 64 → (k : ℕ) (part : PhysicalLine) → slice_get c.args.line.now.parts k ≡ Some part
-        → HasSlice part w.start (w.start + length w.raw) → IsPlaceOf c.args.line.now w.start (w.start + length w.raw) c.of_word.result)
+    → HasSlice part w.start (w.start + length w.raw) → IsPlaceOf c.args.line.now w.start (w.start + length w.raw) c.of_word.result)
     is c.of_word.ensures.exact fits k part has lies

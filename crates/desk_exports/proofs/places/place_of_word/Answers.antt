@@ -14,5 +14,5 @@ returns-in-Ok-clause-word c =
     let spelled = subst (λ answer. ReadsAs (λ v. map word_of v.items) answer (read_words line)) c.in-Ok.is c.words.ensures in
     IfOk-weaker c.place_of_value.result _ (IsPlaceOfWord line c.args.value.now)
     (λ place at ws read. subst (λ (ws : List RawWord). IsPlaceAmong line ws c.args.value.now place)
-        (ap (map word_of) c.as_slice.ensures.value ∙ same_words (read_words line) _ ws spelled read) at)
+    (ap (map word_of) c.as_slice.ensures.value ∙ same_words (read_words line) _ ws spelled read) at)
     c.place_of_value.ensures.word
