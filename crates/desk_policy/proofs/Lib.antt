@@ -12,6 +12,7 @@ pub mod Places
 pub mod KeyClashes
 pub mod KeyPlaces
 pub mod Lesser
+pub mod UnlistedLines
 pub mod FilesRead
 pub mod Chain
 pub mod Gathered
