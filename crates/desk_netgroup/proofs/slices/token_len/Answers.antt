@@ -1,4 +1,4 @@
-use Rattle.std.proofs.Common.{◌≡◌, List, ℕ, length, arith, rules}
+use Rattle.std.proofs.Common.{◌≡◌, List, ℕ, arith, rules}
 use Rattle.std.specs.List.{prefix_len}
 use Rattle.std.specs.Str.{IsUtf8}
 use Rattle.std.proofs.lemmas.Str.{IsCharBoundary-after_ascii}
