@@ -1,7 +1,7 @@
 -- File systems that name a custodian who is not listed. (this project's own)
-use Rattle.std.specs.Prelude.{ℕ, ◌==◌, ◌&&◌, Bool, List, [], ◌∷◌, Option, Some, None, filter, is_none, map, min}
-use Rattle.std.specs.List.{list_any}
-use Rattle.std.specs.Option.{option_map_or}
+use Rattle.std.specs.Prelude.{◌≡◌, ℕ, ◌==◌, ◌&&◌, Bool, true, List, [], ◌∷◌, Option, Some, None, filter, is_none, map, min, slice_get}
+use Rattle.std.specs.List.{All, list_any}
+use Rattle.std.specs.Option.{option_map, option_map_or}
 use Rattle.desk_text.specs.Lines.{LogicalLine, logical_lines}
 use Rattle.desk_tables.specs.Custodians.{digest_of}
 use Rattle.desk_tables.specs.Rules.{TableFault}
@@ -33,3 +33,11 @@ fault_on line = record { line = line.number; rule = rule.Custodian }
 -- the faults of all lines of a text that name a custodian who is not listed, in order, if this table is that of the text
 abbrev pub unlisted_faults : List Custodian → List Mount → List ℕ → List TableFault
 unlisted_faults custodians table text = map fault_on (filter (λ line. is_unlisted_line custodians table line.number) (logical_lines text))
+
+-- each mount point of the table is listed by a line of the text
+abbrev pub IsListedIn : List ℕ → List Mount → Type 0
+IsListedIn text table = All (λ mount. list_any (λ line. line.number == mount.line) (logical_lines text) ≡ true) table
+
+-- the first of these faults is on this line, or there is none
+abbrev pub first_line : List TableFault → Option ℕ
+first_line faults = option_map (λ fault. fault.line) (slice_get faults 0)

@@ -6,7 +6,7 @@ ghost use Rattle.std.specs.Option.{option_map_or};
 ghost use Rattle.desk_text.specs.Lines.{logical_lines};
 ghost use Rattle.desk_text.specs.Place.{IsOfLine, LiesIn};
 ghost use Rattle.desk_tables.specs.Faults.{IsOnLine};
-ghost use Rattle.desk_policy.specs.Unlisted.{fault_on, has_unlisted, is_unlisted_line, unlisted_faults, unlisted_line};
+ghost use Rattle.desk_policy.specs.Unlisted.{IsListedIn, fault_on, first_line, has_unlisted, is_unlisted_line, unlisted_faults, unlisted_line};
 
 use desk_tables::{Custodians, FileSystems, Mount, PlacedFault, TableRule};
 use desk_text::{Line, LineFault, Place, ReadError, Sequence, Word, logical_lines, unquote, words};
@@ -35,6 +35,8 @@ pub fn unlisted_lines(
 ) -> Result<Sequence<PlacedFault>, AllocError>
     requires { length text.now ≤ 4294967294 }
     ensures lines { IfOk result (λ found. map (λ one. one.fault) found ≡ unlisted_faults custodians.now filesystems.now text.now) }
+    ensures first { IsListedIn text.now filesystems.now
+        → IfOk result (λ found. first_line (map (λ one. one.fault) found) ≡ unlisted_line custodians.now filesystems.now) }
     ensures placed { IfOk result (All (IsOnLine text.now)) }
 {
     let lines = logical_lines(alloc, text)?;
