@@ -1,5 +1,5 @@
 -- The first line that names an unlisted custodian is the least such number.
-use Rattle.std.proofs.Common.{◌≡◌, ◌∙◌, ◌<◌, ◌≤◌, ◌||◌, ◌&&◌, ℕ, suc, Bool, true, false, cond, eqb, eq-eqb, List, [], ◌∷◌, Option, None, Some, ap, refl, sym, map, length, arith}
+use Rattle.std.proofs.Common.{◌≡◌, ◌∙◌, ◌<◌, ◌≤◌, ◌||◌, ◌&&◌, ℕ, suc, Bool, true, false, cond, eqb, eq-eqb, List, [], ◌∷◌, Some, ap, refl, sym, map, arith}
 use Rattle.std.specs.List.{All, AllByRecursion, list_any}
 use Rattle.std.specs.Prelude.{filter}
 use Rattle.std.proofs.lemmas.Bool.{eqb-true, true≢false}
@@ -41,11 +41,11 @@ least_is n [] there above = absurd (true≢false (sym there))
 least_is n (x ∷ ns) there above =
     split (eqb x n) (has n ns) there
     (λ first.
-        let same : x ≡ n = eqb-true x n first in
-        ap (λ (m : ℕ). Some (lesser m (least ns))) same ∙ ap (λ (m : ℕ). Some m) (none_below n ns (λ k h. above k (later_has (eqb x k) (has k ns) h))))
+    let same : x ≡ n = eqb-true x n first in
+    ap (λ (m : ℕ). Some (lesser m (least ns))) same ∙ ap (λ (m : ℕ). Some m) (none_below n ns (λ k h. above k (later_has (eqb x k) (has k ns) h))))
     (λ other later.
-        let up : n ≤ x = above x (or_left (eqb x x) (has x ns) (eq-eqb x x refl)) in
-        ap (λ o. Some (lesser x o)) (least_is n ns later (λ k h. above k (later_has (eqb x k) (has k ns) h))) ∙ ap (λ (m : ℕ). Some m) (smaller x n up))
+    let up : n ≤ x = above x (or_left (eqb x x) (has x ns) (eq-eqb x x refl)) in
+    ap (λ o. Some (lesser x o)) (least_is n ns later (λ k h. above k (later_has (eqb x k) (has k ns) h))) ∙ ap (λ (m : ℕ). Some m) (smaller x n up))
   where
     later_has : (a b : Bool) → b ≡ true → (a || b) ≡ true
     later_has true b e = refl
@@ -80,12 +80,12 @@ head_is ns (l ∷ ls) up listed = by_case (has l.number ns) refl (λ below. head
         → first_line (map fault_on (cond b (l ∷ filter (λ (l : LogicalLine). has l.number ns) ls) (filter (λ (l : LogicalLine). has l.number ns) ls))) ≡ least ns
     by_case true e later_head =
         sym (least_is l.number ns e (λ k h. split (eqb l.number k) (on ls k) (listed k h)
-            (λ first. let same : l.number ≡ k = eqb-true l.number k first in omega (arith, same))
-            (λ other later. let less : l.number < k = later_up l.number k ls (above l ls up) later in omega (arith, less))))
+        (λ first. let same : l.number ≡ k = eqb-true l.number k first in omega (arith, same))
+        (λ other later. let less : l.number < k = later_up l.number k ls (above l ls up) later in omega (arith, less))))
     by_case false e later_head =
         later_head (λ k h. split (eqb l.number k) (on ls k) (listed k h)
-            (λ first. let same : l.number ≡ k = eqb-true l.number k first in absurd (true≢false (sym h ∙ ap (λ n. has n ns) (sym same) ∙ e)))
-            (λ other later. later))
+        (λ first. let same : l.number ≡ k = eqb-true l.number k first in absurd (true≢false (sym h ∙ ap (λ n. has n ns) (sym same) ∙ e)))
+        (λ other later. later))
 
 same_filter : (p q : LogicalLine → Bool) (ls : List LogicalLine) → ((l : LogicalLine) → p l ≡ q l) → filter p ls ≡ filter q ls
 same_filter p q [] same = refl

@@ -1,9 +1,8 @@
-use Rattle.std.proofs.Common.{◌≡◌, ◌∙◌, List, Ok, ap, sym, subst, map}
+use Rattle.std.proofs.Common.{◌∙◌, List, ap, subst, map}
 use Rattle.std.proofs.lemmas.Result.{IfOk-weaker}
 use Rattle.desk_text.specs.Reading.{ReadsAs}
 use Rattle.desk_text.specs.Views.{word_of}
 use Rattle.desk_text.specs.Word.{RawWord, read_words}
-use Rattle.desk_text.specs.declared.word.Word.{Word}
 use Rattle.desk_exports.specs.Faults.{IsPlaceAmong, IsPlaceOfWord}
 use Rattle.desk_exports.proofs.WordPlaces.{same_words}
 use Rattle.desk_exports.proofs.places.place_of_word.Goals as goal

@@ -1,4 +1,4 @@
-use Rattle.std.proofs.Common.{◌≡◌, ◌∙◌, ◌+◌, ℕ, Bool, List, ap, map, subst, sym, take, take_all}
+use Rattle.std.proofs.Common.{◌≡◌, ◌∙◌, ℕ, Bool, List, ap, map, subst, sym, take_all}
 use Rattle.std.specs.List.{All, IsAmong}
 use Rattle.std.specs.Prelude.{filter}
 use Rattle.std.proofs.lemmas.List.Elements.{All-push}
@@ -43,6 +43,6 @@ returns-clause-first c = λ listed.
     let ls : List LogicalLine = c.deref-line-items.result.now in
     let text : ls ≡ logical_lines c.args.text.now = c.deref-line-items.ensures.value ∙ c.in_ok-lines.ensures.lines in
     let all : map (λ (one : PlacedFault). one.fault) c.loop-line.found ≡ map fault_on (filter p (logical_lines c.args.text.now)) =
-        c.loop-line.invariant.faults ∙ ap (λ ls. map fault_on (filter p ls)) (take_all c.loop-line.line-index ls c.loop-line-test.false ∙ text) in
+    c.loop-line.invariant.faults ∙ ap (λ ls. map fault_on (filter p ls)) (take_all c.loop-line.line-index ls c.loop-line-test.false ∙ text) in
     ap first_line all ∙ first_is c.args.custodians.now (logical_lines c.args.text.now) c.args.filesystems.now
     (subst AreNumberedUp c.in_ok-lines.ensures.lines c.in_ok-lines.ensures.ascending) listed
