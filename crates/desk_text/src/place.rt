@@ -49,16 +49,10 @@ impl Place {
         ensures lies { (text : List ℕ) → IsAmong (logical_lines text) line.now → LiesIn text result }
         ensures own { (text : List ℕ) → IsAmong (logical_lines text) line.now → IsOfLine line.now result }
     {
-        for (index, part) in line.parts().iter().enumerate() {
-            if has_slice(part, start, end) {
-                return Place {
-                    line: line.number() + index as u32,
-                    start: start - part.start,
-                    end: end - part.start,
-                };
-            }
+        match near_place(line, start, end) {
+            Some(place) => place,
+            None => first_place(line, start, end),
         }
-        first_line(line)
     }
 
     /// Makes the place of a word of a logical line.
@@ -100,6 +94,45 @@ fn count_characters(text: &str) -> usize
     ensures fits { result + 1 < 2 ^ 64 }
 {
     text.chars().count()
+}
+
+/// Makes the place of a slice on the last physical line that does not begin behind it, if that one has it. It is found
+/// without looking at the others.
+fn near_place(line: &Line, start: usize, end: usize) -> Option<Place>
+    ensures { IfSome result (IsPlaceOf line.now start end) }
+{
+    let parts = line.parts();
+    let behind = parts.partition_point(|part| part.start <= start);
+    let index = behind.checked_sub(1)?;
+    let part = parts.get(index)?;
+    if !has_slice(part, start, end) {
+        return None;
+    }
+    let number = line.number() + index as u32;
+    Some(Place {
+        line: number,
+        start: start - part.start,
+        end: end - part.start,
+    })
+}
+
+/// Makes the place of a slice on the first physical line that has it, or of the first one, whole.
+fn first_place(line: &Line, start: usize, end: usize) -> Place
+    ensures exact { (index : ℕ) (part : PhysicalLine) → slice_get line.now.parts index ≡ Some part
+        → HasSlice part start end → IsPlaceOf line.now start end result }
+    ensures lies { (text : List ℕ) → IsAmong (logical_lines text) line.now → LiesIn text result }
+    ensures own { (text : List ℕ) → IsAmong (logical_lines text) line.now → IsOfLine line.now result }
+{
+    for (index, part) in line.parts().iter().enumerate() {
+        if has_slice(part, start, end) {
+            return Place {
+                line: line.number() + index as u32,
+                start: start - part.start,
+                end: end - part.start,
+            };
+        }
+    }
+    first_line(line)
 }
 
 /// Tests whether a physical line has the slice of the text that begins and ends at these bytes.
