@@ -108,3 +108,10 @@ rule_name rule.BadTriple = codes "BadTriple"
 rule_name rule.Unclosed = codes "Unclosed"
 rule_name rule.Duplicate = codes "Duplicate"
 rule_name rule.StrayComment = codes "StrayComment"
+
+-- what is said of the slice that breaks a rule
+abbrev pub rule_sentence : GroupRule → List ℕ
+rule_sentence rule.BadTriple = codes "does not fit: a line is a netgroup and its members, each a netgroup or (host,user,domain), in words of at most 255 bytes"
+rule_sentence rule.Unclosed = codes "is a parenthesis that is not closed"
+rule_sentence rule.Duplicate = codes "is defined on an earlier line already"
+rule_sentence rule.StrayComment = codes "begins with # but is not the first word: put a comment on a line of its own"

@@ -1,7 +1,7 @@
 //! What is wrong with a line of a netgroup file.
 
 ghost use Rattle.std.specs.Prelude.{◌≡◌};
-ghost use Rattle.desk_netgroup.specs.Faults.{rule_name, rule_number};
+ghost use Rattle.desk_netgroup.specs.Faults.{rule_name, rule_number, rule_sentence};
 
 use desk_text::Place;
 use thiserror::Error;
@@ -9,14 +9,11 @@ use thiserror::Error;
 /// Why a line is refused. Of several rules that a line breaks the first is named in the order
 /// StrayComment, Unclosed, BadTriple, Duplicate.
 #[derive(Clone, Copy, Debug, PartialEq, Eq, Error)]
+#[error("{}", self.sentence())]
 pub enum GroupRule {
-    #[error("it is not a netgroup's name and members, each a netgroup or (host,user,domain), or a word is longer than 255 bytes")]
     BadTriple,
-    #[error("a parenthesis is not closed")]
     Unclosed,
-    #[error("this netgroup is defined on an earlier line")]
     Duplicate,
-    #[error("a comment has to stand on a line of its own")]
     StrayComment,
 }
 
@@ -37,6 +34,20 @@ impl GroupRule {
             GroupRule::Unclosed => "Unclosed",
             GroupRule::Duplicate => "Duplicate",
             GroupRule::StrayComment => "StrayComment",
+        }
+    }
+
+    /// Gives what is said of the slice that breaks the rule, behind the slice.
+    pub fn sentence(self) -> &'static str
+        ensures { result.now ≡ rule_sentence self }
+    {
+        match self {
+            GroupRule::BadTriple =>
+                "does not fit: a line is a netgroup and its members, each a netgroup or (host,user,domain), in words of at most 255 bytes",
+            GroupRule::Unclosed => "is a parenthesis that is not closed",
+            GroupRule::Duplicate => "is defined on an earlier line already",
+            GroupRule::StrayComment =>
+                "begins with # but is not the first word: put a comment on a line of its own",
         }
     }
 }

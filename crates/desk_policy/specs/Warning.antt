@@ -18,12 +18,26 @@ use Rattle.desk_policy.specs.declared.warning.Warning.{Warning}
 use Rattle.desk_policy.specs.declared.warning.WarningKind.{WarningKind}
 use Rattle.desk_policy.specs.declared.warning.WarningKind.TheVariants.{ClassMask, Ipv6, UnknownHost, UnknownMember}
 
+-- the number of a kind
+abbrev pub kind_number : WarningKind → ℕ
+kind_number ClassMask = 1
+kind_number Ipv6 = 2
+kind_number UnknownHost = 3
+kind_number UnknownMember = 4
+
 -- the name of a kind
 abbrev pub kind_name : WarningKind → List ℕ
 kind_name ClassMask = codes "ClassMask"
 kind_name Ipv6 = codes "Ipv6"
 kind_name UnknownHost = codes "UnknownHost"
 kind_name UnknownMember = codes "UnknownMember"
+
+-- what is said of the word that is odd
+abbrev pub kind_sentence : WarningKind → List ℕ
+kind_sentence ClassMask = codes "has neither a prefix nor a mask, so that its class tells its size: write a prefix, as in 10.0.0.0/8"
+kind_sentence Ipv6 = codes "is of IPv6 and matches nobody, since exportdesk supports IPv4 alone"
+kind_sentence UnknownHost = codes "is not an address, a netgroup or a host in hosts(5), and matches nobody"
+kind_sentence UnknownMember = codes "is not a netgroup of the file, and adds nobody"
 
 -- of a host's text: it is of IPv6; it has digits and dots alone and is not an address; or it is no name of the hosts file,
 -- which gives each of its names an address

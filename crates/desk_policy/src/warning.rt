@@ -26,6 +26,13 @@ pub enum WarningKind {
 }
 
 impl WarningKind {
+    /// Gives the number of the kind, from 1.
+    pub fn number(self) -> u32
+        ensures { result ≡ spec.kind_number self }
+    {
+        self as u32 + 1
+    }
+
     /// Gives the name of the kind.
     pub fn name(self) -> &'static str
         ensures { result.now ≡ spec.kind_name self }
@@ -35,6 +42,21 @@ impl WarningKind {
             WarningKind::Ipv6 => "Ipv6",
             WarningKind::UnknownHost => "UnknownHost",
             WarningKind::UnknownMember => "UnknownMember",
+        }
+    }
+
+    /// Gives what is said of the word that is odd, behind the word.
+    pub fn sentence(self) -> &'static str
+        ensures { result.now ≡ spec.kind_sentence self }
+    {
+        match self {
+            WarningKind::ClassMask =>
+                "has neither a prefix nor a mask, so that its class tells its size: write a prefix, as in 10.0.0.0/8",
+            WarningKind::Ipv6 =>
+                "is of IPv6 and matches nobody, since exportdesk supports IPv4 alone",
+            WarningKind::UnknownHost =>
+                "is not an address, a netgroup or a host in hosts(5), and matches nobody",
+            WarningKind::UnknownMember => "is not a netgroup of the file, and adds nobody",
         }
     }
 }

@@ -30,6 +30,17 @@ rule_name Custodian = codes "Custodian"
 rule_name Digest = codes "Digest"
 rule_name TooMany = codes "TooMany"
 
+-- what is said of the slice that breaks a rule, or of the file
+abbrev pub rule_sentence : TableRule → List ℕ
+rule_sentence Fields = codes "is on a line of too few or too many fields, or is a quote that is not closed"
+rule_sentence Number = codes "is not a number or an address that can stand here"
+rule_sentence Name = codes "is not a name: it is empty, too long, or has a character that it may not have"
+rule_sentence Duplicate = codes "is on an earlier line already"
+rule_sentence BadPath = codes "is not a mount point: write a path that begins with / and has no component . or .."
+rule_sentence Custodian = codes "needs a custodian who is not in the custodians file"
+rule_sentence Digest = codes "is not a digest of 64 hexadecimal digits"
+rule_sentence TooMany = codes "is one line more than the file may have"
+
 -- the row of a line, unless the line breaks a rule
 abbrev pub unless_rule : {Row : Type 0} → Option TableRule → Option Row → Result (Option Row) TableRule
 unless_rule None row = Ok row

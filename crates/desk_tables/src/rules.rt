@@ -1,29 +1,22 @@
 //! The rules that a line of a table may break.
 
 ghost use Rattle.std.specs.Prelude.{◌≡◌};
-ghost use Rattle.desk_tables.specs.Rules.{rule_name, rule_number};
+ghost use Rattle.desk_tables.specs.Rules.{rule_name, rule_number, rule_sentence};
 
 use desk_text::LineFault;
 use thiserror::Error;
 
 /// A rule that a line of a table may break. Of a line that breaks several the first in this order is reported.
 #[derive(Clone, Copy, Debug, PartialEq, Eq, Error)]
+#[error("{}", self.sentence())]
 pub enum TableRule {
-    #[error("it has too few or too many fields, or a quote that does not close")]
     Fields,
-    #[error("a number or an address cannot be read")]
     Number,
-    #[error("a name is empty, too long, or has a character that it may not have")]
     Name,
-    #[error("this name or mount point is already on an earlier line")]
     Duplicate,
-    #[error("its mount point is not a path")]
     BadPath,
-    #[error("a custodian is not listed")]
     Custodian,
-    #[error("the digest is not 64 hexadecimal digits")]
     Digest,
-    #[error("there are too many lines")]
     TooMany,
 }
 
@@ -48,6 +41,25 @@ impl TableRule {
             TableRule::Custodian => "Custodian",
             TableRule::Digest => "Digest",
             TableRule::TooMany => "TooMany",
+        }
+    }
+
+    /// Returns what is said of the slice that breaks the rule, or of the file, behind it.
+    pub fn sentence(self) -> &'static str
+        ensures { result.now ≡ rule_sentence self }
+    {
+        match self {
+            TableRule::Fields =>
+                "is on a line of too few or too many fields, or is a quote that is not closed",
+            TableRule::Number => "is not a number or an address that can stand here",
+            TableRule::Name =>
+                "is not a name: it is empty, too long, or has a character that it may not have",
+            TableRule::Duplicate => "is on an earlier line already",
+            TableRule::BadPath =>
+                "is not a mount point: write a path that begins with / and has no component . or ..",
+            TableRule::Custodian => "needs a custodian who is not in the custodians file",
+            TableRule::Digest => "is not a digest of 64 hexadecimal digits",
+            TableRule::TooMany => "is one line more than the file may have",
         }
     }
 }
