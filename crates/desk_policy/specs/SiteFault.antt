@@ -30,6 +30,13 @@ rule_name (rule.Group broken) = groups.rule_name broken
 rule_name (rule.Line broken) = lines.rule_name broken
 rule_name rule.Contradiction = codes "Contradiction"
 
+-- what is said of the slice that breaks a rule, or of the file
+abbrev pub rule_sentence : SiteRule → List ℕ
+rule_sentence (rule.Table broken) = tables.rule_sentence broken
+rule_sentence (rule.Group broken) = groups.rule_sentence broken
+rule_sentence (rule.Line broken) = lines.rule_sentence broken
+rule_sentence rule.Contradiction = codes "has other terms than an earlier line"
+
 -- the name of the exports file of a mount point
 abbrev pub exports_name : List (List ℕ) → List ℕ
 exports_name mount = codes "exports:" ++ path_text mount

@@ -1,7 +1,7 @@
 //! The faults of a site: of a file, or of the lines of an exports file against each other.
 
 ghost use Rattle.std.specs.Prelude.{◌≡◌};
-ghost use Rattle.desk_policy.specs.SiteFault.{rule_name, rule_number};
+ghost use Rattle.desk_policy.specs.SiteFault.{rule_name, rule_number, rule_sentence};
 
 use desk_exports::Rule;
 use desk_netgroup::GroupRule;
@@ -41,6 +41,18 @@ impl SiteRule {
             SiteRule::Group(rule) => rule.name(),
             SiteRule::Line(rule) => rule.name(),
             SiteRule::Contradiction => "Contradiction",
+        }
+    }
+
+    /// Gives what is said of the slice that breaks the rule, or of the file, behind it.
+    pub fn sentence(self) -> &'static str
+        ensures { result.now ≡ rule_sentence self }
+    {
+        match self {
+            SiteRule::Table(rule) => rule.sentence(),
+            SiteRule::Group(rule) => rule.sentence(),
+            SiteRule::Line(rule) => rule.sentence(),
+            SiteRule::Contradiction => "has other terms than an earlier line",
         }
     }
 }
