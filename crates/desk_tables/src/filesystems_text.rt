@@ -99,8 +99,7 @@ fn read_mount_point(alloc: Global, text: &str) -> Result<Path, ReadError<TableRu
 {
     match Path::read(alloc, text) {
         Ok(path) => Ok(path),
-        Err(ReadError::Fault(_)) => Err(ReadError::Fault(TableRule::BadPath)),
-        Err(ReadError::Memory) => Err(ReadError::Memory),
+        Err(error) => Err(error.map_fault(|_| TableRule::BadPath)),
     }
 }
 

@@ -23,8 +23,7 @@ pub fn line_values(alloc: Global, line: &Line) -> Result<Vec<Text>, ReadError<Ta
 {
     match words(alloc, line) {
         Ok(words) => Ok(values_of(alloc, words.as_slice())?),
-        Err(ReadError::Fault(_)) => Err(ReadError::Fault(TableRule::Fields)),
-        Err(ReadError::Memory) => Err(ReadError::Memory),
+        Err(error) => Err(error.map_fault(|_| TableRule::Fields)),
     }
 }
 
@@ -50,8 +49,7 @@ pub fn at_line<Row>(
 {
     match answer {
         Ok(row) => Ok(row),
-        Err(ReadError::Memory) => Err(ReadError::Memory),
-        Err(ReadError::Fault(rule)) => Err(ReadError::Fault(LineFault { line: number, rule })),
+        Err(error) => Err(error.at_line(number)),
     }
 }
 

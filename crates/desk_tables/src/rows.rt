@@ -9,7 +9,7 @@ ghost use Rattle.desk_tables.specs.Rows.{text_table};
 ghost use Rattle.desk_tables.specs.declared.rules.TableRule.{TableRule};
 
 use crate::rules::{TableFault, TableRule};
-use desk_text::{LineFault, ReadError, Sequence};
+use desk_text::{ReadError, Sequence};
 use std::alloc::Global;
 
 /// Reads the rows of the lines of a text, each line by itself, or the first faulty line with the first rule that it breaks.
@@ -47,7 +47,6 @@ fn push_row<Row: Drop>(
             Ok(())
         }
         Ok(None) => Ok(()),
-        Err(ReadError::Memory) => Err(ReadError::Memory),
-        Err(ReadError::Fault(rule)) => Err(ReadError::Fault(LineFault { line: number, rule })),
+        Err(error) => Err(error.at_line(number)),
     }
 }
