@@ -13,7 +13,7 @@ use Rattle.desk_exports.specs.Clients.{clients_of}
 use Rattle.desk_exports.specs.Entry.{entry_of, mapping_of, terms_of}
 use Rattle.desk_exports.specs.Files.{answered_line, home_of, line_says, text_answer, words_say}
 use Rattle.desk_exports.specs.Flavours.{flavours_of}
-use Rattle.desk_exports.specs.Laws.{AnswersSayWhat, EntriesAreTheAnswers, FirstFaultIsNamed, IsFirstFault, SaysWhat, faults, takes_part, takes_part_in}
+use Rattle.desk_exports.specs.Laws.{AnswersSayWhat, EntriesAreTheAnswers, FirstFaultIsReported, IsFirstFault, SaysWhat, faults, takes_part, takes_part_in}
 use Rattle.desk_exports.specs.Lines.{read_grammar_line, unless_broken}
 use Rattle.desk_exports.specs.Options.{has_option}
 use Rattle.desk_exports.specs.Rules.{first_broken_rule}
@@ -227,5 +227,5 @@ module _ {X : Type 0} (answer : LogicalLine → Result (Option X) Rule) where
       let first = first_of (faults answer ls) (found answer ls) fault e in
       first_fault ls fault first.0 first.1
 
-pub first_fault_is_named : FirstFaultIsNamed
-first_fault_is_named tables scope text fault e = first_named (line_says tables scope) (logical_lines text) fault e
+pub first_fault_is_reported : FirstFaultIsReported
+first_fault_is_reported tables scope text fault e = first_named (line_says tables scope) (logical_lines text) fault e

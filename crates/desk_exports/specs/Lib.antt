@@ -19,4 +19,4 @@ pub mod PrivateFlavours
 pub mod PrivateFew
 pub mod PrivateGrammar
 pub mod PrivateLines
-pub mod PrivateMapping
+pub mod PrivateEntry

@@ -74,32 +74,32 @@ fn line_fault(
     ensures placed { IfOk result (λ found. IfSome found (IsFaultOn line.now)) }
 {
     match ReadError::split(read_grammar_line(alloc, line))? {
-        Ok(parts) => {
-            let found = words_fault(alloc, line, tables, scope, &parts);
-            drop(parts);
+        Ok(grammar) => {
+            let found = words_fault(alloc, line, tables, scope, &grammar);
+            drop(grammar);
             found
         }
         Err(_) => Ok(Some(make_fault(line, Rule::OpenQuote, place_of_open_quote(line)))),
     }
 }
 
-/// Finds the fault of a logical line of these parts, whose quotes close.
+/// Finds the fault of a logical line whose quotes close, sorted into this.
 fn words_fault(
     alloc: Global,
     line: &Line,
     tables: &Tables,
     scope: Scope,
-    parts: &GrammarLine,
+    grammar: &GrammarLine,
 ) -> Result<Option<PlacedFault>, AllocError>
     ensures fault { IfOk result (λ found. option_map (λ one. one.fault) found
-        ≡ words_fault (table_rows tables.now) scope line.now.number parts.now) }
+        ≡ words_fault (table_rows tables.now) scope line.now.number grammar.now) }
     ensures placed { IfOk result (λ found. IfSome found (IsFaultOn line.now)) }
 {
-    let own_fs = home_of(tables, scope, parts);
-    match has_entry(tables, own_fs, parts) {
+    let own_fs = home_of(tables, scope, grammar);
+    match has_entry(tables, own_fs, grammar) {
         Ok(_) => Ok(None),
         Err(rule) => {
-            let place = place_at_fault(alloc, line, tables, own_fs, parts, rule)?;
+            let place = place_at_fault(alloc, line, tables, own_fs, grammar, rule)?;
             Ok(Some(make_fault(line, rule, place)))
         }
     }

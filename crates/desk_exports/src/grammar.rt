@@ -110,7 +110,7 @@ pub struct GrammarLine {
 }
 
 impl GrammarLine {
-    /// Returns the parts of the line that words make.
+    /// Sorts words into directories, options and names.
     pub fn read(alloc: Global, words: &[GrammarWord]) -> Result<GrammarLine, AllocError>
         ensures { IfOk result (λ line. line ≡ spec.grammar_line words.now) }
     {

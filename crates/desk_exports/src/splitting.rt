@@ -73,7 +73,7 @@ fn destination_of(
     ensures { Reads result (spec.destination_of filesystems.now line.now) }
 {
     match ReadError::split(read_grammar_line(alloc, line))? {
-        Ok(parts) => match destination_by(filesystems, &parts) {
+        Ok(grammar) => match destination_by(filesystems, &grammar) {
             Ok(fs) => Ok(fs),
             Err(rule) => Err(ReadError::Fault(rule)),
         },
@@ -81,7 +81,7 @@ fn destination_of(
     }
 }
 
-/// Finds the file system that a line of these parts goes to.
+/// Finds the file system that a sorted line goes to.
 fn destination_by(filesystems: &FileSystems, line: &GrammarLine) -> Result<Option<FsId>, Rule>
     ensures { result ≡ spec.destination_by filesystems.now line.now }
 {

@@ -68,7 +68,7 @@ breaks earlier line rule.Unclosed = has_unclosed (tokens_of line)
 breaks earlier line rule.Duplicate = is_some (earlier_line earlier line)
 breaks earlier line rule.StrayComment = list_any is_comment (after_first_word (tokens_of line))
 
--- the order in which a broken rule is named
+-- the order in which a broken rule is reported
 abbrev pub rules_in_order : List GroupRule
 rules_in_order = rule.StrayComment ∷ rule.Unclosed ∷ rule.BadTriple ∷ rule.Duplicate ∷ []
 

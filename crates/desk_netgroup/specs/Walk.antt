@@ -29,7 +29,7 @@ abbrev pub new_texts : List (List ℕ) → List (List ℕ) → List (List ℕ)
 new_texts before [] = []
 new_texts before (text ∷ texts) = (if is_among text before then [] else text ∷ []) ++ new_texts (before ++ text ∷ []) texts
 
--- the hosts of a group in the order in which they are first met, each once; a walk looks at the group, and at each member
+-- the hosts of a group in the order in which they are first met, without duplicates; a walk looks at the group, and at each member
 -- at most once
 unfoldable pub hosts_in_order : List GroupLine → List ℕ → List (List ℕ)
 hosts_in_order lines name = new_texts [] (hosts_met (suc (length (all_members lines))) lines (Group name ∷ []))

@@ -6,8 +6,8 @@ ghost use Rattle.desk_netgroup.specs.Faults.{rule_name, rule_number, rule_senten
 use desk_text::Place;
 use thiserror::Error;
 
-/// Why a line is refused. Of several rules that a line breaks the first is named in the order
-/// StrayComment, Unclosed, BadTriple, Duplicate.
+/// Why a line is refused. Of several rules that a line breaks the first in the order StrayComment, Unclosed, BadTriple,
+/// Duplicate is reported.
 #[derive(Clone, Copy, Debug, PartialEq, Eq, Error)]
 #[error("{}", self.sentence())]
 pub enum GroupRule {
@@ -53,7 +53,7 @@ impl GroupRule {
 }
 
 /// The first faulty line of a netgroup file, by the number of its first physical line, and the rule
-/// that is named of it; with Duplicate also the earlier line that defines the group.
+/// that is reported of it; with Duplicate also the earlier line that defines the group.
 #[derive(Clone, Copy, Debug, PartialEq, Eq, Error)]
 #[error("line {line}: {rule}")]
 pub struct GroupFault {

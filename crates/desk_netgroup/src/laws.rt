@@ -21,7 +21,7 @@ pub fn hosts_are_reached()
 {}
 
 /// Says that the hosts of a group, in the order in which a walk first meets them, are just its hosts,
-/// each once.
+/// without duplicates.
 pub fn order_keeps_the_hosts()
     ensures { OrderKeepsTheHosts }
 {}

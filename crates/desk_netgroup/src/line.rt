@@ -20,7 +20,7 @@ use std::alloc::{AllocError, Global};
 /// The longest word, in bytes.
 pub(crate) const LONGEST_WORD: usize = 255;
 
-/// Reads the group that a line defines after earlier ones, or names the first rule that it breaks.
+/// Reads the group that a line defines after earlier ones, or returns the first rule that it breaks.
 pub fn read_line(
     alloc: Global,
     line: &Line,

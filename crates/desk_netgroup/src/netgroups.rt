@@ -14,7 +14,7 @@ use crate::group_line::GroupLine;
 use crate::index::{add_first, line_at};
 use crate::line::read_line;
 use crate::slices::with_place;
-use crate::walk::{each_once, met_hosts};
+use crate::walk::{distinct_copies, met_hosts};
 use desk_text::{ReadError, Sequence, logical_lines};
 use std::alloc::{AllocError, Global};
 use std::collections::BTreeMap;
@@ -86,7 +86,7 @@ impl Netgroups {
         Ok(found)
     }
 
-    /// Finds the hosts of a group, with those of its member groups at any depth: each once, in the
+    /// Finds the hosts of a group, with those of its member groups at any depth: without duplicates, in the
     /// order in which they are first met, depth first and from left to right. A member group that is
     /// not defined adds nothing, nor does one that was entered before. None if the group itself is
     /// not defined. (netgroup(5))
@@ -100,7 +100,7 @@ impl Netgroups {
             return Ok(None);
         }
         let met = met_hosts(alloc, self, name)?;
-        Ok(Some(each_once(alloc, met.as_slice())?))
+        Ok(Some(distinct_copies(alloc, met.as_slice())?))
     }
 
     /// Gives the lines, each of which defines a group, in order.

@@ -70,8 +70,8 @@ fn push_reversed<'a>(pending: &mut Vec<&'a Member>, members: &'a [Member]) -> Re
     Ok(())
 }
 
-/// Gives copies of texts in the order of their first places, each once.
-pub fn each_once(alloc: Global, texts: &[&str]) -> Result<Vec<String>, AllocError>
+/// Gives copies of texts in the order of their first places, without duplicates.
+pub fn distinct_copies(alloc: Global, texts: &[&str]) -> Result<Vec<String>, AllocError>
     ensures { IfOk result (λ v. map string_bytes v.items ≡ new_texts [] (map (λ x. x.now) texts.now)) }
 {
     let mut seen = BTreeSet::new(alloc);

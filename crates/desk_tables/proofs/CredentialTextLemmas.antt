@@ -3,8 +3,8 @@ use Rattle.std.proofs.Common.{◌≡◌, ◌<◌, ◌==◌, ℕ, Bool, List, [],
 use Rattle.std.specs.List.{after_first, before_first, join_with_byte, onto_first, position_or_len, slice_split}
 use Rattle.std.proofs.lemmas.Bool.{cases_Bool}
 use Rattle.std.proofs.lemmas.List.Splits.{join_with_byte-slice_split, length-slice_split, slice_split-cons_no, slice_split_first}
-use Rattle.desk_tables.specs.CredentialText.{cred_breaks, elements, elements_answer, read_credential, written_breaks}
-use Rattle.desk_tables.specs.PrivateCredentialText.{written_answer}
+use Rattle.desk_tables.specs.CredentialText.{cred_breaks, elements, elements_answer, read_credential, user_and_groups_breaks}
+use Rattle.desk_tables.specs.PrivateCredentialText.{user_and_groups_answer}
 use Rattle.desk_tables.specs.declared.credential_text.CredFault.{CredFault}
 use Rattle.desk_tables.specs.declared.groups.Group.{Group}
 use Rattle.desk_tables.specs.declared.users.User.{User}
@@ -33,7 +33,7 @@ without_others text inside empty = cut text inside ∙ ap (λ es. before_first (
 
 module _ (users : List User) (groups : List Group) where
   -- groups behind a user answer, and have faults, as they are written
-  answers_as_written : (user others : List ℕ) (es : List (List ℕ)) → elements others ≡ es → (length others ≡ 0 → ⊥) → elements_answer users groups (user ∷ es) ≡ written_answer users groups user es
+  answers_as_written : (user others : List ℕ) (es : List (List ℕ)) → elements others ≡ es → (length others ≡ 0 → ⊥) → elements_answer users groups (user ∷ es) ≡ user_and_groups_answer users groups user es
   answers_as_written user others [] is some = absurd (omega (arith, ap length is, length-slice_split (λ b. b == 58) others))
   answers_as_written user others ([] ∷ []) is some =
       let empty : others ≡ [] = sym (join_with_byte-slice_split 58 others) ∙ ap (join_with_byte 58) is in
@@ -42,7 +42,7 @@ module _ (users : List User) (groups : List Group) where
   answers_as_written user others ([] ∷ e ∷ es) is some = refl
   answers_as_written user others ((b ∷ bs) ∷ e ∷ es) is some = refl
 
-  breaks_as_written : (user others : List ℕ) (es : List (List ℕ)) (fault : CredFault) → elements others ≡ es → (length others ≡ 0 → ⊥) → cred_breaks users groups (user ∷ es) fault ≡ written_breaks users groups user es fault
+  breaks_as_written : (user others : List ℕ) (es : List (List ℕ)) (fault : CredFault) → elements others ≡ es → (length others ≡ 0 → ⊥) → cred_breaks users groups (user ∷ es) fault ≡ user_and_groups_breaks users groups user es fault
   breaks_as_written user others [] fault is some = absurd (omega (arith, ap length is, length-slice_split (λ b. b == 58) others))
   breaks_as_written user others ([] ∷ []) fault is some =
       let empty : others ≡ [] = sym (join_with_byte-slice_split 58 others) ∙ ap (join_with_byte 58) is in
@@ -52,12 +52,12 @@ module _ (users : List User) (groups : List Group) where
   breaks_as_written user others ((b ∷ bs) ∷ e ∷ es) fault is some = refl
 
   pub with_others : (text : List ℕ) → position_or_len (λ b. b == 58) text < length text → (length (after_first (λ b. b == 58) text) ≡ 0 → ⊥)
-      → read_credential users groups text ≡ written_answer users groups (before_first (λ b. b == 58) text) (elements (after_first (λ b. b == 58) text))
+      → read_credential users groups text ≡ user_and_groups_answer users groups (before_first (λ b. b == 58) text) (elements (after_first (λ b. b == 58) text))
   with_others text inside some =
       ap (elements_answer users groups) (cut text inside) ∙ answers_as_written (before_first (λ b. b == 58) text) (after_first (λ b. b == 58) text) (elements (after_first (λ b. b == 58) text)) refl some
 
   pub breaks_with_others : (text : List ℕ) (fault : CredFault) → position_or_len (λ b. b == 58) text < length text → (length (after_first (λ b. b == 58) text) ≡ 0 → ⊥)
-      → cred_breaks users groups (elements text) fault ≡ written_breaks users groups (before_first (λ b. b == 58) text) (elements (after_first (λ b. b == 58) text)) fault
+      → cred_breaks users groups (elements text) fault ≡ user_and_groups_breaks users groups (before_first (λ b. b == 58) text) (elements (after_first (λ b. b == 58) text)) fault
   breaks_with_others text fault inside some =
       ap (λ es. cred_breaks users groups es fault) (cut text inside)
       ∙ breaks_as_written (before_first (λ b. b == 58) text) (after_first (λ b. b == 58) text) (elements (after_first (λ b. b == 58) text)) fault refl some

@@ -1,4 +1,4 @@
--- Lemmas on numbers, each once.
+-- Lemmas on numbers without duplicates.
 use Rattle.std.proofs.Common.{◌≡◌, ◌<◌, ◌≤◌, ◌+◌, ◌==◌, ◌||◌, ℕ, Bool, true, false, not, cond, List, [], ◌∷◌, ◌++◌, Some, None, take, drop, get_or, length, length-append, map, filter, ap, sym, subst, refl, ◌∙◌, append_assoc, inl, inr, arith}
 use Rattle.std.specs.Prelude.{nat_lt, if◌then◌else◌}
 use Rattle.std.proofs.lemmas.Bool.{cases_Bool}
@@ -11,7 +11,7 @@ use Rattle.std.proofs.lemmas.List.Folds.{list_any-append}
 use Rattle.desk_tables.specs.PrivateCredentials.{AddsOnce, is_among}
 use Rattle.desk_tables.specs.PrivateIndex.{gids_under, under}
 use Rattle.desk_tables.specs.Credentials.{at_most_16}
-use Rattle.desk_tables.specs.Groups.{each_once, gids_of, has_member}
+use Rattle.desk_tables.specs.Groups.{distinct, gids_of, has_member}
 use Rattle.desk_tables.specs.declared.groups.Group.{Group}
 use Rattle.desk_tables.specs.declared.users.User.{User}
 
@@ -50,63 +50,63 @@ more_at x n ms false false in_ms is =
     ∙ ap (λ b. with_one b (x ∷ others x ms) n) (sym test)
 
 -- one more number stands at the end, unless it is among them
-once_more : (ns : List ℕ) (n : ℕ) → each_once (ns ++ n ∷ []) ≡ with_one (is_among n (each_once ns)) (each_once ns) n
+once_more : (ns : List ℕ) (n : ℕ) → distinct (ns ++ n ∷ []) ≡ with_one (is_among n (distinct ns)) (distinct ns) n
 once_more [] n = refl
-once_more (x ∷ ns) n = ap (λ t. x ∷ others x t) (once_more ns n) ∙ more_at x n (each_once ns) (is_among n (each_once ns)) (x == n) refl refl
+once_more (x ∷ ns) n = ap (λ t. x ∷ others x t) (once_more ns n) ∙ more_at x n (distinct ns) (is_among n (distinct ns)) (x == n) refl refl
 
 no_shorter : (here : Bool) (ms : List ℕ) (n : ℕ) → length ms ≤ length (with_one here ms n)
 no_shorter true ms n = omega arith
 no_shorter false ms n = simp length-append (omega arith)
 
-once_longer : (ns more : List ℕ) → length (each_once ns) ≤ length (each_once (ns ++ more))
-once_longer ns [] = let e : ns ++ [] ≡ ns = append-nil ns in omega (arith, ap (λ t. length (each_once t)) e)
+once_longer : (ns more : List ℕ) → length (distinct ns) ≤ length (distinct (ns ++ more))
+once_longer ns [] = let e : ns ++ [] ≡ ns = append-nil ns in omega (arith, ap (λ t. length (distinct t)) e)
 once_longer ns (n ∷ more) =
-    let step : length (each_once ns) ≤ length (each_once (ns ++ n ∷ [])) = subst (λ t. length (each_once ns) ≤ length t) (sym (once_more ns n)) (no_shorter (is_among n (each_once ns)) (each_once ns) n) in
-    let all : length (each_once (ns ++ n ∷ [])) ≤ length (each_once ((ns ++ n ∷ []) ++ more)) = once_longer (ns ++ n ∷ []) more in
-    omega (arith, ap (λ t. length (each_once t)) (append_assoc ns (n ∷ []) more))
+    let step : length (distinct ns) ≤ length (distinct (ns ++ n ∷ [])) = subst (λ t. length (distinct ns) ≤ length t) (sym (once_more ns n)) (no_shorter (is_among n (distinct ns)) (distinct ns) n) in
+    let all : length (distinct (ns ++ n ∷ [])) ≤ length (distinct ((ns ++ n ∷ []) ++ more)) = once_longer (ns ++ n ∷ []) more in
+    omega (arith, ap (λ t. length (distinct t)) (append_assoc ns (n ∷ []) more))
 
 -- what stands behind numbers counts by those of them that are there
-same_front : (xs ys more : List ℕ) → each_once xs ≡ each_once ys → each_once (xs ++ more) ≡ each_once (ys ++ more)
-same_front xs ys [] same = ap each_once (append-nil xs) ∙ same ∙ sym (ap each_once (append-nil ys))
+same_front : (xs ys more : List ℕ) → distinct xs ≡ distinct ys → distinct (xs ++ more) ≡ distinct (ys ++ more)
+same_front xs ys [] same = ap distinct (append-nil xs) ∙ same ∙ sym (ap distinct (append-nil ys))
 same_front xs ys (n ∷ more) same =
-    ap each_once (sym (append_assoc xs (n ∷ []) more))
+    ap distinct (sym (append_assoc xs (n ∷ []) more))
     ∙ same_front (xs ++ n ∷ []) (ys ++ n ∷ []) more (once_more xs n ∙ ap (λ ms. with_one (is_among n ms) ms n) same ∙ sym (once_more ys n))
-    ∙ ap each_once (append_assoc ys (n ∷ []) more)
+    ∙ ap distinct (append_assoc ys (n ∷ []) more)
 
 here_now : (here : Bool) (ms : List ℕ) (n : ℕ) → is_among n ms ≡ here → is_among n (with_one here ms n) ≡ true
 here_now true ms n is = is
 here_now false ms n is = list_any-append (λ g. g == n) ms (n ∷ []) ∙ ap (λ b. b || ((n == n) || false)) is ∙ grind (arith, nat_tests)
 
 -- a number that stands twice counts once
-twice : (xs : List ℕ) (n : ℕ) → each_once ((xs ++ n ∷ []) ++ n ∷ []) ≡ each_once (xs ++ n ∷ [])
+twice : (xs : List ℕ) (n : ℕ) → distinct ((xs ++ n ∷ []) ++ n ∷ []) ≡ distinct (xs ++ n ∷ [])
 twice xs n =
-    let there : is_among n (each_once (xs ++ n ∷ [])) ≡ true = ap (is_among n) (once_more xs n) ∙ here_now (is_among n (each_once xs)) (each_once xs) n refl in
-    once_more (xs ++ n ∷ []) n ∙ ap (λ b. with_one b (each_once (xs ++ n ∷ [])) n) there
+    let there : is_among n (distinct (xs ++ n ∷ [])) ≡ true = ap (is_among n) (once_more xs n) ∙ here_now (is_among n (distinct xs)) (distinct xs) n refl in
+    once_more (xs ++ n ∷ []) n ∙ ap (λ b. with_one b (distinct (xs ++ n ∷ [])) n) there
 
 abbrev given : Bool → ℕ → List ℕ
 given b n = if b then n ∷ [] else []
 
-one_or_more : (any : Bool) (xs : List ℕ) (n : ℕ) → each_once ((xs ++ n ∷ []) ++ given any n) ≡ each_once (xs ++ n ∷ [])
+one_or_more : (any : Bool) (xs : List ℕ) (n : ℕ) → distinct ((xs ++ n ∷ []) ++ given any n) ≡ distinct (xs ++ n ∷ [])
 one_or_more true xs n = twice xs n
-one_or_more false xs n = ap each_once (append-nil (xs ++ n ∷ []))
+one_or_more false xs n = ap distinct (append-nil (xs ++ n ∷ []))
 
 module _ (name : List ℕ) where
   -- a group counts once, however often it lists the member
-  members_once : (xs : List ℕ) (gid : ℕ) (members : List (List ℕ)) → each_once (xs ++ flat_map (under name gid) members) ≡ each_once (xs ++ given (list_any (bytes_eq name) members) gid)
+  members_once : (xs : List ℕ) (gid : ℕ) (members : List (List ℕ)) → distinct (xs ++ flat_map (under name gid) members) ≡ distinct (xs ++ given (list_any (bytes_eq name) members) gid)
   members_once xs gid [] = refl
   members_once xs gid (m ∷ members) =
       let rest : List ℕ = flat_map (under name gid) members in
       elim (cases_Bool (bytes_eq name m)) [
         | inl same ↦
-            ap (λ b. each_once (xs ++ (given b gid ++ rest))) same
-            ∙ ap each_once (sym (append_assoc xs (gid ∷ []) rest))
+            ap (λ b. distinct (xs ++ (given b gid ++ rest))) same
+            ∙ ap distinct (sym (append_assoc xs (gid ∷ []) rest))
             ∙ members_once (xs ++ gid ∷ []) gid members
             ∙ one_or_more (list_any (bytes_eq name) members) xs gid
-            ∙ ap (λ b. each_once (xs ++ given (b || list_any (bytes_eq name) members) gid)) (sym same)
+            ∙ ap (λ b. distinct (xs ++ given (b || list_any (bytes_eq name) members) gid)) (sym same)
         | inr other ↦
-            ap (λ b. each_once (xs ++ (given b gid ++ rest))) other
+            ap (λ b. distinct (xs ++ (given b gid ++ rest))) other
             ∙ members_once xs gid members
-            ∙ ap (λ b. each_once (xs ++ given (b || list_any (bytes_eq name) members) gid)) (sym other)
+            ∙ ap (λ b. distinct (xs ++ given (b || list_any (bytes_eq name) members) gid)) (sym other)
       ]
 
   abbrev of_groups : List Group → List ℕ
@@ -116,34 +116,34 @@ module _ (name : List ℕ) where
   one_group true g groups = refl
   one_group false g groups = refl
 
-  groups_once : (xs : List ℕ) (groups : List Group) → each_once (xs ++ gids_under name groups) ≡ each_once (xs ++ of_groups groups)
+  groups_once : (xs : List ℕ) (groups : List Group) → distinct (xs ++ gids_under name groups) ≡ distinct (xs ++ of_groups groups)
   groups_once xs [] = refl
   groups_once xs (g ∷ groups) =
       let here : List ℕ = flat_map (under name g.gid) g.members in
       let one : List ℕ = given (has_member name g) g.gid in
-      ap each_once (sym (append_assoc xs here (gids_under name groups)))
+      ap distinct (sym (append_assoc xs here (gids_under name groups)))
       ∙ groups_once (xs ++ here) groups
       ∙ same_front (xs ++ here) (xs ++ one) (of_groups groups) (members_once xs g.gid g.members)
-      ∙ ap each_once (append_assoc xs one (of_groups groups))
-      ∙ ap (λ gids. each_once (xs ++ gids)) (one_group (has_member name g) g groups)
+      ∙ ap distinct (append_assoc xs one (of_groups groups))
+      ∙ ap (λ gids. distinct (xs ++ gids)) (one_group (has_member name g) g groups)
 
 -- the gids under a user's name, behind its own, are those of the user
-pub gids_listed : (groups : List Group) (user : User) → each_once (user.gid ∷ gids_under user.name groups) ≡ gids_of groups user
+pub gids_listed : (groups : List Group) (user : User) → distinct (user.gid ∷ gids_under user.name groups) ≡ gids_of groups user
 gids_listed groups user = groups_once user.name (user.gid ∷ []) groups
 
-module _ (own : ℕ) (ns : List ℕ) (i : ℕ) (below : i < length ns) (old new : List ℕ) (so_far : old ≡ each_once (own ∷ take i ns)) where
+module _ (own : ℕ) (ns : List ℕ) (i : ℕ) (below : i < length ns) (old new : List ℕ) (so_far : old ≡ distinct (own ∷ take i ns)) where
   up : take (i + 1) ns ≡ take i ns ++ get_or ns i 0 ∷ []
   up = take_more ns i 0 below
 
   -- one more number is added, or there is no room for all
-  pub gid_added : AddsOnce true old (get_or ns i 0) new → new ≡ each_once (own ∷ take (i + 1) ns)
-  gid_added adds = adds ∙ ap (λ gids. with_one (is_among (get_or ns i 0) gids) gids (get_or ns i 0)) so_far ∙ sym (once_more (own ∷ take i ns) (get_or ns i 0)) ∙ ap (λ ms. each_once (own ∷ ms)) (sym up)
+  pub gid_added : AddsOnce true old (get_or ns i 0) new → new ≡ distinct (own ∷ take (i + 1) ns)
+  gid_added adds = adds ∙ ap (λ gids. with_one (is_among (get_or ns i 0) gids) gids (get_or ns i 0)) so_far ∙ sym (once_more (own ∷ take i ns) (get_or ns i 0)) ∙ ap (λ ms. distinct (own ∷ ms)) (sym up)
 
-  pub gid_refused : AddsOnce false old (get_or ns i 0) new → None ≡ at_most_16 (each_once (own ∷ ns))
+  pub gid_refused : AddsOnce false old (get_or ns i 0) new → None ≡ at_most_16 (distinct (own ∷ ns))
   gid_refused adds =
-      let here : each_once ((own ∷ take i ns) ++ (get_or ns i 0) ∷ []) ≡ old ++ (get_or ns i 0) ∷ [] = once_more (own ∷ take i ns) (get_or ns i 0) ∙ ap (λ gids. with_one (is_among (get_or ns i 0) gids) gids (get_or ns i 0)) (sym so_far) ∙ ap (λ b. with_one b old (get_or ns i 0)) adds.0 in
-      let longer : length (each_once ((own ∷ take i ns) ++ (get_or ns i 0) ∷ [])) ≤ length (each_once (((own ∷ take i ns) ++ (get_or ns i 0) ∷ []) ++ drop (i + 1) ns)) = once_longer ((own ∷ take i ns) ++ (get_or ns i 0) ∷ []) (drop (i + 1) ns) in
+      let here : distinct ((own ∷ take i ns) ++ (get_or ns i 0) ∷ []) ≡ old ++ (get_or ns i 0) ∷ [] = once_more (own ∷ take i ns) (get_or ns i 0) ∙ ap (λ gids. with_one (is_among (get_or ns i 0) gids) gids (get_or ns i 0)) (sym so_far) ∙ ap (λ b. with_one b old (get_or ns i 0)) adds.0 in
+      let longer : length (distinct ((own ∷ take i ns) ++ (get_or ns i 0) ∷ [])) ≤ length (distinct (((own ∷ take i ns) ++ (get_or ns i 0) ∷ []) ++ drop (i + 1) ns)) = once_longer ((own ∷ take i ns) ++ (get_or ns i 0) ∷ []) (drop (i + 1) ns) in
       let whole : ((own ∷ take i ns) ++ (get_or ns i 0) ∷ []) ++ drop (i + 1) ns ≡ own ∷ ns = ap (λ ms. own ∷ (ms ++ drop (i + 1) ns)) (sym up) ∙ ap (λ ms. own ∷ ms) (take-append-drop (i + 1) ns) in
-      let many : 16 < length (each_once (own ∷ ns)) = omega (arith, ap length here, length-append old ((get_or ns i 0) ∷ []), adds.1, ap (λ ms. length (each_once ms)) whole) in
-      let test : nat_lt 16 (length (each_once (own ∷ ns))) ≡ true = grind (arith, nat_tests) in
-      ap (λ b. if b then None else Some (each_once (own ∷ ns))) (sym test)
+      let many : 16 < length (distinct (own ∷ ns)) = omega (arith, ap length here, length-append old ((get_or ns i 0) ∷ []), adds.1, ap (λ ms. length (distinct ms)) whole) in
+      let test : nat_lt 16 (length (distinct (own ∷ ns))) ≡ true = grind (arith, nat_tests) in
+      ap (λ b. if b then None else Some (distinct (own ∷ ns))) (sym test)

@@ -40,28 +40,28 @@ user_named users element =
 
 -- Whether a fault holds of a user alone: it is neither empty nor out of range and nobody has it; it has more than
 -- sixteen groups, its own among them, each counted once; it is empty; it is out of range.
-abbrev pub alone_breaks : List User → List Group → List ℕ → CredFault → Bool
-alone_breaks users groups user UnknownUser = not (length user == 0) && (not (is_out_of_range user) && is_none (user_named users user))
-alone_breaks users groups user UnknownGroup = false
-alone_breaks users groups user TooManyGroups = option_map_or (λ u. nat_lt 16 (length (gids_of groups u))) (user_named users user) false
-alone_breaks users groups user EmptyElement = length user == 0
-alone_breaks users groups user Range = is_out_of_range user
+abbrev pub lone_user_breaks : List User → List Group → List ℕ → CredFault → Bool
+lone_user_breaks users groups user UnknownUser = not (length user == 0) && (not (is_out_of_range user) && is_none (user_named users user))
+lone_user_breaks users groups user UnknownGroup = false
+lone_user_breaks users groups user TooManyGroups = option_map_or (λ u. nat_lt 16 (length (gids_of groups u))) (user_named users user) false
+lone_user_breaks users groups user EmptyElement = length user == 0
+lone_user_breaks users groups user Range = is_out_of_range user
 
 -- Whether a fault holds of a user and the groups behind it: a name that no user has; a name that no group has; more than
 -- sixteen groups, as they are written; an empty element; an element that is out of range.
-abbrev pub written_breaks : List User → List Group → List ℕ → List (List ℕ) → CredFault → Bool
-written_breaks users groups user others UnknownUser = is_name user && is_none (user_of_name users user)
-written_breaks users groups user others UnknownGroup = list_any (λ e. is_name e && is_none (group_of_name groups e)) others
-written_breaks users groups user others TooManyGroups = nat_lt 16 (length others)
-written_breaks users groups user others EmptyElement = list_any (λ e. length e == 0) (user ∷ others)
-written_breaks users groups user others Range = list_any is_out_of_range (user ∷ others)
+abbrev pub user_and_groups_breaks : List User → List Group → List ℕ → List (List ℕ) → CredFault → Bool
+user_and_groups_breaks users groups user others UnknownUser = is_name user && is_none (user_of_name users user)
+user_and_groups_breaks users groups user others UnknownGroup = list_any (λ e. is_name e && is_none (group_of_name groups e)) others
+user_and_groups_breaks users groups user others TooManyGroups = nat_lt 16 (length others)
+user_and_groups_breaks users groups user others EmptyElement = list_any (λ e. length e == 0) (user ∷ others)
+user_and_groups_breaks users groups user others Range = list_any is_out_of_range (user ∷ others)
 
 -- whether a fault holds of the elements of a text, of which there is at least one; `user:` has no groups
 abbrev pub cred_breaks : List User → List Group → List (List ℕ) → CredFault → Bool
 cred_breaks users groups [] fault = false
-cred_breaks users groups (user ∷ []) fault = alone_breaks users groups user fault
-cred_breaks users groups (user ∷ [] ∷ []) fault = written_breaks users groups user [] fault
-cred_breaks users groups (user ∷ others) fault = written_breaks users groups user others fault
+cred_breaks users groups (user ∷ []) fault = lone_user_breaks users groups user fault
+cred_breaks users groups (user ∷ [] ∷ []) fault = user_and_groups_breaks users groups user [] fault
+cred_breaks users groups (user ∷ others) fault = user_and_groups_breaks users groups user others fault
 
 -- the faults, in the order in which they are checked
 abbrev pub cred_faults : List CredFault
@@ -76,19 +76,19 @@ abbrev pub gid_of : List Group → List ℕ → Option ℕ
 gid_of groups element = if is_digits element then number_in element else option_map (λ g. g.gid) (group_of_name groups element)
 
 -- the credential of a user alone: its number and its gids
-abbrev pub alone_value : List User → List Group → List ℕ → Option Cred
-alone_value users groups user = option_map (λ u. record { uid = u.uid; gids = gids_of groups u }) (user_named users user)
+abbrev pub lone_user_value : List User → List Group → List ℕ → Option Cred
+lone_user_value users groups user = option_map (λ u. record { uid = u.uid; gids = gids_of groups u }) (user_named users user)
 
 -- the credential of a user and the groups behind it, as they are written
-abbrev pub written_value : List User → List Group → List ℕ → List (List ℕ) → Option Cred
-written_value users groups user others = option_map (λ uid. record { uid = uid; gids = filter_map (gid_of groups) others }) (uid_of users user)
+abbrev pub user_and_groups_value : List User → List Group → List ℕ → List (List ℕ) → Option Cred
+user_and_groups_value users groups user others = option_map (λ uid. record { uid = uid; gids = filter_map (gid_of groups) others }) (uid_of users user)
 
 -- the credential of the elements of a text
 abbrev pub cred_value : List User → List Group → List (List ℕ) → Option Cred
 cred_value users groups [] = None
-cred_value users groups (user ∷ []) = alone_value users groups user
-cred_value users groups (user ∷ [] ∷ []) = written_value users groups user []
-cred_value users groups (user ∷ others) = written_value users groups user others
+cred_value users groups (user ∷ []) = lone_user_value users groups user
+cred_value users groups (user ∷ [] ∷ []) = user_and_groups_value users groups user []
+cred_value users groups (user ∷ others) = user_and_groups_value users groups user others
 
 -- the fault if there is one, else the credential
 abbrev pub unless_cred_fault : Option CredFault → Option Cred → Option (Result Cred CredFault)

@@ -53,10 +53,10 @@ abbrev pub has_member : List ℕ → Group → Bool
 has_member name group = list_any (bytes_eq name) group.members
 
 -- each number once, at its first place
-abbrev pub each_once : List ℕ → List ℕ
-each_once [] = []
-each_once (n ∷ ns) = n ∷ filter (λ m. not (m == n)) (each_once ns)
+abbrev pub distinct : List ℕ → List ℕ
+distinct [] = []
+distinct (n ∷ ns) = n ∷ filter (λ m. not (m == n)) (distinct ns)
 
--- the gids of a user: its own, then those of all groups that list its name, in the order of the table, each once
+-- the gids of a user: its own, then those of all groups that list its name, in the order of the table, without duplicates
 abbrev pub gids_of : List Group → User → List ℕ
-gids_of groups user = each_once (user.gid ∷ map (λ g. g.gid) (filter (has_member user.name) groups))
+gids_of groups user = distinct (user.gid ∷ map (λ g. g.gid) (filter (has_member user.name) groups))

@@ -56,11 +56,11 @@ host_faults text = text_faults line_answer text
 abbrev pub is_host : List ℕ → HostRow → Bool
 is_host name row = list_any (str_eq_ignore_ascii_case name) row.names
 
--- the addresses of all rows that have the name, in ascending order, each once
+-- the addresses of all rows that have the name, in ascending order, without duplicates
 abbrev pub addresses_of_host : List HostRow → List ℕ → List ℕ
 addresses_of_host rows name = sorted_set (map (λ row. number_of row.addr) (filter (is_host name) rows))
 
--- these addresses ascend, each once, and an address is among them exactly if some row with the name has it
+-- these addresses ascend, without duplicates, and an address is among them exactly if some row with the name has it
 pub record AreAddressesOf (rows : List HostRow) (name : List ℕ) (addresses : List ℕ) : Type 0 where
   pub ascend : IsStrictlyIncreasing addresses
   pub each : (address : ℕ) → is_among address addresses ≡ list_any (λ row. is_host name row && (number_of row.addr == address)) rows

@@ -6,8 +6,8 @@
 ghost use Rattle.std.specs.Prelude.{◌≡◌, ◌==◌, ◌≤◌, ◌&&◌, List, Some, [], find, is_none, length};
 ghost use Rattle.std.specs.List.{filter_map, list_any};
 ghost use Rattle.std.specs.Option.{option_copied};
-ghost use Rattle.desk_tables.specs.CredentialText.{alone_breaks, cred_breaks, cred_fault_number, cred_faults, elements, gid_of, is_name, is_out_of_range, read_credential, uid_of, user_named, written_breaks};
-ghost use Rattle.desk_tables.specs.PrivateCredentialText.{alone_answer, written_answer};
+ghost use Rattle.desk_tables.specs.CredentialText.{lone_user_breaks, cred_breaks, cred_fault_number, cred_faults, elements, gid_of, is_name, is_out_of_range, read_credential, uid_of, user_named, user_and_groups_breaks};
+ghost use Rattle.desk_tables.specs.PrivateCredentialText.{lone_user_answer, user_and_groups_answer};
 ghost use Rattle.desk_tables.specs.Groups.{group_of_name};
 ghost use Rattle.desk_tables.specs.Users.{user_of_name};
 ghost use Rattle.desk_tables.specs.declared.credential_text.CredFault.TheVariants.{TooManyGroups};
@@ -62,7 +62,7 @@ pub fn credential(users: &Users, groups: &Groups, text: &str) -> Result<Cred, Cr
     ensures { Some result ≡ read_credential users.now groups.now text.now }
 {
     match text.split_once(':') {
-        None => alone(users, groups, text),
+        None => lone_user(users, groups, text),
         Some((user, others)) => {
             if others.is_empty() {
                 without_groups(users, groups, user)
@@ -74,8 +74,8 @@ pub fn credential(users: &Users, groups: &Groups, text: &str) -> Result<Cred, Cr
 }
 
 /// Reads the credential of a user alone.
-fn alone(users: &Users, groups: &Groups, user: &str) -> Result<Cred, CredFault>
-    ensures { Some result ≡ alone_answer users.now groups.now user.now }
+fn lone_user(users: &Users, groups: &Groups, user: &str) -> Result<Cred, CredFault>
+    ensures { Some result ≡ lone_user_answer users.now groups.now user.now }
 {
     if user.is_empty() {
         return Err(CredFault::EmptyElement);
@@ -111,7 +111,7 @@ fn user_named<'a>(users: &'a Users, element: &str) -> Option<&'a User>
 
 /// Reads the credential of a user with no groups.
 fn without_groups(users: &Users, groups: &Groups, user: &str) -> Result<Cred, CredFault>
-    ensures { Some result ≡ written_answer users.now groups.now user.now [] }
+    ensures { Some result ≡ user_and_groups_answer users.now groups.now user.now [] }
 {
     if user.is_empty() {
         return Err(CredFault::EmptyElement);
@@ -130,9 +130,9 @@ fn without_groups(users: &Users, groups: &Groups, user: &str) -> Result<Cred, Cr
 
 /// Reads the credential of a user and the groups that others names.
 fn with_groups(users: &Users, groups: &Groups, user: &str, others: &str) -> Result<Cred, CredFault>
-    ensures { Some result ≡ written_answer users.now groups.now user.now (elements others.now) }
+    ensures { Some result ≡ user_and_groups_answer users.now groups.now user.now (elements others.now) }
 {
-    if let Some(fault) = written_fault(users, groups, user, others) {
+    if let Some(fault) = user_and_groups_fault(users, groups, user, others) {
         return Err(fault);
     }
     match uid_of(users, user) {
@@ -145,10 +145,17 @@ fn with_groups(users: &Users, groups: &Groups, user: &str, others: &str) -> Resu
 }
 
 /// Finds the first fault of a user and the groups that others names.
-fn written_fault(users: &Users, groups: &Groups, user: &str, others: &str) -> Option<CredFault>
-    ensures { result ≡ find (written_breaks users.now groups.now user.now (elements others.now)) cred_faults }
+fn user_and_groups_fault(
+    users: &Users,
+    groups: &Groups,
+    user: &str,
+    others: &str,
+) -> Option<CredFault>
+    ensures { result ≡ find (user_and_groups_breaks users.now groups.now user.now (elements others.now)) cred_faults }
 {
-    CRED_FAULTS.iter().copied().find(|fault| written_breaks(users, groups, user, others, *fault))
+    CRED_FAULTS.iter().copied().find(|fault| user_and_groups_breaks(
+        users, groups, user, others, *fault,
+    ))
 }
 
 /// Tests whether a text has a fault, whatever other faults it has.
@@ -156,20 +163,20 @@ pub fn has_fault(users: &Users, groups: &Groups, text: &str, fault: CredFault) -
     ensures { result ≡ cred_breaks users.now groups.now (elements text.now) fault }
 {
     match text.split_once(':') {
-        None => alone_breaks(users, groups, text, fault),
+        None => lone_user_breaks(users, groups, text, fault),
         Some((user, others)) => {
             if others.is_empty() {
                 without_groups_breaks(users, user, fault)
             } else {
-                written_breaks(users, groups, user, others, fault)
+                user_and_groups_breaks(users, groups, user, others, fault)
             }
         }
     }
 }
 
 /// Tests whether a user alone has a fault.
-fn alone_breaks(users: &Users, groups: &Groups, user: &str, fault: CredFault) -> bool
-    ensures { result ≡ alone_breaks users.now groups.now user.now fault }
+fn lone_user_breaks(users: &Users, groups: &Groups, user: &str, fault: CredFault) -> bool
+    ensures { result ≡ lone_user_breaks users.now groups.now user.now fault }
 {
     match fault {
         CredFault::UnknownUser => {
@@ -184,7 +191,7 @@ fn alone_breaks(users: &Users, groups: &Groups, user: &str, fault: CredFault) ->
 
 /// Tests whether a user alone has more than sixteen groups.
 fn has_many_groups(users: &Users, groups: &Groups, user: &str) -> bool
-    ensures { result ≡ alone_breaks users.now groups.now user.now TooManyGroups }
+    ensures { result ≡ lone_user_breaks users.now groups.now user.now TooManyGroups }
 {
     match user_named(users, user) {
         Some(user) => groups.gids_of(user).is_none(),
@@ -194,7 +201,7 @@ fn has_many_groups(users: &Users, groups: &Groups, user: &str) -> bool
 
 /// Tests whether a user with no groups has a fault.
 fn without_groups_breaks(users: &Users, user: &str, fault: CredFault) -> bool
-    ensures { (groups : List Group) → result ≡ written_breaks users.now groups user.now [] fault }
+    ensures { (groups : List Group) → result ≡ user_and_groups_breaks users.now groups user.now [] fault }
 {
     match fault {
         CredFault::UnknownUser => is_unknown_user(users, user),
@@ -205,14 +212,14 @@ fn without_groups_breaks(users: &Users, user: &str, fault: CredFault) -> bool
 }
 
 /// Tests whether a user and the groups that others names have a fault.
-fn written_breaks(
+fn user_and_groups_breaks(
     users: &Users,
     groups: &Groups,
     user: &str,
     others: &str,
     fault: CredFault,
 ) -> bool
-    ensures { result ≡ written_breaks users.now groups.now user.now (elements others.now) fault }
+    ensures { result ≡ user_and_groups_breaks users.now groups.now user.now (elements others.now) fault }
 {
     match fault {
         CredFault::UnknownUser => is_unknown_user(users, user),

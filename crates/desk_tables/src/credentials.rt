@@ -77,7 +77,7 @@ impl GroupIds {
     }
 
     /// Adds a group number that is not among them yet, and tells whether there was room for it.
-    pub(crate) fn add_once(&mut self, gid: u32) -> bool
+    pub(crate) fn insert_distinct(&mut self, gid: u32) -> bool
         ensures adds { AddsOnce result self.old gid self.new }
         ensures few { length self.old ≤ 16 → length self.new ≤ 16 }
     {

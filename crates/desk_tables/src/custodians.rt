@@ -200,6 +200,7 @@ fn is_name(text: &str) -> bool
     1 <= bytes.len() && bytes.len() <= LONGEST_NAME && only_name_bytes(bytes)
 }
 
+/// Tests whether a name may have each of these bytes. (Split off for its proof.)
 fn only_name_bytes(bytes: &[u8]) -> bool
     ensures { result ≡ list_all spec.is_name_byte bytes.now }
 {

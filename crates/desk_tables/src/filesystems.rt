@@ -62,7 +62,7 @@ impl FileSystems {
         ensures table { IfOk result (λ answer. MatchOption answer (TooMany mount_points.items) (IsTableOf mount_points.items)) }
         ensures few { IfOk result (λ answer. IfSome answer (λ table. length table ≤ 256)) }
     {
-        let mount_points = sorted_once(mount_points);
+        let mount_points = sorted_distinct(mount_points);
         if mount_points.len() > MOST_MOUNT_POINTS {
             return Ok(None);
         }
@@ -175,8 +175,8 @@ fn last_above(mounts: &[Mount], path: &Path) -> Option<usize>
     None
 }
 
-/// Puts the mount points in byte order, each once.
-fn sorted_once(mut mount_points: Vec<Path>) -> Vec<Path>
+/// Puts the mount points in byte order, without duplicates.
+fn sorted_distinct(mut mount_points: Vec<Path>) -> Vec<Path>
     ensures { IsTableOf mount_points.items (map unkept result.items) }
 {
     mount_points.sort_unstable();

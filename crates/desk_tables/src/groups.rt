@@ -103,7 +103,7 @@ impl Groups {
     {
         let mut gids = GroupIds::of(user.gid);
         for gid in listed_gids(&self.by_member, user.name.as_str()) {
-            if !gids.add_once(*gid) {
+            if !gids.insert_distinct(*gid) {
                 return None;
             }
         }

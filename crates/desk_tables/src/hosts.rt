@@ -82,7 +82,7 @@ impl Hosts {
     }
 
     /// Lists the addresses of all rows that have the name, as their name or as an alias, without ASCII case: ascending,
-    /// each once. (hosts(5))
+    /// without duplicates. (hosts(5))
     pub fn addresses(&self, alloc: Global, name: &str) -> Result<Vec<Addr>, AllocError>
         ensures { IfOk result (λ v. map number_of v.items ≡ spec.addresses_of_host self.now name.now) }
     {

@@ -13,7 +13,7 @@ pub fn table_is_unique()
     printed_paths_differ()
 }
 
-/// A name has one list of addresses that ascend, each once, and are those of some row with the name.
+/// A name has one list of addresses that ascend, without duplicates, and are those of some row with the name.
 pub fn addresses_are_unique()
     ensures { AddressesAreUnique }
 {

@@ -57,6 +57,7 @@ pub fn has_long_name(names: &[&str]) -> bool
     any_is_long(names)
 }
 
+/// Tests whether a name is over 255 bytes. (Split off for its proof.)
 fn any_is_long(names: &[&str]) -> bool
     ensures { result ≡ list_any (λ name. is_long_name name.now) names.now }
 {

@@ -5,9 +5,9 @@ use Rattle.desk_exports.proofs.faults.words_fault.Goals as goal
 
 pub returns-in-Ok-clause-fault : goal.returns-in-Ok-clause-fault
 returns-in-Ok-clause-fault c =
-    fault_by_rules (table_rows c.args.tables.now) c.args.scope c.args.line.now.number c.args.parts.now c.home_of-own_fs.result _ c.home_of-own_fs.ensures c.in-Ok.ensures
+    fault_by_rules (table_rows c.args.tables.now) c.args.scope c.args.line.now.number c.args.grammar.now c.home_of-own_fs.result _ c.home_of-own_fs.ensures c.in-Ok.ensures
 
 pub returns-in_ok-place-in-Err-clause-fault : goal.returns-in_ok-place-in-Err-clause-fault
 returns-in_ok-place-in-Err-clause-fault c =
     ap (λ fault. Some fault) c.make_fault.ensures.fault
-    ∙ fault_by_rules (table_rows c.args.tables.now) c.args.scope c.args.line.now.number c.args.parts.now c.home_of-own_fs.result _ c.home_of-own_fs.ensures c.in-Err.ensures
+    ∙ fault_by_rules (table_rows c.args.tables.now) c.args.scope c.args.line.now.number c.args.grammar.now c.home_of-own_fs.result _ c.home_of-own_fs.ensures c.in-Err.ensures

@@ -20,13 +20,13 @@ returns-clause-defined c = subst (λ o. IsSome o) c.group.ensures (some_copied c
 
 pub returns-clause-hosts : goal.returns-clause-hosts
 returns-clause-hosts c = λ host.
-    ap (is_among host) c.in_ok-each_once.ensures ∙ same_texts (texts c.as_slice.result.now) host
+    ap (is_among host) c.in_ok-distinct_copies.ensures ∙ same_texts (texts c.as_slice.result.now) host
     ∙ ap (λ (xs : List (Bor (List ℕ))). is_among host (texts xs)) c.as_slice.ensures.value ∙ c.in_ok-met.ensures.hosts host
 
 pub returns-clause-order : goal.returns-clause-order
 unfolding hosts_in_order
 returns-clause-order c =
-    c.in_ok-each_once.ensures ∙ ap (new_texts []) (ap texts c.as_slice.ensures.value ∙ c.in_ok-met.ensures.order)
+    c.in_ok-distinct_copies.ensures ∙ ap (new_texts []) (ap texts c.as_slice.ensures.value ∙ c.in_ok-met.ensures.order)
 
 pub returns-clause-once : goal.returns-clause-once
-returns-clause-once c = subst AreDistinct (sym c.in_ok-each_once.ensures) (distinct (texts c.as_slice.result.now))
+returns-clause-once c = subst AreDistinct (sym c.in_ok-distinct_copies.ensures) (distinct (texts c.as_slice.result.now))

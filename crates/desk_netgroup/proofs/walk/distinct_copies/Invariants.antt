@@ -3,7 +3,7 @@ use Rattle.std.proofs.Common.{◌≡◌, ◌++◌, [], List, ℕ, drop, map, str
 use Rattle.std.specs.BTreeSet.{contains_text}
 use Rattle.desk_netgroup.specs.Netgroups.{is_among}
 use Rattle.desk_netgroup.specs.Walk.{new_texts}
-use Rattle.desk_netgroup.proofs.walk.each_once.Given as goal
+use Rattle.desk_netgroup.proofs.walk.distinct_copies.Given as goal
 
 abbrev pub invariant-loop-text : goal.invariant-loop-text
 invariant-loop-text l = record {

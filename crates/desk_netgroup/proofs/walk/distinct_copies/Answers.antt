@@ -1,5 +1,5 @@
 use Rattle.desk_netgroup.proofs.OnceLemmas.{kept_more, seen_more}
-use Rattle.desk_netgroup.proofs.walk.each_once.Goals as goal
+use Rattle.desk_netgroup.proofs.walk.distinct_copies.Goals as goal
 
 pub loop-text-preserved : goal.loop-text-preserved
 loop-text-preserved c = record {
