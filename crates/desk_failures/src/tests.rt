@@ -9,7 +9,7 @@ use std::test::Fail;
 const TRY: [&str; 5] = ["try", "-", "10.0.0.5", "/usr", "/usr"];
 
 /// The exit status of a command and what it prints, with its message behind a bar.
-fn shown(alloc: Global, status: u8, out: Vec<u8>, err: Vec<u8>) -> Result<String, Fail> {
+fn answer_of(alloc: Global, status: u8, out: Vec<u8>, err: Vec<u8>) -> Result<String, Fail> {
     let out = String::from_utf8(out)?;
     let err = String::from_utf8(err)?;
     Ok(format!(in alloc; "{status} {out}|{err}")?)
@@ -20,7 +20,7 @@ fn run_broken(rt: &HostRuntime, words: &[&str], given: &[u8]) -> Result<String, 
     let mut out = Vec::new(rt.alloc());
     let mut err = Vec::new(rt.alloc());
     let status = run(rt, words, &mut Broken { rest: given }, &mut out, &mut err);
-    shown(rt.alloc(), status, out, err)
+    answer_of(rt.alloc(), status, out, err)
 }
 
 /// Runs a command whose output goes to a writer.
@@ -28,7 +28,7 @@ fn run_to<O: Write>(rt: &HostRuntime, words: &[&str], out: &mut O) -> Result<Str
     let mut input = b"/usr 10.0.0.5\n".as_slice();
     let mut err = Vec::new(rt.alloc());
     let status = run(rt, words, &mut input, out, &mut err);
-    shown(rt.alloc(), status, Vec::new(rt.alloc()), err)
+    answer_of(rt.alloc(), status, Vec::new(rt.alloc()), err)
 }
 
 #[test]
@@ -91,7 +91,7 @@ fn help_that_is_not_printed(rt: HostRuntime) -> Result<(), Fail> {
 fn a_refusal_that_is_not_printed(rt: HostRuntime) -> Result<(), Fail> {
     let mut err = Vec::new(rt.alloc());
     let status = print_memory(&mut Closed, &mut err);
-    let answer = shown(rt.alloc(), status, Vec::new(rt.alloc()), err)?;
+    let answer = answer_of(rt.alloc(), status, Vec::new(rt.alloc()), err)?;
     assert_eq!(rt;
         answer.as_str(),
         "4 |exportdesk: standard output: broken pipe\n"
