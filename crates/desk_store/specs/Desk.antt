@@ -82,7 +82,7 @@ pub record Stays {V : Type 0} (old new : State) (before after : Kept V) : Type 0
   pub disk : doubt old.is_clean ≤ doubt new.is_clean
   pub stands : HasCleanDisk new → (history pending : List Revision) → Stands old before history pending → Stands new after history pending
 
--- the answer that a result tells; want of memory and a refused statement are none
+-- the answer that a result tells; out of memory and a refused statement are none
 abbrev pub told : Result Done DeskError → Option Answer
 told (Ok done) = Some (if done.already then Already done.rev else Stored done.rev)
 told (Err (error.Refused refusal)) = Some (Refused refusal)
