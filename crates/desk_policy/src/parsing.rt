@@ -284,10 +284,9 @@ fn in_table<T>(
     ensures read { (read : Result T tables.TableFault) → Reads answer read → Reads result (spec.in_file (table_fault file.now) read) }
     ensures kept { IfOk result (λ value. answer ≡ Ok value) }
 {
-    match answer {
+    match ReadError::split(answer)? {
         Ok(value) => Ok(value),
-        Err(ReadError::Memory) => Err(ReadError::Memory),
-        Err(ReadError::Fault(fault)) => Err(ReadError::Fault(fault_in(
+        Err(fault) => Err(ReadError::Fault(fault_in(
             alloc,
             file,
             fault.line,
@@ -304,10 +303,9 @@ fn in_netgroup<T>(
 ) -> Result<T, ReadError<SiteFault>>
     ensures { (read : Result T GroupFault) → Reads answer read → Reads result (spec.in_file group_fault read) }
 {
-    match answer {
+    match ReadError::split(answer)? {
         Ok(value) => Ok(value),
-        Err(ReadError::Memory) => Err(ReadError::Memory),
-        Err(ReadError::Fault(fault)) => Err(ReadError::Fault(fault_in(
+        Err(fault) => Err(ReadError::Fault(fault_in(
             alloc,
             "netgroup",
             fault.line,
@@ -326,10 +324,9 @@ fn in_exports<T>(
     ensures read { (read : Result T (LineFault Rule)) → Reads answer read → Reads result (spec.in_file (line_fault file.now) read) }
     ensures kept { IfOk result (λ value. answer ≡ Ok value) }
 {
-    match answer {
+    match ReadError::split(answer)? {
         Ok(value) => Ok(value),
-        Err(ReadError::Memory) => Err(ReadError::Memory),
-        Err(ReadError::Fault(fault)) => Err(ReadError::Fault(fault_in(
+        Err(fault) => Err(ReadError::Fault(fault_in(
             alloc,
             file,
             fault.line,
