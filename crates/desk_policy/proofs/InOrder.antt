@@ -1,4 +1,4 @@
--- Paths in byte order of their printed forms, each once.
+-- Paths in byte order of their printed forms, without duplicates.
 use Rattle.std.proofs.Common.{◌≡◌, ℕ, zero, suc, ◌-◌, ◌<◌, ◌||◌, Bool, true, false, cond, List, [], ◌∷◌, ◌++◌, length, get_or, map, take, Some, None, sym, ◌∙◌, ap, subst, refl, inl, inr, arith, nat_cmp, Bor}
 use Rattle.std.specs.Prelude.{slice_get}
 use Rattle.std.specs.List.{AllByRecursion}

@@ -76,7 +76,7 @@ unique_by_sets sets netgroups hosts names addresses =
     let both = sets (flat_map (name_addresses netgroups hosts) names) addresses in
     (λ are. both.0 (to_set netgroups hosts names addresses are), λ is. of_set netgroups hosts names addresses (both.1 is))
 
--- addresses that were gathered are, in order and each once, those of the names
+-- addresses that were gathered are, in order and without duplicates, those of the names
 pub gathered : SortedSetsAreUnique → (netgroups : List GroupLine) (hosts : List HostRow) (names : List (List ℕ)) (items : List Addr)
     → Gains [] items (λ a. list_any (λ name. stands_for netgroups hosts name a) names) → sorted_set (map number_of items) ≡ addresses_of_names netgroups hosts names
 gathered sets netgroups hosts names items gains =

@@ -14,7 +14,7 @@ use Rattle.desk_policy.specs.Weights.{selected}
 use Rattle.desk_policy.specs.Verdict.{verdict_of}
 use Rattle.desk_policy.specs.Prints.{verdict_line}
 
--- numbers put into order, each once
+-- numbers put into order, without duplicates
 ordered_once : addresses_of_names [] [] (codes "0.0.1.0" ∷ codes "oldhost" ∷ codes "0.0.0.9" ∷ codes "0.0.1.0" ∷ codes "0.0.0.09" ∷ codes "fe80::1" ∷ []) ≡ 9 ∷ 256 ∷ []
 ordered_once = refl
 

@@ -18,7 +18,7 @@ put_path path (first ∷ others) =
     else (if same_path path first then first ∷ others
     else first ∷ put_path path others)
 
--- paths in byte order of their printed forms, each once
+-- paths in byte order of their printed forms, without duplicates
 abbrev pub in_order : List (List (List ℕ)) → List (List (List ℕ))
 in_order [] = []
 in_order (path ∷ paths) = put_path path (in_order paths)

@@ -26,7 +26,7 @@ abbrev pub Rises : List (List (List ℕ)) → Type 0
 Rises [] = Unit {0}
 Rises (path ∷ paths) = AllByRecursion (λ later. is_before path later ≡ true) paths × Rises paths
 
--- paths in order, each once, that are just the given ones
+-- paths in order, without duplicates, that are just the given ones
 pub record IsOrderOf (given ordered : List (List (List ℕ))) : Type 0 where
   pub rises : Rises ordered
   pub same : (path : List (List ℕ)) → is_directory_among path ordered ≡ is_directory_among path given

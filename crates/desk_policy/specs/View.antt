@@ -36,7 +36,7 @@ pub record AnswersAlike (content other : Content) : Type 0 where
 abbrev pub WarningsChangeNoAnswer : Type 0
 WarningsChangeNoAnswer = (content : Content) (warnings : List Warning) → AnswersAlike content (with_warnings content warnings)
 
--- a view keeps the policy, which has no contradiction, or the policy's least one is named; out of memory says nothing
+-- a view keeps the policy, which has no contradiction, or the policy's least one is reported; out of memory says nothing
 abbrev pub Builds : {V : Type 0} → (V → Content) → Content → Result V (ReadError SiteFault) → Type 0
 Builds in_force policy (Ok view) = (in_force view ≡ policy) × HasNoContradiction policy
 Builds in_force policy (Err (Fault fault)) = IsLeastContradiction policy fault
@@ -50,7 +50,7 @@ IsFaultOf (Err first) fault = fault ≡ first
 abbrev pub HasFault : SiteTexts → SiteFault → Type 0
 HasFault texts fault = IsFaultOf (read_site texts) fault
 
--- a view keeps the policy that the texts write, which has no contradiction, or the site's fault is named; out of memory
+-- a view keeps the policy that the texts write, which has no contradiction, or the site's fault is reported; out of memory
 -- says nothing
 abbrev pub Compiles : {V : Type 0} → (V → Content) → SiteTexts → Result V (ReadError SiteFault) → Type 0
 Compiles in_force texts (Ok view) = (read_site texts ≡ Ok (in_force view)) × HasNoContradiction (in_force view)

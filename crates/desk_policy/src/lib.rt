@@ -1,9 +1,9 @@
 //! The policy of a site: the lines in force, which of them are selected for a client, and who may mount what.
 //! (exports(5))
 //!
-//! Its promise: [`parse`] reads the policy that the texts of a site write, or names the first faulty file, its first faulty
+//! Its promise: [`parse`] reads the policy that the texts of a site write, or reports the first faulty file, its first faulty
 //! line and the first rule that the line breaks. [`compile`] puts that policy in force exactly if no two of its lines
-//! contradict each other, and else names the least contradiction. [`decide`] grants a mount exactly if, among the lines of
+//! contradict each other, and else reports the least contradiction. [`decide`] grants a mount exactly if, among the lines of
 //! the path's file system that match the client's address with the greatest weight, one lists the path. It names the first
 //! such line, or else says why not.
 //!

@@ -24,7 +24,7 @@ use std::alloc::{AllocError, Global};
 #[derive(Drop)]
 pub struct Shown {
     pub fs: FsId,
-    /// The directories that a line of the file system writes and a selected line lists, each once, in byte order of their
+    /// The directories that a line of the file system writes and a selected line lists, without duplicates, in byte order of their
     /// printed forms.
     pub dirs: Sequence<Path>,
     /// Whether a selected line has `-alldirs`, so that the client may mount any directory of the file system.
@@ -247,7 +247,7 @@ fn is_own(filesystems: &FileSystems, fs: FsId, dir: &Path) -> bool
     }
 }
 
-/// Copies paths in byte order of their printed forms, each once.
+/// Copies paths in byte order of their printed forms, without duplicates.
 fn in_order(alloc: Global, mut paths: Vec<&Path>) -> Result<Sequence<Path>, AllocError>
     ensures { IfOk result (IsOrderOf (map (λ path. path.now) paths.entry.items)) }
 {

@@ -12,7 +12,7 @@ use desk_text::laws::sorted_sets_are_unique;
 use desk_text::{Addr, AddrSet, Text, is_dotted, is_ipv6};
 use std::alloc::{AllocError, Global};
 
-/// Lists the addresses for which a written name stands, ascending, each once. A dot address stands for itself, and a text
+/// Lists the addresses for which a written name stands, ascending, without duplicates. A dot address stands for itself, and a text
 /// with `:`, or of other digits and dots, for none. Any other name stands for the addresses of the hosts of its group if it
 /// is a group's, and else for those of the host of that name. The hosts of a group are never taken for groups.
 pub fn addresses_of(

@@ -1,4 +1,4 @@
--- The paths so far, in order, each once.
+-- The paths so far, in order, without duplicates.
 use Rattle.std.proofs.Common.{map, take}
 use Rattle.desk_policy.specs.PrivateListings.{IsOrderOf}
 use Rattle.desk_policy.proofs.listings.in_order.Given as goal
