@@ -87,15 +87,9 @@ fn read_host(alloc: Global, word: &str) -> Result<Addr, Failure>
 fn read_path(alloc: Global, argument: Argument, word: &str) -> Result<Path, Failure>
     ensures { AnswersArgument (λ path. path) fault.Path argument word.now (read_path word.now) result }
 {
-    match Path::read(alloc, word) {
+    match ReadError::split(Path::read(alloc, word))? {
         Ok(path) => Ok(path),
-        Err(ReadError::Fault(fault)) => Err(bad_argument(
-            alloc,
-            argument,
-            word,
-            ArgumentFault::Path(fault),
-        )),
-        Err(ReadError::Memory) => Err(Failure::Memory),
+        Err(fault) => Err(bad_argument(alloc, argument, word, ArgumentFault::Path(fault))),
     }
 }
 
@@ -140,10 +134,9 @@ pub fn read_credential(
     let Some(word) = word else {
         return Ok(None);
     };
-    match Users::read(alloc, passwd) {
+    match ReadError::split(Users::read(alloc, passwd))? {
         Ok(users) => read_with_users(alloc, word, &users, group),
-        Err(ReadError::Fault(_)) => Ok(None),
-        Err(ReadError::Memory) => Err(Failure::Memory),
+        Err(_) => Ok(None),
     }
 }
 
@@ -157,10 +150,9 @@ fn read_with_users(
     requires { length group.now ≤ 4294967294 }
     ensures { AnswersOwn (Some word.now) (own_answer (Some word.now) (Ok users.now) (read_groups group.now)) result }
 {
-    match Groups::read(alloc, group) {
+    match ReadError::split(Groups::read(alloc, group))? {
         Ok(groups) => parse_credential(alloc, word, users, &groups),
-        Err(ReadError::Fault(_)) => Ok(None),
-        Err(ReadError::Memory) => Err(Failure::Memory),
+        Err(_) => Ok(None),
     }
 }
 

@@ -52,8 +52,7 @@ fn split_for(
             let printed = headed_texts(alloc, table.as_slice(), texts.as_slice())?;
             Ok(printed)
         }
-        Err(ReadError::Fault(fault)) => Err(ReadError::Fault(SplitFault::Exports(fault))),
-        Err(ReadError::Memory) => Err(ReadError::Memory),
+        Err(error) => Err(error.map_fault(|fault| SplitFault::Exports(fault))),
     }
 }
 

@@ -1,5 +1,6 @@
 -- Out of memory says nothing of CRED.
 use Rattle.std.proofs.Common.{ℕ, List, Option, Some, None, Result, Ok, Err, refl, map}
+use Rattle.std.proofs.lemmas.Result.{err_from_is_err_and}
 use Rattle.std.specs.Option.{option_map}
 use Rattle.desk_tables.specs.Groups.{read_groups}
 use Rattle.desk_tables.specs.Users.{read_users}
@@ -17,7 +18,8 @@ out_of_memory (Some word) None = refl
 out_of_memory (Some word) (Some (Ok own)) = refl
 out_of_memory (Some word) (Some (Err bad)) = tt
 
-pub returns-in-Err-Memory : goal.returns-in-Err-Memory
-returns-in-Err-Memory c =
+pub returns-in_err-users : goal.returns-in_err-users
+returns-in_err-users c =
     let word = option_map (λ word. word.now) c.args.word in
-    out_of_memory word (own_answer word (read_users c.args.passwd.now) (read_groups c.args.group.now))
+    let p = err_from_is_err_and c.from_residual.result c.from_residual.ensures.1 in
+    rw (p.1, p.2) (out_of_memory word (own_answer word (read_users c.args.passwd.now) (read_groups c.args.group.now)))
