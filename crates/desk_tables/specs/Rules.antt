@@ -37,9 +37,9 @@ rule_sentence Number = codes "is not a number or an address that can stand here"
 rule_sentence Name = codes "is not a name: it is empty, too long, or has a character that it may not have"
 rule_sentence Duplicate = codes "is on an earlier line already"
 rule_sentence BadPath = codes "is not a mount point: write a path that begins with / and has no component . or .."
-rule_sentence Custodian = codes "needs a custodian who is not in the custodians file"
+rule_sentence Custodian = codes "needs a line among the custodians"
 rule_sentence Digest = codes "is not a digest of 64 hexadecimal digits"
-rule_sentence TooMany = codes "is one line more than the file may have"
+rule_sentence TooMany = codes "is a mount point beyond the 256 that the file may have"
 
 -- the row of a line, unless the line breaks a rule
 abbrev pub unless_rule : {Row : Type 0} → Option TableRule → Option Row → Result (Option Row) TableRule

@@ -57,9 +57,9 @@ impl TableRule {
             TableRule::Duplicate => "is on an earlier line already",
             TableRule::BadPath =>
                 "is not a mount point: write a path that begins with / and has no component . or ..",
-            TableRule::Custodian => "needs a custodian who is not in the custodians file",
+            TableRule::Custodian => "needs a line among the custodians",
             TableRule::Digest => "is not a digest of 64 hexadecimal digits",
-            TableRule::TooMany => "is one line more than the file may have",
+            TableRule::TooMany => "is a mount point beyond the 256 that the file may have",
         }
     }
 }
