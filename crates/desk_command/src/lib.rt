@@ -19,6 +19,7 @@ mod commands;
 mod failure;
 mod faults;
 mod files;
+pub mod finding;
 mod input;
 mod output;
 mod split_command;
