@@ -1,8 +1,10 @@
 pub mod ClapAnswers
 pub mod FirstBad
 pub mod FilesInTurn
+pub mod HintLemmas
 pub mod KnownBytes
 pub mod KnownText
 pub mod MountWords
+pub mod ShownTextLemmas
 pub mod SplitAnswers
 pub mod TextFaults

@@ -3,8 +3,12 @@ pub mod CommandLine
 pub mod Commands
 pub mod Faults
 pub mod Files
+pub mod Finding
+pub mod FindingPrints
+pub mod Hints
 pub mod Input
 pub mod Output
+pub mod ShownText
 pub mod SplitCommand
 pub mod SplitText
 pub mod TableFiles

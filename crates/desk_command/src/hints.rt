@@ -1,0 +1,136 @@
+//! Hints for words that other systems have in their exports files, chiefly Linux. (exports(5) of FreeBSD and of Linux)
+
+ghost use Rattle.std.specs.Prelude.{◌≡◌};
+ghost use Rattle.std.specs.Option.{option_map};
+ghost use Rattle.desk_exports.specs.Grammar.{after_dash, option_name};
+ghost use Rattle.desk_exports.specs.Options.{is_name_among};
+ghost use Rattle.desk_command.specs.Hints as spec;
+
+use crate::finding::Matter;
+use desk_exports::Rule;
+use desk_policy::{SiteRule, WarningKind};
+
+/// Returns what to write in place of the word that a finding is about, if it is one that other systems have.
+pub fn hint(matter: Matter, word: &str) -> Option<&'static str>
+    ensures { option_map (λ hint. hint.now) result ≡ spec.hint matter word.now }
+{
+    match matter {
+        Matter::Fault(SiteRule::Line(Rule::UnknownOption), _) => name_hint(option_name(after_dash(
+            word,
+        ))),
+        Matter::Fault(SiteRule::Line(Rule::BadAddress), _) => host_hint(word),
+        Matter::Warning(WarningKind::UnknownHost) => unknown_host_hint(word),
+        _ => None,
+    }
+}
+
+/// Returns the hint for an option of Linux of this name.
+fn name_hint(name: &str) -> Option<&'static str>
+    ensures { option_map (λ hint. hint.now) result ≡ spec.name_hint name.now }
+{
+    match name {
+        "rw" => Some("leave it out, since a line without -ro is read-write"),
+        "no_root_squash" => Some("write -maproot=root"),
+        "root_squash" => Some("leave it out, since root is mapped to nobody without it"),
+        "all_squash" => Some("write -mapall=nobody"),
+        "anonuid" | "anongid" => Some("write -maproot=UID:GID, or -mapall=UID:GID for every user"),
+        _ if has_no_counterpart(name) => Some("leave it out, since FreeBSD has no such option"),
+        _ => None,
+    }
+}
+
+/// Tests whether Linux has an option of this name that FreeBSD has no counterpart of.
+fn has_no_counterpart(name: &str) -> bool
+    ensures { result ≡ is_name_among spec.names_without_counterpart name.now }
+{
+    matches!(
+        name,
+        "sync"
+            | "async"
+            | "secure"
+            | "insecure"
+            | "subtree_check"
+            | "no_subtree_check"
+            | "wdelay"
+            | "no_wdelay"
+            | "hide"
+            | "nohide"
+            | "crossmnt"
+            | "fsid"
+    )
+}
+
+/// Returns the hint for a word that stands among the hosts.
+fn host_hint(word: &str) -> Option<&'static str>
+    ensures { option_map (λ hint. hint.now) result ≡ spec.host_hint word.now }
+{
+    if has_byte(word, b'(') {
+        Some(
+            "write the options before the hosts, with a dash and without parentheses, as in -ro 10.0.0.5",
+        )
+    } else if has_byte(word, b'*') || has_byte(word, b'?') {
+        Some(
+            "there are no wildcards: write a netgroup or -network, or no host at all to export to everybody",
+        )
+    } else if begins_with_at(word) {
+        Some("write a netgroup without the @")
+    } else if has_byte(word, b',') {
+        Some("write blanks between hosts, and a dash before options")
+    } else {
+        bare_hint(option_name(word))
+    }
+}
+
+/// Returns the hint for the name of an option that has no dash.
+fn bare_hint(name: &str) -> Option<&'static str>
+    ensures { option_map (λ hint. hint.now) result ≡ spec.bare_hint name.now }
+{
+    match name {
+        "ro" | "alldirs" | "quiet" | "maproot" | "mapall" | "sec" | "network" | "mask" => {
+            Some("write a dash before an option")
+        }
+        _ => name_hint(name),
+    }
+}
+
+/// Returns the hint for a word that stands among the hosts and is accepted.
+fn unknown_host_hint(word: &str) -> Option<&'static str>
+    ensures { option_map (λ hint. hint.now) result ≡ spec.unknown_host_hint word.now }
+{
+    if has_byte(word, b'/') {
+        Some("write -network before a network")
+    } else {
+        host_hint(word)
+    }
+}
+
+/// Tests whether a word has this byte.
+fn has_byte(word: &str, byte: u8) -> bool
+    ensures { result ≡ spec.has_byte byte word.now }
+{
+    word.as_bytes().contains(&byte)
+}
+
+/// Tests whether a word begins with `@`.
+fn begins_with_at(word: &str) -> bool
+    ensures { result ≡ spec.begins_with_at word.now }
+{
+    word.as_bytes().first() == Some(&b'@')
+}
+
+/// Returns a word without the dash that it begins with.
+fn after_dash(word: &str) -> &str
+    ensures { result.now ≡ after_dash word.now }
+{
+    word.strip_prefix('-').unwrap_or(word)
+}
+
+/// Returns what stands before the first `=` of a word.
+fn option_name(word: &str) -> &str
+    ensures { result.now ≡ option_name word.now }
+{
+    match word.split_once('=') {
+        Some((name, _)) => name,
+        None => word,
+    }
+}
