@@ -4,6 +4,7 @@ pub mod Commands
 pub mod Faults
 pub mod Files
 pub mod Finding
+pub mod FindingJson
 pub mod FindingPrints
 pub mod Hints
 pub mod Input

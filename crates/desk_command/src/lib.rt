@@ -20,6 +20,7 @@ mod failure;
 mod faults;
 mod files;
 pub mod finding;
+pub mod finding_json;
 pub mod finding_prints;
 mod hints;
 mod input;
