@@ -1,6 +1,7 @@
 -- Hints for words that other systems have in their exports files. (this project's own, for exports(5) of FreeBSD and of Linux)
-use Rattle.std.specs.Prelude.{ℕ, ◌==◌, Bool, ◌||◌, List, [], ◌∷◌, Option, Some, None, bytes_eq, codes, slice_index, if◌then◌else◌}
+use Rattle.std.specs.Prelude.{ℕ, ◌==◌, Bool, ◌||◌, List, [], ◌∷◌, Option, Some, None, bytes_eq, codes, length, slice_index, if◌then◌else◌}
 use Rattle.std.specs.List.{list_any}
+use Rattle.desk_tables.specs.declared.rules.TableRule.TheVariants as listed
 use Rattle.desk_exports.specs.Grammar.{after_dash, option_name}
 use Rattle.desk_exports.specs.Options.{is_name_among}
 use Rattle.desk_exports.specs.declared.rules.Rule.TheVariants as broken
@@ -27,6 +28,12 @@ name_hint name =
     else if is_name_among (codes "anonuid" ∷ codes "anongid" ∷ []) name then Some (codes "write -maproot=UID:GID, or -mapall=UID:GID for every user")
     else if is_name_among names_without_counterpart name then Some (codes "leave it out, since FreeBSD has no such option")
     else None
+
+-- for the name of an option that is not accepted as it is written; of these four that is so only of one with a value
+abbrev pub option_hint : List ℕ → Option (List ℕ)
+option_hint name =
+    if is_name_among (codes "ro" ∷ codes "o" ∷ codes "alldirs" ∷ codes "quiet" ∷ []) name then Some (codes "write it without a value")
+    else name_hint name
 
 -- the name of the option that a word may be, with or without a dash
 abbrev pub name_in : List ℕ → List ℕ
@@ -59,9 +66,14 @@ host_hint word =
 abbrev pub unknown_host_hint : List ℕ → Option (List ℕ)
 unknown_host_hint word = if has_byte 47 word then Some (codes "write -network before a network") else host_hint word
 
+-- for a custodian who is not listed: one who is not named is that of the site
+abbrev pub custodian_hint : List ℕ → Option (List ℕ)
+custodian_hint word = if length word == 0 then Some (codes "write one for site") else None
+
 -- for the slice that breaks a rule
 abbrev pub rule_hint : SiteRule → List ℕ → Option (List ℕ)
-rule_hint (rule.Line broken.UnknownOption) word = name_hint (name_in word)
+rule_hint (rule.Table listed.Custodian) word = custodian_hint word
+rule_hint (rule.Line broken.UnknownOption) word = option_hint (name_in word)
 rule_hint (rule.Line broken.BadAddress) word = host_hint word
 rule_hint rule word = None
 

@@ -9,18 +9,41 @@ ghost use Rattle.desk_command.specs.Hints as spec;
 use crate::finding::Matter;
 use desk_exports::Rule;
 use desk_policy::{SiteRule, WarningKind};
+use desk_tables::TableRule;
 
 /// Returns what to write in place of the word that a finding is about, if it is one that other systems have.
 pub fn hint(matter: Matter, word: &str) -> Option<&'static str>
     ensures { option_map (λ hint. hint.now) result ≡ spec.hint matter word.now }
 {
     match matter {
-        Matter::Fault(SiteRule::Line(Rule::UnknownOption), _) => name_hint(option_name(after_dash(
+        Matter::Fault(SiteRule::Table(TableRule::Custodian), _) => custodian_hint(word),
+        Matter::Fault(SiteRule::Line(Rule::UnknownOption), _) => option_hint(option_name(after_dash(
             word,
         ))),
         Matter::Fault(SiteRule::Line(Rule::BadAddress), _) => host_hint(word),
         Matter::Warning(WarningKind::UnknownHost) => unknown_host_hint(word),
         _ => None,
+    }
+}
+
+/// Returns the hint for a custodian who is not listed. One who is not named is that of the site.
+fn custodian_hint(word: &str) -> Option<&'static str>
+    ensures { option_map (λ hint. hint.now) result ≡ spec.custodian_hint word.now }
+{
+    if word.is_empty() {
+        Some("write one for site")
+    } else {
+        None
+    }
+}
+
+/// Returns the hint for the name of an option that is not accepted as it is written.
+fn option_hint(name: &str) -> Option<&'static str>
+    ensures { option_map (λ hint. hint.now) result ≡ spec.option_hint name.now }
+{
+    match name {
+        "ro" | "o" | "alldirs" | "quiet" => Some("write it without a value"),
+        _ => name_hint(name),
     }
 }
 
