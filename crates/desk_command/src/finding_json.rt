@@ -1,4 +1,6 @@
-//! How findings are printed as JSON, for programs.
+//! How findings are printed as JSON, for programs. The text is what serde_json's definition of compact JSON says of each
+//! object, with the control characters that JSON leaves in strings as they are (from U+007F to U+009F) by their codes. That
+//! a reader gives the same values back is only tested.
 
 ghost use Rattle.std.specs.Prelude.{◌≡◌, ◌++◌, IfOk, None, OnOk, Some, codes};
 ghost use Rattle.std.specs.List.{flat_map};

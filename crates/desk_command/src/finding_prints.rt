@@ -116,7 +116,8 @@ fn push_sentence(finding: &Finding, text: &mut String) -> Result<(), AllocError>
     }
 }
 
-/// Adds what the sentence is about: the slice in quotes, or the file as a whole.
+/// Adds what the sentence is about: the slice in quotes, of which an empty one reads `"" is not a name`, or the file as a
+/// whole, as in `the file needs a line among the custodians`.
 fn push_subject(finding: &Finding, text: &mut String) -> Result<(), AllocError>
     requires { HasSlice finding.now }
     ensures { OnOk result (string_bytes text.new
