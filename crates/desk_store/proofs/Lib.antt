@@ -16,6 +16,9 @@ pub mod ListedRows
 pub mod NextNumbers
 pub mod OneHead
 pub mod OneOrder
+pub mod OneRow
+pub mod Opened
+pub mod RowsRead
 pub mod SiteRows
 pub mod SortedNumbers
 pub mod StoredRows

@@ -1,15 +1,12 @@
--- What opening a desk is to promise: only its errors are cited by a contract yet. (this project's own)
-use Rattle.std.specs.Prelude.{◌≡◌, ◌⊎◌, ℕ, List, [], Some, None, Result, Ok, Err, codes}
+-- What opening a desk promises. (this project's own)
+use Rattle.std.specs.Prelude.{◌≡◌, ◌⊎◌, List, [], Result, Ok, Err}
 use Rattle.sqlite_trees.specs.declared.store.Store.{Ghosts}
 use Rattle.sqlite.specs.Held.{Held, state}
-use Rattle.sqlite.specs.State.{HasCleanDisk, State}
 use Rattle.sqlite.specs.Effect.{Database}
-use Rattle.sqlite.specs.Schema.{Schema}
 use Rattle.desk_core.specs.Head.{Revision}
-use Rattle.desk_store.specs.Desk.{IsSiteHistory, LeavesTables, Shown, Stands}
+use Rattle.desk_store.specs.Desk.{IsSiteHistory, Shown, Stands}
 use Rattle.desk_store.specs.History.{Holds}
 use Rattle.desk_store.specs.Rows.{IsOfStore}
-use Rattle.desk_store.specs.Tables.{file_rev_table, meta_table, table_in}
 use Rattle.desk_store.specs.declared.error.DeskError.{DeskError}
 use Rattle.desk_store.specs.declared.error.DeskError.TheVariants as error
 
@@ -17,31 +14,20 @@ use Rattle.desk_store.specs.declared.error.DeskError.TheVariants as error
 abbrev pub IsOfOpening : DeskError → Type 0
 IsOfOpening e = (e ≡ error.Schema) ⊎ IsOfStore e
 
--- the tables that the schema declares under the two names, if any, are the project's
-pub record IsOurs (schema : Schema) : Type 0 where
-  pub meta : (table_in schema (codes "meta") ≡ None) ⊎ ((tree : ℕ) × (table_in schema (codes "meta") ≡ Some (meta_table tree)))
-  pub file_rev : (table_in schema (codes "file_rev") ≡ None) ⊎ ((tree : ℕ) × (table_in schema (codes "file_rev") ≡ Some (file_rev_table tree)))
-
 -- a database of this project with this history
 pub record IsProject (db : Database) (history : List Revision) : Type 0 where
   pub holds : Holds db history
   pub stored : IsSiteHistory history
 
--- opened: the database is one of this project, and the desk stands at its one history
-abbrev pub IfOpened : {S V : Type 0} (g : Ghosts S) → State → Result (Shown S V) (DeskError × Held S) → Type 0
-IfOpened g old (Ok desk) =
-    LeavesTables old (state g desk.conn)
-    × (HasCleanDisk (state g desk.conn) → (history : List Revision) × IsProject old.committed history × Stands (state g desk.conn) desk.state history [])
-IfOpened g old (Err both) = Unit {0}
+-- the connection of the desk, or that which is handed back beside the error
+abbrev pub held_in : {S V E : Type 0} → Result (Shown S V) (E × Held S) → Held S
+held_in (Ok desk) = desk.conn
+held_in (Err both) = both.1
 
--- Not opened: nothing changes; Schema is answered only of a database that is not one of this project, where the two tables
--- are missing or the project's; and no edit refusal is answered.
-abbrev pub NamesOpenFault : State → DeskError → Type 0
-NamesOpenFault old error.Schema = IsOurs old.committed.schema → (history : List Revision) → IsProject old.committed history → ⊥
-NamesOpenFault old (error.Store fault) = Unit {0}
-NamesOpenFault old error.Memory = Unit {0}
-NamesOpenFault old (error.Refused refusal) = ⊥
+-- a desk that was opened on this database stands at its history, and nothing is pending
+abbrev pub OpensAt : {S V : Type 0} (g : Ghosts S) → Database → Shown S V → Type 0
+OpensAt g db desk = (history : List Revision) × IsProject db history × Stands (state g desk.conn) desk.state history []
 
-abbrev pub IfNotOpened : {S V : Type 0} (g : Ghosts S) → State → Result (Shown S V) (DeskError × Held S) → Type 0
-IfNotOpened g old (Ok desk) = Unit {0}
-IfNotOpened g old (Err both) = LeavesTables old (state g both.1) × (HasCleanDisk (state g both.1) → NamesOpenFault old both.0)
+-- the database is not one of this project
+abbrev pub IsForeign : Database → Type 0
+IsForeign db = (history : List Revision) → IsProject db history → ⊥

@@ -1,6 +1,6 @@
 //! A desk: a connection to a database, and the state that its tables stand for.
 
-ghost use Rattle.std.specs.Prelude.{◌≡◌, ◌≢◌, ◌+◌, [], Err, IfErr, IfOk, IsTrue, None, map, option_copied};
+ghost use Rattle.std.specs.Prelude.{◌≡◌, ◌≢◌, ◌+◌, [], false, Err, IfErr, IfOk, IsTrue, None, map, option_copied};
 ghost use Rattle.sqlite.specs.Held.{state};
 ghost use Rattle.sqlite.specs.State.{HasCleanDisk, Survives};
 ghost use Rattle.desk_core.specs.Edit.{asked};
@@ -8,11 +8,13 @@ ghost use Rattle.desk_core.specs.Head.{newest_in};
 ghost use Rattle.desk_core.specs.History.{added_if, newest_of, revisions_of};
 ghost use Rattle.desk_core.specs.Judging.{first_case};
 ghost use Rattle.desk_core.specs.Site.{IsInForce, site_in};
-ghost use Rattle.desk_store.specs.Desk.{CommitsOne, HasGoodDisk, History, IsAccepted, IsEdited, StandsAt, StaysAsItWas, StepsTo, revision_at, stored_of, told};
+ghost use Rattle.desk_store.specs.Desk.{CommitsOne, HasGoodDisk, History, IsAccepted, IsEdited, LeavesTables, StandsAt, StaysAsItWas, StepsTo, revision_at, stored_of, told};
+ghost use Rattle.desk_store.specs.Open.{IsForeign, IsOfOpening, OpensAt, held_in};
 ghost use Rattle.desk_store.specs.Rows.{IsOfStore};
 ghost use Rattle.desk_store.specs.Tables.{LeavesCommit};
 ghost use Rattle.desk_store.specs.declared.error.DeskError.TheVariants as error;
 
+use crate::database::read_state;
 use crate::error::{DeskError, Task};
 use crate::laws::stored_edits_keep_site_histories;
 use crate::rows::{find_revision, list_revisions, not_stored};
@@ -62,6 +64,32 @@ pub struct Revision {
 }
 
 impl<S: Alter + Drop, V: PolicyView + Drop> Desk<S, V> {
+    /// Opens a desk on the database of a connection; `Schema` if it is not one of this project. Beside an error the connection
+    /// is handed back.
+    pub fn open(
+        alloc: Global,
+        mut conn: Connection<S>,
+    ) -> Result<Desk<S, V>, (DeskError, Connection<S>)>
+        requires autocommit { (state S.Store conn).in_transaction ≡ false }
+
+        // The desk stands at the history that the tables hold, and nothing is pending: a crash leaves these tables.
+        ensures opened { IfOk result (λ desk. HasGoodDisk S.Store desk → OpensAt S.Store (state S.Store conn).committed desk) }
+        ensures durable { IfOk result (λ desk. HasGoodDisk S.Store desk → IsTrue (state S.Store desk.conn).is_open × LeavesCommit (state S.Store desk.conn)) }
+
+        // No other error is answered, and `Schema` only if the tables are not those of a site's history.
+        ensures errors { IfErr result (λ both. IsOfOpening both.0) }
+        ensures foreign { IfErr result (λ both. HasCleanDisk (state S.Store both.1) → both.0 ≡ error.Schema → IsForeign (state S.Store conn).committed) }
+
+        // Whatever is answered, the tables are as before, a crash leaves what it could before, and no transaction is open.
+        ensures tables { LeavesTables (state S.Store conn) (state S.Store (held_in result)) }
+        ensures mode { (state S.Store (held_in result)).in_transaction ≡ false }
+    {
+        match read_state(alloc, &mut conn) {
+            Ok(current) => Ok(Desk { conn, current }),
+            Err(e) => Err((e, conn)),
+        }
+    }
+
     /// Lends the view of the policy in force.
     pub fn view(&self) -> &V
         ensures value { result.now ≡ self.now.state.view }

@@ -12,6 +12,10 @@ pub enum Task {
     AddRevision,
     /// Reading the revisions.
     ReadRevisions,
+    /// Looking for the two tables.
+    FindTables,
+    /// Reading the version of the database.
+    ReadVersion,
 }
 
 /// A statement that was refused, or whose answer is not one that a database of this project gives.

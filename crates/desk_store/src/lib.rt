@@ -10,6 +10,7 @@
 //! ```
 #![tactic(auto)]
 
+mod database;
 pub mod declared;
 pub mod desk;
 pub mod error;

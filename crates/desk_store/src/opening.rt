@@ -1,6 +1,6 @@
 //! The state that the rows of a database stand for.
 
-ghost use Rattle.std.specs.Prelude.{◌≡◌, ◌↔◌, ◌∷◌, [], pos, Err, IfErr, IfOk, IsPermutation, IsTrue, All, map};
+ghost use Rattle.std.specs.Prelude.{◌≡◌, ◌↔◌, ◌∷◌, [], pos, Err, IfErr, IfOk, IsPermutation, IsTrue, OnOk, All, map};
 ghost use Rattle.std.specs.List.{list_all};
 ghost use Rattle.sqlite.specs.declared.types.Value.TheVariants.{Int};
 ghost use Rattle.desk_core.specs.Head.{CanBeKept, StandOnce, newest_in};
@@ -43,12 +43,25 @@ fn has_file(heads: &[Head], file: &str) -> bool
 }
 
 /// Tests whether the rows of `meta` are the one row 1.
-pub(crate) fn is_version_one(rows: &[Row]) -> bool
+fn is_version_one(rows: &[Row]) -> bool
     ensures { IsTrue result ↔ (rows.now ≡ (Int (pos 1) ∷ []) ∷ []) }
 {
     match rows {
         [row] => is_one(row),
         _ => false,
+    }
+}
+
+/// Accepts the rows of `meta` if they are the one row 1; else `Schema`.
+pub(crate) fn version_of(rows: &[Row]) -> Result<(), DeskError>
+    ensures version { OnOk result (rows.now ≡ (Int (pos 1) ∷ []) ∷ []) }
+    ensures foreign { result ≡ Err error.Schema → rows.now ≡ (Int (pos 1) ∷ []) ∷ [] → ⊥ }
+    ensures errors { IfErr result (λ e. e ≡ error.Schema) }
+{
+    if is_version_one(rows) {
+        Ok(())
+    } else {
+        Err(DeskError::Schema)
     }
 }
 

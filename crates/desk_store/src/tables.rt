@@ -38,6 +38,7 @@ pub(crate) fn append_revision<S: Alter>(
 pub(crate) fn read_revisions<S: Alter>(conn: &mut Connection<S>) -> Result<Vec<Row>, Error>
     requires { HasCleanDisk (state S.Store conn.old) → IsAtRest (state S.Store conn.old) }
     ensures rest { HasCleanDisk (state S.Store conn.new) → IsAtRest (state S.Store conn.new) }
+    ensures mode { (state S.Store conn.old).in_transaction ≡ false → (state S.Store conn.new).in_transaction ≡ false }
     ensures rows { HasCleanDisk (state S.Store conn.new) → IfOk result (λ rows. IsPermutation (rows_of (state S.Store conn.old).committed (codes "file_rev")) rows.items) }
     ensures opened { HasCleanDisk (state S.Store conn.new) → IsTrue (state S.Store conn.new).is_open → IsTrue (state S.Store conn.old).is_open }
     ensures live { HasCleanDisk (state S.Store conn.new) → OnOk result (IsTrue (state S.Store conn.new).is_open) }
@@ -52,6 +53,7 @@ pub(crate) fn read_revisions<S: Alter>(conn: &mut Connection<S>) -> Result<Vec<R
 pub(crate) fn read_versions<S: Alter>(conn: &mut Connection<S>) -> Result<Vec<Row>, Error>
     requires { HasCleanDisk (state S.Store conn.old) → IsAtRest (state S.Store conn.old) }
     ensures rest { HasCleanDisk (state S.Store conn.new) → IsAtRest (state S.Store conn.new) }
+    ensures mode { (state S.Store conn.old).in_transaction ≡ false → (state S.Store conn.new).in_transaction ≡ false }
     ensures rows { HasCleanDisk (state S.Store conn.new) → IfOk result (λ rows. IsPermutation (rows_of (state S.Store conn.old).committed (codes "meta")) rows.items) }
     ensures opened { HasCleanDisk (state S.Store conn.new) → IsTrue (state S.Store conn.new).is_open → IsTrue (state S.Store conn.old).is_open }
     ensures live { HasCleanDisk (state S.Store conn.new) → OnOk result (IsTrue (state S.Store conn.new).is_open) }
