@@ -6,7 +6,7 @@ use Rattle.sqlite.specs.Held.{state}
 use Rattle.sqlite.specs.State.{HasCleanDisk}
 use Rattle.desk_core.specs.History.{Exchange, Run, added, added_if}
 use Rattle.desk_store.specs.Desk.{History, Shown, Stands, pending_after}
-use Rattle.desk_store.specs.Laws.{EditedBy, EditsAreARun}
+use Rattle.desk_store.specs.Laws.{EditedBy, EditsAreARun, pending_through}
 
 abbrev exchanges : {S V : Type 0} → List (Exchange × Shown S V) → List Exchange
 exchanges calls = map (λ call. call.0) calls
@@ -19,11 +19,11 @@ module _ {S V : Type 0} (g : Ghosts S) where
   run_of : (old new : Shown S V) (calls : List (Exchange × Shown S V)) (history pending : History)
       → EditedBy g old calls new → HasCleanDisk (state g new.conn) → Stands (state g old.conn) old.state history pending
       → Run history (exchanges calls) (history ++ added (exchanges calls))
-      × ((left : History) × Stands (state g new.conn) new.state (history ++ added (exchanges calls)) left)
+      × Stands (state g new.conn) new.state (history ++ added (exchanges calls)) (pending_through pending (exchanges calls))
   run_of old new [] history pending e clean stands =
       let P : Shown S V → Type 0 = λ d. Stands (state g d.conn) d.state history pending in
       let Q : History → Type 0 = λ h. Stands (state g new.conn) new.state h pending in
-      (append-nil history, (pending, subst Q (sym (append-nil history)) (subst P (sym e) stands)))
+      (append-nil history, subst Q (sym (append-nil history)) (subst P (sym e) stands))
   run_of old new (call ∷ calls) history pending (once, rest) clean stands =
       let h = doubts call.1 new calls rest in
       let mid : HasCleanDisk (state g call.1.conn) = omega (arith, h, clean) in
@@ -33,7 +33,7 @@ module _ {S V : Type 0} (g : Ghosts S) where
       let more = run_of call.1 new calls next (pending_after pending x.edit x.answer) rest clean step.stands in
       let same : next ++ added (exchanges calls) ≡ history ++ (added_if x.edit x.answer ++ added (exchanges calls)) = append_assoc history (added_if x.edit x.answer) (added (exchanges calls)) in
       let P : History → Type 0 = λ last. Run next (exchanges calls) last in
-      let Q : History → Type 0 = λ last. (left : History) × Stands (state g new.conn) new.state last left in
+      let Q : History → Type 0 = λ last. Stands (state g new.conn) new.state last (pending_through (pending_after pending x.edit x.answer) (exchanges calls)) in
       ((step.answered, subst P same more.0), subst Q same more.1)
 
 pub edits_are_a_run : {S V : Type 0} (g : Ghosts S) → EditsAreARun S V g

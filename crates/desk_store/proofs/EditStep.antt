@@ -7,7 +7,7 @@ use Rattle.sqlite_trees.specs.Tree.{Trees}
 use Rattle.sqlite.specs.Effect.{Database}
 use Rattle.sqlite.specs.State.{HasCleanDisk, State, Survives}
 use Rattle.desk_core.specs.Edit.{Already, Answer, Edit, Refused, Stored, revision_of}
-use Rattle.desk_core.specs.Head.{CanBeKept, Newest, Revision, newest_in, put}
+use Rattle.desk_core.specs.Head.{Newest, Revision, newest_in, put}
 use Rattle.desk_core.specs.History.{added_if, newest_of}
 use Rattle.desk_core.specs.Judging.{Answers, AnswersIn, first_case}
 use Rattle.desk_core.specs.Laws.{NewestOfALongerHistory}
@@ -20,7 +20,7 @@ use Rattle.desk_core.specs.declared.edit.Refusal.{Refusal}
 use Rattle.desk_store.specs.Tables.{Adds, AddsWhileOpen, IsAtRest, LeavesCommit, revision_row}
 use Rattle.sqlite.specs.Order.{Row}
 use Rattle.desk_store.specs.History.{Holds, row_of}
-use Rattle.desk_store.specs.Desk.{CommitsOne, IsAccepted, IsDesk, IsEdited, IsInUtf8, IsSiteHistory, Stands, StepsOn, told}
+use Rattle.desk_store.specs.Desk.{CommitsOne, HasStored, IsAccepted, IsDesk, IsEdited, IsInUtf8, IsSiteHistory, Stands, StepsOn, told}
 use Rattle.desk_store.specs.declared.error.DeskError.{DeskError}
 use Rattle.desk_store.specs.declared.error.DeskError.TheVariants as error
 use Rattle.desk_store.specs.Laws.{StoredEditsKeepSiteHistories}
@@ -50,7 +50,8 @@ module _ {V : Type 0} (s : State) (state : Kept V) (history pending : List Revis
             let left = stands.leaves trees may in (
               left.0,
               left.1,
-              elim left.2 [
+              left.2,
+              elim left.3 [
                 | inl holds ↦ inl holds
                 | inr more ↦ inr (more.0, Contains-append_left pending (r ∷ []) more.0 more.1, more.2, more.3)
               ],
@@ -129,14 +130,11 @@ module _ {V : Type 0} (newest_more : NewestOfALongerHistory) (keeps : StoredEdit
   none : first_case (newest_in before.heads) e ≡ None
   none = no_case (newest_in before.heads) e (e.base + 1) (first_case (newest_in before.heads) e) accepted.answers
 
-  kept : CanBeKept r
-  kept = subst CanBeKept accepted.head accepted.judged.can_be_kept
-
   consistent : IsConsistent (site_in (put (newest_in before.heads) r))
   consistent = subst (λ (head : Revision). IsConsistent (site_in (put (newest_in before.heads) head))) accepted.head accepted.judged.view.consistent
 
   next : (history pending : List Revision) → Stands old before history pending → IsSiteHistory (history ++ r ∷ [])
-  next history pending stands = keeps history e stands.stored (answered old before history pending stands e (Stored (e.base + 1)) accepted.answers) kept utf8
+  next history pending stands = keeps history e stands.stored (answered old before history pending stands e (Stored (e.base + 1)) accepted.answers) utf8
 
   -- the statement was refused
   module _ (clean : HasCleanDisk new) (opened : IsTrue new.is_open → IsTrue old.is_open) (same : IsTrue new.is_open → new.committed ≡ old.committed) (crash : Survives old new (AddsWhileOpen (row_of r) old)) where
@@ -153,13 +151,14 @@ module _ {V : Type 0} (newest_more : NewestOfALongerHistory) (keeps : StoredEdit
                 let left = stands.leaves trees as_before in (
                   left.0,
                   left.1,
-                  elim left.2 [
+                  left.2,
+                  elim left.3 [
                     | inl holds ↦ inl holds
                     | inr more ↦ inr (more.0, Contains-append_left pending (r ∷ []) more.0 more.1, more.2, more.3)
                   ],
                 )
             | inr adds ↦
-                (adds.1.0, adds.1.2, inr (r, Contains-append_right pending (r ∷ []) r (0, omega arith, refl), holds_more old.committed adds.1.0 history r (stands.tables adds.0) stored.numbered adds.1.1, stored))
+                (adds.1.0, adds.1.1.sound, adds.1.2, inr (r, Contains-append_right pending (r ∷ []) r (0, omega arith, refl), holds_more old.committed adds.1.0 history r (stands.tables adds.0) stored.numbered adds.1.1, stored))
           ];
         })
 
@@ -173,7 +172,7 @@ module _ {V : Type 0} (newest_more : NewestOfALongerHistory) (keeps : StoredEdit
           stored = stored;
           heads = heads ∙ ap (put (newest_in before.heads)) accepted.head ∙ ap (λ (n : Newest). put n r) stands.heads ∙ sym (newest_more history r);
           tables = λ _. holds;
-          leaves = λ trees may. (new.committed, durable trees may, inl holds);
+          leaves = λ trees may. (new.committed, adds.sound, durable trees may, inl holds);
         }
 
   commits : Survives old new (AddsWhileOpen (row_of r) old) → Survives old new (CommitsOne before e None old.committed)
@@ -218,17 +217,17 @@ module _ {V : Type 0} (newest_more : NewestOfALongerHistory) (keeps : StoredEdit
       let P : DeskError → Type 0 = λ f. IsEdited old new before before e (Err f) in
       subst P (sym store.1) (edited_untold (error.Store store.0) refl (not_store store.0) opened same crash)
 
-  edited_stored : (HasCleanDisk new → IsTrue old.is_open × Adds (row_of r) old.committed new.committed × LeavesCommit new) → newest_in after.heads ≡ put (newest_in before.heads) ready.head → Survives old new (AddsWhileOpen (row_of r) old)
+  edited_stored : (HasCleanDisk new → IsTrue old.is_open × HasStored (row_of r) old new) → newest_in after.heads ≡ put (newest_in before.heads) ready.head → Survives old new (AddsWhileOpen (row_of r) old)
       → IsEdited old new before after e (Ok (record { rev = e.base + 1; already = false }))
   edited_stored did heads crash = record {
     number = refl;
-    step = λ clean history pending stands. record { answered = answered old before history pending stands e (Stored (e.base + 1)) accepted.answers; stands = stands_on clean (did clean).0 (did clean).1 (did clean).2 heads history pending stands };
+    step = λ clean history pending stands. record { answered = answered old before history pending stands e (Stored (e.base + 1)) accepted.answers; stands = stands_on clean (did clean).0 (did clean).1.adds (did clean).1.leaves heads history pending stands };
     unanswered = λ untold. absurd (let e = untold in cc);
     unchanged = λ nothing. absurd (let e = nothing in cc);
     tables = λ clean live nothing. absurd (let e = nothing in cc);
     schema = λ is. absurd (let e = is in cc);
     crash = record { clean = crash.clean; shield = crash.shield; counts = crash.counts; limit = crash.limit; closes = crash.closes; crash = λ clean trees may. elim (crash.crash clean trees may) [ inl as_before ↦ inl as_before | inr adds ↦ inr adds.1 ] };
-    durable = λ clean _. (did clean).2;
+    durable = λ clean _. (did clean).1;
   }
 
 -- ---- by what the statement answered, where the body was handed over as bytes
@@ -253,7 +252,7 @@ module _ {V : Type 0} (newest_more : NewestOfALongerHistory) (keeps : StoredEdit
   edit_stored accepted names utf8 same opened live adds durable heads crash =
       let P : List ℕ → Type 0 = λ b. Survives old new (AddsWhileOpen (revision_row e.file (e.base + 1) e.caller b) old) in
       let Q : List ℕ → Type 0 = λ b. Adds (revision_row e.file (e.base + 1) e.caller b) old.committed new.committed in
-      edited_stored newest_more keeps in_force old new before after e ready accepted (in_utf8 names (subst IsUtf8 same utf8)) (λ clean. (opened clean (live clean), subst Q same (adds clean), durable clean)) heads (subst P same crash)
+      edited_stored newest_more keeps in_force old new before after e ready accepted (in_utf8 names (subst IsUtf8 same utf8)) (λ clean. (opened clean (live clean), record { live = live clean; adds = subst Q same (adds clean); leaves = durable clean })) heads (subst P same crash)
 
 -- ---- a desk that was edited is a desk
 pub desk_after : {V : Type 0} (old new : State) (before after : Kept V) (e : Edit) (result : Result Done DeskError) → IsEdited old new before after e result

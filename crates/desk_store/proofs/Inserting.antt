@@ -7,7 +7,7 @@ use Rattle.sqlite.specs.Schema.{Schema}
 use Rattle.sqlite.specs.Table.{Table}
 use Rattle.sqlite.specs.Order.{Row}
 use Rattle.sqlite.specs.Tree.{Trees, put_row}
-use Rattle.sqlite.specs.Effect.{Database, SparesFrozen}
+use Rattle.sqlite.specs.Effect.{Database, IsDatabase, SparesFrozen}
 use Rattle.std.specs.List.{AllByRecursion}
 use Rattle.sqlite.specs.Does.{Tally, Does}
 use Rattle.sqlite.specs.Command.TheVariants.{Insert, Commit, Release}
@@ -39,8 +39,8 @@ rows_are db name table found = ap (λ o. unwrap_or (option_map (λ (t : Table). 
 one_table : {a b : Table} → Some a ≡ Some b → a ≡ b
 one_table e = cc
 
-puts_adds : (old after : Database) (row : Row) (has : HasTables old.schema) → Puts has.tree row old after → SparesFrozen old after → Adds row old after
-puts_adds old after row has p frozen =
+puts_adds : (old after : Database) (row : Row) (has : HasTables old.schema) → Puts has.tree row old after → SparesFrozen old after → IsDatabase after → Adds row old after
+puts_adds old after row has p frozen sound =
     let name = codes "file_rev" in
     let found : table_in after.schema name ≡ Some (file_rev_table has.tree) = rw (p.schema) has.file_rev in
     let meta : table_in after.schema (codes "meta") ≡ Some (meta_table has.meta_tree) = rw (p.schema) has.meta in
@@ -55,15 +55,16 @@ puts_adds old after row has p frozen =
       version = rows_are after (codes "meta") (meta_table has.meta_tree) meta ∙ ap (map (cells (meta_table has.meta_tree))) kept ∙ sym (rows_are old (codes "meta") (meta_table has.meta_tree) has.meta);
       others = λ table is. subst (λ (t : Table). AllByRecursion (λ it. it.tree ≢ t.tree → after.trees it.tree ≡ old.trees it.tree) old.schema.tables) (one_table (sym has.file_rev ∙ is)) p.others;
       frozen = frozen;
+      sound = sound;
     }
 
 -- the statement adds the row
 pub does_add : (limit : Option ℕ) (s : State) (file : List ℕ) (rev : ℕ) (author body : List ℕ) (after : Database) (tally : Tally) (at : ℕ) (has : HasTables s.now.schema)
     → slice_get s.now.schema.tables at ≡ Some (file_rev_table has.tree)
-    → Does limit (mode_of s) (given file rev author body) s.now [] None (Insert at (Values terms 6)) (Ok (tally, after)) → SparesFrozen s.now after
+    → Does limit (mode_of s) (given file rev author body) s.now [] None (Insert at (Values terms 6)) (Ok (tally, after)) → SparesFrozen s.now after → IsDatabase after
     → Adds (revision_row file rev author body) s.now after
-does_add limit s file rev author body after tally at has there h frozen =
-    puts_adds s.now after _ has (does_insert limit (mode_of s) file rev author body [] s.now after tally at has.tree there h) frozen
+does_add limit s file rev author body after tally at has there h frozen sound =
+    puts_adds s.now after _ has (does_insert limit (mode_of s) file rev author body [] s.now after tally at has.tree there h) frozen sound
 
 ok_injective : {A B : Type 0} {a b : A} → ◌≡◌ {A = Result A B} (Ok a) (Ok b) → a ≡ b
 ok_injective e = cc
@@ -84,7 +85,7 @@ module _ (old new : State) (file : List ℕ) (rev : ℕ) (author body : List ℕ
       × Adds (revision_row file rev author body) old.now new.now
   writes count h =
       let w = runs_as insert_revision (given file rev author body) old new old.now.schema refl (Insert place.0 (Values terms 6)) (ap command_of means) (subst IsPlain (sym means) (refl, refl)) count h in
-      (w, does_add old.step_limit old file rev author body new.now w.tally place.0 has place.2 w.changed w.frozen)
+      (w, does_add old.step_limit old file rev author body new.now w.tally place.0 has place.2 w.changed w.frozen w.sound)
 
   pub commits : (trees : Trees) → CommitsBy insert_revision (given file rev author body) old trees → AddsTo (revision_row file rev author body) old.now trees
   unfolding CommitsBy
@@ -92,7 +93,7 @@ module _ (old new : State) (file : List ℕ) (rev : ℕ) (author body : List ℕ
       let same : insert_compiled place.0 ≡ h.0 = ok_injective (sym means ∙ h.1.is) in
       elim (subst (λ (c : Compiled). MayCommit old c.returning c.command (text_of insert_revision c) (timed (given file rev author body) c.formats h.1.now) trees) (sym same) h.2) [
         | inl ends ↦ absurd (never place.0 old ends.0)
-        | inr it ↦ (it.2, does_add old.step_limit old file rev author body it.2 it.1 place.0 has place.2 it.3 it.6, it.5)
+        | inr it ↦ (it.2, does_add old.step_limit old file rev author body it.2 it.1 place.0 has place.2 it.3 it.6 it.4, it.5)
       ]
 
 -- after a refusal or a failure

@@ -3,6 +3,7 @@ pub mod InsertEffect
 pub mod Inserting
 pub mod SelectText
 pub mod Reading
+pub mod CrashLeaves
 pub mod CreateText
 pub mod CreateEffect
 pub mod HistoryStep
@@ -19,6 +20,7 @@ pub mod OneOrder
 pub mod OneRow
 pub mod Opened
 pub mod RowsRead
+pub mod SameTables
 pub mod SiteRows
 pub mod SortedNumbers
 pub mod StoredRows

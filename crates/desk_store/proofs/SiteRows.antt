@@ -1,12 +1,11 @@
 -- The rows of the history of a site, and the state of its newest revisions.
-use Rattle.std.proofs.Common.{◌≡◌, ◌∙◌, sym, ap, subst, inl, inr, refl, ℕ, ◌+◌, ◌-◌, ◌<◌, ◌||◌, Bool, true, false, cond, List, [], ◌∷◌, Option, Some, Result, Ok, Err, IfOk, All, find, get_or, length, map, arith}
+use Rattle.std.proofs.Common.{◌≡◌, ◌∙◌, sym, ap, subst, inl, inr, refl, ℕ, ◌-◌, ◌||◌, Bool, true, false, cond, List, [], ◌∷◌, Option, Some, Result, Ok, Err, IfOk, All, find, get_or, length, map, arith}
 use Rattle.std.specs.Prelude.{◌≢◌, Contains, IsPermutation, is_some, slice_get}
 use Rattle.std.specs.List.{AllPass, list_all, list_any}
 use Rattle.std.specs.Str.{bytes_eq}
 use Rattle.std.proofs.lemmas.Bool.{cases_Bool, false≢true}
-use Rattle.std.proofs.lemmas.List.Sorted.{All-permutation, Contains-permutation, IsPermutation-map, IsPermutation-sym, IsPermutation-trans}
+use Rattle.std.proofs.lemmas.List.Sorted.{All-permutation, IsPermutation-map, IsPermutation-sym, IsPermutation-trans}
 use Rattle.std.proofs.lemmas.List.Sums.{AllPass-from_list_all, list_all-from_AllPass}
-use Rattle.std.proofs.lemmas.Slice.Eq.{bytes_eq-Decides}
 use Rattle.sqlite.specs.Order.{Row}
 use Rattle.desk_core.specs.Head.{CanBeKept, Revision, newest_in}
 use Rattle.desk_core.specs.History.{IsHistory, newest_of, revisions_of}
@@ -16,7 +15,7 @@ use Rattle.desk_store.specs.Desk.{IsSiteHistory, IsStorable}
 use Rattle.desk_store.specs.History.{row_of}
 use Rattle.desk_store.specs.Newest.{has_revision}
 use Rattle.desk_store.proofs.NextNumbers.{slice_at}
-use Rattle.desk_store.proofs.OneHistory.{default, in_filter, rev_at}
+use Rattle.desk_store.proofs.OneHistory.{default}
 use Rattle.desk_store.proofs.OneOrder.{rows_say, same_newest}
 
 pub if_both : {T E : Type 0} (r : Result T E) (P Q R : T → Type 0) → ((x : T) → P x → Q x → R x) → IfOk r P → IfOk r Q → IfOk r R
@@ -67,19 +66,12 @@ module _ (heads history : List Revision) (same : newest_in heads ≡ newest_of h
 
 module _ (rows : List Row) (revisions heads : List Revision) (read : map row_of revisions ≡ rows)
     (newest : (history : List Revision) × IsPermutation revisions history × IsHistory history × (newest_in heads ≡ newest_of history)) where
-  numbered_from : (r : Revision) → Contains revisions r → 0 < r.rev
-  numbered_from r h =
-      let here = Contains-permutation revisions newest.0 r newest.1 h in
-      let kept : Contains (revisions_of r.file newest.0) r = in_filter (λ (x : Revision). bytes_eq x.file r.file) newest.0 r here ((bytes_eq-Decides r.file r.file).1 refl) in
-      let number : r.rev ≡ 1 + kept.0 = ap (λ (x : Revision). x.rev) (sym kept.2) ∙ rev_at (revisions_of r.file newest.0) kept.0 r (newest.2 r.file) kept.1 in
-      omega (arith, number)
-
   pub can_be_kept : All IsStorable revisions → ((head : Revision) → Contains heads head → Contains revisions head) → All CanBeKept heads
   can_be_kept all among = λ k d below.
       let r : Revision = get_or heads k d in
       let there = among r (k, below, default heads k r d below) in
       let storable : IsStorable r = subst IsStorable there.2 (all there.0 r there.1) in
-      record { from = numbered_from r there; to = storable.rev; short = omega (arith, storable.short) }
+      record { from = storable.from; to = storable.rev; short = omega (arith, storable.short) }
 
   pub site_history : All IsStorable revisions → list_all (has_revision heads) seven ≡ true → IsConsistent (site_in (newest_in heads)) → (kept : List Revision) → kept ≡ heads
       → (history : List Revision) × IsSiteHistory history × IsPermutation (map row_of history) rows × (newest_in kept ≡ newest_of history)

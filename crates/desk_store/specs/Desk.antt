@@ -1,5 +1,5 @@
 -- What a desk shows, how it stands to a history, and what its calls promise. (this project's own)
-use Rattle.std.specs.Prelude.{◌≡◌, ◌≢◌, ◌⊎◌, ℕ, ◌+◌, ◌≤◌, ◌++◌, ◌==◌, List, [], ◌∷◌, Option, Some, None, Result, Ok, Err, All, Contains, IfOk, IsTrue, find, length, if◌then◌else◌, refl}
+use Rattle.std.specs.Prelude.{◌≡◌, ◌≢◌, ◌⊎◌, ℕ, ◌+◌, ◌<◌, ◌≤◌, ◌++◌, ◌==◌, List, [], ◌∷◌, Option, Some, None, Result, Ok, Err, All, Contains, IfOk, IsTrue, find, length, if◌then◌else◌, refl}
 use Rattle.std.specs.Option.{option_map}
 use Rattle.std.specs.Str.{IsUtf8}
 use Rattle.std.specs.Coded.{Coded, code_by, coded×}
@@ -7,7 +7,8 @@ use Rattle.sqlite_trees.specs.declared.store.Store.{Ghosts}
 use Rattle.sqlite_trees.specs.View.{doubt}
 use Rattle.sqlite.specs.Held.{Held, held_code, state}
 use Rattle.sqlite.specs.State.{HasCleanDisk, State, Survives}
-use Rattle.sqlite.specs.Effect.{Database}
+use Rattle.sqlite.specs.Effect.{Database, IsDatabase}
+use Rattle.sqlite.specs.Order.{Row}
 use Rattle.sqlite.specs.Tree.{Trees}
 use Rattle.desk_policy.specs.Policy.{Content}
 use Rattle.desk_core.specs.Edit.{Already, Answer, Edit, Refused, Stored, revision_of}
@@ -17,7 +18,7 @@ use Rattle.desk_core.specs.Judging.{Answers, IsFileName, first_case, longest_edi
 use Rattle.desk_core.specs.Site.{IsConsistent, site_in}
 use Rattle.desk_core.specs.State.{IsJudged}
 use Rattle.desk_core.specs.Views.{Kept, Ready, kept_code}
-use Rattle.desk_store.specs.Tables.{AddsTo, IsAtRest, LeavesCommit}
+use Rattle.desk_store.specs.Tables.{Adds, AddsTo, IsAtRest, LeavesCommit}
 use Rattle.desk_store.specs.History.{Holds, row_of}
 use Rattle.desk_store.specs.declared.desk.Done.{Done}
 use Rattle.desk_store.specs.declared.desk.Revision.{Revision as Found}
@@ -40,6 +41,7 @@ History = List Revision
 -- a revision that a database of this project may hold
 pub record IsStorable (r : Revision) : Type 0 where
   pub name : IsFileName r.file
+  pub from : 0 < r.rev
   pub rev : r.rev ≤ last_revision
   pub file : IsUtf8 r.file
   pub author : IsUtf8 r.author
@@ -54,11 +56,11 @@ pub record IsSiteHistory (history : List Revision) : Type 0 where
   pub complete : All (λ file. revisions_of file history ≢ []) seven
   pub consistent : IsConsistent (site_in (newest_of history))
 
--- what a crash may leave: the history, or it and one of the revisions whose edits had no answer since the last one stored;
--- either is the history of a site
+-- what a crash may leave: a database that holds the history, or it and one of the revisions whose edits had no answer since the
+-- last one stored; either is the history of a site
 abbrev pub LeavesHistory : (Trees → Type 0) → List Revision → List Revision → Type 0
 LeavesHistory may_leave history pending =
-    (trees : Trees) → may_leave trees → (db : Database) × (trees ≡ db.trees)
+    (trees : Trees) → may_leave trees → (db : Database) × IsDatabase db × (trees ≡ db.trees)
     × (Holds db history ⊎ ((r : Revision) × Contains pending r × Holds db (history ++ r ∷ []) × IsSiteHistory (history ++ r ∷ [])))
 
 -- A desk stands at a history: its heads are the newest revisions; its tables hold the history while the connection is open;
@@ -124,6 +126,12 @@ pub record IsAccepted {V : Type 0} (in_force : V → Content) (state : Kept V) (
   pub head : ready.head ≡ revision_of e
   pub judged : IsJudged in_force state ready
 
+-- the row was added to the tables, and a crash leaves it
+pub record HasStored (row : Row) (old new : State) : Type 0 where
+  pub live : IsTrue new.is_open
+  pub adds : Adds row old.committed new.committed
+  pub leaves : LeavesCommit new
+
 -- what an edit did to a desk, all together (each part is a clause of `edit`)
 pub record IsEdited {V : Type 0} (old new : State) (before after : Kept V) (e : Edit) (result : Result Done DeskError) : Type 0 where
   pub number : IfOk result (λ done. done.rev ≡ e.base + 1)
@@ -133,7 +141,7 @@ pub record IsEdited {V : Type 0} (old new : State) (before after : Kept V) (e : 
   pub tables : HasCleanDisk new → IsTrue new.is_open → added_if e (told result) ≡ [] → new.committed ≡ old.committed
   pub schema : result ≢ Err error.Schema
   pub crash : Survives old new (CommitsOne before e (told result) old.committed)
-  pub durable : HasCleanDisk new → added_if e (told result) ≢ [] → LeavesCommit new
+  pub durable : HasCleanDisk new → added_if e (told result) ≢ [] → HasStored (row_of (revision_of e)) old new
 
 -- the revision of a file with this number
 abbrev pub revision_at : List Revision → List ℕ → ℕ → Option Revision

@@ -1,19 +1,20 @@
 -- What the definitions of desks come to. (this project's own)
-use Rattle.std.specs.Prelude.{◌≡◌, ◌+◌, ◌≤◌, ◌++◌, ℕ, List, [], ◌∷◌, Some, codes, map}
+use Rattle.std.specs.Prelude.{◌≡◌, ◌⊎◌, ◌+◌, ◌≤◌, ◌++◌, ℕ, List, [], ◌∷◌, Contains, Some, codes, map}
 use Rattle.sqlite_trees.specs.declared.store.Store.{Ghosts}
 use Rattle.sqlite_trees.specs.Objects.{catalog_tree}
 use Rattle.sqlite_trees.specs.View.{doubt}
-use Rattle.sqlite.specs.Held.{state}
+use Rattle.sqlite.specs.Held.{Held, state}
 use Rattle.sqlite.specs.State.{HasCleanDisk, State}
 use Rattle.sqlite.specs.Effect.{Database, IsDatabase}
-use Rattle.sqlite.specs.Tree.{IsTable}
+use Rattle.sqlite.specs.Tree.{IsTable, Trees}
 use Rattle.desk_core.specs.Edit.{Edit, Stored, revision_of}
-use Rattle.desk_core.specs.Head.{CanBeKept, Revision}
+use Rattle.desk_core.specs.Head.{Revision}
 use Rattle.desk_core.specs.History.{Exchange, Run, added, newest_of, revisions_of}
 use Rattle.desk_core.specs.Judging.{Answers}
 use Rattle.desk_core.specs.Views.{Kept}
-use Rattle.desk_store.specs.Desk.{History, IsInUtf8, IsSiteHistory, Shown, Stands, StepsOn}
+use Rattle.desk_store.specs.Desk.{History, IsInUtf8, IsSiteHistory, Shown, Stands, StepsOn, pending_after}
 use Rattle.desk_store.specs.History.{Holds}
+use Rattle.desk_store.specs.Open.{IsProject}
 use Rattle.desk_store.specs.Tables.{HasTables, file_rev_table, meta_table, table_in}
 
 -- The same tables hold one history, file by file: so it does not matter in which order their rows are read.
@@ -30,7 +31,7 @@ DeclaredTablesAreOurs =
 -- The history of a site with the revision of an edit that is answered as stored is the history of a site.
 abbrev pub StoredEditsKeepSiteHistories : Type 0
 StoredEditsKeepSiteHistories =
-    (history : List Revision) (e : Edit) → IsSiteHistory history → Answers (newest_of history) e (Stored (e.base + 1)) → CanBeKept (revision_of e) → IsInUtf8 e
+    (history : List Revision) (e : Edit) → IsSiteHistory history → Answers (newest_of history) e (Stored (e.base + 1)) → IsInUtf8 e
     → IsSiteHistory (history ++ revision_of e ∷ [])
 
 -- A desk after an edit: no fault of its disk is forgotten, and where the disk is good it has stepped on, wherever it stood.
@@ -39,16 +40,35 @@ EditedOnce old before x new after =
     (doubt old.is_clean ≤ doubt new.is_clean)
     × (HasCleanDisk new → (history pending : History) → Stands old before history pending → StepsOn new after x.edit x.answer history pending)
 
+-- the revisions that a crash may still bring to light after exchanges, one after another
+abbrev pub pending_through : History → List Exchange → History
+pending_through pending [] = pending
+pending_through pending (x ∷ exchanges) = pending_through (pending_after pending x.edit x.answer) exchanges
+
 -- a desk after edits, one after another
 abbrev pub EditedBy : {S V : Type 0} → Ghosts S → Shown S V → List (Exchange × Shown S V) → Shown S V → Type 0
 EditedBy g old [] new = new ≡ old
 EditedBy g old (call ∷ calls) new =
     EditedOnce (state g old.conn) old.state call.0 (state g call.1.conn) call.1.state × EditedBy g call.1 calls new
 
--- After any edits on a good disk the answers are a run of the histories, and the desk stands at the run's last history.
+-- After any edits on a good disk the answers are a run of the histories, and the desk stands at the run's last history, with the
+-- revisions pending whose edits had no answer since the last one stored.
 abbrev pub EditsAreARun : (S V : Type 0) → Ghosts S → Type 0
 EditsAreARun S V g =
     (old new : Shown S V) (calls : List (Exchange × Shown S V)) (history pending : History)
     → EditedBy g old calls new → HasCleanDisk (state g new.conn) → Stands (state g old.conn) old.state history pending
     → Run history (map (λ call. call.0) calls) (history ++ added (map (λ call. call.0) calls))
-    × ((left : History) × Stands (state g new.conn) new.state (history ++ added (map (λ call. call.0) calls)) left)
+    × Stands (state g new.conn) new.state (history ++ added (map (λ call. call.0) calls)) (pending_through pending (map (λ call. call.0) calls))
+
+-- the history, or it and one of the pending revisions
+abbrev pub IsLeft : History → History → History → Type 0
+IsLeft history pending left = (left ≡ history) ⊎ ((r : Revision) × Contains pending r × (left ≡ history ++ r ∷ []))
+
+-- Where a crash leaves these trees of a desk, a later connection to a sound database with these trees has a database of this
+-- project: it holds the desk's history, or that and one of the pending revisions. So a desk can be opened on it, and stands there.
+abbrev pub CrashesLeaveDesks : (S T V : Type 0) → Ghosts S → Ghosts T → Type 0
+CrashesLeaveDesks S T V g h =
+    (desk : Shown S V) (history pending : History) (trees : Trees) (later : Held T)
+    → Stands (state g desk.conn) desk.state history pending → (state g desk.conn).may_leave trees
+    → IsDatabase (state h later).committed → (state h later).committed.trees ≡ trees
+    → (left : History) × IsLeft history pending left × IsProject (state h later).committed left

@@ -24,10 +24,10 @@ abbrev pub held_in : {S V E : Type 0} → Result (Shown S V) (E × Held S) → H
 held_in (Ok desk) = desk.conn
 held_in (Err both) = both.1
 
--- a desk that was opened on this database stands at its history, and nothing is pending
-abbrev pub OpensAt : {S V : Type 0} (g : Ghosts S) → Database → Shown S V → Type 0
-OpensAt g db desk = (history : List Revision) × IsProject db history × Stands (state g desk.conn) desk.state history []
+-- the database is one of this project
+abbrev pub IsOurs : Database → Type 0
+IsOurs db = (history : List Revision) × IsProject db history
 
--- the database is not one of this project
-abbrev pub IsForeign : Database → Type 0
-IsForeign db = (history : List Revision) → IsProject db history → ⊥
+-- a desk that was opened on this database stands at its history, in whatever order that is told, and nothing is pending
+abbrev pub OpensAt : {S V : Type 0} (g : Ghosts S) → Database → Shown S V → Type 0
+OpensAt g db desk = IsOurs db × ((history : List Revision) → IsProject db history → Stands (state g desk.conn) desk.state history [])

@@ -1,6 +1,7 @@
 //! The state for which a database stands, if it is one of this project.
 
 ghost use Rattle.std.specs.Prelude.{◌≡◌, ◌∷◌, [], false, codes, pos, Err, IfErr, IfOk, IsPermutation, IsTrue, OnOk, map};
+ghost use Rattle.sqlite.specs.Effect.{IsDatabase};
 ghost use Rattle.sqlite.specs.Held.{state};
 ghost use Rattle.sqlite.specs.State.{HasCleanDisk};
 ghost use Rattle.sqlite.specs.declared.types.Value.TheVariants.{Int};
@@ -8,7 +9,7 @@ ghost use Rattle.desk_core.specs.Head.{newest_in};
 ghost use Rattle.desk_core.specs.History.{newest_of};
 ghost use Rattle.desk_store.specs.Desk.{History, IsSiteHistory, LeavesTables};
 ghost use Rattle.desk_store.specs.History.{row_of};
-ghost use Rattle.desk_store.specs.Open.{IsForeign, IsOfOpening, IsProject};
+ghost use Rattle.desk_store.specs.Open.{IsOfOpening, IsOurs, IsProject};
 ghost use Rattle.desk_store.specs.Tables.{HasTables, IsAtRest, rows_of};
 ghost use Rattle.desk_store.specs.declared.error.DeskError.TheVariants as error;
 
@@ -28,6 +29,7 @@ fn find_tables<S: Alter>(conn: &mut Connection<S>) -> Result<(), DeskError>
     ensures rest { HasCleanDisk (state S.Store conn.new) → OnOk result (IsAtRest (state S.Store conn.new)) }
     ensures live { HasCleanDisk (state S.Store conn.new) → OnOk result (IsTrue (state S.Store conn.new).is_open) }
     ensures leaves { LeavesTables (state S.Store conn.old) (state S.Store conn.new) }
+    ensures sound { HasCleanDisk (state S.Store conn.new) → OnOk result (IsDatabase (state S.Store conn.old).committed) }
     ensures foreign { HasCleanDisk (state S.Store conn.new) → result ≡ Err error.Schema → HasTables (state S.Store conn.old).committed.schema → ⊥ }
     ensures errors { IfErr result IsOfOpening }
 {
@@ -89,9 +91,10 @@ pub(crate) fn read_state<S: Alter, V: PolicyView + Drop>(
     ensures rest { HasCleanDisk (state S.Store conn.new) → OnOk result (IsAtRest (state S.Store conn.new)) }
     ensures live { HasCleanDisk (state S.Store conn.new) → OnOk result (IsTrue (state S.Store conn.new).is_open) }
     ensures leaves { LeavesTables (state S.Store conn.old) (state S.Store conn.new) }
+    ensures sound { HasCleanDisk (state S.Store conn.new) → OnOk result (IsDatabase (state S.Store conn.old).committed) }
     ensures project { HasCleanDisk (state S.Store conn.new) → IfOk result (λ state'. (history : History) × IsProject (state S.Store conn.old).committed history
         × (newest_in state'.heads ≡ newest_of history)) }
-    ensures foreign { HasCleanDisk (state S.Store conn.new) → result ≡ Err error.Schema → IsForeign (state S.Store conn.old).committed }
+    ensures foreign { HasCleanDisk (state S.Store conn.new) → result ≡ Err error.Schema → ¬ IsOurs (state S.Store conn.old).committed }
     ensures errors { IfErr result IsOfOpening }
 {
     if let Err(e) = find_tables(conn) {

@@ -3,13 +3,14 @@
 ghost use Rattle.std.specs.Prelude.{◌≡◌, ◌≢◌, ◌+◌, [], false, Err, IfErr, IfOk, IsTrue, None, map, option_copied};
 ghost use Rattle.sqlite.specs.Held.{state};
 ghost use Rattle.sqlite.specs.State.{HasCleanDisk, Survives};
-ghost use Rattle.desk_core.specs.Edit.{asked};
+ghost use Rattle.desk_core.specs.Edit.{asked, revision_of};
 ghost use Rattle.desk_core.specs.Head.{newest_in};
 ghost use Rattle.desk_core.specs.History.{added_if, newest_of, revisions_of};
 ghost use Rattle.desk_core.specs.Judging.{first_case};
 ghost use Rattle.desk_core.specs.Site.{IsInForce, site_in};
-ghost use Rattle.desk_store.specs.Desk.{CommitsOne, HasGoodDisk, History, IsAccepted, IsEdited, LeavesTables, StandsAt, StaysAsItWas, StepsTo, revision_at, stored_of, told};
-ghost use Rattle.desk_store.specs.Open.{IsForeign, IsOfOpening, OpensAt, held_in};
+ghost use Rattle.desk_store.specs.Desk.{CommitsOne, HasGoodDisk, HasStored, History, IsAccepted, IsEdited, LeavesTables, StandsAt, StaysAsItWas, StepsTo, revision_at, stored_of, told};
+ghost use Rattle.desk_store.specs.History.{row_of};
+ghost use Rattle.desk_store.specs.Open.{IsOfOpening, IsOurs, OpensAt, held_in};
 ghost use Rattle.desk_store.specs.Rows.{IsOfStore};
 ghost use Rattle.desk_store.specs.Tables.{LeavesCommit};
 ghost use Rattle.desk_store.specs.declared.error.DeskError.TheVariants as error;
@@ -78,7 +79,7 @@ impl<S: Alter + Drop, V: PolicyView + Drop> Desk<S, V> {
 
         // No other error is answered, and `Schema` only if the tables are not those of a site's history.
         ensures errors { IfErr result (λ both. IsOfOpening both.0) }
-        ensures foreign { IfErr result (λ both. HasCleanDisk (state S.Store both.1) → both.0 ≡ error.Schema → IsForeign (state S.Store conn).committed) }
+        ensures foreign { IfErr result (λ both. HasCleanDisk (state S.Store both.1) → both.0 ≡ error.Schema → ¬ IsOurs (state S.Store conn).committed) }
 
         // Whatever is answered, the tables are as before, a crash leaves what it could before, and no transaction is open.
         ensures tables { LeavesTables (state S.Store conn) (state S.Store (held_in result)) }
@@ -125,10 +126,12 @@ impl<S: Alter + Drop, V: PolicyView + Drop> Desk<S, V> {
         ensures tables { HasGoodDisk S.Store self.new → IsTrue (state S.Store self.new.conn).is_open → added_if (asked edit.now) (told result) ≡ []
             → (state S.Store self.new.conn).committed ≡ (state S.Store self.old.conn).committed }
 
-        // A crash at any moment leaves what it could before, or the edit's one commit; once it is answered as stored, that.
+        // A crash at any moment leaves what it could before, or the edit's one commit. Once the edit is answered as stored, its
+        // revision is the one row more of the tables, and a crash leaves that.
         ensures crash { Survives (state S.Store self.old.conn) (state S.Store self.new.conn)
             (CommitsOne self.old.state (asked edit.now) (told result) (state S.Store self.old.conn).committed) }
-        ensures durable { HasGoodDisk S.Store self.new → added_if (asked edit.now) (told result) ≢ [] → LeavesCommit (state S.Store self.new.conn) }
+        ensures durable { HasGoodDisk S.Store self.new → added_if (asked edit.now) (told result) ≢ []
+            → HasStored (row_of (revision_of (asked edit.now))) (state S.Store self.old.conn) (state S.Store self.new.conn) }
     {
         self.judged(alloc, edit)
     }

@@ -1,6 +1,6 @@
 //! What the definitions of this crate come to, each as a function that does nothing of its own.
 
-ghost use Rattle.desk_store.specs.Laws.{DeclaredTablesAreOurs, EditsAreARun, OneHistory, StoredEditsKeepSiteHistories};
+ghost use Rattle.desk_store.specs.Laws.{CrashesLeaveDesks, DeclaredTablesAreOurs, EditsAreARun, OneHistory, StoredEditsKeepSiteHistories};
 
 use desk_core::{
     answers_are_right, known_files_have_names, newest_of_a_longer_history,
@@ -12,6 +12,12 @@ use sqlite::Alter;
 /// After any edits on a good disk the answers are a run of the histories, and the desk stands at the run's last history.
 pub fn edits_are_a_run<S: Alter + Drop, V: PolicyView + Drop>()
     ensures { EditsAreARun S V S.Store }
+{}
+
+/// What a crash leaves of a desk is a database of this project, with the history at which the desk stood, or that and one of the
+/// revisions whose edits had no answer: a desk can be opened on it, and stands there.
+pub fn crashes_leave_desks<S: Alter + Drop, T: Alter + Drop, V: PolicyView + Drop>()
+    ensures { CrashesLeaveDesks S T V S.Store T.Store }
 {}
 
 /// The same tables hold one history, file by file: the order in which their rows are read does not matter.

@@ -25,5 +25,6 @@ pub use declared::{declares_file_rev, declares_meta};
 pub use desk::{Desk, Done, Revision};
 pub use error::{CreateError, DeskError, StoreFault, Task};
 pub use laws::{
-    declared_tables_are_ours, edits_are_a_run, one_history, stored_edits_keep_site_histories,
+    crashes_leave_desks, declared_tables_are_ours, edits_are_a_run, one_history,
+    stored_edits_keep_site_histories,
 };

@@ -134,7 +134,7 @@ fn revision_of(
     let Ok(named) = is_file_name(alloc, file) else {
         return Err(DeskError::Memory);
     };
-    if !named || rev > LAST_REVISION || body.len() > LONGEST_BODY {
+    if !named || rev == 0 || rev > LAST_REVISION || body.len() > LONGEST_BODY {
         return Err(DeskError::Schema);
     }
     match copied(alloc, file, rev, author, body) {

@@ -2,6 +2,7 @@
 
 ghost use Rattle.std.specs.Prelude.{◌≡◌, false, IsTrue, OnOk, OnErr, IfOk, IsPermutation, codes};
 ghost use Rattle.std.specs.Str.{IsUtf8};
+ghost use Rattle.sqlite.specs.Effect.{IsDatabase};
 ghost use Rattle.sqlite.specs.State.{HasCleanDisk, Survives};
 ghost use Rattle.sqlite.specs.Held.{state};
 ghost use Rattle.desk_store.specs.Tables.{HasTables, IsAtRest, Adds, AddsWhileOpen, LeavesCommit, revision_row, rows_of};
@@ -69,6 +70,7 @@ pub(crate) fn sees_tables<S: Alter>(conn: &mut Connection<S>) -> Result<bool, Er
     requires autocommit { (state S.Store conn.old).in_transaction ≡ false }
     ensures mode { (state S.Store conn.new).in_transaction ≡ false }
     ensures rest { HasCleanDisk (state S.Store conn.new) → IfOk result (λ there. IsTrue there → IsAtRest (state S.Store conn.new)) }
+    ensures sound { HasCleanDisk (state S.Store conn.new) → IfOk result (λ there. IsTrue there → IsDatabase (state S.Store conn.old).committed) }
     ensures foreign { HasCleanDisk (state S.Store conn.new) → IfOk result (λ there. there ≡ false → HasTables (state S.Store conn.old).committed.schema → ⊥) }
     ensures live { HasCleanDisk (state S.Store conn.new) → OnOk result (IsTrue (state S.Store conn.new).is_open) }
     ensures unchanged { HasCleanDisk (state S.Store conn.new) → IsTrue (state S.Store conn.new).is_open → (state S.Store conn.new).committed ≡ (state S.Store conn.old).committed }
