@@ -19,6 +19,7 @@ pub mod OneHead
 pub mod OneOrder
 pub mod OneRow
 pub mod Opened
+pub mod PendingEdits
 pub mod RowsRead
 pub mod SameTables
 pub mod SiteRows

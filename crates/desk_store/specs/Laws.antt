@@ -1,5 +1,5 @@
 -- What the definitions of desks come to. (this project's own)
-use Rattle.std.specs.Prelude.{◌≡◌, ◌⊎◌, ◌+◌, ◌≤◌, ◌++◌, ℕ, List, [], ◌∷◌, Contains, Some, codes, map}
+use Rattle.std.specs.Prelude.{◌≡◌, ◌⊎◌, ◌+◌, ◌≤◌, ◌++◌, ℕ, List, [], ◌∷◌, Contains, None, Some, codes, map}
 use Rattle.sqlite_trees.specs.declared.store.Store.{Ghosts}
 use Rattle.sqlite_trees.specs.Objects.{catalog_tree}
 use Rattle.sqlite_trees.specs.View.{doubt}
@@ -59,6 +59,18 @@ EditsAreARun S V g =
     → EditedBy g old calls new → HasCleanDisk (state g new.conn) → Stands (state g old.conn) old.state history pending
     → Run history (map (λ call. call.0) calls) (history ++ added (map (λ call. call.0) calls))
     × Stands (state g new.conn) new.state (history ++ added (map (λ call. call.0) calls)) (pending_through pending (map (λ call. call.0) calls))
+
+-- the revision of an edit that had no answer, after which no edit was stored
+abbrev pub IsUntold : List Exchange → Revision → Type 0
+IsUntold calls r =
+    (before : List Exchange) × (after : List Exchange) × (x : Exchange) × (calls ≡ before ++ x ∷ after) × (x.answer ≡ None) × (r ≡ revision_of x.edit) × (added after ≡ [])
+
+-- A revision that may still come to light after exchanges was pending before, and no edit was stored since; or it is that of an
+-- edit without an answer that came after the last stored one.
+abbrev pub PendingEditsHaveNoAnswer : Type 0
+PendingEditsHaveNoAnswer =
+    (pending : History) (calls : List Exchange) (r : Revision) → Contains (pending_through pending calls) r
+    → (Contains pending r × (added calls ≡ [])) ⊎ IsUntold calls r
 
 -- the history, or it and one of the pending revisions
 abbrev pub IsLeft : History → History → History → Type 0

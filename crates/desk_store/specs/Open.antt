@@ -6,13 +6,26 @@ use Rattle.sqlite.specs.Effect.{Database}
 use Rattle.desk_core.specs.Head.{Revision}
 use Rattle.desk_store.specs.Desk.{IsSiteHistory, Shown, Stands}
 use Rattle.desk_store.specs.History.{Holds}
-use Rattle.desk_store.specs.Rows.{IsOfStore}
 use Rattle.desk_store.specs.declared.error.DeskError.{DeskError}
 use Rattle.desk_store.specs.declared.error.DeskError.TheVariants as error
+use Rattle.desk_store.specs.declared.error.StoreFault.{StoreFault}
+use Rattle.desk_store.specs.declared.error.Task.{Task}
+use Rattle.desk_store.specs.declared.error.Task.TheVariants as task
 
--- what opening may answer: the database is not one of this project, there is no memory, or a statement was refused
+-- what reading rows may answer: they are not those of a database of this project, or there is no memory
+abbrev pub IsOfRows : DeskError → Type 0
+IsOfRows e = (e ≡ error.Schema) ⊎ (e ≡ error.Memory)
+
+-- the statement is one that looks for the tables, or reads them
+abbrev pub IsLook : Task → Type 0
+IsLook task.AddRevision = ⊥
+IsLook task.ReadRevisions = Unit {0}
+IsLook task.FindTables = Unit {0}
+IsLook task.ReadVersion = Unit {0}
+
+-- what opening may answer: the database is not one of this project, there is no memory, or a statement that looks was refused
 abbrev pub IsOfOpening : DeskError → Type 0
-IsOfOpening e = (e ≡ error.Schema) ⊎ IsOfStore e
+IsOfOpening e = (e ≡ error.Schema) ⊎ ((e ≡ error.Memory) ⊎ ((fault : StoreFault) × IsLook fault.task × (e ≡ error.Store fault)))
 
 -- a database of this project with this history
 pub record IsProject (db : Database) (history : List Revision) : Type 0 where

@@ -26,5 +26,5 @@ pub use desk::{Desk, Done, Revision};
 pub use error::{CreateError, DeskError, StoreFault, Task};
 pub use laws::{
     crashes_leave_desks, declared_tables_are_ours, edits_are_a_run, one_history,
-    stored_edits_keep_site_histories,
+    pending_edits_have_no_answer, stored_edits_keep_site_histories,
 };

@@ -6,7 +6,7 @@ ghost use Rattle.std.specs.Str.{bytes_eq};
 ghost use Rattle.desk_core.specs.Head.{Revision, StandOnce, newest_in};
 ghost use Rattle.desk_core.specs.History.{IsHistory, newest_of};
 ghost use Rattle.desk_store.specs.Newest.{AreNewest, number_in};
-ghost use Rattle.desk_store.specs.Open.{IsOfOpening};
+ghost use Rattle.desk_store.specs.Open.{IsOfRows};
 ghost use Rattle.desk_store.specs.declared.error.DeskError.TheVariants as error;
 
 use crate::error::DeskError;
@@ -20,7 +20,7 @@ pub(crate) fn newest_heads(alloc: Global, revisions: Vec<Head>) -> Result<Vec<He
     ensures among { IfOk result (λ heads. (head : Revision) → Contains heads.items head → Contains revisions.items head) }
     ensures once { IfOk result (λ heads. StandOnce heads.items) }
     ensures gap { result ≡ Err error.Schema → (history : List Revision) → IsPermutation revisions.items history → IsHistory history → ⊥ }
-    ensures errors { IfErr result IsOfOpening }
+    ensures errors { IfErr result IsOfRows }
 {
     let Ok(mut revisions) = by_number(revisions) else {
         return Err(DeskError::Memory);
@@ -53,7 +53,7 @@ fn keep_number(
     ensures kept { OnOk result ((file : List ℕ) → number_in numbers.new file
         ≡ (if bytes_eq revision.now.file file then revision.now.rev else number_in numbers.old file)) }
     ensures gap { result ≡ Err error.Schema → revision.now.rev ≢ number_in numbers.old revision.now.file + 1 }
-    ensures errors { IfErr result IsOfOpening }
+    ensures errors { IfErr result IsOfRows }
 {
     if revision.rev == 0 || number_of(numbers, revision.file.as_str()) != revision.rev - 1 {
         return Err(DeskError::Schema);
@@ -83,7 +83,7 @@ fn newest_numbers(alloc: Global, revisions: &[Head]) -> Result<BTreeMap<String, 
     ensures history { IfOk result (λ numbers. IsHistory revisions.now) }
     ensures newest { IfOk result (λ numbers. AreNewest numbers revisions.now) }
     ensures gap { result ≡ Err error.Schema → IsHistory revisions.now → ⊥ }
-    ensures errors { IfErr result IsOfOpening }
+    ensures errors { IfErr result IsOfRows }
 {
     newest_of_a_longer_history();
     let mut numbers: BTreeMap<String, u32> = BTreeMap::new(alloc);

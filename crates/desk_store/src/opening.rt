@@ -10,7 +10,7 @@ ghost use Rattle.desk_core.specs.Site.{IsConsistent, site_in};
 ghost use Rattle.desk_store.specs.Desk.{History, IsSiteHistory};
 ghost use Rattle.desk_store.specs.History.{row_of};
 ghost use Rattle.desk_store.specs.Newest.{has_revision};
-ghost use Rattle.desk_store.specs.Open.{IsOfOpening};
+ghost use Rattle.desk_store.specs.Open.{IsOfRows};
 ghost use Rattle.desk_store.specs.declared.error.DeskError.TheVariants as error;
 
 use crate::error::DeskError;
@@ -56,7 +56,7 @@ fn is_version_one(rows: &[Row]) -> bool
 pub(crate) fn version_of(rows: &[Row]) -> Result<(), DeskError>
     ensures version { OnOk result (rows.now ≡ (Int (pos 1) ∷ []) ∷ []) }
     ensures foreign { result ≡ Err error.Schema → rows.now ≡ (Int (pos 1) ∷ []) ∷ [] → ⊥ }
-    ensures errors { IfErr result (λ e. e ≡ error.Schema) }
+    ensures errors { IfErr result IsOfRows }
 {
     if is_version_one(rows) {
         Ok(())
@@ -84,7 +84,7 @@ fn state_of<V: PolicyView + Drop>(alloc: Global, heads: Vec<Head>) -> Result<Sta
     ensures made { IfOk result (λ state. state.heads ≡ heads.items) }
     ensures consistent { IfOk result (λ state. IsConsistent (site_in (newest_in heads.items))) }
     ensures foreign { result ≡ Err error.Schema → IsConsistent (site_in (newest_in heads.items)) → ⊥ }
-    ensures errors { IfErr result IsOfOpening }
+    ensures errors { IfErr result IsOfRows }
 {
     consistent_sites_have_no_fault();
     match State::from_heads(alloc, heads) {
@@ -102,7 +102,7 @@ pub(crate) fn state_in<V: PolicyView + Drop>(
     ensures history { IfOk result (λ state. (history : History) × IsSiteHistory history × IsPermutation (map row_of history) rows.now × (newest_in state.heads ≡ newest_of history)) }
     ensures once { IfOk result (λ state. StandOnce state.heads) }
     ensures foreign { result ≡ Err error.Schema → (history : History) → IsSiteHistory history → IsPermutation (map row_of history) rows.now → ⊥ }
-    ensures errors { IfErr result IsOfOpening }
+    ensures errors { IfErr result IsOfRows }
 {
     let revisions = revisions_in(alloc, rows)?;
     let heads = newest_heads(alloc, revisions)?;

@@ -1,6 +1,6 @@
 //! What the rows of revisions say.
 
-ghost use Rattle.std.specs.Prelude.{All, Contains, MatchOption, ◌≡◌, ◌↔◌, ◌++◌, [], IfErr, IfOk, IsTrue, OnOk, pos};
+ghost use Rattle.std.specs.Prelude.{All, Contains, MatchOption, ◌≡◌, ◌⊎◌, ◌↔◌, ◌++◌, [], IfErr, IfOk, IsTrue, OnOk, pos};
 ghost use Rattle.std.specs.List.{cons_option, filter_map};
 ghost use Rattle.sqlite.specs.Order.{column};
 ghost use Rattle.sqlite.specs.declared.types.Value.TheVariants.{Int, Text as Words};
@@ -18,6 +18,7 @@ use std::alloc::Global;
 pub(crate) fn not_stored(task: Task, said: Error) -> DeskError
     ensures memory { (result ≡ error.Memory) ↔ (said ≡ Error.SqliteFailure ErrorCode.OutOfMemory) }
     ensures either { IsOfStore result }
+    ensures named { (result ≡ error.Memory) ⊎ (result ≡ error.Store (record { task = task; error = said })) }
 {
     match said {
         Error::SqliteFailure(ErrorCode::OutOfMemory) => DeskError::Memory,

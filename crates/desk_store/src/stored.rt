@@ -6,7 +6,7 @@ ghost use Rattle.sqlite.specs.declared.types.Value.TheVariants.{Blob as Bytes, I
 ghost use Rattle.desk_core.specs.Head.{Revision};
 ghost use Rattle.desk_store.specs.Desk.{History, IsStorable};
 ghost use Rattle.desk_store.specs.History.{row_of};
-ghost use Rattle.desk_store.specs.Open.{IsOfOpening};
+ghost use Rattle.desk_store.specs.Open.{IsOfRows};
 ghost use Rattle.desk_store.specs.Tables.{revision_row};
 ghost use Rattle.desk_store.specs.declared.error.DeskError.TheVariants as error;
 
@@ -28,7 +28,7 @@ pub(crate) fn revisions_in(alloc: Global, rows: &[Row]) -> Result<Vec<Head>, Des
     ensures read { IfOk result (λ heads. map row_of heads.items ≡ rows.now) }
     ensures storable { IfOk result (λ heads. All IsStorable heads.items) }
     ensures foreign { result ≡ Err error.Schema → (history : History) → All IsStorable history → IsPermutation (map row_of history) rows.now → ⊥ }
-    ensures errors { IfErr result IsOfOpening }
+    ensures errors { IfErr result IsOfRows }
 {
     let mut heads: Vec<Head> = Vec::new(alloc);
     for row in rows {
@@ -48,7 +48,7 @@ fn revision_in(alloc: Global, row: &Row) -> Result<Head, DeskError>
     ensures read { IfOk result (λ head. row_of head ≡ row.now) }
     ensures storable { IfOk result IsStorable }
     ensures foreign { result ≡ Err error.Schema → (revision : Revision) → IsStorable revision → row_of revision ≡ row.now → ⊥ }
-    ensures errors { IfErr result IsOfOpening }
+    ensures errors { IfErr result IsOfRows }
 {
     match parts_in(row) {
         Some((file, rev, author, body)) => revision_of(alloc, file, rev, author, body),
@@ -120,7 +120,7 @@ fn revision_of(
     ensures made { IfOk result (λ head. head ≡ record { file = file.now; rev = rev; author = author.now; body = body.now }) }
     ensures storable { IfOk result IsStorable }
     ensures foreign { result ≡ Err error.Schema → IsStorable (record { file = file.now; rev = rev; author = author.now; body = body.now }) → ⊥ }
-    ensures errors { IfErr result IsOfOpening }
+    ensures errors { IfErr result IsOfRows }
 {
     let Ok(body) = std::str::from_utf8(body) else {
         return Err(DeskError::Schema);
