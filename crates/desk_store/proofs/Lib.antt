@@ -26,3 +26,6 @@ pub mod SiteRows
 pub mod SortedNumbers
 pub mod StoredRows
 pub mod TreesApart
+pub mod FirstHistory
+pub mod FirstSite
+pub mod FirstState

@@ -3,7 +3,7 @@ use Rattle.std.specs.Prelude.{◌≡◌, ◌⊎◌, ℕ, Bool, true, false, List
 use Rattle.std.specs.List.{AllByRecursion}
 use Rattle.std.specs.Option.{option_map}
 use Rattle.std.specs.Result.{result_unwrap_or}
-use Rattle.std.specs.Str.{bytes_eq}
+use Rattle.std.specs.Str.{IsUtf8, bytes_eq}
 use Rattle.sqlite_trees.specs.declared.store.Store.{Ghosts}
 use Rattle.sqlite.specs.Held.{Held, state}
 use Rattle.sqlite.specs.State.{HasCleanDisk, State, Survives}
@@ -18,9 +18,10 @@ use Rattle.desk_policy.specs.Site.{SiteTexts}
 use Rattle.desk_policy.specs.SiteFault.{exports_name}
 use Rattle.desk_policy.specs.View.{HasFault}
 use Rattle.desk_policy.specs.declared.site_fault.SiteFault.{SiteFault}
-use Rattle.desk_core.specs.Head.{Revision}
-use Rattle.desk_core.specs.Judging.{is_of_seven, longest_edit}
-use Rattle.desk_store.specs.Desk.{LeavesTables, Shown, Stands}
+use Rattle.desk_core.specs.Head.{Revision, newest_in}
+use Rattle.desk_core.specs.History.{newest_of}
+use Rattle.desk_core.specs.Judging.{is_of_seven, longest_edit, seven}
+use Rattle.desk_store.specs.Desk.{IsSiteHistory, LeavesTables, Shown, Stands}
 use Rattle.desk_store.specs.History.{Holds}
 use Rattle.desk_store.specs.Tables.{LeavesCommit, table_in}
 use Rattle.desk_store.specs.declared.error.CreateError.{CreateError}
@@ -30,60 +31,112 @@ use Rattle.desk_store.specs.declared.error.CreateError.TheVariants as refused
 abbrev pub has_one : Schema → Bool
 has_one schema = is_some (table_in schema (codes "meta")) || is_some (table_in schema (codes "file_rev"))
 
--- the first of these files whose text is too long
-abbrev pub first_long : (List ℕ → List ℕ) → List (List ℕ) → Option (List ℕ)
-first_long text files = find (λ file. nat_lt longest_edit (length (text file))) files
-
 -- of each of the seven files its text
 abbrev pub text_of_seven : SiteTexts → List ℕ → List ℕ
-text_of_seven t file =
-    if bytes_eq file (codes "custodians") then t.custodians
-    else (if bytes_eq file (codes "filesystems") then t.filesystems
-    else (if bytes_eq file (codes "hosts") then t.hosts
-    else (if bytes_eq file (codes "networks") then t.networks
-    else (if bytes_eq file (codes "passwd") then t.passwd
-    else (if bytes_eq file (codes "group") then t.group
-    else t.netgroup)))))
+text_of_seven texts file =
+    if bytes_eq file (codes "custodians") then texts.custodians
+    else (if bytes_eq file (codes "filesystems") then texts.filesystems
+    else (if bytes_eq file (codes "hosts") then texts.hosts
+    else (if bytes_eq file (codes "networks") then texts.networks
+    else (if bytes_eq file (codes "passwd") then texts.passwd
+    else (if bytes_eq file (codes "group") then texts.group
+    else texts.netgroup)))))
 
--- the order in which the texts of the seven files are read
-abbrev pub in_order : List (List ℕ)
-in_order =
-    codes "custodians" ∷ codes "filesystems" ∷ codes "hosts" ∷ codes "networks" ∷ codes "passwd" ∷ codes "group" ∷ codes "netgroup" ∷ []
+-- a text is longer than a revision's may be
+abbrev pub is_long : List ℕ → Bool
+is_long text = nat_lt longest_edit (length text)
 
+-- the first of the seven files whose text is too long, in the order in which they are read
+abbrev pub first_long : SiteTexts → Option (List ℕ)
+first_long texts = find (λ file. is_long (text_of_seven texts file)) seven
+
+-- the mount points that the text of the file systems lists, none if it has a fault
 abbrev pub mounts_of : SiteTexts → List Mount
 mounts_of texts = result_unwrap_or (read_filesystems texts.filesystems) []
 
--- the first listed mount point whose exports text is too long
+-- the first of these mount points whose exports text is too long
+abbrev pub first_long_mount : SiteTexts → List Mount → Option Mount
+first_long_mount texts mounts = find (λ mount. is_long (texts.exports (path_text mount.path))) mounts
+
+-- the first listed exports file whose text is too long
 abbrev pub first_long_exports : SiteTexts → Option (List ℕ)
-first_long_exports texts =
-    option_map (λ mount. exports_name mount.path) (find (λ mount. nat_lt longest_edit (length (texts.exports (path_text mount.path)))) (mounts_of texts))
+first_long_exports texts = option_map (λ mount. exports_name mount.path) (first_long_mount texts (mounts_of texts))
 
 -- the fault is one of the seven files
 abbrev pub IsFaultOfSeven : SiteTexts → SiteFault → Type 0
 IsFaultOfSeven texts fault = HasFault texts fault × (is_of_seven fault.file ≡ true)
 
--- What making a database is refused for, in this order: one of the tables is there; a text of the seven is too long; the
--- fault of one of the seven; a listed exports text is too long; another fault. Store and Memory may stand in place of any.
+-- a refusal is a fault of the site, or there is no memory
+abbrev pub IsFaultOrMemory : SiteTexts → CreateError → Type 0
+IsFaultOrMemory texts (refused.Fault fault) = HasFault texts fault
+IsFaultOrMemory texts refused.Memory = Unit {0}
+IsFaultOrMemory texts (refused.TooLarge file) = ⊥
+IsFaultOrMemory texts (refused.Store fault) = ⊥
+IsFaultOrMemory texts refused.Schema = ⊥
+
+-- a refusal is the fault of one of the seven files, or there is no memory
+abbrev pub IsSevenOrMemory : SiteTexts → CreateError → Type 0
+IsSevenOrMemory texts (refused.Fault fault) = IsFaultOfSeven texts fault
+IsSevenOrMemory texts refused.Memory = Unit {0}
+IsSevenOrMemory texts (refused.TooLarge file) = ⊥
+IsSevenOrMemory texts (refused.Store fault) = ⊥
+IsSevenOrMemory texts refused.Schema = ⊥
+
+-- a refusal tells that the text of this file is too long, or there is no memory
+abbrev pub TellsTooLarge : List ℕ → CreateError → Type 0
+TellsTooLarge file e = (e ≡ refused.TooLarge file) ⊎ (e ≡ refused.Memory)
+
+-- What a site is refused for, in this order: a text of the seven is too long; the fault of one of the seven; a listed exports
+-- text is too long; another fault. Memory may stand in place of any.
+abbrev pub RefusesSite : SiteTexts → CreateError → Type 0
+RefusesSite texts (refused.TooLarge file) =
+    (first_long texts ≡ Some file)
+    ⊎ ((first_long texts ≡ None) × ((fault : SiteFault) → IsFaultOfSeven texts fault → ⊥) × (first_long_exports texts ≡ Some file))
+RefusesSite texts (refused.Fault fault) =
+    (first_long texts ≡ None) × HasFault texts fault × ((is_of_seven fault.file ≡ true) ⊎ (first_long_exports texts ≡ None))
+RefusesSite texts (refused.Store fault) = ⊥
+RefusesSite texts refused.Memory = Unit {0}
+RefusesSite texts refused.Schema = ⊥
+
+-- What making a database is refused for: one of the tables is there, and else what its site is refused for. Store and Memory
+-- may stand in place of any.
 abbrev pub RefusesToCreate : Schema → SiteTexts → CreateError → Type 0
 RefusesToCreate schema texts refused.Schema = has_one schema ≡ true
-RefusesToCreate schema texts (refused.TooLarge file) =
-    (has_one schema ≡ false)
-    × ((first_long (text_of_seven texts) in_order ≡ Some file)
-    ⊎ ((first_long (text_of_seven texts) in_order ≡ None) × ((fault : SiteFault) → IsFaultOfSeven texts fault → ⊥) × (first_long_exports texts ≡ Some file)))
-RefusesToCreate schema texts (refused.Fault fault) =
-    (has_one schema ≡ false) × (first_long (text_of_seven texts) in_order ≡ None) × HasFault texts fault
-    × ((is_of_seven fault.file ≡ true) ⊎ (first_long_exports texts ≡ None))
+RefusesToCreate schema texts (refused.TooLarge file) = (has_one schema ≡ false) × RefusesSite texts (refused.TooLarge file)
+RefusesToCreate schema texts (refused.Fault fault) = (has_one schema ≡ false) × RefusesSite texts (refused.Fault fault)
 RefusesToCreate schema texts (refused.Store fault) = Unit {0}
 RefusesToCreate schema texts refused.Memory = Unit {0}
 
+-- revision 1 of a file, by `site`
 abbrev pub first_revision : List ℕ → List ℕ → Revision
 first_revision file text = record { file = file; rev = 1; author = codes "site"; body = text }
 
+-- that of one of the seven files, and that of the exports file of a mount point
+abbrev pub revision_of_seven : SiteTexts → List ℕ → Revision
+revision_of_seven texts file = first_revision file (text_of_seven texts file)
+
+abbrev pub revision_of_mount : SiteTexts → Mount → Revision
+revision_of_mount texts mount = first_revision (exports_name mount.path) (texts.exports (path_text mount.path))
+
+-- revision 1 of the seven files and of the exports files of these mount points
+abbrev pub history_with : SiteTexts → List Mount → List Revision
+history_with texts mounts = map (revision_of_seven texts) seven ++ map (revision_of_mount texts) mounts
+
 -- revision 1 of the seven files and of each listed exports file, by `site`
 abbrev pub first_history : SiteTexts → List Revision
-first_history texts =
-    map (λ file. first_revision file (text_of_seven texts file)) in_order
-    ++ map (λ mount. first_revision (exports_name mount.path) (texts.exports (path_text mount.path))) (mounts_of texts)
+first_history texts = history_with texts (mounts_of texts)
+
+-- the heads of a state are the first revisions of a site, which are the history of a site
+pub record IsFirstState (texts : SiteTexts) (heads : List Revision) : Type 0 where
+  pub heads_are : heads ≡ first_history texts
+  pub stored : IsSiteHistory (first_history texts)
+  pub newest : newest_in heads ≡ newest_of (first_history texts)
+
+-- what a revision stores is UTF-8
+pub record IsUtf8Revision (revision : Revision) : Type 0 where
+  pub file : IsUtf8 revision.file
+  pub author : IsUtf8 revision.author
+  pub body : IsUtf8 revision.body
 
 -- a database that holds this history; each table that was listed is listed yet, and as it was, and so is all that SQL here
 -- does not understand

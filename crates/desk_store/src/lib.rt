@@ -14,6 +14,7 @@ mod database;
 pub mod declared;
 pub mod desk;
 pub mod error;
+mod first;
 pub mod laws;
 mod newest;
 mod opening;
