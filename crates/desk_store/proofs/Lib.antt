@@ -29,3 +29,5 @@ pub mod TreesApart
 pub mod FirstHistory
 pub mod FirstSite
 pub mod FirstState
+pub mod VersionInsert
+pub mod Created

@@ -11,6 +11,8 @@ use Rattle.sqlite.specs.Effect.{Database, SparesFrozen}
 use Rattle.sqlite.specs.Schema.{Schema}
 use Rattle.sqlite.specs.Table.{Table}
 use Rattle.sqlite.specs.Tree.{Trees}
+use Rattle.sqlite.specs.Does.{lacks_sequence}
+use Rattle.sqlite.specs.Change.{created}
 use Rattle.desk_text.specs.Path.{path_text}
 use Rattle.desk_tables.specs.FileSystemsText.{read_filesystems}
 use Rattle.desk_tables.specs.declared.filesystems.Mount.{Mount}
@@ -23,7 +25,7 @@ use Rattle.desk_core.specs.History.{newest_of}
 use Rattle.desk_core.specs.Judging.{is_of_seven, longest_edit, seven}
 use Rattle.desk_store.specs.Desk.{IsSiteHistory, LeavesTables, Shown, Stands}
 use Rattle.desk_store.specs.History.{Holds}
-use Rattle.desk_store.specs.Tables.{LeavesCommit, table_in}
+use Rattle.desk_store.specs.Tables.{IsFree, LeavesCommit, file_rev_table, meta_table, table_in}
 use Rattle.desk_store.specs.declared.error.CreateError.{CreateError}
 use Rattle.desk_store.specs.declared.error.CreateError.TheVariants as refused
 
@@ -138,13 +140,35 @@ pub record IsUtf8Revision (revision : Revision) : Type 0 where
   pub author : IsUtf8 revision.author
   pub body : IsUtf8 revision.body
 
--- a database that holds this history; each table that was listed is listed yet, and as it was, and so is all that SQL here
--- does not understand
+abbrev pub insert_version : List ℕ
+insert_version = codes "INSERT INTO meta(version) VALUES(1)"
+
+-- the two tables can be made: their names are free, and `sqlite_sequence` is there if a table counts
+pub record HasRoom (schema : Schema) : Type 0 where
+  pub meta : IsFree schema (codes "meta")
+  pub file_rev : IsFree schema (codes "file_rev")
+  pub whole : lacks_sequence schema ≡ false
+
+-- a schema with `meta` behind its tables, and with `file_rev` and the index of its key behind that
+abbrev pub with_meta : Schema → Schema
+with_meta schema = created schema (meta_table 0)
+
+abbrev pub with_both : Schema → Schema
+with_both schema = created (with_meta schema) (file_rev_table 0)
+
+-- what statements one after another did: none of them changed what SQL here does not understand
+abbrev pub SpareFrozen : Database → List Database → Database → Type 0
+SpareFrozen old [] after = after ≡ old
+SpareFrozen old (next ∷ more) after = SparesFrozen old next × SpareFrozen next more after
+
+-- a database that holds this history in the two tables and that has else what it had: its tables, views and indexes with
+-- their rows, and all that SQL here does not understand
 pub record Makes (history : List Revision) (old after : Database) : Type 0 where
   pub holds : Holds after history
-  pub listed : (name : List ℕ) (table : Table) → table_in old.schema name ≡ Some table → table_in after.schema name ≡ Some table
+  pub schema : after.schema ≡ with_both old.schema
   pub others : AllByRecursion (λ t. after.trees t.tree ≡ old.trees t.tree) old.schema.tables
-  pub frozen : SparesFrozen old after
+  pub steps : List Database
+  pub frozen : SpareFrozen old steps after
 
 -- the trees are those of such a database
 abbrev pub MakesTables : List Revision → Database → Trees → Type 0

@@ -11,6 +11,7 @@
 #![tactic(auto)]
 
 mod database;
+mod creating;
 pub mod declared;
 pub mod desk;
 pub mod error;
