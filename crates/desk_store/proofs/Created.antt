@@ -123,11 +123,11 @@ module _ (schema : Schema) (room : HasRoom schema) where
   tables_are : (with_both schema).tables ≡ schema.tables ++ meta_table first_tree ∷ file_rev_table second_tree ∷ []
   tables_are = append_assoc schema.tables (meta_table first_tree ∷ []) (file_rev_table second_tree ∷ [])
 
-  meta_in : table_in (with_both schema) (codes "meta") ≡ Some (meta_table first_tree)
+  pub meta_in : table_in (with_both schema) (codes "meta") ≡ Some (meta_table first_tree)
   unfolding same_name
   meta_in = added_named (with_both schema) (codes "meta") schema.tables (meta_table first_tree) (file_rev_table second_tree ∷ []) tables_are room.meta.no_table refl
 
-  file_in : table_in (with_both schema) (codes "file_rev") ≡ Some (file_rev_table second_tree)
+  pub file_in : table_in (with_both schema) (codes "file_rev") ≡ Some (file_rev_table second_tree)
   unfolding same_name
   file_in = added_named (with_both schema) (codes "file_rev") (with_meta schema).tables (file_rev_table second_tree) [] refl (free_yet schema room.file_rev).no_table refl
 

@@ -31,3 +31,4 @@ pub mod FirstSite
 pub mod FirstState
 pub mod VersionInsert
 pub mod Created
+pub mod Making

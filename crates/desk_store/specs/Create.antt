@@ -1,14 +1,17 @@
 -- What making a database is to promise: no contract cites it yet. (this project's own)
-use Rattle.std.specs.Prelude.{◌≡◌, ◌⊎◌, ℕ, Bool, true, false, List, [], ◌∷◌, ◌++◌, Option, Some, None, Result, Ok, Err, IsTrue, codes, find, is_some, length, map, nat_lt, if◌then◌else◌, ◌||◌}
+use Rattle.std.specs.Prelude.{◌≡◌, ◌≢◌, ◌⊎◌, ℕ, Bool, true, false, List, [], ◌∷◌, ◌++◌, Option, Some, None, Result, Ok, Err, IsPermutation, IsTrue, OnOk, codes, pos, find, is_some, length, map, nat_lt, if◌then◌else◌, ◌||◌}
 use Rattle.std.specs.List.{AllByRecursion}
 use Rattle.std.specs.Option.{option_map}
 use Rattle.std.specs.Result.{result_unwrap_or}
 use Rattle.std.specs.Str.{IsUtf8, bytes_eq}
 use Rattle.sqlite_trees.specs.declared.store.Store.{Ghosts}
 use Rattle.sqlite.specs.Held.{Held, state}
-use Rattle.sqlite.specs.State.{HasCleanDisk, State, Survives}
+use Rattle.sqlite.specs.State.{Executes, HasCleanDisk, KeepsCommit, Shows, State, Survives}
 use Rattle.sqlite.specs.Effect.{Database, SparesFrozen}
+use Rattle.sqlite.specs.Order.{Row}
 use Rattle.sqlite.specs.Schema.{Schema}
+use Rattle.sqlite.specs.declared.error.Error.{Error}
+use Rattle.sqlite.specs.declared.types.Value.TheVariants.{Int}
 use Rattle.sqlite.specs.Table.{Table}
 use Rattle.sqlite.specs.Tree.{Trees}
 use Rattle.sqlite.specs.Does.{lacks_sequence}
@@ -21,11 +24,11 @@ use Rattle.desk_policy.specs.SiteFault.{exports_name}
 use Rattle.desk_policy.specs.View.{HasFault}
 use Rattle.desk_policy.specs.declared.site_fault.SiteFault.{SiteFault}
 use Rattle.desk_core.specs.Head.{Revision, newest_in}
-use Rattle.desk_core.specs.History.{newest_of}
+use Rattle.desk_core.specs.History.{IsHistory, newest_of}
 use Rattle.desk_core.specs.Judging.{is_of_seven, longest_edit, seven}
 use Rattle.desk_store.specs.Desk.{IsSiteHistory, LeavesTables, Shown, Stands}
 use Rattle.desk_store.specs.History.{Holds}
-use Rattle.desk_store.specs.Tables.{IsFree, LeavesCommit, file_rev_table, meta_table, table_in}
+use Rattle.desk_store.specs.Tables.{HasTables, IsFree, LeavesCommit, file_rev_table, meta_table, rows_of, table_in}
 use Rattle.desk_store.specs.declared.error.CreateError.{CreateError}
 use Rattle.desk_store.specs.declared.error.CreateError.TheVariants as refused
 
@@ -169,6 +172,48 @@ pub record Makes (history : List Revision) (old after : Database) : Type 0 where
   pub others : AllByRecursion (λ t. after.trees t.tree ≡ old.trees t.tree) old.schema.tables
   pub steps : List Database
   pub frozen : SpareFrozen old steps after
+
+-- the two tables are made, with the version, and there is no revision yet
+pub record MakesEmpty (old after : Database) : Type 0 where
+  pub tables : HasTables after.schema
+  pub version : rows_of after (codes "meta") ≡ (Int (pos 1) ∷ []) ∷ []
+  pub empty : rows_of after (codes "file_rev") ≡ []
+  pub schema : after.schema ≡ with_both old.schema
+  pub others : AllByRecursion (λ t. after.trees t.tree ≡ old.trees t.tree) old.schema.tables
+  pub steps : List Database
+  pub frozen : SpareFrozen old steps after
+
+-- Rows stand in `file_rev` beside those before, and all else that SQL understands is as before.
+pub record AddsAll (added : List Row) (old after : Database) : Type 0 where
+  pub schema : after.schema ≡ old.schema
+  pub rows : IsPermutation (added ++ rows_of old (codes "file_rev")) (rows_of after (codes "file_rev"))
+  pub version : rows_of after (codes "meta") ≡ rows_of old (codes "meta")
+  pub others : (table : Table) → table_in old.schema (codes "file_rev") ≡ Some table → AllByRecursion (λ t. t.tree ≢ table.tree → after.trees t.tree ≡ old.trees t.tree) old.schema.tables
+  pub steps : List Database
+  pub frozen : SpareFrozen old steps after
+
+-- What a step within a transaction leaves: nothing is committed, and a crash leaves what it could before; if it succeeded, the
+-- transaction goes on, and this was done.
+pub record RunsInside {T : Type 0} (old new : State) (result : Result T Error) (Did : State → State → Type 0) : Type 0 where
+  pub kept : HasCleanDisk new → KeepsCommit old new
+  pub crash : Survives old new (λ _. ⊥)
+  pub done : HasCleanDisk new → OnOk result (Shows old new new.now old.committed true × Did old new)
+
+-- a statement without parameters was run
+abbrev pub Ran : List ℕ → State → State → Type 0
+Ran text old new = (count : ℕ) × Executes text [] old new (Ok count)
+
+-- the tables are made, if there is room for them
+abbrev pub MakesRoom : State → State → Type 0
+MakesRoom old new = HasRoom old.now.schema → MakesEmpty old.now new.now
+
+-- the rows are added, if the tables are there
+abbrev pub AddsRows : List Row → State → State → Type 0
+AddsRows rows old new = HasTables old.now.schema → AddsAll rows old.now new.now
+
+-- the history is stored in new tables, if there is room for them
+abbrev pub Fills : List Revision → State → State → Type 0
+Fills history old new = HasRoom old.now.schema → IsHistory history → Makes history old.now new.now
 
 -- the trees are those of such a database
 abbrev pub MakesTables : List Revision → Database → Trees → Type 0
