@@ -32,3 +32,4 @@ pub mod FirstState
 pub mod VersionInsert
 pub mod Created
 pub mod Making
+pub mod Filling

@@ -1,5 +1,5 @@
 use Rattle.desk_store.proofs.Created.{has_both}
-use Rattle.desk_store.proofs.Making.{makes_empty}
+use Rattle.desk_store.proofs.Filling.{fills}
 use Rattle.desk_store.proofs.creating.scratch.Goals as goal
 
 pub returns : goal.returns

@@ -1,0 +1,113 @@
+-- A history that is added to new tables, and what steps within a transaction come to.
+use Rattle.std.proofs.Common.{◌≡◌, ◌≢◌, ◌∙◌, sym, ap, subst, subst₂, refl, ℕ, ◌+◌, ◌<◌, ◌++◌, false, true, List, [], ◌∷◌, Some, Result, Ok, Err, OnOk, length, map, take, get_or, codes, arith, append-nil, append_assoc}
+use Rattle.std.specs.Prelude.{IsPermutation, IsTrue}
+use Rattle.std.specs.List.{AllByRecursion}
+use Rattle.std.proofs.lemmas.List.{map_push, take_more}
+use Rattle.std.proofs.lemmas.List.Sorted.{IsPermutation-refl, IsPermutation-cons, IsPermutation-trans, IsPermutation-middle, IsPermutation-sym}
+use Rattle.sqlite.specs.Effect.{Database, SparesFrozen}
+use Rattle.sqlite.specs.Order.{Row}
+use Rattle.sqlite.specs.Schema.{Schema}
+use Rattle.sqlite.specs.State.{HasCleanDisk, KeepsCommit, Shows, State, Survives}
+use Rattle.sqlite.specs.Table.{Table}
+use Rattle.sqlite.specs.Tree.{Trees}
+use Rattle.sqlite.specs.declared.error.Error.{Error}
+use Rattle.sqlite.proofs.InsideLemmas.{keeps_then}
+use Rattle.sqlite.proofs.StateLemmas.{survives_then}
+use Rattle.desk_core.specs.Head.{Revision}
+use Rattle.desk_core.specs.History.{IsHistory}
+use Rattle.desk_store.specs.Create.{AddsAll, AddsRows, Fills, HasRoom, Makes, MakesEmpty, MakesRoom, Ran, RunsInside, SpareFrozen, insert_version, with_both, with_meta}
+use Rattle.desk_store.specs.History.{Holds, row_of}
+use Rattle.desk_store.specs.Tables.{Adds, HasTables, create_file_rev, create_meta, file_rev_table, rows_of, table_in}
+use Rattle.desk_store.proofs.Created.{below_next, each_both, file_in, first_part, first_tree, rises, second_tree}
+use Rattle.desk_store.proofs.Making.{makes_empty}
+
+spare_more : (a : Database) (steps : List Database) (b c : Database) → SpareFrozen a steps b → SparesFrozen b c → SpareFrozen a (steps ++ c ∷ []) c
+spare_more a [] b c h next = (subst (λ d. SparesFrozen d c) h next, refl)
+spare_more a (x ∷ steps) b c h next = (h.0, spare_more x steps b c h.1 next)
+
+spare_then : (a : Database) (steps : List Database) (b : Database) (more : List Database) (c : Database) → SpareFrozen a steps b → SpareFrozen b more c → SpareFrozen a (steps ++ more) c
+spare_then a [] b more c one two = subst (λ d. SpareFrozen d more c) one two
+spare_then a (x ∷ steps) b more c one two = (one.0, spare_then x steps b more c one.1 two)
+
+same_trees : (a : Database) (name : List ℕ) (tables : List Table) (tree : ℕ) → AllByRecursion (λ (t : Table). t.tree ≢ tree → a.trees t.tree ≡ a.trees t.tree) tables
+same_trees a name [] tree = tt
+same_trees a name (t ∷ tables) tree = (λ other. refl, same_trees a name tables tree)
+
+pub adds_none : (a : Database) → AddsAll [] a a
+adds_none a = record {
+  schema = refl;
+  rows = IsPermutation-refl (rows_of a (codes "file_rev"));
+  version = refl;
+  others = λ table named. same_trees a table.name a.schema.tables table.tree;
+  steps = [];
+  frozen = refl;
+}
+
+-- one row more
+pub adds_more : (rows : List Row) (row : Row) (a b c : Database) → AddsAll rows a b → Adds row b c → AddsAll (rows ++ row ∷ []) a c
+adds_more rows row a b c all one =
+    let name = codes "file_rev" in
+    let old = rows_of a name in
+    let moved : rows ++ row ∷ [] ++ old ≡ rows ++ (row ∷ old) = append_assoc rows (row ∷ []) old in
+    let front : IsPermutation (rows ++ (row ∷ old)) (row ∷ (rows ++ old)) = IsPermutation-middle rows row old in
+    let next : IsPermutation (row ∷ (rows ++ old)) (row ∷ rows_of b name) = IsPermutation-cons row (rows ++ old) (rows_of b name) all.rows in
+    let whole = IsPermutation-trans (rows ++ (row ∷ old)) (row ∷ (rows ++ old)) (rows_of c name) front (IsPermutation-trans (row ∷ (rows ++ old)) (row ∷ rows_of b name) (rows_of c name) next one.rows) in
+    record {
+      schema = one.schema ∙ all.schema;
+      rows = subst (λ xs. IsPermutation xs (rows_of c name)) (sym moved) whole;
+      version = one.version ∙ all.version;
+      others = λ table named.
+          let later = subst (λ (s : Schema). AllByRecursion (λ (t : Table). t.tree ≢ table.tree → c.trees t.tree ≡ b.trees t.tree) s.tables) all.schema (one.others table (ap (λ s. table_in s name) all.schema ∙ named)) in
+          each_both _ _ (λ (t : Table). t.tree ≢ table.tree → c.trees t.tree ≡ a.trees t.tree) a.schema.tables (λ t two first other. two other ∙ first other) later (all.others table named);
+      steps = all.steps ++ c ∷ [];
+      frozen = spare_more a all.steps b c all.frozen one.frozen;
+    }
+
+-- new tables to which the rows of a history are added hold it
+pub makes : (history : List Revision) (a b c : Database) → HasRoom a.schema → IsHistory history → MakesEmpty a b → AddsAll (map row_of history) b c → Makes history a c
+makes history a b c room numbered empty all =
+    let name = codes "file_rev" in
+    let up = rises a.schema room in
+    let high = second_tree a.schema room in
+    let named : table_in b.schema name ≡ Some (file_rev_table high) = ap (λ s. table_in s name) empty.schema ∙ file_in a.schema room in
+    let later = subst (λ (s : Schema). AllByRecursion (λ (t : Table). t.tree ≢ high → c.trees t.tree ≡ b.trees t.tree) s.tables) empty.schema (all.others (file_rev_table high) named) in
+    let old = first_part (λ (t : Table). t.tree ≢ high → c.trees t.tree ≡ b.trees t.tree) a.schema.tables _ (first_part (λ (t : Table). t.tree ≢ high → c.trees t.tree ≡ b.trees t.tree) (with_meta a.schema).tables _ later) in
+    let kept = each_both _ _ (λ (t : Table). c.trees t.tree ≡ b.trees t.tree) a.schema.tables (λ t other under. other (λ same. omega arith)) old (below_next a.schema) in
+    let alone : map row_of history ++ rows_of b name ≡ map row_of history = ap (λ rows. map row_of history ++ rows) empty.empty ∙ append-nil (map row_of history) in
+    record {
+      holds = record {
+        tables = subst HasTables (sym all.schema) empty.tables;
+        version = all.version ∙ empty.version;
+        rows = subst (λ rows. IsPermutation rows (rows_of c name)) alone all.rows;
+        numbered = numbered;
+      };
+      schema = all.schema ∙ empty.schema;
+      others = each_both _ _ (λ (t : Table). c.trees t.tree ≡ a.trees t.tree) a.schema.tables (λ t two one. two ∙ one) kept empty.others;
+      steps = empty.steps ++ all.steps;
+      frozen = spare_then a empty.steps b all.steps c empty.frozen all.frozen;
+    }
+
+-- one step after another, of which the first succeeded
+module _ {T U : Type 0} (a b c : State) (x : T) (result : Result U Error) (One Two Both : State → State → Type 0) where
+  done_then : RunsInside a b (Ok x) One → RunsInside b c result Two → (One a b → Two b c → Both a c) → (r : Result U Error) → HasCleanDisk b → OnOk r (Shows b c c.now b.committed true × Two b c) → OnOk r (Shows a c c.now a.committed true × Both a c)
+  done_then one two both (Ok y) early h =
+      let first = one.done early in
+      (record { was_open = first.0.was_open; is_open = h.0.is_open; now_is = refl; committed_is = h.0.committed_is ∙ first.0.committed_is; mode = h.0.mode }, both first.1 h.1)
+  done_then one two both (Err e) early h = tt
+
+  pub inside_then : RunsInside a b (Ok x) One → RunsInside b c result Two → (One a b → Two b c → Both a c) → RunsInside a c result Both
+  inside_then one two both = record {
+    kept = λ clean. let early : HasCleanDisk b = omega (arith, two.crash.clean) in keeps_then a b c (one.kept early) (two.kept clean);
+    crash = survives_then a b c (λ _. ⊥) (λ _. ⊥) (λ _. ⊥) (λ _ trees none. none) (λ _ trees none. none) one.crash two.crash;
+    done = λ clean. let early : HasCleanDisk b = omega (arith, two.crash.clean) in done_then one two both result early (two.done clean);
+  }
+
+-- a step that failed did whatever else a success would have done
+pub failed_so : {T U : Type 0} (a b : State) (e f : Error) (One Both : State → State → Type 0) → RunsInside {T = T} a b (Err e) One → RunsInside {T = U} a b (Err f) Both
+failed_so a b e f One Both h = record { kept = h.kept; crash = h.crash; done = λ clean. tt }
+
+pub made_room : (a b c d : State) → Ran create_meta a b → Ran create_file_rev b c → Ran insert_version c d → MakesRoom a d
+made_room a b c d one two three room = makes_empty a b c d room one two three
+
+pub fills : (history : List Revision) (a b c : State) → MakesRoom a b → AddsRows (map row_of history) b c → Fills history a c
+fills history a b c empty all room numbered = let new = empty room in makes history a.now b.now c.now room numbered new (all new.tables)
