@@ -1,24 +1,27 @@
 -- A history that is added to new tables, and what steps within a transaction come to.
-use Rattle.std.proofs.Common.{◌≡◌, ◌≢◌, ◌∙◌, sym, ap, subst, subst₂, refl, ℕ, ◌+◌, ◌<◌, ◌++◌, false, true, List, [], ◌∷◌, Some, Result, Ok, Err, OnOk, length, map, take, get_or, codes, arith, append-nil, append_assoc}
+use Rattle.std.proofs.Common.{◌≡◌, ◌≢◌, ◌∙◌, sym, ap, subst, subst₂, inl, inr, refl, ℕ, ◌+◌, ◌<◌, ◌++◌, false, true, List, [], ◌∷◌, Some, Result, Ok, Err, OnOk, length, map, take, get_or, codes, arith, append-nil, append_assoc}
 use Rattle.std.specs.Prelude.{IsPermutation, IsTrue}
 use Rattle.std.specs.List.{AllByRecursion}
+use Rattle.std.proofs.lemmas.Bool.{cases_Bool}
 use Rattle.std.proofs.lemmas.List.{map_push, take_more}
 use Rattle.std.proofs.lemmas.List.Sorted.{IsPermutation-refl, IsPermutation-cons, IsPermutation-trans, IsPermutation-middle, IsPermutation-sym}
 use Rattle.sqlite.specs.Effect.{Database, SparesFrozen}
 use Rattle.sqlite.specs.Order.{Row}
 use Rattle.sqlite.specs.Schema.{Schema}
-use Rattle.sqlite.specs.State.{HasCleanDisk, KeepsCommit, Shows, State, Survives}
+use Rattle.sqlite.specs.State.{Executes, ExecutesInside, HasCleanDisk, KeepsCommit, Shows, State, Survives}
 use Rattle.sqlite.specs.Table.{Table}
 use Rattle.sqlite.specs.Tree.{Trees}
 use Rattle.sqlite.specs.declared.error.Error.{Error}
-use Rattle.sqlite.proofs.InsideLemmas.{keeps_then}
+use Rattle.sqlite.proofs.InsideLemmas.{inside_keeps, keeps_then}
 use Rattle.sqlite.proofs.StateLemmas.{survives_then}
 use Rattle.desk_core.specs.Head.{Revision}
 use Rattle.desk_core.specs.History.{IsHistory}
-use Rattle.desk_store.specs.Create.{AddsAll, AddsRows, Fills, HasRoom, Makes, MakesEmpty, MakesRoom, Ran, RunsInside, SpareFrozen, insert_version, with_both, with_meta}
+use Rattle.desk_store.specs.Create.{AddsAll, AddsRow, AddsRows, Fills, HasRoom, Makes, MakesEmpty, MakesRoom, Ran, RunsInside, SpareFrozen, insert_version, with_both, with_meta}
 use Rattle.desk_store.specs.History.{Holds, row_of}
-use Rattle.desk_store.specs.Tables.{Adds, HasTables, create_file_rev, create_meta, file_rev_table, rows_of, table_in}
+use Rattle.desk_store.specs.Tables.{Adds, HasTables, create_file_rev, create_meta, file_rev_table, insert_revision, rows_of, table_in}
 use Rattle.desk_store.proofs.Created.{below_next, each_both, file_in, first_part, first_tree, rises, second_tree}
+use Rattle.desk_store.proofs.InsertEffect.{given}
+use Rattle.desk_store.proofs.Inserting.{writes}
 use Rattle.desk_store.proofs.Making.{makes_empty}
 
 spare_more : (a : Database) (steps : List Database) (b c : Database) → SpareFrozen a steps b → SparesFrozen b c → SpareFrozen a (steps ++ c ∷ []) c
@@ -111,3 +114,40 @@ made_room a b c d one two three room = makes_empty a b c d room one two three
 
 pub fills : (history : List Revision) (a b c : State) → MakesRoom a b → AddsRows (map row_of history) b c → Fills history a c
 fills history a b c empty all room numbered = let new = empty room in makes history a.now b.now c.now room numbered new (all new.tables)
+
+-- a statement ran within a transaction, which it neither began nor ended
+pub ran_inside : {T : Type 0} (a b : State) (sql : List ℕ) (params : Row) (count : ℕ) (x : T) (said : Error) (Same : Type 0)
+    → (a.in_transaction ≡ false → (◌≡◌ {A = Result ℕ Error} (Ok count) (Err said)) × Same)
+    → (HasCleanDisk b → IsTrue a.in_transaction → ExecutesInside 0 sql params a b (Ok count)) → Survives a b (λ _. ⊥) → RunsInside a b (Ok x) (λ s t. Executes sql params s t (Ok count))
+ran_inside a b sql params count x said Same ended runs survives = elim (cases_Bool a.in_transaction) [
+  | inl on ↦ record {
+    kept = λ clean. inside_keeps a b 0 false sql params (Ok count) (runs clean on);
+    crash = survives;
+    done = λ clean. let it = runs clean on in (it.1, it.0);
+  }
+  | inr off ↦ absurd (let e = (ended off).0 in cc)
+]
+
+stays_so : (a : State) → KeepsCommit a a
+stays_so a = record { was_open = λ live. live; committed = λ live. refl }
+
+-- a statement within a transaction was refused or failed
+pub failed_inside : {T : Type 0} (a b : State) (sql : List ℕ) (params : Row) (e f : Error) (Said : Type 0) (Did : State → State → Type 0)
+    → (a.in_transaction ≡ false → Said × KeepsCommit a b)
+    → (HasCleanDisk b → IsTrue a.in_transaction → ExecutesInside 0 sql params a b (Err e)) → Survives a b (λ _. ⊥) → RunsInside {T = T} a b (Err f) Did
+failed_inside a b sql params e f Said Did ended runs survives = elim (cases_Bool a.in_transaction) [
+  | inl on ↦ record { kept = λ clean. inside_keeps a b 0 false sql params (Err e) (runs clean on); crash = survives; done = λ clean. tt }
+  | inr off ↦ record { kept = λ clean. (ended off).1; crash = survives; done = λ clean. tt }
+]
+
+-- the INSERT of a revision within a transaction adds its row
+pub row_added : (a b : State) (r : Revision) (count : ℕ) → Executes insert_revision (given r.file r.rev r.author r.body) a b (Ok count) → AddsRow (row_of r) a b
+row_added a b r count h has = (writes a b r.file r.rev r.author r.body has count h).1
+
+if_ok : {T : Type 0} (r : Result T Error) (S P Q : Type 0) → OnOk r (S × P) → (P → Q) → OnOk r (S × Q)
+if_ok (Ok x) S P Q h f = (h.0, f h.1)
+if_ok (Err e) S P Q h f = tt
+
+-- a step that did more than is said
+pub did_so : {T : Type 0} (a b : State) (result : Result T Error) (One Both : State → State → Type 0) → (One a b → Both a b) → RunsInside a b result One → RunsInside a b result Both
+did_so a b result One Both f h = record { kept = h.kept; crash = h.crash; done = λ clean. if_ok result (Shows a b b.now a.committed true) (One a b) (Both a b) (h.done clean) f }

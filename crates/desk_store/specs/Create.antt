@@ -28,7 +28,7 @@ use Rattle.desk_core.specs.History.{IsHistory, newest_of}
 use Rattle.desk_core.specs.Judging.{is_of_seven, longest_edit, seven}
 use Rattle.desk_store.specs.Desk.{IsSiteHistory, LeavesTables, Shown, Stands}
 use Rattle.desk_store.specs.History.{Holds}
-use Rattle.desk_store.specs.Tables.{HasTables, IsFree, LeavesCommit, file_rev_table, meta_table, rows_of, table_in}
+use Rattle.desk_store.specs.Tables.{Adds, HasTables, IsFree, LeavesCommit, file_rev_table, meta_table, rows_of, table_in}
 use Rattle.desk_store.specs.declared.error.CreateError.{CreateError}
 use Rattle.desk_store.specs.declared.error.CreateError.TheVariants as refused
 
@@ -206,6 +206,15 @@ Ran text old new = (count : ℕ) × Executes text [] old new (Ok count)
 -- the tables are made, if there is room for them
 abbrev pub MakesRoom : State → State → Type 0
 MakesRoom old new = HasRoom old.now.schema → MakesEmpty old.now new.now
+
+-- a row is added, if the tables are there
+abbrev pub AddsRow : Row → State → State → Type 0
+AddsRow row old new = HasTables old.now.schema → Adds row old.now new.now
+
+-- a transaction is open
+pub record IsInside (s : State) : Type 0 where
+  pub is_open : IsTrue s.is_open
+  pub mode : s.in_transaction ≡ true
 
 -- the rows are added, if the tables are there
 abbrev pub AddsRows : List Row → State → State → Type 0
