@@ -1,6 +1,6 @@
 -- A history that is added to new tables, and what steps within a transaction come to.
 use Rattle.std.proofs.Common.{◌≡◌, ◌≢◌, ◌∙◌, sym, ap, subst, subst₂, inl, inr, refl, ℕ, ◌+◌, ◌<◌, ◌++◌, false, true, List, [], ◌∷◌, Some, Result, Ok, Err, OnOk, length, map, take, get_or, codes, arith, append-nil, append_assoc}
-use Rattle.std.specs.Prelude.{IsPermutation, IsTrue}
+use Rattle.std.specs.Prelude.{IsErr, IsPermutation, IsTrue}
 use Rattle.std.specs.List.{AllByRecursion}
 use Rattle.std.proofs.lemmas.Bool.{cases_Bool}
 use Rattle.std.proofs.lemmas.List.{map_push, take_more}
@@ -16,7 +16,7 @@ use Rattle.sqlite.proofs.InsideLemmas.{inside_keeps, keeps_then}
 use Rattle.sqlite.proofs.StateLemmas.{survives_then}
 use Rattle.desk_core.specs.Head.{Revision}
 use Rattle.desk_core.specs.History.{IsHistory}
-use Rattle.desk_store.specs.Create.{AddsAll, AddsRow, AddsRows, Fills, HasRoom, Makes, MakesEmpty, MakesRoom, Ran, RunsInside, SpareFrozen, insert_version, with_both, with_meta}
+use Rattle.desk_store.specs.Create.{AddsAll, AddsRow, AddsRows, Fills, HasRoom, IsInside, Makes, MakesEmpty, MakesRoom, Ran, RunsInside, SpareFrozen, insert_version, with_both, with_meta}
 use Rattle.desk_store.specs.History.{Holds, row_of}
 use Rattle.desk_store.specs.Tables.{Adds, HasTables, create_file_rev, create_meta, file_rev_table, insert_revision, rows_of, table_in}
 use Rattle.desk_store.proofs.Created.{below_next, each_both, file_in, first_part, first_tree, rises, second_tree}
@@ -151,3 +151,34 @@ if_ok (Err e) S P Q h f = tt
 -- a step that did more than is said
 pub did_so : {T : Type 0} (a b : State) (result : Result T Error) (One Both : State → State → Type 0) → (One a b → Both a b) → RunsInside a b result One → RunsInside a b result Both
 did_so a b result One Both f h = record { kept = h.kept; crash = h.crash; done = λ clean. if_ok result (Shows a b b.now a.committed true) (One a b) (Both a b) (h.done clean) f }
+
+same_survives : (a : State) → Survives a a (λ _. ⊥)
+same_survives a = record { clean = omega arith; shield = λ h. h; counts = omega arith; limit = refl; closes = λ clean live. inl live; crash = λ clean trees may. inl may }
+
+-- no step yet
+pub nothing_added : {T : Type 0} (a : State) (x : T) → (HasCleanDisk a → IsInside a) → RunsInside a a (Ok x) (AddsRows [])
+nothing_added a x inside = record {
+  kept = λ clean. stays_so a;
+  crash = same_survives a;
+  done = λ clean. let at = inside clean in (record { was_open = at.is_open; is_open = at.is_open; now_is = refl; committed_is = refl; mode = at.mode }, λ has. adds_none a.now);
+}
+
+pub rows_next : (a b c : State) (heads : List Revision) (i : ℕ) (head : Revision) → i < length heads → head ≡ get_or heads i head → AddsRows (map row_of (take i heads)) a b → AddsRow (row_of head) b c
+    → AddsRows (map row_of (take (i + 1) heads)) a c
+rows_next a b c heads i head below is all one has =
+    let rows = map row_of (take i heads) in
+    let more : map row_of (take (i + 1) heads) ≡ rows ++ row_of head ∷ [] = ap (map row_of) (take_more heads i head below ∙ ap (λ x. take i heads ++ x ∷ []) (sym is)) ∙ map_push row_of (take i heads) head in
+    let first = all has in
+    subst (λ xs. AddsAll xs a.now c.now) (sym more) (adds_more rows (row_of head) a.now b.now c.now first (one (subst HasTables (sym first.schema) has)))
+
+not_done : {T : Type 0} (r : Result T Error) (P : Type 0) → IsErr r → OnOk r P
+not_done (Ok x) P err = absurd (let e = err in cc)
+not_done (Err e) P err = tt
+
+-- a step after which another one failed, told as it is
+pub failed_then : {T U V : Type 0} (a b c : State) (x : T) (e : Error) (r : Result V Error) (One Two Both : State → State → Type 0) → RunsInside a b (Ok x) One → RunsInside {T = U} b c (Err e) Two → IsErr r → RunsInside a c r Both
+failed_then a b c x e r One Two Both one two err = record {
+  kept = λ clean. let early : HasCleanDisk b = omega (arith, two.crash.clean) in keeps_then a b c (one.kept early) (two.kept clean);
+  crash = survives_then a b c (λ _. ⊥) (λ _. ⊥) (λ _. ⊥) (λ _ trees none. none) (λ _ trees none. none) one.crash two.crash;
+  done = λ clean. not_done r (Shows a c c.now a.committed true × Both a c) err;
+}

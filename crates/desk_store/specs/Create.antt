@@ -1,5 +1,5 @@
 -- What making a database is to promise: no contract cites it yet. (this project's own)
-use Rattle.std.specs.Prelude.{◌≡◌, ◌≢◌, ◌⊎◌, ℕ, Bool, true, false, List, [], ◌∷◌, ◌++◌, Option, Some, None, Result, Ok, Err, IsPermutation, IsTrue, OnOk, codes, pos, find, is_some, length, map, nat_lt, if◌then◌else◌, ◌||◌}
+use Rattle.std.specs.Prelude.{◌≡◌, ◌≢◌, ◌⊎◌, ℕ, Bool, true, false, List, [], ◌∷◌, ◌++◌, Option, Some, None, Result, Ok, Err, IsPermutation, IsTrue, OnErr, OnOk, codes, pos, find, is_some, length, map, nat_lt, if◌then◌else◌, ◌||◌}
 use Rattle.std.specs.List.{AllByRecursion}
 use Rattle.std.specs.Option.{option_map}
 use Rattle.std.specs.Result.{result_unwrap_or}
@@ -227,6 +227,15 @@ Fills history old new = HasRoom old.now.schema → IsHistory history → Makes h
 -- the trees are those of such a database
 abbrev pub MakesTables : List Revision → Database → Trees → Type 0
 MakesTables history old trees = (after : Database) × Makes history old after × (trees ≡ after.trees)
+
+-- What storing a first history in new tables leaves, in one commit, which is the last thing that it does: a crash leaves what
+-- it could before, or that commit; after a success only that commit; and after a refusal the last commit is as it was.
+pub record StoresAll {T : Type 0} (old new : State) (history : List Revision) (result : Result T Error) : Type 0 where
+  pub crash : (IsTrue old.is_open → HasRoom old.now.schema) → Survives old new (λ trees. IsTrue old.is_open × MakesTables history old.now trees)
+  pub stored : HasCleanDisk new → HasRoom old.now.schema → OnOk result (Makes history old.now new.committed)
+  pub settled : HasCleanDisk new → OnOk result (IsTrue new.is_open × (new.now ≡ new.committed))
+  pub autocommit : new.in_transaction ≡ false
+  pub unchanged : HasCleanDisk new → IsTrue new.is_open → OnErr result (IsTrue old.is_open × (new.committed ≡ old.committed))
 
 -- made: the desk stands at revision 1 of each file, by `site`, in one commit
 abbrev pub IfCreated : {S V : Type 0} (g : Ghosts S) → State → SiteTexts → Result (Shown S V) (CreateError × Held S) → Type 0

@@ -1,13 +1,14 @@
 //! Making a desk's tables in a database, with the first revisions of a site, in one transaction.
 
-ghost use Rattle.std.specs.Prelude.{◌≡◌, map};
+ghost use Rattle.std.specs.Prelude.{◌≡◌, false, map};
 ghost use Rattle.sqlite.specs.Held.{state};
 ghost use Rattle.sqlite.specs.State.{HasCleanDisk};
-ghost use Rattle.desk_store.specs.Create.{AddsRow, AddsRows, Fills, IsInside, MakesRoom, Ran, RunsInside};
+ghost use Rattle.desk_core.specs.History.{IsHistory};
+ghost use Rattle.desk_store.specs.Create.{AddsRow, AddsRows, Fills, IsInside, MakesRoom, Ran, RunsInside, StoresAll};
 ghost use Rattle.desk_store.specs.History.{row_of};
 
 use desk_core::Head;
-use sqlite::{Alter, Error, Transaction, params};
+use sqlite::{Alter, Connection, Error, Transaction, params};
 
 /// Runs a statement without parameters.
 fn run<S: Alter>(tx: &mut Transaction<'_, S>, text: &str) -> Result<(), Error>
@@ -67,4 +68,15 @@ fn fill<S: Alter>(tx: &mut Transaction<'_, S>, heads: &[Head]) -> Result<(), Err
 {
     make_tables(tx)?;
     add_revisions(tx, heads)
+}
+
+/// Makes the tables with these revisions, in one transaction. Its commit is the last call of the store.
+fn store_history<S: Alter>(conn: &mut Connection<S>, heads: &[Head]) -> Result<(), Error>
+    requires autocommit { (state S.Store conn.old).in_transaction ≡ false }
+    requires history { IsHistory heads.now }
+    ensures stored { StoresAll (state S.Store conn.old) (state S.Store conn.new) heads.now result }
+{
+    let mut tx = conn.transaction();
+    fill(&mut tx, heads)?;
+    tx.commit()
 }

@@ -7,5 +7,5 @@ use Rattle.desk_store.proofs.creating.add_revisions.Given as goal
 abbrev pub invariant-loop-head : goal.invariant-loop-head
 invariant-loop-head g l = record {
   same_reference : l.tx.conn.ghost_name ≡ l.fn.tx.conn.ghost_name;
-  added : RunsInside (state g.S.Store l.fn.tx.conn.now) (state g.S.Store l.tx.conn.now) (Ok tt) (AddsRows (map row_of (take l.head-index l.heads)));
+  added : RunsInside (state g.S.Store l.fn.tx.conn.now) (state g.S.Store l.tx.conn.now) (Ok (tt {0})) (AddsRows (map row_of (take l.head-index l.heads)));
 }
