@@ -33,3 +33,5 @@ pub mod VersionInsert
 pub mod Created
 pub mod Making
 pub mod Filling
+pub mod Room
+pub mod MadeState

@@ -1,11 +1,9 @@
 -- What making a database is to promise: no contract cites it yet. (this project's own)
-use Rattle.std.specs.Prelude.{◌≡◌, ◌≢◌, ◌⊎◌, ℕ, Bool, true, false, List, [], ◌∷◌, ◌++◌, Option, Some, None, Result, Ok, Err, IsPermutation, IsTrue, OnErr, OnOk, codes, pos, find, is_some, length, map, nat_lt, if◌then◌else◌, ◌||◌}
+use Rattle.std.specs.Prelude.{◌≡◌, ◌≢◌, ◌⊎◌, ℕ, Bool, true, false, List, [], ◌∷◌, ◌++◌, Option, Some, None, Result, Ok, Err, IfErr, IfOk, IsPermutation, IsTrue, OnErr, OnOk, codes, pos, find, is_some, length, map, nat_lt, if◌then◌else◌, ◌||◌}
 use Rattle.std.specs.List.{AllByRecursion}
 use Rattle.std.specs.Option.{option_map}
 use Rattle.std.specs.Result.{result_unwrap_or}
 use Rattle.std.specs.Str.{IsUtf8, bytes_eq}
-use Rattle.sqlite_trees.specs.declared.store.Store.{Ghosts}
-use Rattle.sqlite.specs.Held.{Held, state}
 use Rattle.sqlite.specs.State.{Executes, HasCleanDisk, KeepsCommit, Shows, State, Survives}
 use Rattle.sqlite.specs.Effect.{Database, SparesFrozen}
 use Rattle.sqlite.specs.Order.{Row}
@@ -26,15 +24,18 @@ use Rattle.desk_policy.specs.declared.site_fault.SiteFault.{SiteFault}
 use Rattle.desk_core.specs.Head.{Revision, newest_in}
 use Rattle.desk_core.specs.History.{IsHistory, newest_of}
 use Rattle.desk_core.specs.Judging.{is_of_seven, longest_edit, seven}
-use Rattle.desk_store.specs.Desk.{IsSiteHistory, LeavesTables, Shown, Stands}
+use Rattle.desk_store.specs.Desk.{IsSiteHistory, LeavesTables, Stands}
 use Rattle.desk_store.specs.History.{Holds}
-use Rattle.desk_store.specs.Tables.{Adds, HasTables, IsFree, LeavesCommit, file_rev_table, meta_table, rows_of, table_in}
+use Rattle.sqlite_schema.specs.Names.{table_named}
+use Rattle.desk_core.specs.Views.{Kept}
+use Rattle.desk_store.specs.Tables.{Adds, HasTables, IsAtRest, IsFree, LeavesCommit, file_rev_table, meta_table, rows_of, table_in}
+use Rattle.desk_store.specs.declared.error.StoreFault.{StoreFault}
 use Rattle.desk_store.specs.declared.error.CreateError.{CreateError}
 use Rattle.desk_store.specs.declared.error.CreateError.TheVariants as refused
 
 -- one of the two tables is there
 abbrev pub has_one : Schema → Bool
-has_one schema = is_some (table_in schema (codes "meta")) || is_some (table_in schema (codes "file_rev"))
+has_one schema = is_some (table_named schema (codes "meta")) || is_some (table_named schema (codes "file_rev"))
 
 -- of each of the seven files its text
 abbrev pub text_of_seven : SiteTexts → List ℕ → List ℕ
@@ -237,24 +238,56 @@ pub record StoresAll {T : Type 0} (old new : State) (history : List Revision) (r
   pub autocommit : new.in_transaction ≡ false
   pub unchanged : HasCleanDisk new → IsTrue new.is_open → OnErr result (IsTrue old.is_open × (new.committed ≡ old.committed))
 
--- made: the desk stands at revision 1 of each file, by `site`, in one commit
-abbrev pub IfCreated : {S V : Type 0} (g : Ghosts S) → State → SiteTexts → Result (Shown S V) (CreateError × Held S) → Type 0
-IfCreated g old texts (Ok desk) =
-    Survives old (state g desk.conn) (MakesTables (first_history texts) old.committed)
-    × (HasCleanDisk (state g desk.conn) → Stands (state g desk.conn) desk.state (first_history texts) [] × LeavesCommit (state g desk.conn))
-IfCreated g old texts (Err both) = Unit {0}
+-- a statement was refused, or there is no memory
+abbrev pub IsOfMaking : CreateError → Type 0
+IsOfMaking e = (e ≡ refused.Memory) ⊎ ((fault : StoreFault) × (e ≡ refused.Store fault))
 
--- not made: the first reason in the order is named; only Store and Memory may come after the one commit was begun
-abbrev pub SurvivesRefusal : State → State → SiteTexts → CreateError → Type 0
-SurvivesRefusal old new texts (refused.Store fault) = Survives old new (MakesTables (first_history texts) old.committed)
-SurvivesRefusal old new texts refused.Memory = Survives old new (MakesTables (first_history texts) old.committed)
-SurvivesRefusal old new texts refused.Schema = LeavesTables old new
-SurvivesRefusal old new texts (refused.Fault fault) = LeavesTables old new
-SurvivesRefusal old new texts (refused.TooLarge file) = LeavesTables old new
+-- what a look for room answers: the two tables can be made; one of them is there; or a statement was refused
+abbrev pub RefusesRoom : Schema → CreateError → Type 0
+RefusesRoom schema refused.Schema = has_one schema ≡ true
+RefusesRoom schema (refused.Store fault) = Unit {0}
+RefusesRoom schema refused.Memory = Unit {0}
+RefusesRoom schema (refused.TooLarge file) = ⊥
+RefusesRoom schema (refused.Fault fault) = ⊥
 
-abbrev pub IfNotCreated : {S V : Type 0} (g : Ghosts S) → State → SiteTexts → Result (Shown S V) (CreateError × Held S) → Type 0
-IfNotCreated g old texts (Ok desk) = Unit {0}
-IfNotCreated g old texts (Err both) =
-    SurvivesRefusal old (state g both.1) texts both.0
-    × (HasCleanDisk (state g both.1) → RefusesToCreate old.committed.schema texts both.0)
-    × (HasCleanDisk (state g both.1) → IsTrue (state g both.1).is_open → (state g both.1).committed ≡ old.committed)
+pub record HasSeenRoom (old new : State) : Type 0 where
+  pub was_open : IsTrue old.is_open
+  pub is_open : IsTrue new.is_open
+  pub committed : new.committed ≡ old.committed
+  pub settled : new.now ≡ old.committed
+  pub none : has_one old.committed.schema ≡ false
+  pub room : HasRoom old.committed.schema
+
+pub record LooksForRoom {T : Type 0} (old new : State) (result : Result T CreateError) : Type 0 where
+  pub leaves : LeavesTables old new
+  pub mode : new.in_transaction ≡ false
+  pub found : HasCleanDisk new → OnOk result (HasSeenRoom old new)
+  pub refused : HasCleanDisk new → IfErr result (RefusesRoom old.committed.schema)
+
+-- made: none of the tables was there; a state stands at revision 1 of each file, by `site`, in tables beside what was there;
+-- and a crash leaves just that
+pub record IsMade {V : Type 0} (old new : State) (texts : SiteTexts) (state : Kept V) : Type 0 where
+  pub none : has_one old.committed.schema ≡ false
+  pub made : Makes (first_history texts) old.committed new.committed
+  pub rest : IsAtRest new
+  pub stands : Stands new state (first_history texts) []
+  pub is_open : IsTrue new.is_open
+  pub durable : LeavesCommit new
+
+-- The one commit, where it may have been begun: the connection was open, and the trees are those of the new database. A
+-- refusal that comes before commits nothing.
+abbrev pub MayMake : {T : Type 0} → State → SiteTexts → Result T CreateError → Trees → Type 0
+MayMake old texts (Ok made) trees = IsTrue old.is_open × MakesTables (first_history texts) old.committed trees
+MayMake old texts (Err (refused.Store fault)) trees = IsTrue old.is_open × MakesTables (first_history texts) old.committed trees
+MayMake old texts (Err refused.Memory) trees = IsTrue old.is_open × MakesTables (first_history texts) old.committed trees
+MayMake old texts (Err refused.Schema) trees = ⊥
+MayMake old texts (Err (refused.Fault fault)) trees = ⊥
+MayMake old texts (Err (refused.TooLarge file)) trees = ⊥
+
+-- what making a database did, all together (each part is a clause of `create`)
+pub record IsCreated {V : Type 0} (old new : State) (texts : SiteTexts) (result : Result (Kept V) CreateError) : Type 0 where
+  pub made : HasCleanDisk new → IfOk result (IsMade old new texts)
+  pub refused : HasCleanDisk new → IfErr result (RefusesToCreate old.committed.schema texts)
+  pub unchanged : HasCleanDisk new → IsTrue new.is_open → OnErr result (new.committed ≡ old.committed)
+  pub crash : Survives old new (MayMake old texts result)
+  pub mode : new.in_transaction ≡ false

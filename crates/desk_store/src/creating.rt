@@ -1,14 +1,24 @@
 //! Making a desk's tables in a database, with the first revisions of a site, in one transaction.
 
-ghost use Rattle.std.specs.Prelude.{◌≡◌, false, map};
+ghost use Rattle.std.specs.Prelude.{◌≡◌, false, is_some, map, IsTrue};
+ghost use Rattle.std.specs.List.{list_any};
+ghost use Rattle.sqlite.specs.Table.{Table as Declared};
 ghost use Rattle.sqlite.specs.Held.{state};
 ghost use Rattle.sqlite.specs.State.{HasCleanDisk};
+ghost use Rattle.desk_policy.specs.Site.{texts_of};
 ghost use Rattle.desk_core.specs.History.{IsHistory};
-ghost use Rattle.desk_store.specs.Create.{AddsRow, AddsRows, Fills, IsInside, MakesRoom, Ran, RunsInside, StoresAll};
+ghost use Rattle.sqlite.specs.Rows.{sequence};
+ghost use Rattle.desk_store.specs.Create.{HasRoom, IsCreated, IsOfMaking, LooksForRoom, has_one, AddsRow, AddsRows, Fills, IsInside, MakesRoom, Ran, RunsInside, StoresAll};
 ghost use Rattle.desk_store.specs.History.{row_of};
+ghost use Rattle.desk_store.specs.Tables.{IsFree};
 
-use desk_core::Head;
-use sqlite::{Alter, Connection, Error, Transaction, params};
+use crate::error::{CreateError, StoreFault, Task};
+use crate::first::first_state;
+use desk_core::{Head, State};
+use desk_policy::{PolicyView, Site};
+use sqlite::{Alter, Connection, Error, ErrorCode, Transaction, params};
+use sqlite_schema::schema::Schema;
+use std::alloc::Global;
 
 /// Runs a statement without parameters.
 fn run<S: Alter>(tx: &mut Transaction<'_, S>, text: &str) -> Result<(), Error>
@@ -79,4 +89,113 @@ fn store_history<S: Alter>(conn: &mut Connection<S>, heads: &[Head]) -> Result<(
     let mut tx = conn.transaction();
     fill(&mut tx, heads)?;
     tx.commit()
+}
+
+/// Tells that a statement was refused; out of memory as such.
+fn not_made(said: Error) -> CreateError
+    ensures { IsOfMaking result }
+{
+    match said {
+        Error::SqliteFailure(ErrorCode::OutOfMemory) => CreateError::Memory,
+        _ => CreateError::Store(StoreFault {
+            task: Task::MakeTables,
+            error: said,
+        }),
+    }
+}
+
+/// Tests whether a schema has one of the two tables.
+fn has_one(schema: &Schema) -> bool
+    ensures { result ≡ has_one schema.now }
+{
+    schema.table_named(b"meta".as_slice()).is_some()
+        || schema.table_named(b"file_rev".as_slice()).is_some()
+}
+
+/// Tests whether a name is free.
+fn is_free(schema: &Schema, name: &[u8]) -> bool
+    ensures { IsTrue result → IsFree schema.now name.now }
+{
+    schema.table_named(name).is_none()
+        && schema.view_named(name).is_none()
+        && schema.index_named(name).is_none()
+}
+
+/// Tests whether a schema has `sqlite_sequence`.
+fn has_sequence(schema: &Schema) -> bool
+    ensures { result ≡ is_some (sequence schema.now) }
+{
+    match schema.table_named(b"sqlite_sequence".as_slice()) {
+        Some(at) => schema.tables.as_slice().get(at).is_some(),
+        None => false,
+    }
+}
+
+/// Tests whether a table of a schema counts, as AUTOINCREMENT asks.
+fn counts(schema: &Schema) -> bool
+    ensures { result ≡ list_any (λ (t : Declared). t.is_counted) schema.now.tables }
+{
+    schema
+        .tables
+        .as_slice()
+        .iter()
+        .any(|table| table.is_counted)
+}
+
+/// Tests whether the two tables can be made.
+fn has_room(schema: &Schema) -> bool
+    ensures { IsTrue result → HasRoom schema.now }
+{
+    is_free(schema, b"meta".as_slice())
+        && is_free(schema, b"file_rev".as_slice())
+        && !(counts(schema) && !has_sequence(schema))
+}
+
+/// Tests whether the database of a connection at rest has one of the two tables.
+fn sees_one<S: Alter>(conn: &Connection<S>) -> bool
+    requires { (state S.Store conn.now).in_transaction ≡ false }
+    ensures one { result ≡ has_one (state S.Store conn.now).now.schema }
+    ensures settled { IsTrue (state S.Store conn.now).is_open → (state S.Store conn.now).now ≡ (state S.Store conn.now).committed }
+{
+    conn.is_autocommit() && has_one(conn.schema())
+}
+
+/// Looks whether the two tables can be made. (A view or an index that has one of their names is refused as SQLite would.)
+fn look_for_room<S: Alter>(conn: &mut Connection<S>) -> Result<(), CreateError>
+    requires autocommit { (state S.Store conn.old).in_transaction ≡ false }
+    ensures { LooksForRoom (state S.Store conn.old) (state S.Store conn.new) result }
+{
+    if let Err(e) = conn.prepare("SELECT 1") {
+        return Err(not_made(e));
+    }
+    if sees_one(conn) {
+        return Err(CreateError::Schema);
+    }
+    if has_room(conn.schema()) {
+        Ok(())
+    } else {
+        Err(not_made(Error::SqliteFailure(ErrorCode::NameTaken)))
+    }
+}
+
+/// Makes the tables with the first revisions of a site, and the state that they stand for.
+pub(crate) fn create_state<S: Alter, V: PolicyView + Drop>(
+    alloc: Global,
+    conn: &mut Connection<S>,
+    site: &Site,
+) -> Result<State<V>, CreateError>
+    requires autocommit { (state S.Store conn.old).in_transaction ≡ false }
+    ensures { IsCreated (state S.Store conn.old) (state S.Store conn.new) (texts_of site.now) result }
+{
+    if let Err(e) = look_for_room(conn) {
+        return Err(e);
+    }
+    let first: State<V> = match first_state(alloc, site) {
+        Ok(first) => first,
+        Err(e) => return Err(e),
+    };
+    match store_history(conn, first.heads()) {
+        Ok(()) => Ok(first),
+        Err(e) => Err(not_made(e)),
+    }
 }

@@ -16,6 +16,8 @@ pub enum Task {
     FindTables,
     /// Reading the version of the database.
     ReadVersion,
+    /// Making the two tables, with the first revisions.
+    MakeTables,
 }
 
 /// A statement that was refused, or whose answer is not one that a database of this project gives.
