@@ -23,15 +23,15 @@ by_room old texts (refused.TooLarge file) h = absurd h
 by_room old texts (refused.Fault fault) h = absurd h
 
 -- a refusal that is of no commit
-early : {V : Type 0} (old new : State) (texts : SiteTexts) (e : CreateError) → Survives old new (λ _. ⊥) → Survives old new (MayMake old texts (Err {A = Kept V} e))
-early {V} old new texts e s = record { clean = s.clean; shield = s.shield; counts = s.counts; limit = s.limit; closes = s.closes; crash = λ clean trees may. elim (s.crash clean trees may) [ inl before ↦ inl before | inr none ↦ absurd none ] }
+early : (V : Type 0) (old new : State) (texts : SiteTexts) (e : CreateError) → Survives old new (λ _. ⊥) → Survives old new (MayMake {T = Kept V} old texts (Err e))
+early V old new texts e s = record { clean = s.clean; shield = s.shield; counts = s.counts; limit = s.limit; closes = s.closes; crash = λ clean trees may. elim (s.crash clean trees may) [ inl before ↦ inl before | inr none ↦ absurd none ] }
 
-pub no_room_made : {T V : Type 0} (old new : State) (texts : SiteTexts) (e : CreateError) → LooksForRoom {T = T} old new (Err e) → IsCreated {V = V} old new texts (Err e)
-no_room_made {T} {V} old new texts e h = record {
+pub no_room_made : {T : Type 0} (V : Type 0) (old new : State) (texts : SiteTexts) (e : CreateError) → LooksForRoom {T = T} old new (Err e) → IsCreated {V = V} old new texts (Err e)
+no_room_made V old new texts e h = record {
   made = λ clean. tt;
   refused = λ clean. by_room old texts e (h.refused clean);
   unchanged = λ clean live. h.leaves.same clean live;
-  crash = early {V} old new texts e h.leaves.crash;
+  crash = early V old new texts e h.leaves.crash;
   mode = h.mode;
 }
 
@@ -42,18 +42,64 @@ by_site old texts refused.Memory none h = tt
 by_site old texts (refused.TooLarge file) none h = (none, h)
 by_site old texts (refused.Fault fault) none h = (none, h)
 
-pub site_refused : {T V : Type 0} (old new : State) (texts : SiteTexts) (x : T) (e : CreateError) → LooksForRoom old new (Ok x) → RefusesSite texts e → IsCreated {V = V} old new texts (Err e)
-site_refused {T} {V} old new texts x e h says = record {
+pub site_refused : {T : Type 0} (V : Type 0) (old new : State) (texts : SiteTexts) (x : T) (e : CreateError) → LooksForRoom old new (Ok x) → RefusesSite texts e → IsCreated {V = V} old new texts (Err e)
+site_refused V old new texts x e h says = record {
   made = λ clean. tt;
   refused = λ clean. by_site old texts e (h.found clean).none says;
   unchanged = λ clean live. h.leaves.same clean live;
-  crash = early {V} old new texts e h.leaves.crash;
+  crash = early V old new texts e h.leaves.crash;
   mode = h.mode;
 }
 
-module _ (old mid new : State) (texts : SiteTexts) where
+module _ (old mid new : State) (texts : SiteTexts) (clean_if_open : IsTrue mid.is_open → HasCleanDisk mid) where
   abbrev Once : Trees → Type 0
   Once trees = IsTrue old.is_open × MakesTables (first_history texts) old.committed trees
 
+  room_of : {T : Type 0} (x : T) → LooksForRoom old mid (Ok x) → IsTrue mid.is_open → HasRoom mid.now.schema
+  room_of x look live = let seen = look.found (clean_if_open live) in subst (λ (d : Database). HasRoom d.schema) (sym seen.settled) seen.room
+
   whole : {T U : Type 0} (x : T) (result : Result U Error) → LooksForRoom old mid (Ok x) → StoresAll mid new (first_history texts) result → Survives old new Once
-  whole x result look stored = ?
+  whole x result look stored =
+      let after = stored.crash (room_of x look) in
+      survives_then old mid new (λ _. ⊥) (λ trees. IsTrue mid.is_open × MakesTables (first_history texts) mid.now trees) Once (λ clean trees none. absurd none)
+      (λ clean trees may.
+      let before : HasCleanDisk mid = omega (arith, after.clean) in
+      let seen = look.found before in
+      (seen.was_open, subst (λ (d : Database). MakesTables (first_history texts) d trees) seen.settled may.1))
+      look.leaves.crash after
+
+  pub made_state : {T U V : Type 0} (x : T) (y : U) (state : Kept V) → LooksForRoom old mid (Ok x) → StoresAll mid new (first_history texts) (Ok y) → IsFirstState texts state.heads → (IsTrue new.is_open → LeavesCommit new)
+      → IsCreated old new texts (Ok state)
+  made_state x y state look stored first law = record {
+    made = λ clean.
+        let after = stored.crash (room_of x look) in
+        let before : HasCleanDisk mid = omega (arith, after.clean) in
+        let seen = look.found before in
+        let made = subst (λ (d : Database). Makes (first_history texts) d new.committed) seen.settled (stored.stored clean (subst (λ (d : Database). HasRoom d.schema) (sym seen.settled) seen.room)) in
+        let at = stored.settled clean in
+        let durable = law at.0 in
+        record {
+          none = seen.none;
+          made = made;
+          rest = record { autocommit = stored.autocommit; settled = λ live. at.1; tables = λ live. made.holds.tables };
+          stands = record { stored = first.stored; heads = first.newest; tables = λ live. made.holds; leaves = λ trees may. (new.committed, durable trees may, inl made.holds) };
+          is_open = at.0;
+          durable = durable;
+        };
+    refused = λ clean. tt;
+    unchanged = λ clean live. tt;
+    crash = whole x (Ok y) look stored;
+    mode = stored.autocommit;
+  }
+
+  pub not_stored_state : {T U : Type 0} (V : Type 0) (x : T) (said : Error) (e : CreateError) → LooksForRoom old mid (Ok x) → StoresAll {T = U} mid new (first_history texts) (Err said) → IsOfMaking e → IsCreated {V = V} old new texts (Err e)
+  not_stored_state V x said e look stored says =
+      let all = whole x (Err said) look stored in
+      let same = λ (clean : HasCleanDisk new) (live : IsTrue new.is_open).
+      let after = stored.crash (room_of x look) in
+        let before : HasCleanDisk mid = omega (arith, after.clean) in
+      let kept : new.committed ≡ old.committed = (stored.unchanged clean live).1 ∙ (look.found before).committed in kept in
+      elim says [
+        | inl memory ↦ subst (λ (f : CreateError). IsCreated {V = V} old new texts (Err f)) (sym memory) (record { made = λ clean. tt; refused = λ clean. tt; unchanged = same; crash = all; mode = stored.autocommit })
+        | inr store ↦ subst (λ (f : CreateError). IsCreated {V = V} old new texts (Err f)) (sym store.1) (record { made = λ clean. tt; refused = λ clean. tt; unchanged = same; crash = all; mode = stored.autocommit })
+      ]
