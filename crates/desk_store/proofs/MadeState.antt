@@ -97,7 +97,7 @@ module _ (old mid new : State) (texts : SiteTexts) (clean_if_open : IsTrue mid.i
       let all = whole x (Err said) look stored in
       let same = λ (clean : HasCleanDisk new) (live : IsTrue new.is_open).
       let after = stored.crash (room_of x look) in
-        let before : HasCleanDisk mid = omega (arith, after.clean) in
+      let before : HasCleanDisk mid = omega (arith, after.clean) in
       let kept : new.committed ≡ old.committed = (stored.unchanged clean live).1 ∙ (look.found before).committed in kept in
       elim says [
         | inl memory ↦ subst (λ (f : CreateError). IsCreated {V = V} old new texts (Err f)) (sym memory) (record { made = λ clean. tt; refused = λ clean. tt; unchanged = same; crash = all; mode = stored.autocommit })

@@ -1,9 +1,10 @@
--- What making a database is to promise: no contract cites it yet. (this project's own)
+-- What making a database promises. (this project's own)
 use Rattle.std.specs.Prelude.{◌≡◌, ◌≢◌, ◌⊎◌, ℕ, Bool, true, false, List, [], ◌∷◌, ◌++◌, Option, Some, None, Result, Ok, Err, IfErr, IfOk, IsPermutation, IsTrue, OnErr, OnOk, codes, pos, find, is_some, length, map, nat_lt, if◌then◌else◌, ◌||◌}
 use Rattle.std.specs.List.{AllByRecursion}
 use Rattle.std.specs.Option.{option_map}
 use Rattle.std.specs.Result.{result_unwrap_or}
 use Rattle.std.specs.Str.{IsUtf8, bytes_eq}
+use Rattle.sqlite.specs.Held.{Held}
 use Rattle.sqlite.specs.State.{Executes, HasCleanDisk, KeepsCommit, Shows, State, Survives}
 use Rattle.sqlite.specs.Effect.{Database, SparesFrozen}
 use Rattle.sqlite.specs.Order.{Row}
@@ -24,7 +25,7 @@ use Rattle.desk_policy.specs.declared.site_fault.SiteFault.{SiteFault}
 use Rattle.desk_core.specs.Head.{Revision, newest_in}
 use Rattle.desk_core.specs.History.{IsHistory, newest_of}
 use Rattle.desk_core.specs.Judging.{is_of_seven, longest_edit, seven}
-use Rattle.desk_store.specs.Desk.{IsSiteHistory, LeavesTables, Stands}
+use Rattle.desk_store.specs.Desk.{IsSiteHistory, LeavesTables, Shown, Stands}
 use Rattle.desk_store.specs.History.{Holds}
 use Rattle.sqlite_schema.specs.Names.{table_named}
 use Rattle.desk_core.specs.Views.{Kept}
@@ -291,3 +292,13 @@ pub record IsCreated {V : Type 0} (old new : State) (texts : SiteTexts) (result 
   pub unchanged : HasCleanDisk new → IsTrue new.is_open → OnErr result (new.committed ≡ old.committed)
   pub crash : Survives old new (MayMake old texts result)
   pub mode : new.in_transaction ≡ false
+
+-- the connection that is in a desk, or is handed back
+abbrev pub conn_of : {S V : Type 0} → Result (Shown S V) (CreateError × Held S) → Held S
+conn_of (Ok desk) = desk.conn
+conn_of (Err both) = both.1
+
+-- the answer without the connection that is handed back
+abbrev pub answer_of : {S V : Type 0} → Result (Shown S V) (CreateError × Held S) → Result (Kept V) CreateError
+answer_of (Ok desk) = Ok desk.state
+answer_of (Err both) = Err both.0

@@ -4,6 +4,8 @@ ghost use Rattle.std.specs.Prelude.{◌≡◌, ◌≢◌, ◌+◌, [], false, Er
 ghost use Rattle.sqlite.specs.Held.{state};
 ghost use Rattle.sqlite.specs.State.{HasCleanDisk, Survives};
 ghost use Rattle.desk_core.specs.Edit.{asked, revision_of};
+ghost use Rattle.desk_policy.specs.Site.{texts_of};
+ghost use Rattle.desk_core.specs.Edit.{asked};
 ghost use Rattle.desk_core.specs.Head.{newest_in};
 ghost use Rattle.desk_core.specs.History.{added_if, newest_of, revisions_of};
 ghost use Rattle.desk_core.specs.Judging.{first_case};
@@ -11,17 +13,21 @@ ghost use Rattle.desk_core.specs.Site.{IsInForce, site_in};
 ghost use Rattle.desk_store.specs.Desk.{CommitsOne, HasGoodDisk, HasStored, History, IsAccepted, IsEdited, LeavesTables, StandsAt, StaysAsItWas, StepsTo, revision_at, stored_of, told};
 ghost use Rattle.desk_store.specs.History.{row_of};
 ghost use Rattle.desk_store.specs.Open.{IsOfOpening, IsOurs, OpensAt, held_in};
+ghost use Rattle.desk_store.specs.Create.{IsMade, MayMake, RefusesToCreate, answer_of, conn_of};
+ghost use Rattle.desk_store.specs.Desk.{CommitsOne, HasGoodDisk, History, IsAccepted, IsEdited, StandsAt, StaysAsItWas, StepsTo, revision_at, stored_of, told};
 ghost use Rattle.desk_store.specs.Rows.{IsOfStore};
 ghost use Rattle.desk_store.specs.Tables.{LeavesCommit};
 ghost use Rattle.desk_store.specs.declared.error.DeskError.TheVariants as error;
 
 use crate::database::read_state;
 use crate::error::{DeskError, Task};
+use crate::creating::create_state;
+use crate::error::{CreateError, DeskError, Task};
 use crate::laws::stored_edits_keep_site_histories;
 use crate::rows::{find_revision, list_revisions, not_stored};
 use crate::tables::{append_revision, read_revisions};
 use desk_core::{Accepted, Edit, Head, Judged, State, newest_of_a_longer_history};
-use desk_policy::PolicyView;
+use desk_policy::{PolicyView, Site};
 use desk_text::{ReadError, Sequence, Text};
 use sqlite::{Alter, Connection};
 use std::alloc::Global;
@@ -172,6 +178,34 @@ impl<S: Alter + Drop, V: PolicyView + Drop> Desk<S, V> {
         match read_revisions(&mut self.conn) {
             Ok(rows) => list_revisions(alloc, rows.as_slice(), file),
             Err(e) => Err(not_stored(Task::ReadRevisions, e)),
+        }
+    }
+
+    /// Makes the tables of a desk in the database of a connection, with revision 1 of each file of a site, by `site`, all in one
+    /// commit. Nothing is made if one of the tables is there, a text has more than 65,536 bytes, or the site has a fault. Beside
+    /// a refusal the connection is handed back.
+    pub fn create(
+        alloc: Global,
+        mut conn: Connection<S>,
+        site: &Site,
+    ) -> Result<Desk<S, V>, (CreateError, Connection<S>)>
+        requires autocommit { (state S.Store conn).in_transaction ≡ false }
+
+        // The desk stands at the first revisions, in tables beside what was there, and a crash leaves just that.
+        ensures made { IfOk result (λ desk. HasGoodDisk S.Store desk → IsMade (state S.Store conn) (state S.Store desk.conn) (texts_of site.now) desk.state) }
+
+        // A refusal names the first reason in the order, and leaves the database as it was.
+        ensures refused { IfErr result (λ both. HasCleanDisk (state S.Store both.1) → RefusesToCreate (state S.Store conn).committed.schema (texts_of site.now) both.0) }
+        ensures unchanged { IfErr result (λ both. HasCleanDisk (state S.Store both.1) → IsTrue (state S.Store both.1).is_open
+            → (state S.Store both.1).committed ≡ (state S.Store conn).committed) }
+
+        // A crash at any moment leaves what it could before, or the one commit; and no transaction is open.
+        ensures crash { Survives (state S.Store conn) (state S.Store (conn_of result)) (MayMake (state S.Store conn) (texts_of site.now) (answer_of result)) }
+        ensures mode { (state S.Store (conn_of result)).in_transaction ≡ false }
+    {
+        match create_state(alloc, &mut conn, site) {
+            Ok(current) => Ok(Desk { conn, current }),
+            Err(e) => Err((e, conn)),
         }
     }
 
