@@ -3,25 +3,22 @@
 ghost use Rattle.std.specs.Prelude.{◌≡◌, ◌≢◌, ◌+◌, [], false, Err, IfErr, IfOk, IsTrue, None, map, option_copied};
 ghost use Rattle.sqlite.specs.Held.{state};
 ghost use Rattle.sqlite.specs.State.{HasCleanDisk, Survives};
-ghost use Rattle.desk_core.specs.Edit.{asked, revision_of};
 ghost use Rattle.desk_policy.specs.Site.{texts_of};
-ghost use Rattle.desk_core.specs.Edit.{asked};
+ghost use Rattle.desk_core.specs.Edit.{asked, revision_of};
 ghost use Rattle.desk_core.specs.Head.{newest_in};
 ghost use Rattle.desk_core.specs.History.{added_if, newest_of, revisions_of};
 ghost use Rattle.desk_core.specs.Judging.{first_case};
 ghost use Rattle.desk_core.specs.Site.{IsInForce, site_in};
+ghost use Rattle.desk_store.specs.Create.{IsMade, MayMake, RefusesToCreate, answer_of, conn_of};
 ghost use Rattle.desk_store.specs.Desk.{CommitsOne, HasGoodDisk, HasStored, History, IsAccepted, IsEdited, LeavesTables, StandsAt, StaysAsItWas, StepsTo, revision_at, stored_of, told};
 ghost use Rattle.desk_store.specs.History.{row_of};
 ghost use Rattle.desk_store.specs.Open.{IsOfOpening, IsOurs, OpensAt, held_in};
-ghost use Rattle.desk_store.specs.Create.{IsMade, MayMake, RefusesToCreate, answer_of, conn_of};
-ghost use Rattle.desk_store.specs.Desk.{CommitsOne, HasGoodDisk, History, IsAccepted, IsEdited, StandsAt, StaysAsItWas, StepsTo, revision_at, stored_of, told};
 ghost use Rattle.desk_store.specs.Rows.{IsOfStore};
 ghost use Rattle.desk_store.specs.Tables.{LeavesCommit};
 ghost use Rattle.desk_store.specs.declared.error.DeskError.TheVariants as error;
 
-use crate::database::read_state;
-use crate::error::{DeskError, Task};
 use crate::creating::create_state;
+use crate::database::read_state;
 use crate::error::{CreateError, DeskError, Task};
 use crate::laws::stored_edits_keep_site_histories;
 use crate::rows::{find_revision, list_revisions, not_stored};

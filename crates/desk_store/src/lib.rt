@@ -10,8 +10,8 @@
 //! ```
 #![tactic(auto)]
 
-mod database;
 mod creating;
+mod database;
 pub mod declared;
 pub mod desk;
 pub mod error;
