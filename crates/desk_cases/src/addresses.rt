@@ -6,34 +6,24 @@ use desk_text::{Addr, AddrFault, is_dotted};
 /// Answers a question on an address.
 pub fn answer(out: &mut String, question: &str, text: &str) -> Asked {
     match question {
-        "address" => address(out, text),
-        "short_address" => short_address(out, text),
+        "address" => say_read(out, Addr::read(text)),
+        "short_address" => say_read(out, Addr::read_short(text)),
         "address_of_number" => of_number(out, text),
         "is_dotted" => say_whether(out, is_dotted(text)),
         _ => Ok(false),
     }
 }
 
-/// `address TEXT`: the address and its number, or the fault.
-fn address(out: &mut String, text: &str) -> Asked {
-    match Addr::read(text) {
-        Ok(address) => say_address(out, address),
+/// `address TEXT`, and `short_address TEXT` of a text with one to four parts: the address and its number, or the fault.
+fn say_read(out: &mut String, read: Result<Addr, AddrFault>) -> Asked {
+    match read {
+        Ok(address) => {
+            let number = address.number();
+            write!(out, "{address} {number}")?;
+            Ok(true)
+        }
         Err(fault) => say_fault(out, fault),
     }
-}
-
-/// `short_address TEXT`: the same of a text with one to four parts.
-fn short_address(out: &mut String, text: &str) -> Asked {
-    match Addr::read_short(text) {
-        Ok(address) => say_address(out, address),
-        Err(fault) => say_fault(out, fault),
-    }
-}
-
-fn say_address(out: &mut String, address: Addr) -> Asked {
-    let number = address.number();
-    write!(out, "{address} {number}")?;
-    Ok(true)
 }
 
 /// Answers with a fault by its name: `fault Parts`.

@@ -1,5 +1,6 @@
 //! How questions are answered. A question adds its answer to `out`; one that adds nothing answers `none`.
 
+use desk_text::Text;
 use std::alloc::AllocError;
 use std::fmt;
 
@@ -34,12 +35,29 @@ pub fn say_whether(out: &mut String, holds: bool) -> Asked {
     say(out, if holds { "yes" } else { "no" })
 }
 
+/// Adds texts, with a blank behind each.
+pub fn add_texts(out: &mut String, texts: &[Text]) -> Result<(), AllocError> {
+    for text in texts {
+        out.push_str(text.as_str())?;
+        out.push(' ')?;
+    }
+    Ok(())
+}
+
 /// Returns the number that a text writes, if it is one.
 pub fn number(text: &str) -> Option<u32> {
-    match text.parse() {
-        Ok(number) => Some(number),
-        Err(_) => None,
-    }
+    text.parse().ok()
+}
+
+/// Returns the two numbers that a text writes, if it does.
+pub fn numbers(text: &str) -> Option<(u32, u32)> {
+    let (first, second) = split(text);
+    Some((number(first)?, number(second)?))
+}
+
+/// Splits a text at its first blank. Behind it is nothing if there is none.
+pub fn split(text: &str) -> (&str, &str) {
+    text.split_once(' ').unwrap_or((text, ""))
 }
 
 /// Ends a list, each item of which has a blank or a line end behind it.

@@ -2,47 +2,100 @@
 //! first ` = ` of a line counts: in a text it is written `\s= `. A question without a text is `QUESTION = ANSWER`. Empty
 //! lines and those that begin with `#` are skipped.
 
+use crate::answers::split;
 use crate::report::Report;
 use crate::site::Site;
 use crate::{escapes, questions};
 use std::alloc::{AllocError, Global};
+use std::str;
+
+/// A case that is tried: the bytes of its text, those of the answer that it wants, and the answer that is found.
+#[derive(Drop)]
+struct Trial {
+    text: Vec<u8>,
+    wanted: Vec<u8>,
+    found: String,
+}
 
 /// Tries the cases of a text. Those that read a table set it for the cases below them.
 pub fn report_of(alloc: Global, text: &str) -> Result<Report, AllocError> {
-    let mut site = Site::new(alloc);
     let mut report = Report::new(alloc);
+    try_lines(alloc, &mut report, text)?;
+    Ok(report)
+}
+
+fn try_lines(alloc: Global, report: &mut Report, text: &str) -> Result<(), AllocError> {
+    let mut site = Site::new(alloc);
+    let mut trial = Trial {
+        text: Vec::new(alloc),
+        wanted: Vec::new(alloc),
+        found: String::new(alloc),
+    };
+    try_cases(alloc, &mut site, &mut trial, report, text)
+}
+
+fn try_cases(
+    alloc: Global,
+    site: &mut Site,
+    trial: &mut Trial,
+    report: &mut Report,
+    text: &str,
+) -> Result<(), AllocError> {
     for (index, line) in text.lines().enumerate() {
         if !line.is_empty() && !line.starts_with('#') {
             report.begin_case(index);
-            try_case(alloc, &mut site, &mut report, line)?;
+            try_case(alloc, site, trial, report, line)?;
         }
     }
-    Ok(report)
+    Ok(())
 }
 
 /// Tries a case.
 fn try_case(
     alloc: Global,
     site: &mut Site,
+    trial: &mut Trial,
     report: &mut Report,
     case: &str,
 ) -> Result<(), AllocError> {
+    match ask(alloc, site, trial, case)? {
+        Some(difference) => report.add_difference(case, difference),
+        None => compare(
+            alloc,
+            report,
+            case,
+            trial.found.as_str(),
+            trial.wanted.as_slice(),
+        ),
+    }
+}
+
+/// Asks a case. Returns why it cannot be asked, if it cannot.
+fn ask(
+    alloc: Global,
+    site: &mut Site,
+    trial: &mut Trial,
+    case: &str,
+) -> Result<Option<&'static str>, AllocError> {
     let Some((asked, wanted)) = case.split_once(" = ") else {
-        return report.add_difference(case, "is not a case");
+        return Ok(Some("is not a case"));
     };
-    let (question, text) = asked.split_once(' ').unwrap_or((asked, ""));
-    let (Some(text), Some(wanted)) = (escapes::text(alloc, text)?, escapes::text(alloc, wanted)?)
-    else {
-        return report.add_difference(case, "has a wrong escape");
+    let (question, text) = split(asked);
+    trial.text.clear();
+    trial.wanted.clear();
+    trial.found.clear();
+    if !escapes::push(alloc, &mut trial.text, text)?
+        || !escapes::push(alloc, &mut trial.wanted, wanted)?
+    {
+        return Ok(Some("has a wrong escape"));
+    }
+    let Ok(text) = str::from_utf8(trial.text.as_slice()) else {
+        return Ok(Some("has a wrong escape"));
     };
-    let mut found = String::new(alloc);
-    if !questions::answer(alloc, site, &mut found, question, text.as_str())? {
-        return report.add_difference(case, "cannot be asked");
+    if !questions::answer(alloc, site, &mut trial.found, question, text)? {
+        return Ok(Some("cannot be asked"));
     }
-    if found.is_empty() {
-        found.push_str("none")?;
-    }
-    compare(alloc, report, case, found.as_str(), wanted.as_str())
+    Ok(None)
 }
 
 /// Compares the answer to a case with the one that it wants.
@@ -51,9 +104,10 @@ fn compare(
     report: &mut Report,
     case: &str,
     found: &str,
-    wanted: &str,
+    wanted: &[u8],
 ) -> Result<(), AllocError> {
-    if found == wanted {
+    let found = if found.is_empty() { "none" } else { found };
+    if found.as_bytes() == wanted {
         return Ok(());
     }
     let found = format!(in alloc; "is answered {found:?}")?;

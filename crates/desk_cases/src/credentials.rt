@@ -2,53 +2,26 @@
 
 ghost use Rattle.std.specs.Prelude.{◌≤◌, length};
 
-use crate::answers::{Asked, end_list, number, say_each, say_whether};
-use crate::site::{Site, say_fault, say_read};
-use desk_tables::{Cred, CredFault, Groups, User, Users, credential, has_fault};
-use desk_text::Text;
-use std::alloc::{AllocError, Global};
+use crate::answers::{Asked, add_texts, end_list, number, numbers, say_each, say_whether, split};
+use crate::site::{Site, set};
+use desk_tables::{Cred, CredFault, Group, Groups, User, Users, credential, has_fault};
+use std::alloc::Global;
 
-/// Answers a question on users, groups or credentials.
+/// Answers a question on users, groups or credentials. `users TEXT` and `groups TEXT`: `read`, or the fault.
 pub fn answer(alloc: Global, site: &mut Site, out: &mut String, question: &str, text: &str) -> Asked
     requires { length text.now ≤ 4294967294 }
 {
     match question {
-        "users" => read_users(alloc, site, out, text),
-        "groups" => read_groups(alloc, site, out, text),
+        "users" => set(&mut site.users, out, Users::read(alloc, text)),
+        "groups" => set(&mut site.groups, out, Groups::read(alloc, text)),
         "user" => user(out, site.users.by_name(text)),
         "uid" => uid(&site.users, out, text),
-        "group" => group(&site.groups, out, text),
+        "group" => group(out, site.groups.by_name(text)),
         "member" => member(&site.groups, out, text),
         "credential" => read(site, out, text),
         "faults" => faults(site, out, text),
         "with_group" => with_group(out, text),
         _ => Ok(false),
-    }
-}
-
-/// `users TEXT`: `read`, or the fault.
-fn read_users(alloc: Global, site: &mut Site, out: &mut String, text: &str) -> Asked
-    requires { length text.now ≤ 4294967294 }
-{
-    match Users::read(alloc, text) {
-        Ok(users) => {
-            site.users = users;
-            say_read(out)
-        }
-        Err(error) => say_fault(out, error),
-    }
-}
-
-/// `groups TEXT`: `read`, or the fault.
-fn read_groups(alloc: Global, site: &mut Site, out: &mut String, text: &str) -> Asked
-    requires { length text.now ≤ 4294967294 }
-{
-    match Groups::read(alloc, text) {
-        Ok(groups) => {
-            site.groups = groups;
-            say_read(out)
-        }
-        Err(error) => say_fault(out, error),
     }
 }
 
@@ -70,28 +43,18 @@ fn uid(users: &Users, out: &mut String, text: &str) -> Asked {
 }
 
 /// `group NAME`: its gid and members, or `none`.
-fn group(groups: &Groups, out: &mut String, name: &str) -> Asked {
-    if let Some(group) = groups.by_name(name) {
+fn group(out: &mut String, found: Option<&Group>) -> Asked {
+    if let Some(group) = found {
         let gid = group.gid;
-        write!(out, "{gid}")?;
-        add_members(out, group.members.as_slice())?;
+        write!(out, "{gid} ")?;
+        add_texts(out, group.members.as_slice())?;
     }
-    Ok(true)
-}
-
-fn add_members(out: &mut String, members: &[Text]) -> Result<(), AllocError> {
-    for member in members {
-        let member = member.as_str();
-        write!(out, " {member}")?;
-    }
-    Ok(())
+    end_list(out)
 }
 
 /// `member GROUP NAME`: `yes` or `no`.
 fn member(groups: &Groups, out: &mut String, text: &str) -> Asked {
-    let Some((group, name)) = text.split_once(' ') else {
-        return Ok(false);
-    };
+    let (group, name) = split(text);
     match groups.by_name(group) {
         Some(group) => say_whether(out, group.has_member(name)),
         None => Ok(false),
@@ -136,9 +99,4 @@ fn with_group(out: &mut String, text: &str) -> Asked {
     let gids = &cred.gids;
     write!(out, "{cred} {gids} ")?;
     say_each(out, gids.as_slice())
-}
-
-fn numbers(text: &str) -> Option<(u32, u32)> {
-    let (uid, gid) = text.split_once(' ')?;
-    Some((number(uid)?, number(gid)?))
 }

@@ -3,34 +3,21 @@
 ghost use Rattle.std.specs.Prelude.{◌≤◌, length};
 
 use crate::answers::{Asked, end_list, say, say_found};
-use crate::site::{Site, say_fault, say_read};
+use crate::site::{Site, set_some};
 use desk_policy::unlisted_line;
 use desk_tables::{Custodians, FileSystems};
 use std::alloc::Global;
 
-/// Answers a question on the custodians file.
+/// Answers a question on the custodians file. `custodians TEXT`: `read`, or the fault.
 pub fn answer(alloc: Global, site: &mut Site, out: &mut String, question: &str, text: &str) -> Asked
     requires { length text.now ≤ 4294967294 }
 {
     match (question, &site.custodians) {
-        ("custodians", _) => read(alloc, site, out, text),
+        ("custodians", _) => set_some(&mut site.custodians, out, Custodians::read(alloc, text)),
         ("digest", Some(table)) => digest(alloc, table, out, text),
         ("custodian_names", Some(table)) => names(table, out),
         ("unlisted", Some(table)) => unlisted(table, &site.filesystems, out),
         _ => Ok(false),
-    }
-}
-
-/// `custodians TEXT`: `read`, or the fault.
-fn read(alloc: Global, site: &mut Site, out: &mut String, text: &str) -> Asked
-    requires { length text.now ≤ 4294967294 }
-{
-    match Custodians::read(alloc, text) {
-        Ok(custodians) => {
-            site.custodians = Some(custodians);
-            say_read(out)
-        }
-        Err(error) => say_fault(out, error),
     }
 }
 

@@ -1,9 +1,11 @@
 //! Questions on edits of a site's files.
 
-use crate::answers::{Asked, number, say};
+use crate::answers::{Asked, number, say, split};
+use crate::policies::say_verdict;
 use crate::site::Site;
+use crate::sites::say_fault;
 use desk_core::{Edit, Head, Judged, Refusal, State, can_be_kept};
-use desk_policy::{Plain, PolicyView, verdict_text};
+use desk_policy::{Plain, PolicyView, SiteFault};
 use desk_text::{Addr, Path, ReadError, Text};
 use std::alloc::{AllocError, Global};
 use std::mem;
@@ -61,34 +63,51 @@ fn of_state(
 
 /// `head FILE REV AUTHOR TEXT`: `kept`. Adds the newest revision of a file to the state to come.
 fn head(alloc: Global, edits: &mut Edits, out: &mut String, text: &str) -> Asked {
-    let (file, rest) = text.split_once(' ').unwrap_or((text, ""));
-    let (rev, rest) = rest.split_once(' ').unwrap_or((rest, ""));
-    let (author, body) = rest.split_once(' ').unwrap_or((rest, ""));
-    let Some(rev) = number(rev) else {
-        return Ok(false);
-    };
-    edits.heads.push(Head {
-        file: Text::copy(alloc, file)?,
+    let (file, rest) = split(text);
+    let (rev, rest) = split(rest);
+    match number(rev) {
+        Some(rev) => {
+            edits.heads.push(head_of(alloc, file, rev, rest)?)?;
+            say(out, "kept")
+        }
+        None => Ok(false),
+    }
+}
+
+fn head_of(alloc: Global, file: &str, rev: u32, text: &str) -> Result<Head, AllocError> {
+    let (author, body) = split(text);
+    let file = Text::copy(alloc, file)?;
+    let author = Text::copy(alloc, author)?;
+    let body = Text::copy(alloc, body)?;
+    Ok(Head {
+        file,
         rev,
-        author: Text::copy(alloc, author)?,
-        body: Text::copy(alloc, body)?,
-    })?;
-    say(out, "kept")
+        author,
+        body,
+    })
 }
 
 /// `state`: `in force`, or the fault. Makes the state of the heads, which are then forgotten.
 fn start(alloc: Global, edits: &mut Edits, out: &mut String) -> Asked {
     let heads = mem::replace(&mut edits.heads, Vec::new(alloc));
     if !can_be_kept(heads.as_slice()) {
+        drop(heads);
         return Ok(false);
     }
-    match State::from_heads(alloc, heads) {
+    set_state(edits, out, State::from_heads(alloc, heads))
+}
+
+fn set_state(
+    edits: &mut Edits,
+    out: &mut String,
+    state: Result<State<Plain>, ReadError<SiteFault>>,
+) -> Asked {
+    match state {
         Ok(state) => {
             edits.state = Some(state);
             say(out, "in force")
         }
-        Err(ReadError::Fault(fault)) => say_refused(out, &Refusal::Fault(fault)),
-        Err(ReadError::Memory) => Err(AllocError),
+        Err(error) => say_fault(out, error),
     }
 }
 
@@ -106,16 +125,15 @@ fn edit(alloc: Global, state: &mut State<Plain>, out: &mut String, text: &str) -
             write!(out, "already {number}")?;
             Ok(true)
         }
-        Err(ReadError::Fault(refusal)) => say_refused(out, &refusal),
-        Err(ReadError::Memory) => Err(AllocError),
+        Err(error) => say_refused(out, error),
     }
 }
 
 fn edit_of(text: &str) -> Option<Edit<'_>> {
-    let (file, rest) = text.split_once(' ')?;
-    let (base, rest) = rest.split_once(' ')?;
-    let (caller, rest) = rest.split_once(' ')?;
-    let (key, text) = rest.split_once(' ').unwrap_or((rest, ""));
+    let (file, rest) = split(text);
+    let (base, rest) = split(rest);
+    let (caller, rest) = split(rest);
+    let (key, text) = split(rest);
     let base = number(base)?;
     Some(Edit {
         file,
@@ -137,9 +155,14 @@ fn say_stored(state: &State<Plain>, out: &mut String, file: &str) -> Asked {
     Ok(true)
 }
 
-fn say_refused(out: &mut String, refusal: &Refusal) -> Asked {
-    write!(out, "{refusal}")?;
-    Ok(true)
+fn say_refused(out: &mut String, error: ReadError<Refusal>) -> Asked {
+    match error {
+        ReadError::Memory => Err(AllocError),
+        ReadError::Fault(refusal) => {
+            write!(out, "{refusal}")?;
+            Ok(true)
+        }
+    }
 }
 
 /// `heads`: the newest revision of each file, as the state has them: its file, its number and its author, with `; `
@@ -162,13 +185,13 @@ fn add_head(out: &mut String, head: &Head) -> Result<(), AllocError> {
 
 /// `in_force CLIENT PATH`: the verdict by the view of the state, as it is printed.
 fn in_force(alloc: Global, state: &State<Plain>, out: &mut String, text: &str) -> Asked {
-    let Some((client, path)) = text.split_once(' ') else {
-        return Ok(false);
-    };
-    let (Ok(client), Ok(path)) = (Addr::read(client), Path::read(alloc, path)) else {
+    let (client, path) = split(text);
+    let Ok(client) = Addr::read(client) else {
         return Ok(false);
     };
     let view = state.view();
-    let verdict = view.decide(client, &path);
-    say(out, verdict_text(alloc, view.policy(), &verdict)?.as_str())
+    match Path::read(alloc, path) {
+        Ok(path) => say_verdict(alloc, view.policy(), out, &view.decide(client, &path)),
+        Err(_) => Ok(false),
+    }
 }

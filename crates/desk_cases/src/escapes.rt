@@ -2,49 +2,34 @@
 //! byte and a backslash, and `\xff` is the byte of two hexadecimal digits. `\[3 ab\]` is `ababab`, and in it `\#` is
 //! the number of the repetition, from 0.
 
-use crate::answers::number;
+use crate::answers::{number, split};
 use std::alloc::{AllocError, Global};
 
-/// Returns the bytes for which a text with escapes stands; none if it has an unknown escape, or a repetition that is not
-/// one.
-pub fn bytes(alloc: Global, text: &str) -> Result<Option<Vec<u8>>, AllocError> {
-    let mut out = Vec::new(alloc);
-    let (first, repetitions) = match text.split_once("\\[") {
-        Some((first, repetitions)) => (first, Some(repetitions)),
-        None => (text, None),
-    };
-    let mut is_good = push_plain(&mut out, first)?;
-    if let Some(repetitions) = repetitions {
-        for repetition in repetitions.split("\\[") {
-            is_good = is_good && push_repetition(alloc, &mut out, repetition)?;
+/// Adds the bytes for which a text with escapes stands. Tells whether each escape is known, and each repetition is one.
+pub fn push(alloc: Global, out: &mut Vec<u8>, text: &str) -> Result<bool, AllocError> {
+    for (place, piece) in text.split("\\[").enumerate() {
+        let is_good = if place == 0 {
+            push_plain(out, piece)?
+        } else {
+            push_repetition(alloc, out, piece)?
+        };
+        if !is_good {
+            return Ok(false);
         }
     }
-    Ok(if is_good { Some(out) } else { None })
-}
-
-/// Returns the text for which a text with escapes stands; none where `bytes` has none, or they are not UTF-8.
-pub fn text(alloc: Global, text: &str) -> Result<Option<String>, AllocError> {
-    match bytes(alloc, text)? {
-        Some(bytes) => Ok(String::from_utf8(bytes).ok()),
-        None => Ok(None),
-    }
+    Ok(true)
 }
 
 /// Adds what a repetition stands for, and the text behind it. Tells whether it is one.
 fn push_repetition(alloc: Global, out: &mut Vec<u8>, text: &str) -> Result<bool, AllocError> {
-    match repetition_of(text) {
-        Some((count, piece, behind)) => {
-            Ok(push_repeated(alloc, out, count, piece)? && push_plain(out, behind)?)
-        }
+    let Some((repetition, behind)) = text.split_once("\\]") else {
+        return Ok(false);
+    };
+    let (count, piece) = split(repetition);
+    match number(count) {
+        Some(count) => { Ok(push_repeated(alloc, out, count, piece)? && push_plain(out, behind)?) }
         None => Ok(false),
     }
-}
-
-/// How often a repetition repeats its text, that text, and what stands behind it.
-fn repetition_of(text: &str) -> Option<(u32, &str, &str)> {
-    let (repetition, behind) = text.split_once("\\]")?;
-    let (count, piece) = repetition.split_once(' ')?;
-    Some((number(count)?, piece, behind))
 }
 
 fn push_repeated(
@@ -60,7 +45,7 @@ fn push_repeated(
     }
 }
 
-/// Adds a text so many times; many times at once, since there may be millions.
+/// Adds a text so many times; all at once, since there may be millions.
 fn push_times(
     alloc: Global,
     out: &mut Vec<u8>,
@@ -69,18 +54,10 @@ fn push_times(
 ) -> Result<bool, AllocError> {
     let mut piece = Vec::new(alloc);
     let is_good = push_plain(&mut piece, text)?;
-    let mut block = Vec::new(alloc);
-    push_copies(&mut block, 1024, piece.as_slice())?;
-    push_copies(out, count / 1024, block.as_slice())?;
-    push_copies(out, count % 1024, piece.as_slice())?;
+    let repeated = piece.as_slice().repeat(alloc, count as usize)?;
+    drop(piece);
+    out.extend_from_slice(repeated.as_slice())?;
     Ok(is_good)
-}
-
-fn push_copies(out: &mut Vec<u8>, count: u32, piece: &[u8]) -> Result<(), AllocError> {
-    for _ in 0..count {
-        out.extend_from_slice(piece)?;
-    }
-    Ok(())
 }
 
 /// Adds a text so many times, each time with the number of the repetition for `\#`.

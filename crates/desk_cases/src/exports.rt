@@ -3,7 +3,7 @@
 
 ghost use Rattle.std.specs.Prelude.{◌≤◌, length};
 
-use crate::answers::{Asked, end_list, say};
+use crate::answers::{Asked, end_list, say, split};
 use crate::entries::add_entry;
 use crate::filesystems::fs_id;
 use crate::site::Site;
@@ -44,28 +44,25 @@ fn entries(alloc: Global, tables: &Tables, out: &mut String, text: &str) -> Aske
     requires { length text.now ≤ 4294967294 }
 {
     match read_whole(alloc, text, tables) {
-        Ok(entries) => {
-            add_whole(out, entries.as_slice())?;
-            end_list(out)
-        }
+        Ok(entries) => say_whole(out, entries.as_slice()),
         Err(error) => say_fault(alloc, out, error),
     }
 }
 
-fn add_whole(out: &mut String, entries: &[(FsId, Boxed<Entry>)]) -> Result<(), AllocError> {
+fn say_whole(out: &mut String, entries: &[(FsId, Boxed<Entry>)]) -> Asked {
     for (fs, entry) in entries {
         let fs = fs.0;
         write!(out, "{fs} ")?;
         add_entry(out, entry)?;
     }
-    Ok(())
+    end_list(out)
 }
 
-fn add_entries(out: &mut String, entries: &[Boxed<Entry>]) -> Result<(), AllocError> {
+fn say_entries(out: &mut String, entries: &[Boxed<Entry>]) -> Asked {
     for entry in entries {
         add_entry(out, entry)?;
     }
-    Ok(())
+    end_list(out)
 }
 
 /// Answers with a text's fault: `fault line 2 rule 4 DirectoryElsewhere`.
@@ -81,13 +78,22 @@ fn rule(alloc: Global, tables: &Tables, out: &mut String, text: &str) -> Asked
     requires { length text.now ≤ 4294967294 }
 {
     match read_whole(alloc, text, tables) {
-        Ok(_) => Ok(true),
-        Err(ReadError::Fault(fault)) if fault.line == 1 => {
+        Ok(entries) => {
+            drop(entries);
+            Ok(true)
+        }
+        Err(error) => say_rule(alloc, out, error),
+    }
+}
+
+fn say_rule(alloc: Global, out: &mut String, error: ReadError<LineFault<Rule>>) -> Asked {
+    match error {
+        ReadError::Fault(fault) if fault.line == 1 => {
             let (number, name) = (fault.rule.number(), fault.rule.name());
             write!(out, "{number} {name}")?;
             Ok(true)
         }
-        Err(error) => say_fault(alloc, out, error),
+        _ => say_fault(alloc, out, error),
     }
 }
 
@@ -96,7 +102,7 @@ fn rule(alloc: Global, tables: &Tables, out: &mut String, text: &str) -> Asked
 fn entries_in(alloc: Global, tables: &Tables, out: &mut String, text: &str) -> Asked
     requires { length text.now ≤ 4294967294 }
 {
-    let (number, lines) = text.split_once(' ').unwrap_or((text, ""));
+    let (number, lines) = split(text);
     let Some(own_fs) = fs_id(number) else {
         return Ok(false);
     };
@@ -116,10 +122,7 @@ fn entries_of_file(
     requires { length text.now ≤ 4294967294 }
 {
     match read_file(alloc, text, tables, own_fs) {
-        Ok(entries) => {
-            add_entries(out, entries.as_slice())?;
-            end_list(out)
-        }
+        Ok(entries) => say_entries(out, entries.as_slice()),
         Err(error) => say_fault(alloc, out, error),
     }
 }

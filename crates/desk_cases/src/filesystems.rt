@@ -2,18 +2,18 @@
 
 ghost use Rattle.std.specs.Prelude.{◌≤◌, length};
 
-use crate::answers::{Asked, number, say, say_found, say_whether};
-use crate::site::{Site, say_fault, say_read};
+use crate::answers::{Asked, number, say, say_found, say_whether, split};
+use crate::site::{Site, set_some};
 use desk_tables::{FileSystems, FsId};
 use desk_text::{Path, PathFault, ReadError};
-use std::alloc::Global;
+use std::alloc::{AllocError, Global};
 
-/// Answers a question on the file systems.
+/// Answers a question on the file systems. `filesystems TEXT`: `read`, or the fault.
 pub fn answer(alloc: Global, site: &mut Site, out: &mut String, question: &str, text: &str) -> Asked
     requires { length text.now ≤ 4294967294 }
 {
     match (question, &site.filesystems) {
-        ("filesystems", _) => read(alloc, site, out, text),
+        ("filesystems", _) => set_some(&mut site.filesystems, out, FileSystems::read(alloc, text)),
         ("mounts", _) => of_mounts(alloc, site, out, text),
         ("mount", Some(table)) => mount(table, out, text),
         ("of", Some(table)) => of(alloc, table, out, text),
@@ -22,35 +22,27 @@ pub fn answer(alloc: Global, site: &mut Site, out: &mut String, question: &str, 
     }
 }
 
-/// `filesystems TEXT`: `read`, or the fault. The table that is set is a copy.
-fn read(alloc: Global, site: &mut Site, out: &mut String, text: &str) -> Asked
-    requires { length text.now ≤ 4294967294 }
-{
-    match FileSystems::read(alloc, text) {
-        Ok(table) => {
-            site.filesystems = Some(table.clone()?);
-            say_read(out)
+/// `mounts PATH PATH ..`: `read`, or `too many`. Sets the table of these mount points, which nobody keeps.
+fn of_mounts(alloc: Global, site: &mut Site, out: &mut String, text: &str) -> Asked {
+    match mounted(alloc, text) {
+        Ok(Some(table)) => {
+            site.filesystems = Some(table);
+            say(out, "read")
         }
-        Err(error) => say_fault(out, error),
+        Ok(None) => say(out, "too many"),
+        Err(ReadError::Fault(_)) => Ok(false),
+        Err(ReadError::Memory) => Err(AllocError),
     }
 }
 
-/// `mounts PATH PATH ..`: `read`, or `too many`. Sets the table of these mount points, which nobody keeps.
-fn of_mounts(alloc: Global, site: &mut Site, out: &mut String, text: &str) -> Asked {
-    let Ok(paths) = paths(alloc, text) else {
-        return Ok(false);
-    };
-    match FileSystems::from_mounts(alloc, paths)? {
-        Some(table) => {
-            site.filesystems = Some(table);
-            say_read(out)
-        }
-        None => say(out, "too many"),
-    }
+/// Returns the table of the mount points that words write; none if they are too many.
+pub fn mounted(alloc: Global, text: &str) -> Result<Option<FileSystems>, ReadError<PathFault>> {
+    let paths = paths(alloc, text)?;
+    Ok(FileSystems::from_mounts(alloc, paths)?)
 }
 
 /// Returns the paths that words write.
-pub fn paths(alloc: Global, text: &str) -> Result<Vec<Path>, ReadError<PathFault>> {
+fn paths(alloc: Global, text: &str) -> Result<Vec<Path>, ReadError<PathFault>> {
     let mut paths = Vec::new(alloc);
     for path in text.split_whitespace() {
         paths.push(Path::read(alloc, path)?)?;
@@ -95,9 +87,7 @@ fn say_place(out: &mut String, found: Option<FsId>) -> Asked {
 
 /// `keeps NUMBER NAME`: whether the custodian keeps the exports file of the file system at the place, `yes` or `no`.
 fn keeps(table: &FileSystems, out: &mut String, text: &str) -> Asked {
-    let Some((place, name)) = text.split_once(' ') else {
-        return Ok(false);
-    };
+    let (place, name) = split(text);
     match fs_id(place) {
         Some(id) => say_whether(out, table.keeps(name, id)),
         None => Ok(false),

@@ -3,31 +3,18 @@
 ghost use Rattle.std.specs.Prelude.{◌≤◌, length};
 
 use crate::answers::{Asked, say_each};
-use crate::site::{Site, say_fault, say_read};
+use crate::site::{Site, set};
 use desk_tables::Hosts;
 use std::alloc::Global;
 
-/// Answers a question on the hosts file.
+/// Answers a question on the hosts file. `hosts TEXT`: `read`, or the fault.
 pub fn answer(alloc: Global, site: &mut Site, out: &mut String, question: &str, text: &str) -> Asked
     requires { length text.now ≤ 4294967294 }
 {
     match question {
-        "hosts" => read(alloc, site, out, text),
+        "hosts" => set(&mut site.hosts, out, Hosts::read(alloc, text)),
         "addresses" => addresses(alloc, &site.hosts, out, text),
         _ => Ok(false),
-    }
-}
-
-/// `hosts TEXT`: `read`, or the fault.
-fn read(alloc: Global, site: &mut Site, out: &mut String, text: &str) -> Asked
-    requires { length text.now ≤ 4294967294 }
-{
-    match Hosts::read(alloc, text) {
-        Ok(hosts) => {
-            site.hosts = hosts;
-            say_read(out)
-        }
-        Err(error) => say_fault(out, error),
     }
 }
 

@@ -2,7 +2,7 @@
 
 ghost use Rattle.std.specs.Prelude.{◌≤◌, length};
 
-use crate::answers::{Asked, end_list, say, say_found};
+use crate::answers::{Asked, add_texts, end_list, say, say_found};
 use desk_text::{
     Line, OpenQuote, ReadError, Sequence, Text, Word, logical_lines, split_at, unquote, words,
 };
@@ -135,12 +135,4 @@ fn sequence_of(alloc: Global, text: &str) -> Result<Sequence<Text>, AllocError> 
         texts.push(Text::copy(alloc, word)?)?;
     }
     Ok(texts)
-}
-
-fn add_texts(out: &mut String, texts: &[Text]) -> Result<(), AllocError> {
-    for text in texts {
-        let text = text.as_str();
-        write!(out, "{text} ")?;
-    }
-    Ok(())
 }

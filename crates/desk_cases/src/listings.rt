@@ -28,15 +28,17 @@ fn split_texts(alloc: Global, table: &FileSystems, out: &mut String, text: &str)
     requires { length text.now ≤ 4294967294 }
 {
     match split(alloc, text, table) {
-        Ok(texts) => {
-            for (number, text) in texts.iter().enumerate() {
-                write!(out, "{number}:")?;
-                say_lines(out, text.as_str())?;
-            }
-            Ok(true)
-        }
+        Ok(texts) => say_texts(out, texts.as_slice()),
         Err(error) => say_fault(alloc, out, error),
     }
+}
+
+fn say_texts(out: &mut String, texts: &[String]) -> Asked {
+    for (number, text) in texts.iter().enumerate() {
+        write!(out, "{number}:")?;
+        add_lines(out, text.as_str())?;
+    }
+    Ok(true)
 }
 
 /// `listing ADDRESS`: the printed listing for an address under the policy in force, with `|` for each line feed.
@@ -44,21 +46,27 @@ fn listing_of(alloc: Global, view: &Plain, out: &mut String, text: &str) -> Aske
     let Ok(address) = Addr::read(text) else {
         return Ok(false);
     };
+    let text = text_of_listing(alloc, view, address)?;
+    say_lines(out, text.as_str())
+}
+
+fn text_of_listing(alloc: Global, view: &Plain, address: Addr) -> Result<String, AllocError> {
     let shown = listing(alloc, view, address)?;
-    let text = listing_text(alloc, view.policy(), shown.as_slice())?;
-    say_lines(out, text.as_str())?;
-    Ok(true)
+    listing_text(alloc, view.policy(), shown.as_slice())
 }
 
 /// `exports`: all exports of the policy as they are printed, with `|` for each line feed.
 fn exports(alloc: Global, policy: &Policy, out: &mut String) -> Asked {
-    let text = all_exports(alloc, policy)?;
-    say_lines(out, text.as_str())?;
+    say_lines(out, all_exports(alloc, policy)?.as_str())
+}
+
+/// Answers with a text, with `|` for each line feed.
+fn say_lines(out: &mut String, text: &str) -> Asked {
+    add_lines(out, text)?;
     Ok(true)
 }
 
-/// Adds a text, with `|` for each line feed.
-fn say_lines(out: &mut String, text: &str) -> Result<(), AllocError> {
+fn add_lines(out: &mut String, text: &str) -> Result<(), AllocError> {
     for c in text.chars() {
         out.push(if c == '\n' { '|' } else { c })?;
     }

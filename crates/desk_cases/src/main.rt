@@ -73,8 +73,16 @@ fn add_name(alloc: Global, names: &mut Vec<String>, name: &str) -> Result<(), Al
 /// Returns what came of the file with this name.
 fn report_of(rt: &HostRuntime, name: &str) -> Result<Report, AllocError> {
     match fs::read_to_string(rt, name) {
-        Ok(text) if name.ends_with(".commands") => commands::report_of(rt, text.as_str()),
-        Ok(text) => cases::report_of(rt.alloc(), text.as_str()),
+        Ok(text) => report_on(rt, name, text.as_str()),
         Err(error) => Report::unread(rt.alloc(), &error),
+    }
+}
+
+/// Returns what came of the file with this name and this text.
+fn report_on(rt: &HostRuntime, name: &str, text: &str) -> Result<Report, AllocError> {
+    if name.ends_with(".commands") {
+        commands::report_of(rt, text)
+    } else {
+        cases::report_of(rt.alloc(), text)
     }
 }

@@ -3,7 +3,7 @@
 ghost use Rattle.std.specs.Prelude.{◌≤◌, length};
 
 use crate::answers::{Asked, end_list, say, say_each};
-use crate::site::{Site, say_read};
+use crate::site::Site;
 use desk_netgroup::{GroupFault, GroupLine, Member, Netgroups, Token};
 use desk_policy::addresses_of;
 use desk_tables::Hosts;
@@ -31,7 +31,7 @@ fn read(alloc: Global, site: &mut Site, out: &mut String, text: &str) -> Asked
     match Netgroups::read(alloc, text) {
         Ok(netgroups) => {
             site.netgroups = netgroups;
-            say_read(out)
+            say(out, "read")
         }
         Err(error) => say_fault(out, error),
     }

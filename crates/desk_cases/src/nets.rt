@@ -1,7 +1,7 @@
 //! Questions on prefixes, masks and networks of addresses.
 
 use crate::addresses::say_fault;
-use crate::answers::{Asked, say_found, say_whether};
+use crate::answers::{Asked, say_found, say_whether, split};
 use desk_text::{Addr, Net, NetText, Prefix};
 
 /// Answers a question on a prefix, a mask or a network.
@@ -64,13 +64,9 @@ fn read_net(text: &str) -> Option<Net> {
 
 /// `net ADDRESS/BITS`: the network's bits, its first address and its last.
 fn net(out: &mut String, text: &str) -> Asked {
-    match read_net(text) {
-        Some(net) => say_net(out, net),
-        None => Ok(false),
-    }
-}
-
-fn say_net(out: &mut String, net: Net) -> Asked {
+    let Some(net) = read_net(text) else {
+        return Ok(false);
+    };
     let (bits, first, last) = (net.prefix().get(), net.first(), net.last());
     write!(out, "{bits} {first} {last}")?;
     Ok(true)
@@ -85,6 +81,6 @@ fn covers(out: &mut String, text: &str) -> Asked {
 }
 
 fn net_and_address(text: &str) -> Option<(Net, Addr)> {
-    let (net, address) = text.split_once(' ')?;
+    let (net, address) = split(text);
     Some((read_net(net)?, Addr::read(address).ok()?))
 }

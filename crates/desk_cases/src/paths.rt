@@ -1,6 +1,6 @@
 //! Questions on paths.
 
-use crate::answers::{Asked, say, say_whether};
+use crate::answers::{Asked, say, say_whether, split};
 use desk_text::{Path, PathFault, ReadError};
 use std::alloc::{AllocError, Global};
 
@@ -27,9 +27,7 @@ fn path(out: &mut String, read: Result<Path, ReadError<PathFault>>) -> Asked {
 
 /// `is_under PATH ABOVE`: whether the first path, which has no blank, is the other or lies below it, `yes` or `no`.
 fn is_under(alloc: Global, out: &mut String, text: &str) -> Asked {
-    let Some((path, above)) = text.split_once(' ') else {
-        return Ok(false);
-    };
+    let (path, above) = split(text);
     let (Ok(path), Ok(above)) = (Path::read(alloc, path), Path::read(alloc, above)) else {
         return Ok(false);
     };

@@ -1,16 +1,17 @@
 //! Questions on policies and verdicts.
 
 ghost use Rattle.std.specs.Prelude.{◌≤◌, length};
+ghost use Rattle.desk_exports.specs.Files.{EntriesAscend};
 
-use crate::answers::{Asked, end_list, number, say, say_whether};
+use crate::answers::{Asked, end_list, numbers, say, say_whether, split};
 use crate::exports::{say_fault, tables};
-use crate::filesystems::{self, fs_id, paths};
-use crate::site::{InForce, Site, say_read};
-use desk_exports::{Rule, Tables, read_whole};
+use crate::filesystems::{self, fs_id, mounted};
+use crate::site::{InForce, Site};
+use desk_exports::{Boxed, Entry, read_whole};
 use desk_netgroup::Netgroups;
 use desk_policy::{Denial, Policy, Row, Verdict, act_as, verdict_text};
 use desk_tables::{FileSystems, FsId, Hosts, credential};
-use desk_text::{Addr, LineFault, Path, ReadError};
+use desk_text::{Addr, Path, ReadError, Sequence};
 use std::alloc::{AllocError, Global};
 
 /// Answers a question on the policy, or one that sets it.
@@ -50,14 +51,13 @@ fn read(alloc: Global, site: &mut Site, out: &mut String, text: &str) -> Asked
 fn read_with(alloc: Global, site: &mut Site, out: &mut String, text: &str) -> Asked
     requires { length text.now ≤ 4294967294 }
 {
-    let Some((mounts, text)) = text.split_once('\n') else {
+    let (mounts, text) = text.split_once('\n').unwrap_or((text, ""));
+    if text.len() > 4294967294 {
         return Ok(false);
-    };
-    let Ok(paths) = paths(alloc, mounts) else {
-        return Ok(false);
-    };
-    match FileSystems::from_mounts(alloc, paths)? {
-        Some(filesystems) if text.len() <= 4294967294 => set(alloc, site, out, filesystems, text),
+    }
+    match mounted(alloc, mounts) {
+        Ok(Some(filesystems)) => set(alloc, site, out, filesystems, text),
+        Err(ReadError::Memory) => Err(AllocError),
         _ => Ok(false),
     }
 }
@@ -75,42 +75,50 @@ fn set(
     let Some(known) = &site.filesystems else {
         return Ok(false);
     };
-    match policy_of(alloc, &tables(site, known), filesystems, text) {
-        Ok(policy) => {
-            site.policy = Some(InForce::Policy(policy));
-            say_read(out)
+    match read_whole(alloc, text, &tables(site, known)) {
+        Ok(entries) => {
+            site.policy = Some(InForce::Policy(policy_of(alloc, filesystems, entries)?));
+            say(out, "read")
         }
-        Err(error) => say_fault(alloc, out, error),
+        Err(error) => {
+            drop(filesystems);
+            say_fault(alloc, out, error)
+        }
     }
 }
 
 fn policy_of(
     alloc: Global,
-    tables: &Tables,
     filesystems: FileSystems,
-    text: &str,
-) -> Result<Policy, ReadError<LineFault<Rule>>>
-    requires { length text.now ≤ 4294967294 }
+    entries: Sequence<(FsId, Boxed<Entry>)>,
+) -> Result<Policy, AllocError>
+    requires { EntriesAscend entries }
 {
-    let entries = read_whole(alloc, text, tables)?;
     let netgroups = Netgroups::new(alloc);
     let hosts = Hosts::new(alloc);
-    Ok(Policy::of_entries(alloc, &netgroups, &hosts, filesystems, entries)?)
+    Policy::of_entries(alloc, &netgroups, &hosts, filesystems, entries)
 }
 
 /// `verdict CLIENT PATH`: the verdict as it is printed.
 fn verdict(alloc: Global, in_force: &InForce, out: &mut String, text: &str) -> Asked {
-    let Some((client, path)) = text.split_once(' ') else {
+    let (client, path) = split(text);
+    let Ok(client) = Addr::read(client) else {
         return Ok(false);
     };
-    let (Ok(client), Ok(path)) = (Addr::read(client), Path::read(alloc, path)) else {
-        return Ok(false);
-    };
-    let verdict = in_force.decide(client, &path);
-    say(
-        out,
-        verdict_text(alloc, in_force.policy(), &verdict)?.as_str(),
-    )
+    match Path::read(alloc, path) {
+        Ok(path) => say_verdict(
+            alloc,
+            in_force.policy(),
+            out,
+            &in_force.decide(client, &path),
+        ),
+        Err(_) => Ok(false),
+    }
+}
+
+/// Answers with a verdict as it is printed.
+pub fn say_verdict(alloc: Global, policy: &Policy, out: &mut String, verdict: &Verdict) -> Asked {
+    say(out, verdict_text(alloc, policy, verdict)?.as_str())
 }
 
 /// `not_listed FS LINE`: the denial that names this line of the file system with this number, as it is printed.
@@ -118,13 +126,17 @@ fn not_listed(alloc: Global, policy: &Policy, out: &mut String, text: &str) -> A
     let Some((fs, line)) = fs_and_line(text) else {
         return Ok(false);
     };
-    let denied = Verdict::Denied(Denial::NotListed(fs, line));
-    say(out, verdict_text(alloc, policy, &denied)?.as_str())
+    say_verdict(
+        alloc,
+        policy,
+        out,
+        &Verdict::Denied(Denial::NotListed(fs, line)),
+    )
 }
 
 fn fs_and_line(text: &str) -> Option<(FsId, u32)> {
-    let (fs, line) = text.split_once(' ')?;
-    Some((fs_id(fs)?, number(line)?))
+    let (fs, line) = numbers(text)?;
+    Some((FsId(fs), line))
 }
 
 /// `rows FS`: the lines of the file system with this number, each its number, the addresses of its names, and `;`.

@@ -79,13 +79,38 @@ impl Site {
     }
 }
 
-/// Answers that a table is read.
-pub fn say_read(out: &mut String) -> Asked {
-    say(out, "read")
+/// Sets a table: `read`, or the fault.
+pub fn set<T: Drop>(
+    table: &mut T,
+    out: &mut String,
+    read: Result<T, ReadError<TableFault>>,
+) -> Asked {
+    match read {
+        Ok(read) => {
+            *table = read;
+            say(out, "read")
+        }
+        Err(error) => say_fault(out, error),
+    }
+}
+
+/// Sets a table of which there was none: `read`, or the fault.
+pub fn set_some<T: Drop>(
+    table: &mut Option<T>,
+    out: &mut String,
+    read: Result<T, ReadError<TableFault>>,
+) -> Asked {
+    match read {
+        Ok(read) => {
+            *table = Some(read);
+            say(out, "read")
+        }
+        Err(error) => say_fault(out, error),
+    }
 }
 
 /// Answers that a table cannot be read: `fault line 2 Fields`.
-pub fn say_fault(out: &mut String, error: ReadError<TableFault>) -> Asked {
+fn say_fault(out: &mut String, error: ReadError<TableFault>) -> Asked {
     match error {
         ReadError::Memory => Err(AllocError),
         ReadError::Fault(fault) => {

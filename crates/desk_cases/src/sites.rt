@@ -1,12 +1,10 @@
 //! Questions on sites and whole exports texts: what they are read as, whether they are consistent, and their warnings.
 
 ghost use Rattle.std.specs.Prelude.{◌≤◌, length};
-ghost use Rattle.desk_policy.specs.Site.{HaveReadableLengths, texts_of};
 
-use crate::answers::{Asked, say};
+use crate::answers::{Asked, say, split};
 use crate::site::{InForce, Site, no_texts};
-use desk_policy::{Plain, PolicyView, SiteFault, Warning, compile, parse, parse_whole};
-use desk_tables::FileSystems;
+use desk_policy::{Plain, Policy, PolicyView, SiteFault, Warning, compile, parse, parse_whole};
 use desk_text::{ReadError, Text};
 use std::alloc::{AllocError, Global};
 
@@ -36,7 +34,7 @@ fn new(alloc: Global, site: &mut Site, out: &mut String, text: &str) -> Asked {
 /// `file NAME TEXT`: `kept`. Sets a text of the site: that of `custodians`, `filesystems`, `hosts`, `networks`, `passwd`,
 /// `group` or `netgroup`, or of `exports:` and a mount point.
 fn file(alloc: Global, site: &mut Site, out: &mut String, text: &str) -> Asked {
-    let (name, text) = text.split_once(' ').unwrap_or((text, ""));
+    let (name, text) = split(text);
     if !keep(alloc, &mut site.texts, name, Text::copy(alloc, text)?)? {
         return Ok(false);
     }
@@ -81,24 +79,13 @@ fn of_texts(alloc: Global, site: &mut Site, out: &mut String, question: &str) ->
     if !site.texts.is_readable() {
         return Ok(false);
     }
-    let answer = if question == "parse" {
-        parsed(alloc, &site.texts)
+    if question == "parse" {
+        let policy = parse(alloc, &site.texts);
+        set_policy(site, out, policy)
     } else {
-        compiled(alloc, &site.texts)
-    };
-    set(site, out, answer)
-}
-
-fn parsed(alloc: Global, texts: &desk_policy::Site) -> Result<InForce, ReadError<SiteFault>>
-    requires { HaveReadableLengths (texts_of texts.now) }
-{
-    Ok(InForce::Policy(parse(alloc, texts)?))
-}
-
-fn compiled(alloc: Global, texts: &desk_policy::Site) -> Result<InForce, ReadError<SiteFault>>
-    requires { HaveReadableLengths (texts_of texts.now) }
-{
-    Ok(InForce::View(compile(alloc, texts)?))
+        let view = compile(alloc, &site.texts);
+        set_view(site, out, view)
+    }
 }
 
 /// `whole TEXT`: `read`, and `build TEXT`: `consistent`; or the fault. Both set the policy, by a text for all file systems,
@@ -110,52 +97,54 @@ fn of_whole(alloc: Global, site: &mut Site, out: &mut String, question: &str, te
         return Ok(false);
     };
     let filesystems = filesystems.clone()?;
-    let answer = if question == "whole" {
-        read_whole(alloc, text, filesystems)
+    let policy = parse_whole(alloc, text, filesystems);
+    if question == "whole" {
+        set_policy(site, out, policy)
     } else {
-        built(alloc, text, filesystems)
-    };
-    set(site, out, answer)
+        set_built(alloc, site, out, policy)
+    }
 }
 
-fn read_whole(
+fn set_built(
     alloc: Global,
-    text: &str,
-    filesystems: FileSystems,
-) -> Result<InForce, ReadError<SiteFault>>
-    requires { length text.now ≤ 4294967294 }
-{
-    Ok(InForce::Policy(parse_whole(alloc, text, filesystems)?))
-}
-
-fn built(
-    alloc: Global,
-    text: &str,
-    filesystems: FileSystems,
-) -> Result<InForce, ReadError<SiteFault>>
-    requires { length text.now ≤ 4294967294 }
-{
-    let policy = parse_whole(alloc, text, filesystems)?;
-    Ok(InForce::View(Plain::build(alloc, policy)?))
+    site: &mut Site,
+    out: &mut String,
+    policy: Result<Policy, ReadError<SiteFault>>,
+) -> Asked {
+    match policy {
+        Ok(policy) => set_view(site, out, Plain::build(alloc, policy)),
+        Err(error) => say_fault(out, error),
+    }
 }
 
 /// Sets the policy, or answers with the fault.
-fn set(site: &mut Site, out: &mut String, answer: Result<InForce, ReadError<SiteFault>>) -> Asked {
-    match answer {
-        Ok(in_force) => {
-            let said = match &in_force {
-                InForce::Policy(_) => "read",
-                InForce::View(_) => "consistent",
-            };
-            site.policy = Some(in_force);
-            say(out, said)
+fn set_policy(
+    site: &mut Site,
+    out: &mut String,
+    policy: Result<Policy, ReadError<SiteFault>>,
+) -> Asked {
+    match policy {
+        Ok(policy) => {
+            site.policy = Some(InForce::Policy(policy));
+            say(out, "read")
+        }
+        Err(error) => say_fault(out, error),
+    }
+}
+
+/// Sets the view that is in force, or answers with the fault.
+fn set_view(site: &mut Site, out: &mut String, view: Result<Plain, ReadError<SiteFault>>) -> Asked {
+    match view {
+        Ok(view) => {
+            site.policy = Some(InForce::View(view));
+            say(out, "consistent")
         }
         Err(error) => say_fault(out, error),
     }
 }
 
 /// Answers with a fault: `fault exports:/a line 2 rule 26 Contradiction line 1 address 10.0.0.5`.
-fn say_fault(out: &mut String, error: ReadError<SiteFault>) -> Asked {
+pub fn say_fault(out: &mut String, error: ReadError<SiteFault>) -> Asked {
     match error {
         ReadError::Memory => Err(AllocError),
         ReadError::Fault(fault) => {
