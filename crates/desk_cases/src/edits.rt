@@ -116,16 +116,28 @@ fn edit(alloc: Global, state: &mut State<Plain>, out: &mut String, text: &str) -
     let Some(edit) = edit_of(text) else {
         return Ok(false);
     };
-    match state.judge(alloc, &edit) {
-        Ok(Judged::Accepted(accepted)) => {
-            state.apply(accepted);
-            say_stored(state, out, edit.file)
-        }
-        Ok(Judged::Already(number)) => {
+    match put(alloc, state, &edit) {
+        Ok(None) => say_stored(state, out, edit.file),
+        Ok(Some(number)) => {
             write!(out, "already {number}")?;
             Ok(true)
         }
         Err(error) => say_refused(out, error),
+    }
+}
+
+/// Puts an edit in force. Returns the number of the newest revision if that is this edit.
+fn put(
+    alloc: Global,
+    state: &mut State<Plain>,
+    edit: &Edit<'_>,
+) -> Result<Option<u32>, ReadError<Refusal>> {
+    match state.judge(alloc, edit)? {
+        Judged::Accepted(accepted) => {
+            state.apply(accepted);
+            Ok(None)
+        }
+        Judged::Already(number) => Ok(Some(number)),
     }
 }
 

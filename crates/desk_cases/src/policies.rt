@@ -77,7 +77,7 @@ fn set(
     };
     match read_whole(alloc, text, &tables(site, known)) {
         Ok(entries) => {
-            site.policy = Some(InForce::Policy(policy_of(alloc, filesystems, entries)?));
+            site.put(InForce::Policy(policy_of(alloc, filesystems, entries)?));
             say(out, "read")
         }
         Err(error) => {

@@ -77,6 +77,11 @@ impl Site {
             edits: Edits::new(alloc),
         }
     }
+
+    /// Puts a policy or a view in force.
+    pub fn put(&mut self, in_force: InForce) {
+        self.policy = Some(in_force);
+    }
 }
 
 /// Sets a table: `read`, or the fault.

@@ -125,7 +125,7 @@ fn set_policy(
 ) -> Asked {
     match policy {
         Ok(policy) => {
-            site.policy = Some(InForce::Policy(policy));
+            site.put(InForce::Policy(policy));
             say(out, "read")
         }
         Err(error) => say_fault(out, error),
@@ -136,7 +136,7 @@ fn set_policy(
 fn set_view(site: &mut Site, out: &mut String, view: Result<Plain, ReadError<SiteFault>>) -> Asked {
     match view {
         Ok(view) => {
-            site.policy = Some(InForce::View(view));
+            site.put(InForce::View(view));
             say(out, "consistent")
         }
         Err(error) => say_fault(out, error),
