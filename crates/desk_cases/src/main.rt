@@ -12,6 +12,7 @@ mod edits;
 mod entries;
 mod escapes;
 mod exports;
+mod faults;
 mod filesystems;
 mod hosts;
 mod lines;

@@ -5,8 +5,8 @@ ghost use Rattle.std.specs.Prelude.{◌≤◌, length};
 use crate::answers::Asked;
 use crate::site::Site;
 use crate::{
-    addresses, credentials, custodians, edits, exports, filesystems, hosts, lines, listings,
-    netgroups, nets, networks, paths, policies, sites,
+    addresses, credentials, custodians, edits, exports, faults, filesystems, hosts, lines,
+    listings, netgroups, nets, networks, paths, policies, sites,
 };
 use std::alloc::Global;
 
@@ -51,6 +51,7 @@ fn of_site(alloc: Global, site: &mut Site, out: &mut String, question: &str, tex
             || policies::answer(alloc, site, out, question, text)?
             || listings::answer(alloc, site, out, question, text)?
             || sites::answer(alloc, site, out, question, text)?
+            || faults::answer(alloc, site, out, question, text)?
             || edits::answer(alloc, site, out, question, text)?,
     )
 }
