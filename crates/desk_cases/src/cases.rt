@@ -60,13 +60,7 @@ fn try_case(
 ) -> Result<(), AllocError> {
     match ask(alloc, site, trial, case)? {
         Some(difference) => report.add_difference(case, difference),
-        None => compare(
-            alloc,
-            report,
-            case,
-            trial.found.as_str(),
-            trial.wanted.as_slice(),
-        ),
+        None => compare(alloc, trial, report, case),
     }
 }
 
@@ -101,13 +95,13 @@ fn ask(
 /// Compares the answer to a case with the one that it wants.
 fn compare(
     alloc: Global,
+    trial: &Trial,
     report: &mut Report,
     case: &str,
-    found: &str,
-    wanted: &[u8],
 ) -> Result<(), AllocError> {
+    let found = trial.found.as_str();
     let found = if found.is_empty() { "none" } else { found };
-    if found.as_bytes() == wanted {
+    if found.as_bytes() == trial.wanted.as_slice() {
         return Ok(());
     }
     let found = format!(in alloc; "is answered {found:?}")?;
