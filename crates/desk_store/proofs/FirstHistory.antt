@@ -191,7 +191,7 @@ storable : (rs : List Revision) → AreNamed rs → AreFirst rs → AreShort rs 
 storable [] names first few utf8 = tt
 storable (r ∷ rs) names first few utf8 =
     let one : r.rev ≡ 1 = first.0 in
-    (record { name = names.0; rev = omega arith; file = utf8.0.file; author = utf8.0.author; body = utf8.0.body; short = few.0 }, storable rs names.1 first.1 few.1 utf8.1)
+    (record { name = names.0; from = omega arith; rev = omega arith; file = utf8.0.file; author = utf8.0.author; body = utf8.0.body; short = few.0 }, storable rs names.1 first.1 few.1 utf8.1)
 
 complete : (texts : SiteTexts) (ms : List Mount) → AllByRecursion (λ file. revisions_of file (history_with texts ms) ≢ []) seven
 complete texts ms = (λ e. cc, (λ e. cc, (λ e. cc, (λ e. cc, (λ e. cc, (λ e. cc, (λ e. cc, tt)))))))

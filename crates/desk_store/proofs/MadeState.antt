@@ -2,7 +2,7 @@
 use Rattle.std.proofs.Common.{◌≡◌, ◌⊎◌, ◌∙◌, sym, ap, subst, inl, inr, refl, IsTrue, Ok, Err, Result, List, [], Some, true, false, arith, OnOk, IfOk, IfErr}
 use Rattle.std.specs.Prelude.{OnErr}
 use Rattle.sqlite.specs.Effect.{Database}
-use Rattle.sqlite.specs.State.{HasCleanDisk, State, Survives}
+use Rattle.sqlite.specs.State.{HasCleanDisk, IsLive, State, Survives}
 use Rattle.sqlite.specs.Tree.{Trees}
 use Rattle.sqlite.specs.declared.error.Error.{Error}
 use Rattle.sqlite.proofs.StateLemmas.{survives_then}
@@ -68,9 +68,9 @@ module _ (old mid new : State) (texts : SiteTexts) (clean_if_open : IsTrue mid.i
       (seen.was_open, subst (λ (d : Database). MakesTables (first_history texts) d trees) seen.settled may.1))
       look.leaves.crash after
 
-  pub made_state : {T U V : Type 0} (x : T) (y : U) (state : Kept V) → LooksForRoom old mid (Ok x) → StoresAll mid new (first_history texts) (Ok y) → IsFirstState texts state.heads → (IsTrue new.is_open → LeavesCommit new)
+  pub made_state : {T U V : Type 0} (x : T) (y : U) (state : Kept V) → LooksForRoom old mid (Ok x) → StoresAll mid new (first_history texts) (Ok y) → IsFirstState texts state.heads → IsLive new → (IsTrue new.is_open → LeavesCommit new)
       → IsCreated old new texts (Ok state)
-  made_state x y state look stored first law = record {
+  made_state x y state look stored first live_so law = record {
     made = λ clean.
         let after = stored.crash (room_of x look) in
         let before : HasCleanDisk mid = omega (arith, after.clean) in
@@ -82,8 +82,9 @@ module _ (old mid new : State) (texts : SiteTexts) (clean_if_open : IsTrue mid.i
           none = seen.none;
           made = made;
           rest = record { autocommit = stored.autocommit; settled = λ live. at.1; tables = λ live. made.holds.tables };
-          stands = record { stored = first.stored; heads = first.newest; tables = λ live. made.holds; leaves = λ trees may. (new.committed, durable trees may, inl made.holds) };
+          stands = record { stored = first.stored; heads = first.newest; tables = λ live. made.holds; leaves = λ trees may. (new.committed, (live_so at.0).1, durable trees may, inl made.holds) };
           is_open = at.0;
+          sound = (live_so at.0).1;
           durable = durable;
         };
     refused = λ clean. tt;

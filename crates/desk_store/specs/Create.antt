@@ -6,7 +6,7 @@ use Rattle.std.specs.Result.{result_unwrap_or}
 use Rattle.std.specs.Str.{IsUtf8, bytes_eq}
 use Rattle.sqlite.specs.Held.{Held}
 use Rattle.sqlite.specs.State.{Executes, HasCleanDisk, KeepsCommit, Shows, State, Survives}
-use Rattle.sqlite.specs.Effect.{Database, SparesFrozen}
+use Rattle.sqlite.specs.Effect.{Database, IsDatabase, SparesFrozen}
 use Rattle.sqlite.specs.Order.{Row}
 use Rattle.sqlite.specs.Schema.{Schema}
 use Rattle.sqlite.specs.declared.error.Error.{Error}
@@ -273,6 +273,7 @@ pub record IsMade {V : Type 0} (old new : State) (texts : SiteTexts) (state : Ke
   pub rest : IsAtRest new
   pub stands : Stands new state (first_history texts) []
   pub is_open : IsTrue new.is_open
+  pub sound : IsDatabase new.committed
   pub durable : LeavesCommit new
 
 -- The one commit, where it may have been begun: the connection was open, and the trees are those of the new database. A

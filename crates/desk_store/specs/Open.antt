@@ -19,6 +19,7 @@ IsOfRows e = (e ≡ error.Schema) ⊎ (e ≡ error.Memory)
 -- the statement is one that looks for the tables, or reads them
 abbrev pub IsLook : Task → Type 0
 IsLook task.AddRevision = ⊥
+IsLook task.MakeTables = ⊥
 IsLook task.ReadRevisions = Unit {0}
 IsLook task.FindTables = Unit {0}
 IsLook task.ReadVersion = Unit {0}

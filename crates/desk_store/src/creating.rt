@@ -195,7 +195,10 @@ pub(crate) fn create_state<S: Alter, V: PolicyView + Drop>(
         Err(e) => return Err(e),
     };
     match store_history(conn, first.heads()) {
-        Ok(()) => Ok(first),
+        Ok(()) => {
+            let _schema = conn.schema();
+            Ok(first)
+        }
         Err(e) => Err(not_made(e)),
     }
 }
