@@ -1,7 +1,7 @@
 -- Files that are read in turn, for `files::read_if_given` and `table_files::read_whole_texts`.
-use Rattle.std.proofs.Common.{◌≡◌, ◌≢◌, ℕ, List, Option, Some, Result, Ok, Err, String, codes, ap, refl}
+use Rattle.std.proofs.Common.{ℕ, List, Option, Ok, Err, String}
 use Rattle.std.specs.String.{string_bytes}
-use Rattle.desk_command.specs.Files.{HasText, LacksText, Leaves, ReadsText}
+use Rattle.desk_command.specs.Files.{HasText, LacksText, ReadsText}
 use Rattle.desk_command.specs.declared.failure.Failure.{Failure}
 use Rattle.desk_command.specs.declared.files.FileArgument.{FileArgument}
 

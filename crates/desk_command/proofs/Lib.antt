@@ -1,6 +1,9 @@
+pub mod CheckAnswers
 pub mod ClapAnswers
 pub mod FirstBad
 pub mod FilesInTurn
+pub mod FoundFaults
+pub mod FoundSlices
 pub mod HintLemmas
 pub mod KnownBytes
 pub mod KnownText

@@ -1,10 +1,12 @@
 -- The command line, as `clap` reads it. (this project's own)
-use Rattle.std.specs.Prelude.{◌⊎◌, ℕ, true, List, ◌∷◌, Option, Some, None, codes, if◌then◌else◌, option_and_then, option_map}
+use Rattle.std.specs.Prelude.{◌⊎◌, ℕ, Bool, true, false, List, ◌∷◌, Option, Some, None, codes, if◌then◌else◌, option_and_then, option_map}
+use Rattle.std.specs.Option.{option_map_or}
 use Rattle.std.specs.Str.{bytes_eq}
 use Rattle.clap.specs.Lexer.{usize_max}
 use Rattle.clap.specs.Words.{App, IsAmong, Kinds, Row, Rule, all_of, fault_of, first_of, new_app, new_rule, subcommand_of, with_rule, with_subcommand}
-use Rattle.clap.specs.declared.builder.ArgAction.TheVariants.{Set}
+use Rattle.clap.specs.declared.builder.ArgAction.TheVariants.{Set, SetTrue}
 use Rattle.clap.specs.declared.error.ErrorKind.TheVariants.{DisplayHelp, DisplayVersion}
+use Rattle.desk_command.specs.declared.check_report.CheckForm.{CheckForm}
 
 -- an argument that is required, and taken as it is
 abbrev pub word : List ℕ → Rule
@@ -17,6 +19,10 @@ mount_words = record (word (codes "MOUNT")) { range = Some (record { start_inclu
 -- an option with one value
 abbrev pub option : List ℕ → Rule
 option name = record (new_rule name) { long = Some name; action = Some Set; value_names = 1 }
+
+-- an option without a value
+abbrev pub flag : List ℕ → Rule
+flag name = record (new_rule name) { long = Some name; action = Some SetTrue }
 
 -- a command with the options of the tables too
 abbrev pub with_tables : App → App
@@ -35,6 +41,23 @@ try_command = with_rule (with_tables try_arguments) (option (codes "as"))
 abbrev pub split_command : App
 split_command = with_rule (with_rule (new_app (codes "split")) (word (codes "FILE"))) (word (codes "FILESYSTEMS"))
 
+-- an argument that may be left out, and is taken as it is
+abbrev pub optional_word : List ℕ → Rule
+optional_word name = record (new_rule name) { action = Some Set }
+
+-- MOUNT.., no word or more
+abbrev pub optional_mounts : Rule
+optional_mounts = record (optional_word (codes "MOUNT")) { range = Some (record { start_inclusive = 1; end_inclusive = usize_max }) }
+
+-- the arguments of `check FILE MOUNT..`, which are left out with `--site`
+abbrev pub check_arguments : App
+check_arguments = with_rule (with_rule (new_app (codes "check")) (optional_word (codes "FILE"))) optional_mounts
+
+-- `check` with its options
+abbrev pub check_command : App
+check_command =
+    with_rule (with_rule (with_rule (with_rule (with_tables check_arguments) (option (codes "site"))) (flag (codes "brief"))) (flag (codes "strict"))) (flag (codes "json"))
+
 -- the program without its subcommands
 abbrev pub program : App
 program = record (new_app (codes "exportdesk")) {
@@ -47,7 +70,7 @@ program = record (new_app (codes "exportdesk")) {
 
 -- the program's command line: its subcommands
 abbrev pub command_line : App
-command_line = with_subcommand (with_subcommand program try_command.top) split_command.top
+command_line = with_subcommand (with_subcommand (with_subcommand program try_command.top) split_command.top) check_command.top
 
 -- the words behind the program's name, as clap is given them
 abbrev pub line_of : List (List ℕ) → List (List ℕ)
@@ -119,17 +142,45 @@ split_words_from file filesystems = None
 abbrev pub split_words_in : List Row → Option SplitWords
 split_words_in rows = split_words_from (first_of (codes "FILE") rows) (first_of (codes "FILESYSTEMS") rows)
 
+-- the words of `check`
+pub record CheckWords : Type 0 where
+  pub file : Option (List ℕ)
+  pub mounts : Option (List (List ℕ))
+  pub tables : TableWords
+  pub site : Option (List ℕ)
+  pub form : CheckForm
+
+-- an option without a value is given
+abbrev pub is_set : List ℕ → List Row → Bool
+is_set name rows = option_map_or (λ value. bytes_eq value (codes "true")) (first_of name rows) false
+
+-- the words of `check` among the arguments that clap finds
+abbrev pub check_words_in : List Row → CheckWords
+check_words_in rows = record {
+  file = first_of (codes "FILE") rows;
+  mounts = all_of (codes "MOUNT") rows;
+  tables = table_words_in rows;
+  site = first_of (codes "site") rows;
+  form = record {
+    brief = is_set (codes "brief") rows;
+    strict = is_set (codes "strict") rows;
+    json = is_set (codes "json") rows;
+  };
+}
+
 -- a command with its words
 pub data CommandWords : Type 0 where
   Try : TryWords → CommandWords
   Split : SplitWords → CommandWords
+  Check : CheckWords → CommandWords
 
 -- the command of this name with its words among the arguments that clap finds, if none is missing
 abbrev pub command_in : List ℕ → List Row → Option CommandWords
 command_in name rows =
     if bytes_eq name (codes "try") then option_map Try (try_words_in rows)
     else (if bytes_eq name (codes "split") then option_map Split (split_words_in rows)
-    else None)
+    else (if bytes_eq name (codes "check") then Some (Check (check_words_in rows))
+    else None))
 
 -- the command that clap finds, if it finds one
 abbrev pub command_of : Option (List ℕ × List Row) → Option CommandWords

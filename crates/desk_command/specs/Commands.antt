@@ -5,7 +5,8 @@ use Rattle.std.specs.List.{position_from}
 use Rattle.std.specs.Str.{is_utf8}
 use Rattle.clap.specs.declared.error.ErrorKind.{ErrorKind}
 use Rattle.clap.specs.declared.error.ErrorKind.TheVariants.{DisplayHelp, DisplayVersion, OutOfMemory}
-use Rattle.desk_command.specs.CommandLine.{AskForHelp, CommandWords, Split, Try, command_found, faults_of}
+use Rattle.desk_command.specs.CheckCommand.{AnswersCheck}
+use Rattle.desk_command.specs.CommandLine.{AskForHelp, Check, CommandWords, Split, Try, command_found, faults_of}
 use Rattle.desk_command.specs.Files.{IsSystem}
 use Rattle.desk_command.specs.Input.{first_line, words_of}
 use Rattle.desk_command.specs.Output.{printed, status_of}
@@ -52,6 +53,7 @@ IsNoCommand words (Err failure) = IsBadWord words failure
 abbrev pub AnswersGiven : CommandWords → Option (List ℕ) → Result Output Failure → Type 0
 AnswersGiven (Try words) known result = AnswersTry words known result
 AnswersGiven (Split words) known result = AnswersSplit words known result
+AnswersGiven (Check words) known result = AnswersCheck words known result
 
 -- the answer to what clap finds: that to the command, or that a word is missing
 abbrev pub AnswersFound : Option CommandWords → Option (List ℕ) → Result Output Failure → Type 0

@@ -1,4 +1,10 @@
 pub mod Arguments
+pub mod CheckCommand
+pub mod CheckFaults
+pub mod CheckOdd
+pub mod CheckReport
+pub mod CheckSite
+pub mod CheckText
 pub mod CommandLine
 pub mod Commands
 pub mod Faults
@@ -9,10 +15,12 @@ pub mod FindingPrints
 pub mod Hints
 pub mod Input
 pub mod Output
+pub mod SiteFiles
 pub mod ShownText
 pub mod SplitCommand
 pub mod SplitText
 pub mod TableFiles
+pub mod Told
 pub mod TryCommand
 pub mod TryText
 pub mod Words

@@ -6,7 +6,7 @@ use Rattle.desk_command.specs.SplitText.{split_fault_line}
 use Rattle.desk_command.specs.declared.failure.Failure.{Failure}
 use Rattle.desk_command.specs.declared.failure.Failure.TheVariants.{Memory}
 use Rattle.desk_command.specs.declared.output.Output.{Output}
-use Rattle.desk_command.specs.declared.output.Output.TheVariants.{Faulty, Help, NotSplit, Split, Tried}
+use Rattle.desk_command.specs.declared.output.Output.TheVariants.{Checked, Faulty, Help, NotSplit, Split, Tried}
 
 -- the exit status of a command whose output is printed
 abbrev pub status_of : Result Output Failure → ℕ
@@ -15,16 +15,18 @@ status_of (Ok (Tried tried)) = if tried.granted then 0 else 1
 status_of (Ok (Faulty fault)) = 3
 status_of (Ok (Split text)) = 0
 status_of (Ok (NotSplit fault)) = 3
+status_of (Ok (Checked checked)) = if checked.passes then 0 else 3
 status_of (Err Memory) = 4
 status_of (Err failure) = 2
 
--- what is printed of an output: help and the texts of a split as they are, else one line
+-- what is printed of an output: help, the texts of a split and what `check` tells as they are, else one line
 abbrev pub output_text : Output → List ℕ
 output_text (Help text) = string_bytes text
 output_text (Tried tried) = string_bytes tried.line ++ 10 ∷ []
 output_text (Faulty fault) = fault_line fault ++ 10 ∷ []
 output_text (Split text) = string_bytes text
 output_text (NotSplit fault) = split_fault_line fault ++ 10 ∷ []
+output_text (Checked checked) = string_bytes checked.text
 
 -- what is printed of an answer: of a failure nothing
 abbrev pub printed : Result Output Failure → List ℕ

@@ -1,8 +1,9 @@
 -- The command that `clap` finds, with its words. (this project's own)
 use Rattle.std.specs.Prelude.{◌≡◌, map, Option, Some, None, Result, Ok, Err}
 use Rattle.std.specs.Option.{option_map}
-use Rattle.desk_command.specs.CommandLine.{CommandWords, SplitWords, TryWords, Try as AsksTry, Split as AsksSplit, words_of_split, words_of_try}
+use Rattle.desk_command.specs.CommandLine.{CheckWords, CommandWords, SplitWords, TryWords, Check as AsksCheck, Try as AsksTry, Split as AsksSplit, words_of_split, words_of_try}
 use Rattle.desk_command.specs.TableFiles.{given_tables}
+use Rattle.desk_command.specs.declared.check_command.CheckWords.{CheckWords as LentCheckWords}
 use Rattle.desk_command.specs.declared.failure.Failure.{Failure}
 use Rattle.desk_command.specs.declared.failure.Failure.TheVariants.{Missing}
 use Rattle.desk_command.specs.declared.split_command.SplitWords.{SplitWords as LentSplitWords}
@@ -19,9 +20,19 @@ given_try words =
 abbrev pub given_split : LentSplitWords → SplitWords
 given_split words = words_of_split words.file.now words.filesystems.now
 
+abbrev pub given_check : LentCheckWords → CheckWords
+given_check words = record {
+  file = option_map (λ word. word.now) words.file;
+  mounts = option_map (λ mounts. map (λ word. word.now) mounts.now) words.mounts;
+  tables = given_tables words.tables;
+  site = option_map (λ word. word.now) words.site;
+  form = words.form;
+}
+
 abbrev pub given : LentCommandWords → CommandWords
 given (lent.Try words) = AsksTry (given_try words)
 given (lent.Split words) = AsksSplit (given_split words)
+given (lent.Check words) = AsksCheck (given_check words)
 
 -- the failure says that a word is missing
 abbrev pub IsMissing : Failure → Type 0

@@ -94,7 +94,7 @@ fn read_path(alloc: Global, argument: Argument, word: &str) -> Result<Path, Fail
 }
 
 /// Parses each MOUNT, the mount points of the file systems.
-fn read_mounts(alloc: Global, words: &[&str]) -> Result<FileSystems, Failure>
+pub fn read_mounts(alloc: Global, words: &[&str]) -> Result<FileSystems, Failure>
     ensures { let given = map (λ word. word.now) words.now in
         MatchResult result (λ table. (first_bad_path given ≡ None) × IsTableOf (paths_of given) table) (IsNoTable given) }
 {

@@ -24,7 +24,8 @@ pub fn command<'a>(alloc: Global) -> Result<Command<'a>, AllocError>
         .disable_help_subcommand(true)
         .subcommand_required(true)
         .subcommand(try_command(alloc)?)?
-        .subcommand(split_command(alloc)?)
+        .subcommand(split_command(alloc)?)?
+        .subcommand(check_command(alloc)?)
 }
 
 /// Makes the command line of `try FILE HOST DIR MOUNT...`, with its options.
@@ -118,6 +119,79 @@ fn split_command<'a>(alloc: Global) -> Result<Command<'a>, AllocError>
             "FILESYSTEMS",
             "The file systems, each a line `MOUNT CUSTODIAN...`; - is standard input",
         ))
+}
+
+/// Makes the command line of `check FILE MOUNT...` or `check --site DIR`, with its options.
+fn check_command<'a>(alloc: Global) -> Result<Command<'a>, AllocError>
+    ensures shape { IfOk result (λ command. app_of command ≡ spec.check_command) }
+    ensures local { IfOk result (λ command. (out-Command command).has_globals ≡ false) }
+{
+    let site = option(
+        alloc,
+        "site",
+        "DIR",
+        "The folder of a site's files: custodians, filesystems, hosts, networks, passwd, group, netgroup, exports",
+    );
+    with_tables(alloc, check_arguments(alloc)?)?
+        .arg(site)?
+        .arg(flag(
+            alloc,
+            "brief",
+            "Leaves out the lines of the files and the marks below them",
+        ))?
+        .arg(flag(
+            alloc,
+            "strict",
+            "Ends with the status 3 where there is a warning, too",
+        ))?
+        .arg(flag(
+            alloc,
+            "json",
+            "Prints the findings as one compact JSON list",
+        ))
+}
+
+/// Makes the command line of `check` without its options.
+fn check_arguments<'a>(alloc: Global) -> Result<Command<'a>, AllocError>
+    ensures shape { IfOk result (λ command. app_of command ≡ spec.check_arguments) }
+    ensures local { IfOk result (λ command. (out-Command command).has_globals ≡ false) }
+{
+    let file = optional_word(alloc, "FILE", "The exports text; - is standard input");
+    let mounts = optional_word(alloc, "MOUNT", "The mount points of the file systems").num_args(
+        1..,
+    );
+    Command::new(alloc, "check")
+        .about("Reports every fault and warning of an exports file and its tables")
+        .override_usage(
+            "exportdesk check [OPTIONS] <FILE> <MOUNT>...\n       exportdesk check [OPTIONS] --site <DIR>",
+        )
+        .after_help(
+            "Each finding is a line `PATH:LINE:COLUMN: fault RULE NAME: ...` or `.. warning ..`, behind which\n\
+             stands the line of the file with a mark below the words that it is about. Exports are looked at\n\
+             only once the tables have no fault. A table that is not given is empty. One file may be -,\n\
+             standard input.",
+        )
+        .arg(file)?
+        .arg(mounts)
+}
+
+/// Makes an option without a value.
+fn flag<'a>(alloc: Global, name: &'a str, help: &'a str) -> Arg<'a>
+    ensures rule { rule_of result ≡ spec.flag name.entry.now }
+    ensures local { result.global ≡ false }
+{
+    Arg::new(alloc, name)
+        .long(name)
+        .action(ArgAction::SetTrue)
+        .help(help)
+}
+
+/// Makes an argument that may be left out, and is taken as it is.
+fn optional_word<'a>(alloc: Global, name: &'a str, help: &'a str) -> Arg<'a>
+    ensures rule { rule_of result ≡ spec.optional_word name.entry.now }
+    ensures local { result.global ≡ false }
+{
+    Arg::new(alloc, name).action(ArgAction::Set).help(help)
 }
 
 /// Makes an argument that is required, and taken as it is.

@@ -6,6 +6,7 @@ ghost use Rattle.desk_command.specs.CommandLine.{command_of};
 ghost use Rattle.desk_command.specs.Commands.{AnswersCommand, AnswersFirstLine, AnswersFound, AnswersLine, IsBadWord, IsSaid};
 ghost use Rattle.desk_command.specs.Input as spec;
 
+use crate::check_command::run_check;
 use crate::command_line::command;
 use crate::failure::{Failure, ReadFailure};
 use crate::input::{first_line, read_line, words_of};
@@ -71,6 +72,7 @@ fn run_found<I: BufRead>(
     match found_command(matches)? {
         CommandWords::Try(words) => run_try(rt, words, input),
         CommandWords::Split(words) => run_split(rt, words, input),
+        CommandWords::Check(words) => run_check(rt, words, input),
     }
 }
 

@@ -29,6 +29,8 @@ pub enum Failure {
     Usage(String),
     /// An argument that `clap` requires is missing.
     Missing(&'static str),
+    /// This word cannot be given with `--site`.
+    BesideSite(&'static str),
     /// An argument cannot be parsed.
     Argument(BadArgument),
     /// There are more than 256 different mount points.
@@ -132,6 +134,7 @@ impl fmt::Display for Failure {
             Failure::Word(place) => write!(f, "word {place}: it is not UTF-8"),
             Failure::Usage(text) => f.write_str(text.as_str()),
             Failure::Missing(name) => write!(f, "{name}: it is missing"),
+            Failure::BesideSite(name) => write!(f, "{name}: it cannot be given with --site"),
             Failure::Argument(bad) => write!(f, "{bad}"),
             Failure::TooManyMounts => write!(f, "MOUNT: over 256 different mount points"),
             Failure::FirstLine(failure) => write!(f, "{failure}"),

@@ -24,6 +24,8 @@ pub enum FileArgument {
     Passwd,
     Group,
     Netgroup,
+    /// A file in the folder of a site.
+    Site,
 }
 
 impl FileArgument {
@@ -37,6 +39,7 @@ impl FileArgument {
             FileArgument::Passwd => "--passwd",
             FileArgument::Group => "--group",
             FileArgument::Netgroup => "--netgroup",
+            FileArgument::Site => "--site",
         }
     }
 }

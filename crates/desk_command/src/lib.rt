@@ -14,6 +14,13 @@
 #![tactic(auto)]
 
 mod arguments;
+mod check_command;
+mod check_faults;
+mod check_odd;
+mod check_report;
+mod check_site;
+mod check_site_files;
+mod check_text;
 mod command_line;
 mod commands;
 mod failure;
@@ -31,6 +38,7 @@ pub mod split_text;
 mod table_files;
 mod try_command;
 pub mod try_text;
+mod word_places;
 mod words;
 
 ghost use Rattle.std.specs.Prelude.{map};

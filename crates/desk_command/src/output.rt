@@ -5,6 +5,7 @@ ghost use Rattle.std.specs.Io.KnownBytes.{Appends};
 ghost use Rattle.std.specs.String.{string_bytes};
 ghost use Rattle.desk_command.specs.Output as spec;
 
+use crate::check_report::Checked;
 use crate::failure::{Failure, Origin, message};
 use crate::faults::fault_text;
 use crate::split_text::SplitFault;
@@ -27,6 +28,8 @@ pub enum Output {
     Split(String),
     /// The fault of one of the texts that `split` is given.
     NotSplit(SplitFault),
+    /// What `check` finds.
+    Checked(Checked),
 }
 
 /// Prints what a command answers, or why it does not, and returns the exit status.
@@ -41,6 +44,7 @@ pub fn report<O: Write, E: Write>(
     ensures printed { result ≢ 4 → Appends (O.contents out.old) (O.contents out.new) (spec.printed answer) }
 {
     let status = status_of(&answer);
+    note_unread(&answer, err);
     match answer {
         Ok(output) => match output_text(alloc, output) {
             Ok(text) => print(text.as_str(), status, out, err),
@@ -57,6 +61,18 @@ pub fn report<O: Write, E: Write>(
     }
 }
 
+/// Says that `check` did not look at the exports text, if it did not.
+fn note_unread<E: Write>(answer: &Result<Output, Failure>, err: &mut E) {
+    if let Ok(Output::Checked(checked)) = answer
+        && !checked.read_exports
+    {
+        let _ = writeln!(
+            err,
+            "exportdesk: the exports were not looked at, since a table has a fault"
+        );
+    }
+}
+
 /// Returns the exit status of an answer, if it can be printed.
 fn status_of(answer: &Result<Output, Failure>) -> u8
     ensures { result ≡ spec.status_of answer.now }
@@ -65,6 +81,7 @@ fn status_of(answer: &Result<Output, Failure>) -> u8
         Ok(Output::Help(_) | Output::Split(_)) => 0,
         Ok(Output::Tried(tried)) => { if tried.granted { 0 } else { 1 } }
         Ok(Output::Faulty(_) | Output::NotSplit(_)) => 3,
+        Ok(Output::Checked(checked)) => { if checked.passes { 0 } else { 3 } }
         Err(Failure::Memory) => 4,
         Err(_) => 2,
     }
@@ -79,6 +96,7 @@ fn output_text(alloc: Global, output: Output) -> Result<String, AllocError>
         Output::Tried(tried) => tried.line,
         Output::Faulty(fault) => fault_text(alloc, &fault)?,
         Output::NotSplit(fault) => fault.text(alloc)?,
+        Output::Checked(checked) => return Ok(checked.text),
     };
     line.push('\n')?;
     Ok(line)

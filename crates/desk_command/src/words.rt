@@ -2,9 +2,10 @@
 
 ghost use Rattle.std.specs.Prelude.{◌≡◌, Some, None, MatchResult};
 ghost use Rattle.clap.specs.Words.{first_of, found_of, rows_of, subcommand_rows_of};
-ghost use Rattle.desk_command.specs.CommandLine.{command_in, command_of};
+ghost use Rattle.desk_command.specs.CommandLine.{command_in, command_of, is_set};
 ghost use Rattle.desk_command.specs.Words.{Finds, IsMissing, given};
 
+use crate::check_command::CheckWords;
 use crate::failure::Failure;
 use crate::split_command::SplitWords;
 use crate::try_command::TryWords;
@@ -15,6 +16,7 @@ use clap::ArgMatches;
 pub enum CommandWords<'m, 'a> {
     Try(TryWords<'m, 'a>),
     Split(SplitWords<'a>),
+    Check(CheckWords<'m, 'a>),
 }
 
 /// Takes the command that `clap` found.
@@ -37,6 +39,7 @@ fn found_words<'m, 'a>(
     match name {
         "try" => Ok(CommandWords::Try(TryWords::find(words)?)),
         "split" => Ok(CommandWords::Split(SplitWords::find(words)?)),
+        "check" => Ok(CommandWords::Check(CheckWords::find(words))),
         _ => Err(Failure::Missing("the command")),
     }
 }
@@ -49,5 +52,15 @@ pub fn required<'a>(words: &ArgMatches<'a>, name: &'static str) -> Result<&'a st
     match words.get_str(name) {
         Some(word) => Ok(word),
         None => Err(Failure::Missing(name)),
+    }
+}
+
+/// Tests whether an option without a value is given.
+pub fn is_set(words: &ArgMatches<'_>, name: &str) -> bool
+    ensures { result ≡ is_set name.now (rows_of (found_of words.now)) }
+{
+    match words.get_str(name) {
+        Some(value) => value == "true",
+        None => false,
     }
 }

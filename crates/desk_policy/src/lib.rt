@@ -54,4 +54,4 @@ pub use site_fault::{FaultPlace, SiteFault, SiteRule};
 pub use unlisted::{unlisted_line, unlisted_lines};
 pub use verdict::{Denial, Verdict, decide};
 pub use view::{Plain, PolicyView, compile, least_contradiction};
-pub use warning::{Warning, WarningKind};
+pub use warning::{Warning, WarningKind, netgroup_warnings, whole_warnings};

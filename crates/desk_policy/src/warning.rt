@@ -71,6 +71,19 @@ pub struct Warning {
     pub word: Text,
 }
 
+/// Lists the warnings of a netgroup file by itself, in the order of its lines and of the members of each.
+pub fn netgroup_warnings(
+    alloc: Global,
+    netgroups: &Netgroups,
+    hosts: &Hosts,
+) -> Result<Sequence<Warning>, AllocError>
+    ensures { IfOk result (λ warnings. warnings ≡ spec.netgroup_warnings netgroups.now hosts.now) }
+{
+    let mut warnings = Sequence::new(alloc);
+    push_netgroup(alloc, netgroups, hosts, &mut warnings)?;
+    Ok(warnings)
+}
+
 /// Adds the warnings of the netgroup file, in the order of its lines and of the members of each.
 pub(crate) fn push_netgroup(
     alloc: Global,
@@ -181,7 +194,7 @@ pub(crate) fn push_entry(
 }
 
 /// Lists the warnings of a whole exports text.
-pub(crate) fn whole_warnings(
+pub fn whole_warnings(
     alloc: Global,
     netgroups: &Netgroups,
     hosts: &Hosts,
