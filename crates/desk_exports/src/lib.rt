@@ -40,7 +40,6 @@ pub use files::{Scope, read_file, read_whole};
 pub use grammar::{GrammarLine, GrammarWord, WordText};
 pub use lines::{fs_of_line, read_line};
 pub use options::{Keyword, Setting};
-pub use places::place_of_word;
 pub use prints::fault_text;
 pub use rules::{Rule, first_broken_rule};
 pub use splitting::split;

@@ -1,17 +1,13 @@
 //! The slice of a faulty line that is at fault. It is looked for only once a line is known to be faulty, so that a line
 //! that breaks no rule pays nothing for it.
 
-ghost use Rattle.std.specs.Prelude.{◌≡◌, ◌==◌, ◌+◌, ◌<◌, ◌≤◌, ℕ, IfOk, IfSome, List, drop, find, is_err, length, map, position, if◌then◌else◌};
-ghost use Rattle.std.specs.List.{IsAmong, range_with_len, slice_split};
-ghost use Rattle.desk_exports.specs.Faults.{IsPlaceAmong, IsPlaceOfWord, is_written};
+ghost use Rattle.std.specs.Prelude.{◌≡◌, ◌==◌, ◌+◌, ◌<◌, ◌≤◌, IfOk, IfSome, drop, find, is_err, length, position, if◌then◌else◌};
+ghost use Rattle.std.specs.List.{range_with_len, slice_split};
 ghost use Rattle.desk_exports.specs.Grammar.{pieces};
 ghost use Rattle.desk_exports.specs.Options.{gives_value, same_keyword};
 ghost use Rattle.desk_exports.specs.Rules as rules;
 ghost use Rattle.desk_exports.specs.declared.options.Keyword.TheVariants as keyword;
-ghost use Rattle.desk_text.specs.Lines.{logical_lines};
 ghost use Rattle.desk_text.specs.Path.{is_absolute};
-ghost use Rattle.desk_text.specs.Place.{IsOfLine, LiesIn};
-ghost use Rattle.desk_text.specs.Views.{word_of};
 ghost use Rattle.desk_exports.specs.PrivateFaults.{IsOnLine};
 ghost use Rattle.desk_exports.specs.PrivateParts as spec;
 ghost use Rattle.desk_exports.specs.Tables.{table_rows};
@@ -72,64 +68,6 @@ pub(crate) fn place_at_fault(
     let place = place_among(alloc, line, words.as_slice(), tables, own_fs, parts, rule);
     drop(words);
     place
-}
-
-/// Makes the place of the first word of a line that has this value and does not begin with a dash. If there is none, the
-/// place is that of the value of `-network`, or else of the first physical line.
-pub fn place_of_word(alloc: Global, line: &Line, value: &str) -> Result<Place, AllocError>
-    ensures word { IfOk result (IsPlaceOfWord line.now value.now) }
-    ensures lies { IfOk result (λ place. (text : List ℕ) → IsAmong (logical_lines text) line.now → LiesIn text place) }
-    ensures own { IfOk result (λ place. (text : List ℕ) → IsAmong (logical_lines text) line.now → IsOfLine line.now place) }
-{
-    match words(alloc, line) {
-        Ok(words) => place_of_value(alloc, line, words.as_slice(), value),
-        Err(ReadError::Fault(_)) => Ok(place_of_open_quote(line)),
-        Err(ReadError::Memory) => Err(AllocError),
-    }
-}
-
-/// Makes the place of a value of a line of these words.
-fn place_of_value(
-    alloc: Global,
-    line: &Line,
-    words: &[Word],
-    value: &str,
-) -> Result<Place, AllocError>
-    ensures word { IfOk result (IsPlaceAmong line.now (map word_of words.now) value.now) }
-    ensures on_line { IfOk result (IsOnLine line.now) }
-{
-    let read = grammar_words(alloc, words)?;
-    if let Some(index) = written_place(read.as_slice(), value) {
-        drop(read);
-        return Ok(Place::of_word(line, &words[index]));
-    }
-    let slice = network_slice(alloc, words, read.as_slice());
-    drop(read);
-    Ok(place_of(line, slice?))
-}
-
-/// Finds the word that has this value and does not begin with a dash.
-fn written_place(words: &[GrammarWord], value: &str) -> Option<usize>
-    ensures { result ≡ position (is_written value.now) words.now }
-{
-    words
-        .iter()
-        .position(|word| !word.dashed && word.value.as_str() == value)
-}
-
-/// Finds the slice of the value of `-network`.
-fn network_slice(
-    alloc: Global,
-    words: &[Word],
-    read: &[GrammarWord],
-) -> Result<Option<Slice>, AllocError> {
-    let line = GrammarLine::read(alloc, read)?;
-    let option = find_value(line.settings(), Keyword::Network);
-    drop(line);
-    match option {
-        Some(option) => Ok(slice_of_value(words, read, option)),
-        None => Ok(None),
-    }
 }
 
 /// Makes the place of the slice at fault of a line of these words.

@@ -26,5 +26,4 @@ mod walk;
 pub use faults::{GroupFault, GroupRule, PlacedFault};
 pub use group_line::{GroupLine, Member};
 pub use netgroups::Netgroups;
-pub use slices::place_of_member;
 pub use token::{Token, tokens};

@@ -46,18 +46,6 @@ pub fn with_place(alloc: Global, line: &Line, fault: GroupFault) -> Result<Place
     Ok(PlacedFault { fault, place })
 }
 
-/// Makes the place of the first member of this name, or host of this name, that a line lists. If it lists none, the place is
-/// that of the first physical line.
-pub fn place_of_member(alloc: Global, line: &Line, member: &str) -> Result<Place, AllocError>
-    ensures lies { IfOk result (λ place. (text : List ℕ) → IsAmong (logical_lines text) line.now → LiesIn text place) }
-    ensures own { IfOk result (λ place. (text : List ℕ) → IsAmong (logical_lines text) line.now → IsOfLine line.now place) }
-{
-    let tokens = line_tokens(alloc, line)?;
-    let slice = member_slice(tokens.as_slice(), member);
-    drop(tokens);
-    Ok(place_of(line, slice))
-}
-
 /// Makes the place of a slice, or of the first physical line of a logical line if there is none.
 fn place_of(line: &Line, slice: Option<Slice>) -> Place
     ensures lies { (text : List ℕ) → IsAmong (logical_lines text) line.now → LiesIn text result }
@@ -142,17 +130,6 @@ fn after_token(expected: Expected, first: u8) -> Option<Expected> {
     }
 }
 
-/// Finds the first member of this name, or host of this name, among the tokens of a line.
-fn member_slice<'a>(tokens: &[Slice<'a>], member: &str) -> Option<Slice<'a>> {
-    let mut expected = Expected::Name;
-    for token in tokens {
-        if matches!(expected, Expected::Member | Expected::Host) && token.text == member {
-            return Some(*token);
-        }
-        expected = after_token(expected, first_byte(token))?;
-    }
-    None
-}
 /// Lists the tokens of a line.
 fn line_tokens<'a>(alloc: Global, line: &Line<'a>) -> Result<Vec<Slice<'a>>, AllocError> {
     let mut tokens = Vec::new(alloc);

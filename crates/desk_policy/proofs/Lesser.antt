@@ -12,7 +12,7 @@ use Rattle.desk_policy.specs.Unlisted.{has_unlisted, least, unlisted_line}
 abbrev pub lesser : ℕ → Option ℕ → ℕ
 lesser n other = option_map_or (min n) other n
 
-pub swapped : (x n : ℕ) (other : Option ℕ) → lesser x (Some (lesser n other)) ≡ lesser n (Some (lesser x other))
+swapped : (x n : ℕ) (other : Option ℕ) → lesser x (Some (lesser n other)) ≡ lesser n (Some (lesser x other))
 swapped x n None = omega arith
 swapped x n (Some m) = omega arith
 

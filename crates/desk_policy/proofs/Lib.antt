@@ -12,8 +12,6 @@ pub mod Places
 pub mod KeyClashes
 pub mod KeyPlaces
 pub mod Lesser
-pub mod UnlistedLines
-pub mod UnlistedFirst
 pub mod FilesRead
 pub mod Chain
 pub mod Gathered

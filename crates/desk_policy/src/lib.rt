@@ -51,7 +51,7 @@ pub use prints::verdict_text;
 pub use row::Row;
 pub use site::Site;
 pub use site_fault::{FaultPlace, SiteFault, SiteRule};
-pub use unlisted::{unlisted_line, unlisted_lines};
+pub use unlisted::unlisted_line;
 pub use verdict::{Denial, Verdict, decide};
 pub use view::{Plain, PolicyView, compile, least_contradiction};
 pub use warning::{Warning, WarningKind, netgroup_warnings, whole_warnings};
