@@ -6,7 +6,7 @@ ghost use Rattle.desk_text.specs.Lines.{LogicalLine, logical_lines};
 ghost use Rattle.desk_command.specs.CheckOdd.{IsOn};
 
 use desk_exports::Keyword;
-use desk_text::{Line, Place, ReadError, Word, unquote, words};
+use desk_text::{Line, Part, Place, ReadError, Word, unquote, words};
 use std::alloc::{AllocError, Global};
 
 /// How the words of a text are written.
@@ -172,17 +172,35 @@ fn slice_behind_equals(word: &Word, wanted: &str) -> Option<Slice> {
 
 /// Finds a member of a netgroup line, behind the name of the group.
 fn netgroup_slice(line: &Line, wanted: &str, from: usize) -> Option<Slice> {
-    let mut is_member = false;
+    let from = from.max(end_of_name(line));
     for part in line.parts() {
-        let mut start = part.start;
-        for piece in part.text.split(is_between_tokens) {
-            let end = start.saturating_add(piece.len());
-            if is_member && from <= start && piece == wanted {
-                return Some(Slice { start, end });
-            }
-            is_member = is_member || !piece.is_empty();
-            start = end.saturating_add(1);
+        if let Some(slice) = token_slice(part, Some(wanted), from) {
+            return Some(slice);
         }
+    }
+    None
+}
+
+/// Returns where the first word of a netgroup line ends in the text.
+fn end_of_name(line: &Line) -> usize {
+    for part in line.parts() {
+        if let Some(slice) = token_slice(part, None, 0) {
+            return slice.end;
+        }
+    }
+    0
+}
+
+/// Finds a word of a physical line of a netgroup file from this byte of the text on: the first, or the first that is this
+/// one.
+fn token_slice(part: &Part, wanted: Option<&str>, from: usize) -> Option<Slice> {
+    let mut start = part.start;
+    for piece in part.text.split(is_between_tokens) {
+        let end = start.saturating_add(piece.len());
+        if from <= start && !piece.is_empty() && wanted.is_none_or(|wanted| piece == wanted) {
+            return Some(Slice { start, end });
+        }
+        start = end.saturating_add(1);
     }
     None
 }
