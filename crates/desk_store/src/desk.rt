@@ -178,6 +178,13 @@ impl<S: Alter + Drop, V: PolicyView + Drop> Desk<S, V> {
         }
     }
 
+    /// Gives the connection back, as it stands.
+    pub fn into_connection(self) -> Connection<S>
+        ensures { result ≡ self.conn }
+    {
+        self.conn
+    }
+
     /// Makes the tables of a desk in the database of a connection, with revision 1 of each file of a site, by `site`, all in one
     /// commit. Nothing is made if one of the tables is there, a text has more than 65,536 bytes, or the site has a fault. Beside
     /// a refusal the connection is handed back.
