@@ -1,6 +1,6 @@
 -- What making a database promises. (this project's own)
-use Rattle.std.specs.Prelude.{◌≡◌, ◌≢◌, ◌⊎◌, ℕ, Bool, true, false, List, [], ◌∷◌, ◌++◌, Option, Some, None, Result, Ok, Err, IfErr, IfOk, IsPermutation, IsTrue, OnErr, OnOk, codes, pos, find, is_some, length, map, nat_lt, if◌then◌else◌, ◌||◌}
-use Rattle.std.specs.List.{AllByRecursion}
+use Rattle.std.specs.Prelude.{◌≡◌, ◌≢◌, ◌⊎◌, ℕ, Bool, true, false, List, [], ◌∷◌, ◌++◌, Option, Some, None, Result, Ok, Err, IfErr, IfOk, IsPermutation, IsTrue, OnErr, OnOk, codes, pos, find, is_some, length, map, nat_lt, if◌then◌else◌, ◌||◌, ◌&&◌, not, unwrap_or}
+use Rattle.std.specs.List.{AllByRecursion, list_any}
 use Rattle.std.specs.Option.{option_map}
 use Rattle.std.specs.Result.{result_unwrap_or}
 use Rattle.std.specs.Str.{IsUtf8, bytes_eq}
@@ -27,16 +27,25 @@ use Rattle.desk_core.specs.History.{IsHistory, newest_of}
 use Rattle.desk_core.specs.Judging.{is_of_seven, longest_edit, seven}
 use Rattle.desk_store.specs.Desk.{IsSiteHistory, LeavesTables, Shown, Stands}
 use Rattle.desk_store.specs.History.{Holds}
-use Rattle.sqlite_schema.specs.Names.{table_named}
+use Rattle.sqlite_schema.specs.Names.{same_name, table_named}
+use Rattle.sqlite_schema.specs.declared.schema.View.{View}
 use Rattle.desk_core.specs.Views.{Kept}
 use Rattle.desk_store.specs.Tables.{Adds, HasTables, IsAtRest, IsFree, LeavesCommit, file_rev_table, meta_table, rows_of, table_in}
 use Rattle.desk_store.specs.declared.error.StoreFault.{StoreFault}
 use Rattle.desk_store.specs.declared.error.CreateError.{CreateError}
 use Rattle.desk_store.specs.declared.error.CreateError.TheVariants as refused
 
+-- the object is a table with this name that SQL here does not understand: it belongs to itself, and is no trigger
+abbrev pub is_kept_table : List ℕ → View → Bool
+is_kept_table name view = not view.binds && (same_name view.name name && unwrap_or (option_map (same_name name) view.foreign) false)
+
+-- a table with this name is there, whether or not SQL here understands it
+abbrev pub has_table : Schema → List ℕ → Bool
+has_table schema name = is_some (table_named schema name) || list_any (is_kept_table name) schema.views
+
 -- one of the two tables is there
 abbrev pub has_one : Schema → Bool
-has_one schema = is_some (table_named schema (codes "meta")) || is_some (table_named schema (codes "file_rev"))
+has_one schema = has_table schema (codes "meta") || has_table schema (codes "file_rev")
 
 -- of each of the seven files its text
 abbrev pub text_of_seven : SiteTexts → List ℕ → List ℕ

@@ -8,7 +8,7 @@ ghost use Rattle.sqlite.specs.State.{HasCleanDisk};
 ghost use Rattle.desk_policy.specs.Site.{texts_of};
 ghost use Rattle.desk_core.specs.History.{IsHistory};
 ghost use Rattle.sqlite.specs.Rows.{sequence};
-ghost use Rattle.desk_store.specs.Create.{HasRoom, IsCreated, IsOfMaking, LooksForRoom, has_one, AddsRow, AddsRows, Fills, IsInside, MakesRoom, Ran, RunsInside, StoresAll};
+ghost use Rattle.desk_store.specs.Create.{HasRoom, IsCreated, IsOfMaking, LooksForRoom, has_one, has_table, is_kept_table, AddsRow, AddsRows, Fills, IsInside, MakesRoom, Ran, RunsInside, StoresAll};
 ghost use Rattle.desk_store.specs.History.{row_of};
 ghost use Rattle.desk_store.specs.Tables.{IsFree};
 
@@ -17,7 +17,8 @@ use crate::first::first_state;
 use desk_core::{Head, State};
 use desk_policy::{PolicyView, Site};
 use sqlite::{Alter, Connection, Error, ErrorCode, Transaction, params};
-use sqlite_schema::schema::Schema;
+use sqlite_schema::names::same_name;
+use sqlite_schema::schema::{Schema, View};
 use std::alloc::Global;
 
 /// Runs a statement without parameters.
@@ -104,12 +105,37 @@ fn not_made(said: Error) -> CreateError
     }
 }
 
+/// Tests whether an object is a table with this name that SQL here does not understand.
+fn is_kept_table(view: &View, name: &[u8]) -> bool
+    ensures { result ≡ is_kept_table name.now view.now }
+{
+    match &view.foreign {
+        Some(owner) => {
+            !view.binds & same_name(view.name.as_slice(), name) & same_name(name, owner.as_slice())
+        }
+        None => false,
+    }
+}
+
+/// Tests whether one of these objects is a table with this name that SQL here does not understand.
+fn keeps_table(views: &[View], name: &[u8]) -> bool
+    ensures { result ≡ list_any (is_kept_table name.now) views.now }
+{
+    views.iter().any(|view| is_kept_table(view, name))
+}
+
+/// Tests whether a schema has a table with this name, be it one that SQL here does not understand.
+fn has_table(schema: &Schema, name: &[u8]) -> bool
+    ensures { result ≡ has_table schema.now name.now }
+{
+    schema.table_named(name).is_some() || keeps_table(schema.views.as_slice(), name)
+}
+
 /// Tests whether a schema has one of the two tables.
 fn has_one(schema: &Schema) -> bool
     ensures { result ≡ has_one schema.now }
 {
-    schema.table_named(b"meta".as_slice()).is_some()
-        || schema.table_named(b"file_rev".as_slice()).is_some()
+    has_table(schema, b"meta".as_slice()) || has_table(schema, b"file_rev".as_slice())
 }
 
 /// Tests whether a name is free.
