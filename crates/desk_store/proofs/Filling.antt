@@ -38,6 +38,7 @@ same_trees a name (t ∷ tables) tree = (λ other. refl, same_trees a name table
 
 pub adds_none : (a : Database) → AddsAll [] a a
 adds_none a = record {
+  sound = λ sound. sound;
   schema = refl;
   rows = IsPermutation-refl (rows_of a (codes "file_rev"));
   version = refl;
@@ -56,6 +57,7 @@ adds_more rows row a b c all one =
     let next : IsPermutation (row ∷ (rows ++ old)) (row ∷ rows_of b name) = IsPermutation-cons row (rows ++ old) (rows_of b name) all.rows in
     let whole = IsPermutation-trans (rows ++ (row ∷ old)) (row ∷ (rows ++ old)) (rows_of c name) front (IsPermutation-trans (row ∷ (rows ++ old)) (row ∷ rows_of b name) (rows_of c name) next one.rows) in
     record {
+      sound = λ sound. one.sound;
       schema = one.schema ∙ all.schema;
       rows = subst (λ xs. IsPermutation xs (rows_of c name)) (sym moved) whole;
       version = one.version ∙ all.version;
@@ -84,6 +86,7 @@ makes history a b c room numbered empty all =
         rows = subst (λ rows. IsPermutation rows (rows_of c name)) alone all.rows;
         numbered = numbered;
       };
+      sound = all.sound empty.sound;
       schema = all.schema ∙ empty.schema;
       others = each_both _ _ (λ (t : Table). c.trees t.tree ≡ a.trees t.tree) a.schema.tables (λ t two one. two ∙ one) kept empty.others;
       steps = empty.steps ++ all.steps;

@@ -2,15 +2,15 @@
 use Rattle.std.proofs.Common.{◌≡◌, ◌⊎◌, ◌∙◌, sym, ap, subst, inl, inr, refl, IsTrue, Ok, Err, Result, List, [], Some, true, false, arith, OnOk, IfOk, IfErr}
 use Rattle.std.specs.Prelude.{OnErr}
 use Rattle.sqlite.specs.Effect.{Database}
-use Rattle.sqlite.specs.State.{HasCleanDisk, IsLive, State, Survives}
+use Rattle.sqlite.specs.State.{HasCleanDisk, State, Survives}
 use Rattle.sqlite.specs.Tree.{Trees}
 use Rattle.sqlite.specs.declared.error.Error.{Error}
 use Rattle.sqlite.proofs.StateLemmas.{survives_then}
 use Rattle.desk_policy.specs.Site.{SiteTexts}
 use Rattle.desk_core.specs.Head.{Revision, newest_in}
 use Rattle.desk_core.specs.Views.{Kept}
-use Rattle.desk_store.specs.Create.{HasRoom, HasSeenRoom, IsCreated, IsFirstState, IsMade, IsOfMaking, LooksForRoom, Makes, MakesTables, MayMake, RefusesRoom, RefusesSite, RefusesToCreate, StoresAll, first_history, has_one}
-use Rattle.desk_store.specs.Desk.{LeavesTables}
+use Rattle.desk_store.specs.Create.{HasRoom, HasSeenRoom, IsCreated, IsFirstState, IsMade, IsOfMaking, LooksForRoom, Makes, MakesFirst, MakesTables, MayMake, RefusesRoom, RefusesSite, RefusesToCreate, StoresAll, first_history, has_one}
+use Rattle.desk_store.specs.Desk.{IsSiteHistory, LeavesTables}
 use Rattle.desk_store.specs.Tables.{LeavesCommit}
 use Rattle.desk_store.specs.declared.error.CreateError.{CreateError}
 use Rattle.desk_store.specs.declared.error.CreateError.TheVariants as refused
@@ -52,25 +52,22 @@ site_refused V old new texts x e h says = record {
 }
 
 module _ (old mid new : State) (texts : SiteTexts) (clean_if_open : IsTrue mid.is_open → HasCleanDisk mid) where
-  abbrev Once : Trees → Type 0
-  Once trees = IsTrue old.is_open × MakesTables (first_history texts) old.committed trees
-
   room_of : {T : Type 0} (x : T) → LooksForRoom old mid (Ok x) → IsTrue mid.is_open → HasRoom mid.now.schema
   room_of x look live = let seen = look.found (clean_if_open live) in subst (λ (d : Database). HasRoom d.schema) (sym seen.settled) seen.room
 
-  whole : {T U : Type 0} (x : T) (result : Result U Error) → LooksForRoom old mid (Ok x) → StoresAll mid new (first_history texts) result → Survives old new Once
-  whole x result look stored =
+  whole : {T U : Type 0} (x : T) (result : Result U Error) → LooksForRoom old mid (Ok x) → StoresAll mid new (first_history texts) result → IsSiteHistory (first_history texts) → Survives old new (MakesFirst old texts)
+  whole x result look stored is_site =
       let after = stored.crash (room_of x look) in
-      survives_then old mid new (λ _. ⊥) (λ trees. IsTrue mid.is_open × MakesTables (first_history texts) mid.now trees) Once (λ clean trees none. absurd none)
+      survives_then old mid new (λ _. ⊥) (λ trees. IsTrue mid.is_open × MakesTables (first_history texts) mid.now trees) (MakesFirst old texts) (λ clean trees none. absurd none)
       (λ clean trees may.
       let before : HasCleanDisk mid = omega (arith, after.clean) in
       let seen = look.found before in
-      (seen.was_open, subst (λ (d : Database). MakesTables (first_history texts) d trees) seen.settled may.1))
+      (seen.was_open, seen.none, is_site, subst (λ (d : Database). MakesTables (first_history texts) d trees) seen.settled may.1))
       look.leaves.crash after
 
-  pub made_state : {T U V : Type 0} (x : T) (y : U) (state : Kept V) → LooksForRoom old mid (Ok x) → StoresAll mid new (first_history texts) (Ok y) → IsFirstState texts state.heads → IsLive new → (IsTrue new.is_open → LeavesCommit new)
+  pub made_state : {T U V : Type 0} (x : T) (y : U) (state : Kept V) → LooksForRoom old mid (Ok x) → StoresAll mid new (first_history texts) (Ok y) → IsFirstState texts state.heads → (IsTrue new.is_open → LeavesCommit new)
       → IsCreated old new texts (Ok state)
-  made_state x y state look stored first live_so law = record {
+  made_state x y state look stored first law = record {
     made = λ clean.
         let after = stored.crash (room_of x look) in
         let before : HasCleanDisk mid = omega (arith, after.clean) in
@@ -82,20 +79,19 @@ module _ (old mid new : State) (texts : SiteTexts) (clean_if_open : IsTrue mid.i
           none = seen.none;
           made = made;
           rest = record { autocommit = stored.autocommit; settled = λ live. at.1; tables = λ live. made.holds.tables };
-          stands = record { stored = first.stored; heads = first.newest; tables = λ live. made.holds; leaves = λ trees may. (new.committed, (live_so at.0).1, durable trees may, inl made.holds) };
+          stands = record { stored = first.stored; heads = first.newest; tables = λ live. made.holds; leaves = λ trees may. (new.committed, made.sound, durable trees may, inl made.holds) };
           is_open = at.0;
-          sound = (live_so at.0).1;
           durable = durable;
         };
     refused = λ clean. tt;
     unchanged = λ clean live. tt;
-    crash = whole x (Ok y) look stored;
+    crash = whole x (Ok y) look stored first.stored;
     mode = stored.autocommit;
   }
 
-  pub not_stored_state : {T U : Type 0} (V : Type 0) (x : T) (said : Error) (e : CreateError) → LooksForRoom old mid (Ok x) → StoresAll {T = U} mid new (first_history texts) (Err said) → IsOfMaking e → IsCreated {V = V} old new texts (Err e)
-  not_stored_state V x said e look stored says =
-      let all = whole x (Err said) look stored in
+  pub not_stored_state : {T U : Type 0} (V : Type 0) (x : T) (said : Error) (e : CreateError) → LooksForRoom old mid (Ok x) → StoresAll {T = U} mid new (first_history texts) (Err said) → IsSiteHistory (first_history texts) → IsOfMaking e → IsCreated {V = V} old new texts (Err e)
+  not_stored_state V x said e look stored is_site says =
+      let all = whole x (Err said) look stored is_site in
       let same = λ (clean : HasCleanDisk new) (live : IsTrue new.is_open).
       let after = stored.crash (room_of x look) in
       let before : HasCleanDisk mid = omega (arith, after.clean) in

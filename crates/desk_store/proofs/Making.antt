@@ -102,12 +102,12 @@ whole_yet schema table plain h =
 
 -- the version is written
 module _ (old new : State) (at tree : ℕ) (named : table_in old.now.schema (codes "meta") ≡ Some (meta_table tree)) where
-  pub versions : Ran insert_version old new → PutsVersion tree old.now new.now × SparesFrozen old.now new.now
+  pub versions : Ran insert_version old new → PutsVersion tree old.now new.now × SparesFrozen old.now new.now × IsDatabase new.now
   versions h =
       let place = placed old.now.schema (codes "meta") (meta_table tree) named in
       let means = version_understood old.now.schema place.0 tree place.1 place.2 in
       let w = runs_as insert_version [] old new old.now.schema refl (Insert place.0 (Values version_terms 2)) (ap command_of means) (subst IsPlain (sym means) (refl, refl)) h.0 h.1 in
-      (does_version old.step_limit (mode_of old) (statement_of insert_version (understood old.now.schema insert_version)) old.now new.now w.tally place.0 tree place.2 w.changed, w.frozen)
+      (does_version old.step_limit (mode_of old) (statement_of insert_version (understood old.now.schema insert_version)) old.now new.now w.tally place.0 tree place.2 w.changed, w.frozen, w.sound)
 
 -- both tables are made, and the version is written
 module _ (a b c d : State) (room : HasRoom a.now.schema) where
@@ -152,6 +152,7 @@ module _ (a b c d : State) (room : HasRoom a.now.schema) where
         version = rows_are d.now (codes "meta") (meta_table low) meta_last
             ∙ ap (map (cells (meta_table low))) (third.0.rows ∙ ap (λ rows. put_row (version_row rows) rows) none_meta);
         empty = rows_are d.now (codes "file_rev") (file_rev_table high) file_last ∙ ap (map (cells (file_rev_table high))) (of_file ∙ none_file);
+        sound = third.2;
         schema = last;
         others = each_both _ _ (λ (t : Table). d.now.trees t.tree ≡ a.now.trees t.tree) a.now.schema.tables (λ t three two. three ∙ two)
             (each_both _ _ (λ (t : Table). d.now.trees t.tree ≡ c.now.trees t.tree) a.now.schema.tables (λ t three under. three (λ same. omega arith)) kept_three (below_next a.now.schema))

@@ -176,9 +176,10 @@ SpareFrozen old [] after = after ≡ old
 SpareFrozen old (next ∷ more) after = SparesFrozen old next × SpareFrozen next more after
 
 -- a database that holds this history in the two tables and that has else what it had: its tables, views and indexes with
--- their rows, and all that SQL here does not understand
+-- their rows, and all that SQL here does not understand. It is a database that can be opened.
 pub record Makes (history : List Revision) (old after : Database) : Type 0 where
   pub holds : Holds after history
+  pub sound : IsDatabase after
   pub schema : after.schema ≡ with_both old.schema
   pub others : AllByRecursion (λ t. after.trees t.tree ≡ old.trees t.tree) old.schema.tables
   pub steps : List Database
@@ -189,6 +190,7 @@ pub record MakesEmpty (old after : Database) : Type 0 where
   pub tables : HasTables after.schema
   pub version : rows_of after (codes "meta") ≡ (Int (pos 1) ∷ []) ∷ []
   pub empty : rows_of after (codes "file_rev") ≡ []
+  pub sound : IsDatabase after
   pub schema : after.schema ≡ with_both old.schema
   pub others : AllByRecursion (λ t. after.trees t.tree ≡ old.trees t.tree) old.schema.tables
   pub steps : List Database
@@ -196,6 +198,7 @@ pub record MakesEmpty (old after : Database) : Type 0 where
 
 -- Rows stand in `file_rev` beside those before, and all else that SQL understands is as before.
 pub record AddsAll (added : List Row) (old after : Database) : Type 0 where
+  pub sound : IsDatabase old → IsDatabase after
   pub schema : after.schema ≡ old.schema
   pub rows : IsPermutation (added ++ rows_of old (codes "file_rev")) (rows_of after (codes "file_rev"))
   pub version : rows_of after (codes "meta") ≡ rows_of old (codes "meta")
@@ -282,15 +285,18 @@ pub record IsMade {V : Type 0} (old new : State) (texts : SiteTexts) (state : Ke
   pub rest : IsAtRest new
   pub stands : Stands new state (first_history texts) []
   pub is_open : IsTrue new.is_open
-  pub sound : IsDatabase new.committed
   pub durable : LeavesCommit new
 
--- The one commit, where it may have been begun: the connection was open, and the trees are those of the new database. A
--- refusal that comes before commits nothing.
+-- the one commit: the connection was open, none of the tables was there, and what is stored is the history of a site
+abbrev pub MakesFirst : State → SiteTexts → Trees → Type 0
+MakesFirst old texts trees =
+    IsTrue old.is_open × (has_one old.committed.schema ≡ false) × IsSiteHistory (first_history texts) × MakesTables (first_history texts) old.committed trees
+
+-- The one commit, where it may have been begun. A refusal that comes before commits nothing.
 abbrev pub MayMake : {T : Type 0} → State → SiteTexts → Result T CreateError → Trees → Type 0
-MayMake old texts (Ok made) trees = IsTrue old.is_open × MakesTables (first_history texts) old.committed trees
-MayMake old texts (Err (refused.Store fault)) trees = IsTrue old.is_open × MakesTables (first_history texts) old.committed trees
-MayMake old texts (Err refused.Memory) trees = IsTrue old.is_open × MakesTables (first_history texts) old.committed trees
+MayMake old texts (Ok made) trees = MakesFirst old texts trees
+MayMake old texts (Err (refused.Store fault)) trees = MakesFirst old texts trees
+MayMake old texts (Err refused.Memory) trees = MakesFirst old texts trees
 MayMake old texts (Err refused.Schema) trees = ⊥
 MayMake old texts (Err (refused.Fault fault)) trees = ⊥
 MayMake old texts (Err (refused.TooLarge file)) trees = ⊥

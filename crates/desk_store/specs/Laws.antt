@@ -1,10 +1,10 @@
 -- What the definitions of desks come to. (this project's own)
-use Rattle.std.specs.Prelude.{◌≡◌, ◌⊎◌, ◌+◌, ◌≤◌, ◌++◌, ℕ, List, [], ◌∷◌, Contains, None, Some, codes, map}
+use Rattle.std.specs.Prelude.{◌≡◌, ◌⊎◌, ◌+◌, ◌≤◌, ◌++◌, ℕ, List, [], ◌∷◌, Contains, None, Result, Some, codes, map}
 use Rattle.sqlite_trees.specs.declared.store.Store.{Ghosts}
 use Rattle.sqlite_trees.specs.Objects.{catalog_tree}
 use Rattle.sqlite_trees.specs.View.{doubt}
 use Rattle.sqlite.specs.Held.{Held, state}
-use Rattle.sqlite.specs.State.{HasCleanDisk, State}
+use Rattle.sqlite.specs.State.{HasCleanDisk, State, Survives}
 use Rattle.sqlite.specs.Effect.{Database, IsDatabase}
 use Rattle.sqlite.specs.Tree.{IsTable, Trees}
 use Rattle.desk_core.specs.Edit.{Edit, Stored, revision_of}
@@ -12,6 +12,9 @@ use Rattle.desk_core.specs.Head.{Revision}
 use Rattle.desk_core.specs.History.{Exchange, Run, added, newest_of, revisions_of}
 use Rattle.desk_core.specs.Judging.{Answers}
 use Rattle.desk_core.specs.Views.{Kept}
+use Rattle.desk_policy.specs.Site.{SiteTexts}
+use Rattle.desk_store.specs.Create.{MayMake, first_history}
+use Rattle.desk_store.specs.declared.error.CreateError.{CreateError}
 use Rattle.desk_store.specs.Desk.{History, IsInUtf8, IsSiteHistory, Shown, Stands, StepsOn, pending_after}
 use Rattle.desk_store.specs.History.{Holds}
 use Rattle.desk_store.specs.Open.{IsProject}
@@ -84,3 +87,12 @@ CrashesLeaveDesks S T V g h =
     → Stands (state g desk.conn) desk.state history pending → (state g desk.conn).may_leave trees
     → IsDatabase (state h later).committed → (state h later).committed.trees ≡ trees
     → (left : History) × IsLeft history pending left × IsProject (state h later).committed left
+
+-- What a crash leaves of a connection on which a desk was to be made could be left before, so nothing was made; or a later
+-- connection to a sound database with these trees has a database of this project, at the site's first revisions.
+abbrev pub CrashesLeaveFirstHistories : (S T V : Type 0) → Ghosts S → Ghosts T → Type 0
+CrashesLeaveFirstHistories S T V g h =
+    (old new : Held S) (texts : SiteTexts) (result : Result (Kept V) CreateError) (trees : Trees) (later : Held T)
+    → Survives (state g old) (state g new) (MayMake (state g old) texts result) → HasCleanDisk (state g new) → (state g new).may_leave trees
+    → IsDatabase (state h later).committed → (state h later).committed.trees ≡ trees
+    → (state g old).may_leave trees ⊎ IsProject (state h later).committed (first_history texts)

@@ -221,10 +221,7 @@ pub(crate) fn create_state<S: Alter, V: PolicyView + Drop>(
         Err(e) => return Err(e),
     };
     match store_history(conn, first.heads()) {
-        Ok(()) => {
-            let _schema = conn.schema();
-            Ok(first)
-        }
+        Ok(()) => Ok(first),
         Err(e) => Err(not_made(e)),
     }
 }

@@ -1,6 +1,6 @@
 //! What the definitions of this crate come to, each as a function that does nothing of its own.
 
-ghost use Rattle.desk_store.specs.Laws.{CrashesLeaveDesks, DeclaredTablesAreOurs, EditsAreARun, OneHistory, PendingEditsHaveNoAnswer, StoredEditsKeepSiteHistories};
+ghost use Rattle.desk_store.specs.Laws.{CrashesLeaveDesks, CrashesLeaveFirstHistories, DeclaredTablesAreOurs, EditsAreARun, OneHistory, PendingEditsHaveNoAnswer, StoredEditsKeepSiteHistories};
 
 use desk_core::{
     answers_are_right, known_files_have_names, newest_of_a_longer_history,
@@ -23,6 +23,12 @@ pub fn pending_edits_have_no_answer()
 /// revisions whose edits had no answer: a desk can be opened on it, and stands there.
 pub fn crashes_leave_desks<S: Alter + Drop, T: Alter + Drop, V: PolicyView + Drop>()
     ensures { CrashesLeaveDesks S T V S.Store T.Store }
+{}
+
+/// What a stop while a desk is made leaves is what could be left before, or a database of this project with the site's first
+/// revisions.
+pub fn crashes_leave_first_histories<S: Alter + Drop, T: Alter + Drop, V: PolicyView + Drop>()
+    ensures { CrashesLeaveFirstHistories S T V S.Store T.Store }
 {}
 
 /// The same tables hold one history, file by file: the order in which their rows are read does not matter.

@@ -20,7 +20,7 @@ returns-in-Ok-store_history g c =
     let texts = texts_of c.args.site.now in
     let heads : c.heads.result.now ≡ first_history texts = c.heads.ensures ∙ c.in-Ok.ensures.made.heads_are in
     made_state (state g.S.Store c.args.conn.now) mid new texts (clean_so mid.is_clean mid.is_open (g.met.S.Store.shut_if_dirty c.look_for_room.new.conn.store)) (tt {0}) (tt {0}) c.in-Ok.first c.in_default.ensures
-    (subst (λ history. StoresAll mid new history (Ok (tt {0}))) heads c.in-Ok-store_history.ensures.stored) c.in-Ok.ensures.made c.schema-schema.ensures.live
+    (subst (λ history. StoresAll mid new history (Ok (tt {0}))) heads c.in-Ok-store_history.ensures.stored) c.in-Ok.ensures.made
     (λ live trees may. g.met.S.Store.settled c.store_history.new.conn.store trees live may)
 
 pub returns-in-Err-store_history : goal.returns-in-Err-store_history
@@ -30,4 +30,4 @@ returns-in-Err-store_history g c =
     let texts = texts_of c.args.site.now in
     let heads : c.heads.result.now ≡ first_history texts = c.heads.ensures ∙ c.in-Ok.ensures.made.heads_are in
     not_stored_state (state g.S.Store c.args.conn.now) mid new texts (clean_so mid.is_clean mid.is_open (g.met.S.Store.shut_if_dirty c.look_for_room.new.conn.store)) g.row.V.Denot (tt {0}) c.in-Err-store_history.e c.not_made.result
-    c.in_default.ensures (subst (λ history. StoresAll mid new history (Err c.in-Err-store_history.e)) heads c.in-Err-store_history.ensures.stored) c.not_made.ensures
+    c.in_default.ensures (subst (λ history. StoresAll mid new history (Err c.in-Err-store_history.e)) heads c.in-Err-store_history.ensures.stored) c.in-Ok.ensures.made.stored c.not_made.ensures
