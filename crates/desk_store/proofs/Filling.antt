@@ -5,7 +5,7 @@ use Rattle.std.specs.List.{AllByRecursion}
 use Rattle.std.proofs.lemmas.Bool.{cases_Bool}
 use Rattle.std.proofs.lemmas.List.{map_push, take_more}
 use Rattle.std.proofs.lemmas.List.Sorted.{IsPermutation-refl, IsPermutation-cons, IsPermutation-trans, IsPermutation-middle, IsPermutation-sym}
-use Rattle.sqlite.specs.Effect.{Database, SparesFrozen}
+use Rattle.sqlite.specs.Effect.{Database, IsDatabase, SparesFrozen}
 use Rattle.sqlite.specs.Order.{Row}
 use Rattle.sqlite.specs.Schema.{Schema}
 use Rattle.sqlite.specs.State.{Executes, ExecutesInside, HasCleanDisk, KeepsCommit, Shows, State, Survives}
@@ -16,7 +16,7 @@ use Rattle.sqlite.proofs.InsideLemmas.{inside_keeps, keeps_then}
 use Rattle.sqlite.proofs.StateLemmas.{survives_then}
 use Rattle.desk_core.specs.Head.{Revision}
 use Rattle.desk_core.specs.History.{IsHistory}
-use Rattle.desk_store.specs.Create.{AddsAll, AddsRow, AddsRows, Fills, HasRoom, IsInside, Makes, MakesEmpty, MakesRoom, Ran, RunsInside, SpareFrozen, insert_version, with_both, with_meta}
+use Rattle.desk_store.specs.Create.{AddsAll, AddsRow, AddsRows, Fills, HasRoom, IsGrown, IsInside, Makes, MakesEmpty, MakesRoom, Ran, RunsInside, SpareFrozen, insert_version, with_both, with_meta}
 use Rattle.desk_store.specs.History.{Holds, row_of}
 use Rattle.desk_store.specs.Tables.{Adds, HasTables, create_file_rev, create_meta, file_rev_table, insert_revision, rows_of, table_in}
 use Rattle.desk_store.proofs.Created.{below_next, each_both, file_in, first_part, first_tree, rises, second_tree}
@@ -24,13 +24,13 @@ use Rattle.desk_store.proofs.InsertEffect.{given}
 use Rattle.desk_store.proofs.Inserting.{writes}
 use Rattle.desk_store.proofs.Making.{makes_empty}
 
-spare_more : (a : Database) (steps : List Database) (b c : Database) → SpareFrozen a steps b → SparesFrozen b c → SpareFrozen a (steps ++ c ∷ []) c
-spare_more a [] b c h next = (subst (λ d. SparesFrozen d c) h next, refl)
-spare_more a (x ∷ steps) b c h next = (h.0, spare_more x steps b c h.1 next)
+spare_more : (a : Database) (steps : List Database) (b c : Database) → SpareFrozen a steps b → SparesFrozen b c → IsDatabase c → IsGrown b.schema c.schema → SpareFrozen a (steps ++ c ∷ []) c
+spare_more a [] b c h next sound grown = (subst (λ d. SparesFrozen d c) h next, sound, subst (λ (d : Database). IsGrown d.schema c.schema) h grown, refl)
+spare_more a (x ∷ steps) b c h next sound grown = (h.0, h.1, h.2, spare_more x steps b c h.3 next sound grown)
 
 spare_then : (a : Database) (steps : List Database) (b : Database) (more : List Database) (c : Database) → SpareFrozen a steps b → SpareFrozen b more c → SpareFrozen a (steps ++ more) c
 spare_then a [] b more c one two = subst (λ d. SpareFrozen d more c) one two
-spare_then a (x ∷ steps) b more c one two = (one.0, spare_then x steps b more c one.1 two)
+spare_then a (x ∷ steps) b more c one two = (one.0, one.1, one.2, spare_then x steps b more c one.3 two)
 
 same_trees : (a : Database) (name : List ℕ) (tables : List Table) (tree : ℕ) → AllByRecursion (λ (t : Table). t.tree ≢ tree → a.trees t.tree ≡ a.trees t.tree) tables
 same_trees a name [] tree = tt
@@ -65,7 +65,7 @@ adds_more rows row a b c all one =
           let later = subst (λ (s : Schema). AllByRecursion (λ (t : Table). t.tree ≢ table.tree → c.trees t.tree ≡ b.trees t.tree) s.tables) all.schema (one.others table (ap (λ s. table_in s name) all.schema ∙ named)) in
           each_both _ _ (λ (t : Table). t.tree ≢ table.tree → c.trees t.tree ≡ a.trees t.tree) a.schema.tables (λ t two first other. two other ∙ first other) later (all.others table named);
       steps = all.steps ++ c ∷ [];
-      frozen = spare_more a all.steps b c all.frozen one.frozen;
+      frozen = spare_more a all.steps b c all.frozen one.frozen one.sound (inl one.schema);
     }
 
 -- new tables to which the rows of a history are added hold it

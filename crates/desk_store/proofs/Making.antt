@@ -158,5 +158,5 @@ module _ (a b c d : State) (room : HasRoom a.now.schema) where
             (each_both _ _ (λ (t : Table). d.now.trees t.tree ≡ c.now.trees t.tree) a.now.schema.tables (λ t three under. three (λ same. omega arith)) kept_three (below_next a.now.schema))
             (each_both _ _ (λ (t : Table). c.now.trees t.tree ≡ a.now.trees t.tree) a.now.schema.tables (λ t two one. two ∙ one) kept_two others_one);
         steps = b.now ∷ c.now ∷ d.now ∷ [];
-        frozen = (first.frozen, (second.frozen, (third.1, refl)));
+        frozen = (first.frozen, first.sound, inr (meta_table 0, first.schema), (second.frozen, second.sound, inr (file_rev_table 0, second.schema), (third.1, third.2, inl third.0.schema, refl)));
       }

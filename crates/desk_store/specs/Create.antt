@@ -170,10 +170,15 @@ with_meta schema = created schema (meta_table 0)
 abbrev pub with_both : Schema → Schema
 with_both schema = created (with_meta schema) (file_rev_table 0)
 
--- what statements one after another did: none of them changed what SQL here does not understand
+-- a schema, or it with one table more
+abbrev pub IsGrown : Schema → Schema → Type 0
+IsGrown old new = (new ≡ old) ⊎ ((table : Table) × (new ≡ created old table))
+
+-- What statements one after another did: none of them changed what SQL here does not understand. Each left a database that
+-- can be opened, with the objects that were listed before, and at most one table more.
 abbrev pub SpareFrozen : Database → List Database → Database → Type 0
 SpareFrozen old [] after = after ≡ old
-SpareFrozen old (next ∷ more) after = SparesFrozen old next × SpareFrozen next more after
+SpareFrozen old (next ∷ more) after = SparesFrozen old next × IsDatabase next × IsGrown old.schema next.schema × SpareFrozen next more after
 
 -- a database that holds this history in the two tables and that has else what it had: its tables, views and indexes with
 -- their rows, and all that SQL here does not understand. It is a database that can be opened.
