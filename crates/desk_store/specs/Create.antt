@@ -260,7 +260,7 @@ pub record StoresAll {T : Type 0} (old new : State) (history : List Revision) (r
 abbrev pub IsOfMaking : CreateError → Type 0
 IsOfMaking e = (e ≡ refused.Memory) ⊎ ((fault : StoreFault) × (e ≡ refused.Store fault))
 
--- what a look for room answers: the two tables can be made; one of them is there; or a statement was refused
+-- what a look for room is refused for: one of the tables is there; or a statement was refused, or there is no memory
 abbrev pub RefusesRoom : Schema → CreateError → Type 0
 RefusesRoom schema refused.Schema = has_one schema ≡ true
 RefusesRoom schema (refused.Store fault) = Unit {0}

@@ -80,7 +80,8 @@ abbrev pub IsLeft : History → History → History → Type 0
 IsLeft history pending left = (left ≡ history) ⊎ ((r : Revision) × Contains pending r × (left ≡ history ++ r ∷ []))
 
 -- Where a crash leaves these trees of a desk, a later connection to a sound database with these trees has a database of this
--- project: it holds the desk's history, or that and one of the pending revisions. So a desk can be opened on it, and stands there.
+-- project: it holds the desk's history, or that and one of the pending revisions. So no opening answers Schema of it, and a desk
+-- that opens on it stands there.
 abbrev pub CrashesLeaveDesks : (S T V : Type 0) → Ghosts S → Ghosts T → Type 0
 CrashesLeaveDesks S T V g h =
     (desk : Shown S V) (history pending : History) (trees : Trees) (later : Held T)

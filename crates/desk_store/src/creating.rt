@@ -186,7 +186,8 @@ fn sees_one<S: Alter>(conn: &Connection<S>) -> bool
     conn.is_autocommit() && has_one(conn.schema())
 }
 
-/// Looks whether the two tables can be made. (A view or an index that has one of their names is refused as SQLite would.)
+/// Looks whether the two tables can be made. (A view, an index or a trigger that has one of their names is refused as `sqlite`
+/// refuses the statement; so is a schema in which a table counts and `sqlite_sequence` is not there.)
 fn look_for_room<S: Alter>(conn: &mut Connection<S>) -> Result<(), CreateError>
     requires autocommit { (state S.Store conn.old).in_transaction ≡ false }
     ensures { LooksForRoom (state S.Store conn.old) (state S.Store conn.new) result }

@@ -80,7 +80,7 @@ impl<S: Alter + Drop, V: PolicyView + Drop> Desk<S, V> {
         ensures opened { IfOk result (λ desk. HasGoodDisk S.Store desk → OpensAt S.Store (state S.Store conn).committed desk) }
         ensures durable { IfOk result (λ desk. HasGoodDisk S.Store desk → IsTrue (state S.Store desk.conn).is_open × LeavesCommit (state S.Store desk.conn)) }
 
-        // No other error is answered, and `Schema` only if the tables are not those of a site's history.
+        // An error is `Schema`, out of memory, or a look that was refused; `Schema` only if the tables are not those of a site's history.
         ensures errors { IfErr result (λ both. IsOfOpening both.0) }
         ensures foreign { IfErr result (λ both. HasCleanDisk (state S.Store both.1) → both.0 ≡ error.Schema → ¬ IsOurs (state S.Store conn).committed) }
 
@@ -186,8 +186,8 @@ impl<S: Alter + Drop, V: PolicyView + Drop> Desk<S, V> {
     }
 
     /// Makes the tables of a desk in the database of a connection, with revision 1 of each file of a site, by `site`, all in one
-    /// commit. Nothing is made if one of the tables is there, a text has more than 65,536 bytes, or the site has a fault. Beside
-    /// a refusal the connection is handed back.
+    /// commit. Nothing is made if one of the tables is there, or a view, an index or a trigger has one of their names; if a text
+    /// that is stored has more than 65,536 bytes; or if the site has a fault. Beside a refusal the connection is handed back.
     pub fn create(
         alloc: Global,
         mut conn: Connection<S>,
@@ -198,7 +198,8 @@ impl<S: Alter + Drop, V: PolicyView + Drop> Desk<S, V> {
         // The desk stands at the first revisions, in tables beside what was there, and a crash leaves just that.
         ensures made { IfOk result (λ desk. HasGoodDisk S.Store desk → IsMade (state S.Store conn) (state S.Store desk.conn) (texts_of site.now) desk.state) }
 
-        // A refusal names the first reason in the order, and leaves the database as it was.
+        // A refusal names the first reason in the order of `RefusesToCreate`, or out of memory or a refused statement. While the
+        // store is open the tables are as before; what a crash leaves is said below.
         ensures refused { IfErr result (λ both. HasCleanDisk (state S.Store both.1) → RefusesToCreate (state S.Store conn).committed.schema (texts_of site.now) both.0) }
         ensures unchanged { IfErr result (λ both. HasCleanDisk (state S.Store both.1) → IsTrue (state S.Store both.1).is_open
             → (state S.Store both.1).committed ≡ (state S.Store conn).committed) }

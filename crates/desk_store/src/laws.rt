@@ -20,13 +20,13 @@ pub fn pending_edits_have_no_answer()
 {}
 
 /// What a crash leaves of a desk is a database of this project, with the history at which the desk stood, or that and one of the
-/// revisions whose edits had no answer: a desk can be opened on it, and stands there.
+/// revisions whose edits had no answer: no `open` answers `Schema` of it, and a desk that opens on it stands there.
 pub fn crashes_leave_desks<S: Alter + Drop, T: Alter + Drop, V: PolicyView + Drop>()
     ensures { CrashesLeaveDesks S T V S.Store T.Store }
 {}
 
 /// What a stop while a desk is made leaves is what could be left before, or a database of this project with the site's first
-/// revisions.
+/// revisions: no `open` answers `Schema` of that, and a desk that opens on it stands there.
 pub fn crashes_leave_first_histories<S: Alter + Drop, T: Alter + Drop, V: PolicyView + Drop>()
     ensures { CrashesLeaveFirstHistories S T V S.Store T.Store }
 {}
@@ -41,7 +41,7 @@ pub fn declared_tables_are_ours()
     ensures { DeclaredTablesAreOurs }
 {}
 
-/// The history of a site with the revision of a stored edit is one, too: a desk can be opened on it.
+/// The history of a site with the revision of a stored edit is one, too: no `open` answers `Schema` of tables that hold it.
 pub fn stored_edits_keep_site_histories()
     ensures { StoredEditsKeepSiteHistories }
 {
