@@ -314,11 +314,6 @@ pub record IsCreated {V : Type 0} (old new : State) (texts : SiteTexts) (result 
   pub crash : Survives old new (MayMake old texts result)
   pub mode : new.in_transaction ≡ false
 
--- the connection that is in a desk, or is handed back
-abbrev pub conn_of : {S V : Type 0} → Result (Shown S V) (CreateError × Held S) → Held S
-conn_of (Ok desk) = desk.conn
-conn_of (Err both) = both.1
-
 -- the answer without the connection that is handed back
 abbrev pub answer_of : {S V : Type 0} → Result (Shown S V) (CreateError × Held S) → Result (Kept V) CreateError
 answer_of (Ok desk) = Ok desk.state

@@ -9,7 +9,7 @@ ghost use Rattle.desk_core.specs.Head.{newest_in};
 ghost use Rattle.desk_core.specs.History.{added_if, newest_of, revisions_of};
 ghost use Rattle.desk_core.specs.Judging.{first_case};
 ghost use Rattle.desk_core.specs.Site.{IsInForce, site_in};
-ghost use Rattle.desk_store.specs.Create.{IsMade, MayMake, RefusesToCreate, answer_of, conn_of};
+ghost use Rattle.desk_store.specs.Create.{IsMade, MayMake, RefusesToCreate, answer_of};
 ghost use Rattle.desk_store.specs.Desk.{CommitsOne, HasGoodDisk, HasStored, History, IsAccepted, IsEdited, LeavesTables, StandsAt, StaysAsItWas, StepsTo, revision_at, stored_of, told};
 ghost use Rattle.desk_store.specs.History.{row_of};
 ghost use Rattle.desk_store.specs.Open.{IsOfOpening, IsOurs, OpensAt, held_in};
@@ -205,8 +205,8 @@ impl<S: Alter + Drop, V: PolicyView + Drop> Desk<S, V> {
             → (state S.Store both.1).committed ≡ (state S.Store conn).committed) }
 
         // A crash at any moment leaves what it could before, or the one commit; and no transaction is open.
-        ensures crash { Survives (state S.Store conn) (state S.Store (conn_of result)) (MayMake (state S.Store conn) (texts_of site.now) (answer_of result)) }
-        ensures mode { (state S.Store (conn_of result)).in_transaction ≡ false }
+        ensures crash { Survives (state S.Store conn) (state S.Store (held_in result)) (MayMake (state S.Store conn) (texts_of site.now) (answer_of result)) }
+        ensures mode { (state S.Store (held_in result)).in_transaction ≡ false }
     {
         match create_state(alloc, &mut conn, site) {
             Ok(current) => Ok(Desk { conn, current }),
