@@ -51,12 +51,13 @@ impl WarningKind {
     {
         match self {
             WarningKind::ClassMask =>
-                "has neither a prefix nor a mask, so that its class tells its size: write a prefix, as in 10.0.0.0/8",
+                "has neither a prefix nor a mask, so that its class counts, by its first number (/8 up to 127, /16 up to 191, /24 up to 223): write out the prefix that you mean",
             WarningKind::Ipv6 =>
                 "is of IPv6 and matches nobody, since exportdesk supports IPv4 alone",
             WarningKind::UnknownHost =>
-                "is not an address, a netgroup or a host in hosts(5), and matches nobody",
-            WarningKind::UnknownMember => "is not a netgroup of the file, and adds nobody",
+                "is not an address, a netgroup or a host of the hosts file, and matches nobody: give the file with --hosts, correct the name, or add it there",
+            WarningKind::UnknownMember =>
+                "is not a netgroup of the file, and adds nobody: define it, or write a host as (HOST,,)",
         }
     }
 }
