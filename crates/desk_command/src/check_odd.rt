@@ -10,10 +10,8 @@ ghost use Rattle.desk_command.specs.Told.{told};
 
 use crate::check_faults::{Source, finding_in, lines_of};
 use crate::finding::{Finding, Matter};
-use crate::word_places::{
-    Writing, line_numbered, place_of_slice, slice_of_first_word, slice_of_word,
-};
-use desk_policy::{Contradiction, Row, Warning, contradictions};
+use crate::word_places::{Mention, Slice, Writing, line_numbered, mentions, place_of_slice};
+use desk_policy::{Contradiction, Row, Warning, WarningKind, contradictions};
 use desk_text::{Line, Place, Sequence, logical_lines};
 use std::alloc::{AllocError, Global};
 
@@ -31,6 +29,14 @@ pub struct Spot {
     pub line: u32,
     pub place: Option<Place>,
     pub matter: Matter,
+}
+
+/// The words of the line of this number that may be told, and the first of them that is not told yet.
+#[derive(Drop)]
+struct Rest<'t> {
+    line: u32,
+    words: Vec<Mention<'t>>,
+    next: usize,
 }
 
 /// Adds these contradictions and warnings of a text, in the order of their lines.
@@ -142,7 +148,7 @@ fn by_line<'w>(mut odds: Vec<Odd<'w>>) -> Result<Vec<Odd<'w>>, AllocError>
     Ok(odds)
 }
 
-/// Finds the place of each.
+/// Finds the place of each remark about a text, in the order of their lines.
 fn spots_of(
     alloc: Global,
     text: &str,
@@ -155,39 +161,54 @@ fn spots_of(
 {
     let lines = logical_lines(alloc, text)?;
     let mut spots = Vec::new(alloc);
-    let mut from = 0;
+    let mut rest = Rest {
+        line: 0,
+        words: Vec::new(alloc),
+        next: 0,
+    };
     for odd in odds {
-        let (spot, end) = spot_of(alloc, lines.as_slice(), writing, *odd, from)?;
-        spots.push(spot)?;
-        from = end;
+        spots.push(spot_of(alloc, lines.as_slice(), writing, *odd, &mut rest)?)?;
     }
+    drop(rest);
     drop(lines);
     Ok(spots)
 }
 
-/// Finds the place of what is odd in these lines, from this byte of their text on, and where that place ends in the text.
-fn spot_of(
+/// Finds the place of what is odd in these lines. If it is on the line that was looked at last, its words are not cut again.
+fn spot_of<'t>(
     alloc: Global,
-    lines: &[Line],
+    lines: &[Line<'t>],
     writing: Writing,
     odd: Odd<'_>,
-    from: usize,
-) -> Result<(Spot, usize), AllocError>
-    ensures same { IfOk result (λ found. odd_of_spot found.0 ≡ odd_at odd.entry) }
-    ensures place { IfOk result (λ found. (text : List ℕ) → lines.now ≡ logical_lines text → IsSpot text found.0) }
+    rest: &mut Rest<'t>,
+) -> Result<Spot, AllocError>
+    ensures same { IfOk result (λ spot. odd_of_spot spot ≡ odd_at odd.entry) }
+    ensures place { IfOk result (λ spot. (text : List ℕ) → lines.now ≡ logical_lines text → IsSpot text spot) }
 {
     let Some(line) = line_numbered(lines, odd.line) else {
-        return Ok((spot_at(odd, None), from));
+        return Ok(spot_at(odd, None));
     };
-    let slice = match odd.word {
-        Some(word) => slice_of_word(alloc, line, writing, word, from)?,
-        None => slice_of_first_word(alloc, line)?,
+    if rest.line != odd.line {
+        rest.words = mentions(alloc, line, writing)?;
+        rest.line = odd.line;
+        rest.next = 0;
+    }
+    let slice = slice_among(odd, rest);
+    Ok(spot_at(odd, Some(place_of_slice(line, slice))))
+}
+
+/// Finds the slice of what is odd among the words of its line: the first one, or the word that it is about.
+fn slice_among(odd: Odd<'_>, rest: &mut Rest) -> Option<Slice> {
+    let Some(word) = odd.word else {
+        return rest.words.first().map(|mention| mention.slice);
     };
-    let end = match slice {
-        Some(slice) => slice.end,
-        None => from,
-    };
-    Ok((spot_at(odd, Some(place_of_slice(line, slice))), end))
+    let is_member = matches!(odd.matter, Matter::Warning(WarningKind::UnknownMember));
+    let others = rest.words.as_slice().get(rest.next..)?;
+    let count = others.iter().position(|mention| mention.is_member == is_member
+        && mention.text.as_str() == word)?;
+    let slice = others.get(count)?.slice;
+    rest.next = rest.next.saturating_add(count).saturating_add(1);
+    Some(slice)
 }
 
 /// Makes the spot of what is odd at this place.
