@@ -1,6 +1,6 @@
 //! Hints for words that other systems have in their exports files, chiefly Linux. (exports(5) of FreeBSD and of Linux)
 
-ghost use Rattle.std.specs.Prelude.{◌≡◌};
+ghost use Rattle.std.specs.Prelude.{◌≡◌, Some};
 ghost use Rattle.std.specs.Option.{option_map};
 ghost use Rattle.desk_exports.specs.Grammar.{after_dash, option_name};
 ghost use Rattle.desk_exports.specs.Options.{is_name_among};
@@ -17,9 +17,7 @@ pub fn hint(matter: Matter, word: &str) -> Option<&'static str>
 {
     match matter {
         Matter::Fault(SiteRule::Table(TableRule::Custodian), _) => custodian_hint(word),
-        Matter::Fault(SiteRule::Line(Rule::UnknownOption), _) => option_hint(option_name(after_dash(
-            word,
-        ))),
+        Matter::Fault(SiteRule::Line(Rule::UnknownOption), _) => option_hint(after_dash(word)),
         Matter::Fault(SiteRule::Line(Rule::BadAddress), _) => host_hint(word),
         Matter::Warning(WarningKind::UnknownHost) => unknown_host_hint(word),
         _ => None,
@@ -37,12 +35,29 @@ fn custodian_hint(word: &str) -> Option<&'static str>
     }
 }
 
-/// Returns the hint for the name of an option that is not accepted as it is written.
-fn option_hint(name: &str) -> Option<&'static str>
-    ensures { option_map (λ hint. hint.now) result ≡ spec.option_hint name.now }
+/// Returns the hint for an option that is not accepted as it is written, without its dash.
+fn option_hint(option: &str) -> Option<&'static str>
+    ensures { option_map (λ hint. hint.now) result ≡ spec.option_hint option.now }
+{
+    if has_byte(option, b'=') {
+        value_hint(option_name(option))
+    } else {
+        name_hint(option)
+    }
+}
+
+/// Returns the hint for the name of an option that is not accepted with its value.
+fn value_hint(name: &str) -> Option<&'static str>
+    ensures { option_map (λ hint. hint.now) result ≡ spec.value_hint name.now }
 {
     match name {
-        "ro" | "o" | "alldirs" | "quiet" => Some("write it without a value"),
+        "ro" | "o" => Some(
+            "write -ro without a value, and each client that the value names as a host behind the options",
+        ),
+        "rw" | "root" | "access" => {
+            Some("write each client that the value names as a host behind the options")
+        }
+        "alldirs" | "quiet" => Some("write it without a value"),
         _ => name_hint(name),
     }
 }
@@ -88,31 +103,85 @@ fn host_hint(word: &str) -> Option<&'static str>
     ensures { option_map (λ hint. hint.now) result ≡ spec.host_hint word.now }
 {
     if has_byte(word, b'(') {
-        Some(
-            "write the options before the hosts, with a dash and without parentheses, as in -ro 10.0.0.5",
-        )
+        parenthesis_hint(word)
     } else if has_byte(word, b'*') || has_byte(word, b'?') {
-        Some(
-            "there are no wildcards: write a netgroup or -network, or no host at all to export to everybody",
-        )
+        Some("there are no wildcards: write hosts, a netgroup, or -network with a prefix")
     } else if begins_with_at(word) {
         Some("write a netgroup without the @")
     } else if has_byte(word, b',') {
-        Some("write blanks between hosts, and a dash before options")
+        Some(
+            "write a dash before options and blanks between hosts, and name the hosts: a line without hosts is for everybody",
+        )
+    } else if has_byte(word, b'=') {
+        bare_value_hint(option_name(word))
     } else {
-        bare_hint(option_name(word))
+        bare_hint(word)
     }
 }
 
-/// Returns the hint for the name of an option that has no dash.
+/// Returns the hint for a word with a parenthesis, before which a host or a network may stand.
+fn parenthesis_hint(word: &str) -> Option<&'static str>
+    ensures { option_map (λ hint. hint.now) result ≡ Some (spec.parenthesis_hint word.now) }
+{
+    if has_byte(word, b'/') {
+        Some(
+            "write -network before the network, and the options before that, with a dash and without parentheses",
+        )
+    } else {
+        Some(
+            "write the options before the hosts, with a dash and without parentheses, as in -ro 10.0.0.5",
+        )
+    }
+}
+
+/// Returns the hint for the name of an option that has a value, but no dash.
+fn bare_value_hint(name: &str) -> Option<&'static str>
+    ensures { option_map (λ hint. hint.now) result ≡ spec.bare_value_hint name.now }
+{
+    match name {
+        "ro" => Some("write -ro without a value, and each client that the value names as a host"),
+        "rw" | "root" | "access" => Some("write each client that the value names as a host"),
+        _ => bare_hint(name),
+    }
+}
+
+/// Returns the hint for the name of an option that has no dash. What takes it from the hosts says that some must stay.
 fn bare_hint(name: &str) -> Option<&'static str>
     ensures { option_map (λ hint. hint.now) result ≡ spec.bare_hint name.now }
 {
     match name {
-        "ro" | "alldirs" | "quiet" | "maproot" | "mapall" | "sec" | "network" | "mask" => {
-            Some("write a dash before an option")
-        }
-        _ => name_hint(name),
+        "network" | "mask" => Some("write a dash before it"),
+        "ro" | "alldirs" | "quiet" | "maproot" | "mapall" | "sec" => Some(
+            "write a dash before it, and name the hosts: a line without hosts is for everybody",
+        ),
+        "rw" => Some(
+            "write hosts in its place: a line without -ro is read-write, and one without hosts is for everybody",
+        ),
+        _ => bare_name_hint(name),
+    }
+}
+
+/// Returns the hint for an option of Linux of this name that has no dash.
+fn bare_name_hint(name: &str) -> Option<&'static str>
+    ensures { option_map (λ hint. hint.now) result ≡ spec.bare_name_hint name.now }
+{
+    match name {
+        "no_root_squash" => Some(
+            "write -maproot=root before the hosts, and name them: a line without hosts is for everybody",
+        ),
+        "root_squash" => Some(
+            "write hosts in its place: root is mapped to nobody without it, and a line without hosts is for everybody",
+        ),
+        "all_squash" => Some(
+            "write -mapall=nobody before the hosts, and name them: a line without hosts is for everybody",
+        ),
+        "anonuid" | "anongid" => Some(
+            "write -maproot=UID:GID, or -mapall=UID:GID for every user, before the hosts, and name them: a line without hosts is for everybody",
+        ),
+        _ if has_no_counterpart(name) => Some(
+            "write hosts in its place: FreeBSD has no such option, and a line without hosts is for everybody",
+        ),
+        _ => None,
     }
 }
 
@@ -120,7 +189,7 @@ fn bare_hint(name: &str) -> Option<&'static str>
 fn unknown_host_hint(word: &str) -> Option<&'static str>
     ensures { option_map (λ hint. hint.now) result ≡ spec.unknown_host_hint word.now }
 {
-    if has_byte(word, b'/') {
+    if has_byte(word, b'/') && !has_byte(word, b'(') {
         Some("write -network before a network")
     } else {
         host_hint(word)
