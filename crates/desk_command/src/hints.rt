@@ -2,6 +2,7 @@
 
 ghost use Rattle.std.specs.Prelude.{◌≡◌, Some};
 ghost use Rattle.std.specs.Option.{option_map};
+ghost use Rattle.desk_exports.specs.Clients.{prefix_text};
 ghost use Rattle.desk_exports.specs.Grammar.{after_dash, option_name};
 ghost use Rattle.desk_exports.specs.Options.{is_name_among};
 ghost use Rattle.desk_command.specs.Hints as spec;
@@ -19,6 +20,7 @@ pub fn hint(matter: Matter, word: &str) -> Option<&'static str>
         Matter::Fault(SiteRule::Table(TableRule::Custodian), _) => custodian_hint(word),
         Matter::Fault(SiteRule::Line(Rule::UnknownOption), _) => option_hint(after_dash(word)),
         Matter::Fault(SiteRule::Line(Rule::BadAddress), _) => host_hint(word),
+        Matter::Fault(SiteRule::Line(Rule::BadMask), _) => mask_hint(word),
         Matter::Warning(WarningKind::UnknownHost) => unknown_host_hint(word),
         _ => None,
     }
@@ -35,15 +37,25 @@ fn custodian_hint(word: &str) -> Option<&'static str>
     }
 }
 
-/// Returns the hint for an option that is not accepted as it is written, without its dash.
+/// Returns the hint for an option that is not accepted as it is written, without its dash. One that is empty is shown by
+/// its whole word, with the commas.
 fn option_hint(option: &str) -> Option<&'static str>
     ensures { option_map (λ hint. hint.now) result ≡ spec.option_hint option.now }
 {
-    if has_byte(option, b'=') {
+    if has_byte(option, b',') && has_empty_piece(option) {
+        Some("take out a comma too many")
+    } else if has_byte(option, b'=') {
         value_hint(option_name(option))
     } else {
         name_hint(option)
     }
+}
+
+/// Tests whether an option between the commas is empty.
+fn has_empty_piece(options: &str) -> bool
+    ensures { result ≡ spec.has_empty_piece options.now }
+{
+    options.split(',').any(|option| option.is_empty())
 }
 
 /// Returns the hint for the name of an option that is not accepted with its value.
@@ -54,7 +66,10 @@ fn value_hint(name: &str) -> Option<&'static str>
         "ro" | "o" => Some(
             "write -ro without a value, and each client that the value names as a host behind the options",
         ),
-        "rw" | "root" | "access" => {
+        "root" => Some(
+            "write -maproot=root, and each client that the value names as a host, on a line of its own",
+        ),
+        "rw" | "access" => {
             Some("write each client that the value names as a host behind the options")
         }
         "alldirs" | "quiet" => Some("write it without a value"),
@@ -110,7 +125,7 @@ fn host_hint(word: &str) -> Option<&'static str>
         Some("write a netgroup without the @")
     } else if has_byte(word, b',') {
         Some(
-            "write a dash before options and blanks between hosts, and name the hosts: a line without hosts is for everybody",
+            "write a dash before options, blanks between hosts, and -mask before a mask: a line without hosts or a network is for everybody",
         )
     } else if has_byte(word, b'=') {
         bare_value_hint(option_name(word))
@@ -125,7 +140,7 @@ fn parenthesis_hint(word: &str) -> Option<&'static str>
 {
     if has_byte(word, b'/') {
         Some(
-            "write -network before the network, and the options before that, with a dash and without parentheses",
+            "write -network before the network, -mask in place of the / before a mask, and the options before both, with a dash and without parentheses",
         )
     } else {
         Some(
@@ -140,7 +155,10 @@ fn bare_value_hint(name: &str) -> Option<&'static str>
 {
     match name {
         "ro" => Some("write -ro without a value, and each client that the value names as a host"),
-        "rw" | "root" | "access" => Some("write each client that the value names as a host"),
+        "root" => Some(
+            "write -maproot=root, and each client that the value names as a host, on a line of its own",
+        ),
+        "rw" | "access" => Some("write each client that the value names as a host"),
         _ => bare_hint(name),
     }
 }
@@ -155,7 +173,7 @@ fn bare_hint(name: &str) -> Option<&'static str>
             "write a dash before it, and name the hosts: a line without hosts is for everybody",
         ),
         "rw" => Some(
-            "write hosts in its place: a line without -ro is read-write, and one without hosts is for everybody",
+            "leave it out, but keep or name a host: a line without -ro is read-write, and one without hosts is for everybody",
         ),
         _ => bare_name_hint(name),
     }
@@ -170,7 +188,7 @@ fn bare_name_hint(name: &str) -> Option<&'static str>
             "write -maproot=root before the hosts, and name them: a line without hosts is for everybody",
         ),
         "root_squash" => Some(
-            "write hosts in its place: root is mapped to nobody without it, and a line without hosts is for everybody",
+            "leave it out, but keep or name a host: root is mapped to nobody without it, and a line without hosts is for everybody",
         ),
         "all_squash" => Some(
             "write -mapall=nobody before the hosts, and name them: a line without hosts is for everybody",
@@ -179,7 +197,7 @@ fn bare_name_hint(name: &str) -> Option<&'static str>
             "write -maproot=UID:GID, or -mapall=UID:GID for every user, before the hosts, and name them: a line without hosts is for everybody",
         ),
         _ if has_no_counterpart(name) => Some(
-            "write hosts in its place: FreeBSD has no such option, and a line without hosts is for everybody",
+            "leave it out, but keep or name a host: FreeBSD has no such option, and a line without hosts is for everybody",
         ),
         _ => None,
     }
@@ -190,9 +208,20 @@ fn unknown_host_hint(word: &str) -> Option<&'static str>
     ensures { option_map (λ hint. hint.now) result ≡ spec.unknown_host_hint word.now }
 {
     if has_byte(word, b'/') && !has_byte(word, b'(') {
-        Some("write -network before a network")
+        Some("write -network before a network, and -mask in place of the / before a mask")
     } else {
         host_hint(word)
+    }
+}
+
+/// Returns the hint for a network or a mask that is not accepted: a mask behind a `/` goes behind `-mask`.
+fn mask_hint(word: &str) -> Option<&'static str>
+    ensures { option_map (λ hint. hint.now) result ≡ spec.mask_hint word.now }
+{
+    if has_byte(behind_slash(word), b'.') {
+        Some("write -mask in place of the /, as in -network 10.0.0.0 -mask 255.255.255.0")
+    } else {
+        None
     }
 }
 
@@ -215,6 +244,16 @@ fn after_dash(word: &str) -> &str
     ensures { result.now ≡ after_dash word.now }
 {
     word.strip_prefix('-').unwrap_or(word)
+}
+
+/// Returns what stands behind the first `/` of a word.
+fn behind_slash(word: &str) -> &str
+    ensures { result.now ≡ prefix_text word.now }
+{
+    match word.split_once('/') {
+        Some((_, behind)) => behind,
+        None => "",
+    }
 }
 
 /// Returns what stands before the first `=` of a word.

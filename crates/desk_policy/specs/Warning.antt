@@ -35,8 +35,8 @@ kind_name UnknownMember = codes "UnknownMember"
 -- what is said of the word that is odd
 abbrev pub kind_sentence : WarningKind → List ℕ
 kind_sentence ClassMask = codes "has neither a prefix nor a mask, so that its class counts, by its first number (/8 up to 127, /16 up to 191, /24 up to 223): write out the prefix that you mean"
-kind_sentence Ipv6 = codes "is of IPv6 and matches nobody, since exportdesk supports IPv4 alone"
-kind_sentence UnknownHost = codes "is not an address, a netgroup or a host of the hosts file, and matches nobody: give the file with --hosts, correct the name, or add it there"
+kind_sentence Ipv6 = codes "has a colon, so it counts as IPv6 and matches nobody: write IPv4, and blanks between hosts"
+kind_sentence UnknownHost = codes "is not an address, a known host or (outside a triple) a known netgroup, and matches nobody: correct it, or give the file that has it (--hosts, --netgroup or --site)"
 kind_sentence UnknownMember = codes "is not a netgroup of the file, and adds nobody: define it, or write a host as (HOST,,)"
 
 -- of a host's text: it is of IPv6; it has digits and dots alone and is not an address; or it is no name of the hosts file,

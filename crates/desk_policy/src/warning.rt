@@ -53,9 +53,9 @@ impl WarningKind {
             WarningKind::ClassMask =>
                 "has neither a prefix nor a mask, so that its class counts, by its first number (/8 up to 127, /16 up to 191, /24 up to 223): write out the prefix that you mean",
             WarningKind::Ipv6 =>
-                "is of IPv6 and matches nobody, since exportdesk supports IPv4 alone",
+                "has a colon, so it counts as IPv6 and matches nobody: write IPv4, and blanks between hosts",
             WarningKind::UnknownHost =>
-                "is not an address, a netgroup or a host of the hosts file, and matches nobody: give the file with --hosts, correct the name, or add it there",
+                "is not an address, a known host or (outside a triple) a known netgroup, and matches nobody: correct it, or give the file that has it (--hosts, --netgroup or --site)",
             WarningKind::UnknownMember =>
                 "is not a netgroup of the file, and adds nobody: define it, or write a host as (HOST,,)",
         }

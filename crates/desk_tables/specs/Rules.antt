@@ -32,11 +32,11 @@ rule_name TooMany = codes "TooMany"
 
 -- what is said of the slice that breaks a rule, or of the file
 abbrev pub rule_sentence : TableRule → List ℕ
-rule_sentence Fields = codes "is on a line of too few or too many fields, or is a quote that is not closed"
-rule_sentence Number = codes "is not a number or an address that can stand here"
-rule_sentence Name = codes "is not a name: it is empty, too long, or has a character that it may not have"
-rule_sentence Duplicate = codes "is on an earlier line already"
-rule_sentence BadPath = codes "is not a mount point: write a path that begins with / and has no component . or .."
+rule_sentence Fields = codes "is on a line of too few or too many fields, or opens a quote that is not closed: write ADDRESS NAME.. in hosts, NAME NUMBER in networks, 7 fields in passwd, 4 in group, MOUNT CUSTODIAN.. in filesystems, NAME DIGEST in custodians"
+rule_sentence Number = codes "is missing or wrong here: write four numbers of 0 to 255 in hosts, one to four in networks, an id up to 4294967295 in passwd and group, without leading zeros"
+rule_sentence Name = codes "is not a name: write one of 1 to 255 bytes, and in custodians of 1 to 32 of a to z, 0 to 9, - and _"
+rule_sentence Duplicate = codes "is listed on an earlier line already: keep one of the two"
+rule_sentence BadPath = codes "is not a mount point: one begins with /, has no component . or .., no NUL byte, and at most 1024 bytes"
 rule_sentence Custodian = codes "needs a line among the custodians"
 rule_sentence Digest = codes "is not a digest of 64 hexadecimal digits"
 rule_sentence TooMany = codes "is a mount point beyond the 256 that the file may have"

@@ -50,13 +50,14 @@ impl TableRule {
     {
         match self {
             TableRule::Fields =>
-                "is on a line of too few or too many fields, or is a quote that is not closed",
-            TableRule::Number => "is not a number or an address that can stand here",
+                "is on a line of too few or too many fields, or opens a quote that is not closed: write ADDRESS NAME.. in hosts, NAME NUMBER in networks, 7 fields in passwd, 4 in group, MOUNT CUSTODIAN.. in filesystems, NAME DIGEST in custodians",
+            TableRule::Number =>
+                "is missing or wrong here: write four numbers of 0 to 255 in hosts, one to four in networks, an id up to 4294967295 in passwd and group, without leading zeros",
             TableRule::Name =>
-                "is not a name: it is empty, too long, or has a character that it may not have",
-            TableRule::Duplicate => "is on an earlier line already",
+                "is not a name: write one of 1 to 255 bytes, and in custodians of 1 to 32 of a to z, 0 to 9, - and _",
+            TableRule::Duplicate => "is listed on an earlier line already: keep one of the two",
             TableRule::BadPath =>
-                "is not a mount point: write a path that begins with / and has no component . or ..",
+                "is not a mount point: one begins with /, has no component . or .., no NUL byte, and at most 1024 bytes",
             TableRule::Custodian => "needs a line among the custodians",
             TableRule::Digest => "is not a digest of 64 hexadecimal digits",
             TableRule::TooMany => "is a mount point beyond the 256 that the file may have",
