@@ -1,8 +1,8 @@
 -- What a finding tells. (this project's own)
-use Rattle.std.specs.Prelude.{ℕ, ◌+◌, Bool, true, false, List, [], Option, Some, None, codes, length, slice_range, take}
+use Rattle.std.specs.Prelude.{ℕ, ◌+◌, Bool, true, false, List, [], Option, Some, None, codes, count_by, slice_range, take}
+use Rattle.std.specs.Fmt.{is_char_start}
 use Rattle.std.specs.List.{All}
 use Rattle.std.specs.Option.{IfSome}
-use Rattle.std.specs.Str.{chars}
 use Rattle.desk_text.specs.Place.{LiesWithin}
 use Rattle.desk_text.specs.declared.place.Place.{Place}
 use Rattle.desk_policy.specs.SiteFault.{rule_name, rule_number}
@@ -36,6 +36,10 @@ name_of (matter.Fault rule other) = rule_name rule
 name_of (matter.Contradiction other address) = rule_name rule.Contradiction
 name_of (matter.Warning kind) = kind_name kind
 
+-- how many characters the bytes of a text begin (UTF-8: each byte but 128 to 191)
+abbrev pub character_count : List ℕ → ℕ
+character_count bytes = count_by is_char_start bytes
+
 -- the number of the physical line, the column in it, in characters, and the slice: of a file as a whole 1, 1 and none
 abbrev pub line_at : Option Place → ℕ
 line_at None = 1
@@ -43,7 +47,7 @@ line_at (Some place) = place.line
 
 abbrev pub column_at : List ℕ → Option Place → ℕ
 column_at source None = 1
-column_at source (Some place) = 1 + length (chars (take place.start source))
+column_at source (Some place) = 1 + character_count (take place.start source)
 
 abbrev pub slice_at : List ℕ → Option Place → List ℕ
 slice_at source None = []

@@ -9,7 +9,7 @@ use Rattle.serde_json.specs.Written.{compact_text}
 use Rattle.desk_text.specs.Address as addresses
 use Rattle.desk_text.specs.Address.{addr_text}
 use Rattle.desk_text.specs.declared.address.Addr.{Addr}
-use Rattle.desk_command.specs.Finding.{column_at, kind_word, line_at, name_of, number_of, slice_at}
+use Rattle.desk_command.specs.Finding.{kind_word, line_at, name_of, number_of, slice_at}
 use Rattle.desk_command.specs.FindingPrints.{message}
 use Rattle.desk_command.specs.declared.finding.Finding.{Finding}
 use Rattle.desk_command.specs.declared.finding.Matter.{Matter}
@@ -38,7 +38,7 @@ with_address (Some address) members = member (codes "address") (string (addr_tex
 -- a finding as an object, its members in the byte order of their keys
 abbrev pub object_of : Option Addr → Option ℕ → Finding → List ℕ → Data
 object_of address other finding text = object (with_address address
-    (member (codes "column") (number (unsigned (column_at finding.source.now finding.place)))
+    (member (codes "column") (number (unsigned finding.column))
     (member (codes "kind") (string (kind_word finding.matter))
     (member (codes "line") (number (unsigned (line_at finding.place)))
     (member (codes "name") (string (name_of finding.matter))

@@ -1,9 +1,10 @@
 //! The findings of the faults of texts: each faulty line with the first rule that it breaks, at its place.
 
-ghost use Rattle.std.specs.Prelude.{◌≡◌, ◌-◌, ◌++◌, ◌≤◌, [], IfOk, OnOk, length, map, slice_index_or};
+ghost use Rattle.std.specs.Prelude.{◌≡◌, ◌-◌, ◌++◌, ◌≤◌, ◌<◌, ◌^◌, [], IfOk, OnOk, length, map, slice_index_or, take};
 ghost use Rattle.std.specs.Str.Lines.{lines};
 ghost use Rattle.desk_command.specs.CheckFaults.{Adds, AreReadable, TellGroup, TellHosts, TellNetgroup, TellNetworks, TellPasswd, TellTables, tell_group, tell_line, tell_table};
-ghost use Rattle.desk_command.specs.Told.{shown_line, tell_in, told};
+ghost use Rattle.desk_command.specs.Finding.{character_count};
+ghost use Rattle.desk_command.specs.Told.{IsFront, shown_line, tell_in, told};
 
 use crate::finding::{Finding, Matter};
 use desk_exports as exports;
@@ -30,6 +31,15 @@ pub struct TableSources<'a> {
     pub passwd: Source<'a>,
     pub group: Source<'a>,
     pub netgroup: Source<'a>,
+}
+
+/// The front of a physical line of a text, in bytes, whose characters are counted. It keeps the work linear when a long line
+/// has many findings.
+#[derive(Clone, Copy)]
+pub struct Front {
+    pub line: u32,
+    pub bytes: usize,
+    pub characters: usize,
 }
 
 /// Adds the faults of each table, in the order in which they are read.
@@ -185,12 +195,74 @@ pub fn finding_in<'a>(
 ) -> Finding<'a>
     ensures { told result ≡ tell_in path.entry.now (map (λ line. line.now) lines.now) place matter }
 {
+    let mut front = Front {
+        line: 0,
+        bytes: 0,
+        characters: 0,
+    };
+    finding_behind(path, lines, place, matter, &mut front)
+}
+
+/// Makes the same finding, and counts its column from the front that is counted already on, if that is of its line.
+pub fn finding_behind<'a>(
+    path: &'a str,
+    lines: &[&'a str],
+    place: Option<Place>,
+    matter: Matter,
+    front: &mut Front,
+) -> Finding<'a>
+    requires { IsFront (map (λ line. line.now) lines.now) front.now }
+    ensures finding { told result ≡ tell_in path.entry.now (map (λ line. line.now) lines.now) place matter }
+    ensures front { IsFront (map (λ line. line.now) lines.now) front.new }
+{
+    let source = line_at(lines, shown_line(place));
+    let column = match place {
+        Some(place) => {
+            let characters = characters_before(source, place, *front);
+            *front = Front {
+                line: place.line,
+                bytes: place.start,
+                characters,
+            };
+            1 + characters
+        }
+        None => 1,
+    };
     Finding {
         path,
-        source: line_at(lines, shown_line(place)),
+        source,
         place,
+        column,
         matter,
     }
+}
+
+/// Counts the characters of a line before a slice, from a front of it that is counted already on.
+fn characters_before(source: &str, place: Place, front: Front) -> usize
+    requires { front.line ≡ place.line → front.characters ≡ character_count (take front.bytes source.now) }
+    ensures count { result ≡ character_count (take place.start source.now) }
+    ensures fits { result < 2 ^ 63 }
+{
+    let bytes = source.as_bytes();
+    if front.line == place.line
+        && let Some(more) = bytes.get(front.bytes..place.start)
+    {
+        return front.characters + count_characters(more);
+    }
+    match bytes.get(..place.start) {
+        Some(before) => count_characters(before),
+        None => count_characters(bytes),
+    }
+}
+
+/// Counts the characters that bytes of a text begin.
+fn count_characters(bytes: &[u8]) -> usize
+    ensures { result ≡ character_count bytes.now }
+{
+    bytes
+        .iter()
+        .filter(|byte| **byte < 0x80 || **byte >= 0xC0)
+        .count()
 }
 
 /// Lends the line of this number, from 1; the empty one if there is none.

@@ -8,7 +8,7 @@ ghost use Rattle.desk_command.specs.CheckFaults.{Adds};
 ghost use Rattle.desk_command.specs.CheckOdd.{AreContradictionsIn, IsSpot, TellInOrder, TellOdds, odd_at, odd_of_contradiction, odd_of_spot, odd_of_warning, tell_spot};
 ghost use Rattle.desk_command.specs.Told.{told};
 
-use crate::check_faults::{Source, finding_in, lines_of};
+use crate::check_faults::{Front, Source, finding_behind, lines_of};
 use crate::finding::{Finding, Matter};
 use crate::word_places::{Mention, Slice, Writing, line_numbered, mentions, place_of_slice};
 use desk_policy::{Contradiction, Row, Warning, WarningKind, contradictions};
@@ -232,8 +232,20 @@ fn push_spots<'a>(
     ensures { OnOk result (map told found.new ≡ map told found.old ++ map (tell_spot source.entry) spots.now) }
 {
     let lines = lines_of(alloc, source.text)?;
+    let mut front = Front {
+        line: 0,
+        bytes: 0,
+        characters: 0,
+    };
     for spot in spots {
-        found.push(finding_in(source.path, lines.as_slice(), spot.place, spot.matter))?;
+        let finding = finding_behind(
+            source.path,
+            lines.as_slice(),
+            spot.place,
+            spot.matter,
+            &mut front,
+        );
+        found.push(finding)?;
     }
     Ok(())
 }

@@ -27,6 +27,8 @@ pub struct Finding<'a> {
     pub source: &'a str,
     /// Where the slice is; `None` for a fault of the file as a whole, which is told at 1:1.
     pub place: Option<Place>,
+    /// The column of the slice in its line, from 1, in characters; of a file as a whole 1.
+    pub column: usize,
     pub matter: Matter,
 }
 
@@ -81,17 +83,6 @@ impl<'a> Finding<'a> {
     {
         match self.place {
             Some(place) => place.line,
-            None => 1,
-        }
-    }
-
-    /// Returns the column of the slice in its line, from 1, in characters; of a file as a whole 1.
-    pub fn column(&self) -> usize
-        requires { spec.HasSlice self.now }
-        ensures { result ≡ spec.column_at self.now.source.now self.now.place }
-    {
-        match self.place {
-            Some(place) => place.column(self.source),
             None => 1,
         }
     }

@@ -95,7 +95,7 @@ fn contradiction_value(
     let address = format!(in alloc; "{address}")?;
     json!(in alloc; {
         "address": address,
-        "column": finding.column(),
+        "column": finding.column,
         "kind": finding.matter.kind(),
         "line": finding.line(),
         "name": finding.matter.name(),
@@ -118,7 +118,7 @@ fn duplicate_value(
     ensures { IfOk result (λ value. view value ≡ spec.object_of None (Some other) finding.now message.now) }
 {
     json!(in alloc; {
-        "column": finding.column(),
+        "column": finding.column,
         "kind": finding.matter.kind(),
         "line": finding.line(),
         "name": finding.matter.name(),
@@ -136,7 +136,7 @@ fn plain_value(alloc: Global, finding: &Finding, message: &str) -> Result<Value,
     ensures { IfOk result (λ value. view value ≡ spec.object_of None None finding.now message.now) }
 {
     json!(in alloc; {
-        "column": finding.column(),
+        "column": finding.column,
         "kind": finding.matter.kind(),
         "line": finding.line(),
         "name": finding.matter.name(),

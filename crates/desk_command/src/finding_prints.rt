@@ -1,11 +1,13 @@
 //! How findings are printed, in the form that editors and CI take:
 //! `exports:12:6: fault 5 UnknownOption: "-maprot" is not an option of exports(5)`.
 
-ghost use Rattle.std.specs.Prelude.{◌≡◌, ◌++◌, IfOk, OnOk, Some};
+ghost use Rattle.std.specs.Prelude.{◌≡◌, ◌++◌, ◌≤◌, [], IfOk, OnOk, Some, if◌then◌else◌};
 ghost use Rattle.std.specs.Option.{option_map};
+ghost use Rattle.std.specs.Str.{IsCharBoundary};
 ghost use Rattle.std.specs.String.{string_bytes};
 ghost use Rattle.desk_text.specs.Place.{LiesWithin};
 ghost use Rattle.desk_command.specs.Finding.{HasSlice, HaveSlices};
+ghost use Rattle.desk_command.specs.FindingPrints.{IsAround};
 ghost use Rattle.desk_command.specs.FindingPrints as spec;
 
 use crate::finding::{Finding, Matter};
@@ -13,6 +15,22 @@ use crate::hints::hint;
 use crate::shown_text::{push_blanks, push_carets, push_shown, push_shown_line};
 use desk_text::Place;
 use std::alloc::{AllocError, Global};
+
+/// How many bytes a line may have that is shown whole.
+const WHOLE_LENGTH: usize = 200;
+
+/// How many bytes of a longer line are shown before the beginning of a slice, and from it on.
+const REACH: usize = 100;
+
+/// What stands for a part of a line that is cut off.
+const DOTS: &str = "...";
+
+/// The part of a line that is shown: where it begins and ends, in bytes.
+#[derive(Clone, Copy)]
+struct Excerpt {
+    start: usize,
+    end: usize,
+}
 
 /// Prints findings in their order, and at last a line with how many faults and warnings they are: `2 faults, 1 warning`.
 /// Below each finding stand the line of the file and a line of carets under the slice, unless it is to be brief.
@@ -63,11 +81,10 @@ fn push_headline(finding: &Finding, text: &mut String) -> Result<(), AllocError>
 
 /// Adds where a finding is: its path, line and column.
 fn push_position(finding: &Finding, text: &mut String) -> Result<(), AllocError>
-    requires { HasSlice finding.now }
     ensures { OnOk result (string_bytes text.new ≡ string_bytes text.old ++ spec.position_text finding.now) }
 {
     let line = finding.line();
-    let column = finding.column();
+    let column = finding.column;
     push_shown(finding.path, text)?;
     write!(text, ":{line}:{column}: ")
 }
@@ -151,16 +168,68 @@ fn push_hint(hint: Option<&str>, text: &mut String) -> Result<(), AllocError>
     }
 }
 
-/// Adds a line of a file, and a line of carets under this slice of it.
+/// Adds a line of a file, or what is shown of a long one, and a line of carets under this slice of it.
 fn push_marked_line(source: &str, place: Place, text: &mut String) -> Result<(), AllocError>
     requires { LiesWithin source.now place }
     ensures { OnOk result (string_bytes text.new ≡ string_bytes text.old ++ spec.marked_line source.now (Some place)) }
 {
-    push_shown_line(source, text)?;
-    text.push('\n')?;
-    push_blanks(&source[..place.start], text)?;
-    push_carets(&source[place.start..place.end], text)?;
+    let part = excerpt_of(source, place.start);
+    push_excerpt(source, part, text)?;
+    push_marks(source, place, part, text)
+}
+
+/// Finds what is shown of a line with a slice that begins at this byte.
+fn excerpt_of(line: &str, start: usize) -> Excerpt
+    requires { IsCharBoundary line.now start }
+    ensures exact { result ≡ spec.excerpt line.now start }
+    ensures around { IsAround line.now start result }
+{
+    let reach = if line.len() > WHOLE_LENGTH {
+        REACH
+    } else {
+        WHOLE_LENGTH
+    };
+    Excerpt {
+        start: line.floor_char_boundary(start.saturating_sub(reach)),
+        end: line.floor_char_boundary(start + reach),
+    }
+}
+
+/// Adds this part of a line, with dots for what is cut off.
+fn push_excerpt(line: &str, part: Excerpt, text: &mut String) -> Result<(), AllocError>
+    requires begins { IsCharBoundary line.now part.start }
+    requires ends { IsCharBoundary line.now part.end }
+    requires ordered { part.start ≤ part.end }
+    ensures { OnOk result (string_bytes text.new ≡ string_bytes text.old ++ spec.excerpt_text line.now part) }
+{
+    push_if(part.start > 0, DOTS, text)?;
+    push_shown_line(&line[part.start..part.end], text)?;
+    push_if(part.end < line.len(), DOTS, text)?;
     text.push('\n')
+}
+
+/// Adds the line of carets under what this part of a line has of a slice.
+fn push_marks(line: &str, place: Place, part: Excerpt, text: &mut String) -> Result<(), AllocError>
+    requires slice { LiesWithin line.now place }
+    requires around { IsAround line.now place.start part }
+    ensures { OnOk result (string_bytes text.new ≡ string_bytes text.old ++ spec.marks line.now place part) }
+{
+    push_if(part.start > 0, "   ", text)?;
+    push_blanks(&line[part.start..place.start], text)?;
+    let end = if place.end < part.end {
+        place.end
+    } else {
+        part.end
+    };
+    push_carets(&line[place.start..end], text)?;
+    text.push('\n')
+}
+
+/// Adds a text if it is wanted.
+fn push_if(wanted: bool, more: &str, text: &mut String) -> Result<(), AllocError>
+    ensures { OnOk result (string_bytes text.new ≡ string_bytes text.old ++ (if wanted then more.now else [])) }
+{
+    if wanted { text.push_str(more) } else { Ok(()) }
 }
 
 /// Adds the line with how many faults and warnings there are.
