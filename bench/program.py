@@ -1,14 +1,16 @@
-"""Builds the program of a benchmark, and measures its runs.
+"""Builds the program that a benchmark runs, and measures its runs.
 
-The program is a crate of its own, added to a copy of the tree, so that the repository has no crate that is there for
-the benchmark alone.
+It is `exportdesk` itself, or a crate of its own, added to a copy of the tree, so that the repository has no crate that
+is there for the benchmark alone.
 """
 
 import os
 import pathlib
+import re
 import shutil
 import subprocess
 import sys
+import time
 
 RUNS = 5
 TOP = pathlib.Path(__file__).resolve().parent.parent
@@ -49,12 +51,34 @@ def write_site(folder, files):
     return folder
 
 
+def proved():
+    """Proves and builds the program, unless that is done, and returns where it is."""
+    done = subprocess.run([TOP / "prove"], check=True, stdout=subprocess.PIPE, text=True)
+    return done.stdout.strip()
+
+
+def timed_run(words, statuses=(0,), out=subprocess.PIPE, of_processor=False):
+    """The time in seconds, or that of the processor alone, the peak memory in MB, and what is printed of one run that
+    has to end with one of these statuses."""
+    begin = time.monotonic()
+    child = subprocess.Popen(words, stdout=out, text=True)
+    answer = child.stdout.read() if child.stdout else ""
+    _, status, usage = os.wait4(child.pid, 0)
+    elapsed = usage.ru_utime + usage.ru_stime if of_processor else time.monotonic() - begin
+    child.returncode = os.waitstatus_to_exitcode(status)
+    if child.returncode not in statuses:
+        sys.exit(f"{words}: status {child.returncode}: {answer}")
+    return elapsed, usage.ru_maxrss * 1024 / 1e6, answer.strip()
+
+
 def run(words):
     """What one run prints, and its peak memory in MB."""
-    child = subprocess.Popen(words, stdout=subprocess.PIPE, text=True)
-    answer = child.stdout.read()
-    _, status, usage = os.wait4(child.pid, 0)
-    child.returncode = os.waitstatus_to_exitcode(status)
-    if child.returncode != 0:
-        sys.exit(f"{words}: status {child.returncode}: {answer}")
-    return answer, usage.ru_maxrss * 1024 / 1e6
+    _, peak, answer = timed_run(words)
+    return answer, peak
+
+
+def instructions(words, folder):
+    """How many instructions one run takes, by valgrind's callgrind."""
+    command = ["valgrind", "--tool=callgrind", f"--callgrind-out-file={folder}/callgrind", *words]
+    done = subprocess.run(command, stdout=subprocess.DEVNULL, stderr=subprocess.PIPE, text=True)
+    return int(re.search(r"Collected : (\d+)", done.stderr).group(1))
