@@ -39,7 +39,7 @@ has_byte byte word = list_any (λ b. b == byte) word
 abbrev pub value_hint : List ℕ → Option (List ℕ)
 value_hint name =
     if is_name_among (codes "ro" ∷ codes "o" ∷ []) name then Some (codes "write -ro without a value, and each client that the value names as a host behind the options")
-    else if bytes_eq name (codes "root") then Some (codes "write -maproot=root, and each client that the value names as a host, on a line of its own")
+    else if bytes_eq name (codes "root") then Some (codes "write -maproot=root, and each client that the value names as a host, on a line of its own: a line without hosts is for everybody")
     else if is_name_among (codes "rw" ∷ codes "access" ∷ []) name then Some (codes "write each client that the value names as a host behind the options")
     else if is_name_among (codes "alldirs" ∷ codes "quiet" ∷ []) name then Some (codes "write it without a value")
     else name_hint name
@@ -81,7 +81,7 @@ bare_hint name =
 abbrev pub bare_value_hint : List ℕ → Option (List ℕ)
 bare_value_hint name =
     if bytes_eq name (codes "ro") then Some (codes "write -ro without a value, and each client that the value names as a host")
-    else if bytes_eq name (codes "root") then Some (codes "write -maproot=root, and each client that the value names as a host, on a line of its own")
+    else if bytes_eq name (codes "root") then Some (codes "write -maproot=root, and each client that the value names as a host, on a line of its own: a line without hosts is for everybody")
     else if is_name_among (codes "rw" ∷ codes "access" ∷ []) name then Some (codes "write each client that the value names as a host")
     else bare_hint name
 

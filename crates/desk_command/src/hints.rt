@@ -67,7 +67,7 @@ fn value_hint(name: &str) -> Option<&'static str>
             "write -ro without a value, and each client that the value names as a host behind the options",
         ),
         "root" => Some(
-            "write -maproot=root, and each client that the value names as a host, on a line of its own",
+            "write -maproot=root, and each client that the value names as a host, on a line of its own: a line without hosts is for everybody",
         ),
         "rw" | "access" => {
             Some("write each client that the value names as a host behind the options")
@@ -156,7 +156,7 @@ fn bare_value_hint(name: &str) -> Option<&'static str>
     match name {
         "ro" => Some("write -ro without a value, and each client that the value names as a host"),
         "root" => Some(
-            "write -maproot=root, and each client that the value names as a host, on a line of its own",
+            "write -maproot=root, and each client that the value names as a host, on a line of its own: a line without hosts is for everybody",
         ),
         "rw" | "access" => Some("write each client that the value names as a host"),
         _ => bare_hint(name),
