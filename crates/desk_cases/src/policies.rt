@@ -43,7 +43,7 @@ fn read(alloc: Global, site: &mut Site, out: &mut String, text: &str) -> Asked
     let Some(filesystems) = &site.filesystems else {
         return Ok(false);
     };
-    let filesystems = filesystems.clone()?;
+    let filesystems = filesystems.copy()?;
     set(alloc, site, out, filesystems, text)
 }
 

@@ -96,7 +96,7 @@ fn of_whole(alloc: Global, site: &mut Site, out: &mut String, question: &str, te
     let Some(filesystems) = &site.filesystems else {
         return Ok(false);
     };
-    let filesystems = filesystems.clone()?;
+    let filesystems = filesystems.copy()?;
     let policy = parse_whole(alloc, text, filesystems);
     if question == "whole" {
         set_policy(site, out, policy)

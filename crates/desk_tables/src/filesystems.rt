@@ -70,6 +70,13 @@ impl FileSystems {
         Ok(Some(FileSystems { mounts }))
     }
 
+    /// Copies the table. An error says that memory ran out.
+    pub fn copy(&self) -> Result<FileSystems, AllocError>
+        ensures { IfOk result (λ copy. copy ≡ self.now) }
+    {
+        self.clone()
+    }
+
     /// Reads the table of a text: one mount point a line, and behind it the one or more custodians who keep its exports
     /// file. The text has at most 4,294,967,294 bytes. A line may break Fields (no custodian, or a quote that does not
     /// close), Duplicate (the mount point is listed before, in any spelling), BadPath and TooMany (the 257th mount point).
