@@ -42,7 +42,7 @@ use Rattle.desk_command.specs.declared.finding.Matter.{Matter}
 use Rattle.desk_command.specs.declared.finding.Matter.TheVariants as matter
 
 -- what is told has its place, if it has one, within its line
-abbrev Within : Told → Type 0
+abbrev pub Within : Told → Type 0
 Within one = IfSome one.place (LiesWithin one.source)
 
 within_at : (source : Source) (at : Option Place) (place : Place) (what : Matter) → at ≡ Some place → LiesIn source.text.now place → Within (tell source at what)
@@ -51,7 +51,7 @@ within_at source at place what there lies = subst (λ (o : Option Place). Within
 no_place : (source : Source) (at : Option Place) (what : Matter) → at ≡ None → Within (tell source at what)
 no_place source at what none = subst (λ (o : Option Place). Within (tell source o what)) (sym none) tt
 
-tells_within : {P F : Type 0} (fault_of : P → F) (IsAt : P → Type 0) (tell_one : P → Told) (faults : List F) (all : List Told) → ((one : P) → IsAt one → Within (tell_one one)) → Tells fault_of IsAt tell_one faults all → All Within all
+pub tells_within : {P F : Type 0} (fault_of : P → F) (IsAt : P → Type 0) (tell_one : P → Told) (faults : List F) (all : List Told) → ((one : P) → IsAt one → Within (tell_one one)) → Tells fault_of IsAt tell_one faults all → All Within all
 tells_within fault_of IsAt tell_one faults all within tells =
     subst (λ (ones : List Told). All Within ones) (sym tells.are) (All-map Within tell_one tells.placed (All-weaker IsAt (λ one. Within (tell_one one)) within tells.placed tells.places))
 
@@ -59,7 +59,7 @@ in_table : (source : Source) (faults : List TableFault) (all : List Told) → Te
 in_table source faults all tells =
     tells_within (λ (one : TablePlacedFault). one.fault) (tables.IsPlaced source.text.now) (tell_table source) faults all (λ one at. within_at source one.place at.place (matter.Fault (site_rule.Table one.fault.rule) None) at.there at.lies) tells
 
-on_line : (source : Source) (faults : List TableFault) (all : List Told) → Tells (λ one. one.fault) (tables.IsOnLine source.text.now) (tell_table source) faults all → All Within all
+pub on_line : (source : Source) (faults : List TableFault) (all : List Told) → Tells (λ one. one.fault) (tables.IsOnLine source.text.now) (tell_table source) faults all → All Within all
 on_line source faults all tells =
     tells_within (λ (one : TablePlacedFault). one.fault) (tables.IsOnLine source.text.now) (tell_table source) faults all (λ one at. within_at source one.place at.place (matter.Fault (site_rule.Table one.fault.rule) None) at.there at.lies) tells
 
@@ -82,7 +82,7 @@ spot_at : (source : Source) (number : ℕ) (at : Option Place) (what : Matter) �
 spot_at source number None what on = tt
 spot_at source number (Some place) what on = on.on.lies.within
 
-odds_within : (source : Source) (given : List OddLine) (all : List Told) → TellInOrder source given all → All Within all
+pub odds_within : (source : Source) (given : List OddLine) (all : List Told) → TellInOrder source given all → All Within all
 odds_within source given all tells =
     tells_within odd_of_spot (IsSpot source.text.now) (tell_spot source) tells.odds all (λ spot on. spot_at source spot.line spot.place spot.matter on) tells.tell
 
@@ -92,7 +92,7 @@ oddities_within sources table site_tables entries all tells =
     (All-append Within tells.netgroup tells.exports (odds_within sources.tables.netgroup _ tells.netgroup tells.tell_netgroup) (odds_within sources.exports _ tells.exports tells.tell_exports.tell))
 
 -- what is told within its line has its slice
-slices : (found : List Finding) → All Within (map told found) → HaveSlices found
+pub slices : (found : List Finding) → All Within (map told found) → HaveSlices found
 slices found within = λ k d below.
     subst Within (get_or-map told found k d (told d) below) (within k (told d) (rw length-map below))
 

@@ -11,3 +11,4 @@ pub mod MountWords
 pub mod ShownTextLemmas
 pub mod SplitAnswers
 pub mod TextFaults
+pub mod ToldFindings

@@ -6,7 +6,7 @@ use Rattle.desk_command.specs.CommandLine.{SplitWords}
 use Rattle.desk_command.specs.Files.{IsContents, ReadsText}
 use Rattle.desk_command.specs.Input.{text_of}
 use Rattle.desk_command.specs.SplitCommand.{AnswersSplitFiles, AnswersTexts, TellsSplit, names_input_twice}
-use Rattle.desk_command.specs.SplitText.{split_answer}
+use Rattle.desk_command.specs.declared.check_faults.Source.{Source}
 use Rattle.desk_command.specs.declared.failure.Failure.{Failure}
 use Rattle.desk_command.specs.declared.failure.Failure.TheVariants.{Memory}
 use Rattle.desk_command.specs.declared.files.FileArgument.TheVariants.{File, FileSystems}
@@ -28,9 +28,10 @@ some_contents word (Some given) = λ dash. refl
 same_contents : (word bytes : List ℕ) (known left : Option (List ℕ)) → (word ≡ codes "-" → left ≡ known) → IsContents word left bytes → IsContents word known bytes
 same_contents word bytes known left same contents = λ dash. subst (λ (input : Option (List ℕ)). IfSome input (λ given. bytes ≡ given)) (same dash) (contents dash)
 
-told : (words : SplitWords) (text filesystems : List ℕ) (first second : Result (List ℕ) TextFault) (result : Result Output Failure) → first ≡ Ok text → second ≡ Ok filesystems → MatchResult result (TellsSplit (split_answer text filesystems)) (λ failure. failure ≡ Memory) → AnswersTexts words first second result
-told words text filesystems first second (Ok output) is_text is_table tells = rw (is_text, is_table) tells
-told words text filesystems first second (Err failure) is_text is_table memory = rw memory (inl (no_text File words.file first Memory tt))
+told : (words : SplitWords) (text filesystems : List ℕ) (file table : Source) (first second : Result (List ℕ) TextFault) (result : Result Output Failure) → (file.path.now ≡ words.file) × (table.path.now ≡ words.filesystems) → (file.text.now ≡ text) × (table.text.now ≡ filesystems) → first ≡ Ok text → second ≡ Ok filesystems → MatchResult result (TellsSplit file table) (λ failure. failure ≡ Memory) → AnswersTexts words first second result
+told words text filesystems file table first second (Ok output) paths texts is_text is_table tells =
+    rw (is_text, is_table) (record { file = file; table = table; paths = paths; texts = texts; tells = tells })
+told words text filesystems file table first second (Err failure) paths texts is_text is_table memory = rw memory (inl (no_text File words.file first Memory tt))
 
 module _ {A : Type 0} where
   -- FILE has no text
@@ -54,11 +55,11 @@ module _ {A : Type 0} where
   }
 
   -- both have texts
-  pub both : (words : SplitWords) (known left : Option (List ℕ)) (text filesystems : String A) (result : Result Output Failure) → (words.filesystems ≡ codes "-" → left ≡ known) → ReadsText {A = A} File words.file known (Ok text) → ReadsText {A = A} FileSystems words.filesystems left (Ok filesystems) → MatchResult result (TellsSplit (split_answer (string_bytes text) (string_bytes filesystems))) (λ failure. failure ≡ Memory) → AnswersSplitFiles words known result
-  both words known left text filesystems result same read table tells = record {
+  pub both : (words : SplitWords) (known left : Option (List ℕ)) (text filesystems : String A) (file other : Source) (result : Result Output Failure) → (words.filesystems ≡ codes "-" → left ≡ known) → ReadsText {A = A} File words.file known (Ok text) → ReadsText {A = A} FileSystems words.filesystems left (Ok filesystems) → (file.path.now ≡ words.file) × (other.path.now ≡ words.filesystems) → (file.text.now ≡ string_bytes text) × (other.text.now ≡ string_bytes filesystems) → MatchResult result (TellsSplit file other) (λ failure. failure ≡ Memory) → AnswersSplitFiles words known result
+  both words known left text filesystems file other result same read table paths texts tells = record {
     text = read.bytes;
     filesystems = table.bytes;
     text_contents = read.contents;
     filesystems_contents = same_contents words.filesystems table.bytes known left same table.contents;
-    answers = told words (string_bytes text) (string_bytes filesystems) (text_of read.bytes) (text_of table.bytes) result read.text table.text tells;
+    answers = told words (string_bytes text) (string_bytes filesystems) file other (text_of read.bytes) (text_of table.bytes) result paths texts read.text table.text tells;
   }

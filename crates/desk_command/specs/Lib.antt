@@ -21,6 +21,7 @@ pub mod SplitCommand
 pub mod SplitText
 pub mod TableFiles
 pub mod Told
+pub mod ToldFault
 pub mod TryCommand
 pub mod TryText
 pub mod Words

@@ -12,9 +12,9 @@ use Rattle.desk_command.specs.declared.output.Output.TheVariants.{Checked, Fault
 abbrev pub status_of : Result Output Failure → ℕ
 status_of (Ok (Help text)) = 0
 status_of (Ok (Tried tried)) = if tried.granted then 0 else 1
-status_of (Ok (Faulty fault)) = 3
+status_of (Ok (Faulty fault told)) = 3
 status_of (Ok (Split text)) = 0
-status_of (Ok (NotSplit fault)) = 3
+status_of (Ok (NotSplit fault told)) = 3
 status_of (Ok (Checked checked)) = if checked.passes then 0 else 3
 status_of (Err Memory) = 4
 status_of (Err failure) = 2
@@ -23,9 +23,9 @@ status_of (Err failure) = 2
 abbrev pub output_text : Output → List ℕ
 output_text (Help text) = string_bytes text
 output_text (Tried tried) = string_bytes tried.line ++ 10 ∷ []
-output_text (Faulty fault) = fault_line fault ++ 10 ∷ []
+output_text (Faulty fault told) = fault_line fault ++ 10 ∷ []
 output_text (Split text) = string_bytes text
-output_text (NotSplit fault) = split_fault_line fault ++ 10 ∷ []
+output_text (NotSplit fault told) = split_fault_line fault ++ 10 ∷ []
 output_text (Checked checked) = string_bytes checked.text
 
 -- what is printed of an answer: of a failure nothing

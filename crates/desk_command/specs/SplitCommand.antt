@@ -5,6 +5,8 @@ use Rattle.desk_command.specs.CommandLine.{SplitWords}
 use Rattle.desk_command.specs.Files.{IsContents, IsNoText, is_input}
 use Rattle.desk_command.specs.Input.{text_of}
 use Rattle.desk_command.specs.SplitText.{split_answer}
+use Rattle.desk_command.specs.ToldFault.{IsToldSplit}
+use Rattle.desk_command.specs.declared.check_faults.Source.{Source}
 use Rattle.desk_command.specs.declared.failure.Failure.{Failure}
 use Rattle.desk_command.specs.declared.failure.Failure.TheVariants.{InputTwice}
 use Rattle.desk_command.specs.declared.files.FileArgument.TheVariants.{File, FileSystems}
@@ -14,20 +16,33 @@ use Rattle.desk_command.specs.declared.output.Output.TheVariants.{NotSplit, Spli
 use Rattle.desk_command.specs.declared.split_text.SplitFault.{SplitFault}
 
 -- the output has the texts of a split as they are printed, or its fault
-abbrev pub TellsSplit : Result (List ℕ) SplitFault → Output → Type 0
-TellsSplit split (Split text) = split ≡ Ok (string_bytes text)
-TellsSplit split (NotSplit fault) = split ≡ Err fault
-TellsSplit split output = ⊥
+abbrev pub IsSplitBy : Result (List ℕ) SplitFault → Output → Type 0
+IsSplitBy split (Split text) = split ≡ Ok (string_bytes text)
+IsSplitBy split (NotSplit fault told) = split ≡ Err fault
+IsSplitBy split output = ⊥
+
+-- the output tells how FILE is split for FILESYSTEMS, and beside a fault its finding
+pub record TellsSplit (file filesystems : Source) (output : Output) : Type 0 where
+  pub split : IsSplitBy (split_answer file.text.now filesystems.text.now) output
+  pub told : IsToldSplit file filesystems output
+
+-- the same by the words that name the files, and by their texts
+pub record TellsNamed (words : SplitWords) (text filesystems : List ℕ) (output : Output) : Type 0 where
+  pub file : Source
+  pub table : Source
+  pub paths : (file.path.now ≡ words.file) × (table.path.now ≡ words.filesystems)
+  pub texts : (file.text.now ≡ text) × (table.text.now ≡ filesystems)
+  pub tells : TellsSplit file table output
 
 -- the same by what the bytes of FILE and of FILESYSTEMS are taken as: both are texts
-abbrev pub TellsTexts : Result (List ℕ) TextFault → Result (List ℕ) TextFault → Output → Type 0
-TellsTexts (Ok text) (Ok filesystems) output = TellsSplit (split_answer text filesystems) output
-TellsTexts text filesystems output = ⊥
+abbrev pub TellsTexts : SplitWords → Result (List ℕ) TextFault → Result (List ℕ) TextFault → Output → Type 0
+TellsTexts words (Ok text) (Ok filesystems) output = TellsNamed words text filesystems output
+TellsTexts words text filesystems output = ⊥
 
 -- The answer by what the bytes of FILE and of FILESYSTEMS are taken as. Why FILE has no text comes before why FILESYSTEMS
 -- has none, and both before any fault of a text.
 abbrev pub AnswersTexts : SplitWords → Result (List ℕ) TextFault → Result (List ℕ) TextFault → Result Output Failure → Type 0
-AnswersTexts words text filesystems (Ok output) = TellsTexts text filesystems output
+AnswersTexts words text filesystems (Ok output) = TellsTexts words text filesystems output
 AnswersTexts words text filesystems (Err failure) =
     IsNoText File words.file text failure ⊎ (IsOk text × IsNoText FileSystems words.filesystems filesystems failure)
 

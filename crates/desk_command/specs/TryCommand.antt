@@ -1,5 +1,5 @@
 -- The output of `try` by its files. (this project's own)
-use Rattle.std.specs.Prelude.{◌≡◌, ◌⊎◌, ℕ, Bool, true, false, List, [], ◌∷◌, Option, Some, Result, Ok, Err, IsErrAnd}
+use Rattle.std.specs.Prelude.{◌≡◌, ◌⊎◌, ℕ, Bool, true, false, List, [], ◌∷◌, Option, Some, Result, Ok, Err, IfOk, IsErrAnd, map}
 use Rattle.desk_text.specs.Address.{number_of, read_addr}
 use Rattle.desk_text.specs.Path.{read_path}
 use Rattle.desk_tables.specs.Groups.{read_groups}
@@ -9,14 +9,18 @@ use Rattle.desk_tables.specs.declared.credentials.Cred.{Cred}
 use Rattle.desk_policy.specs.Parsing.{read_tables, read_whole_with}
 use Rattle.desk_policy.specs.Policy.{Content}
 use Rattle.desk_policy.specs.View.{IsFaultOf}
+use Rattle.desk_tables.specs.declared.filesystems.Mount.{Mount}
 use Rattle.desk_policy.specs.declared.parsing.SiteTables.{SiteTables}
 use Rattle.desk_policy.specs.declared.site_fault.SiteFault.{SiteFault}
 use Rattle.desk_command.specs.Arguments.{IsBadArgument, IsBadOwn, IsRequest, good_own, own_answer}
+use Rattle.desk_command.specs.CheckCommand.{given_path, paths_in, texts_in}
 use Rattle.desk_command.specs.CommandLine.{TryWords}
 use Rattle.desk_command.specs.Files.{ReadsInTurn, name_input_twice}
 use Rattle.desk_command.specs.TableFiles.{whole_files}
+use Rattle.desk_command.specs.ToldFault.{IsTold}
 use Rattle.desk_command.specs.TryText.{IsAnswerBy, answer_of}
 use Rattle.desk_command.specs.declared.arguments.Request.{Request}
+use Rattle.desk_command.specs.declared.check_text.WholeSources.{WholeSources}
 use Rattle.desk_command.specs.declared.failure.Failure.{Failure}
 use Rattle.desk_command.specs.declared.failure.Failure.TheVariants.{InputTwice, Memory}
 use Rattle.desk_command.specs.declared.output.Output.{Output}
@@ -26,13 +30,13 @@ use Rattle.desk_command.specs.declared.output.Output.TheVariants.{Faulty, Tried}
 -- nothing
 abbrev pub Tells : Result Content SiteFault → Option Cred → ℕ → List (List ℕ) → Result Output Failure → Type 0
 Tells read own address path (Ok (Tried tried)) = IsAnswerBy read own address path (answer_of tried)
-Tells read own address path (Ok (Faulty fault)) = IsFaultOf read fault
+Tells read own address path (Ok (Faulty fault told)) = IsFaultOf read fault
 Tells read own address path (Err Memory) = Unit {0}
 Tells read own address path result = ⊥
 
 -- the output tells the fault of a table; out of memory says nothing
 abbrev pub TellsFault : SiteFault → Result Output Failure → Type 0
-TellsFault fault (Ok (Faulty found)) = found ≡ fault
+TellsFault fault (Ok (Faulty found told)) = found ≡ fault
 TellsFault fault (Err Memory) = Unit {0}
 TellsFault fault result = ⊥
 
@@ -53,11 +57,23 @@ AnswersTexts word request (Ok (hosts ∷ networks ∷ passwd ∷ group ∷ netgr
 AnswersTexts word request (Ok other) result = ⊥
 AnswersTexts word request (Err failure) result = result ≡ Err failure
 
+-- beside a fault its finding is told, by these texts and the paths of their files
+pub record TellsFinding (words : TryWords) (table : List Mount) (texts : List (List ℕ)) (result : Result Output Failure) : Type 0 where
+  pub sources : WholeSources
+  pub paths : paths_in sources ≡ map given_path (whole_files words.tables words.file)
+  pub texts_are : texts_in sources ≡ texts
+  pub told : IfOk result (IsTold sources table)
+
+abbrev pub TellsFindingIfRead : TryWords → List Mount → Result (List (List ℕ)) Failure → Result Output Failure → Type 0
+TellsFindingIfRead words table (Ok texts) result = TellsFinding words table texts result
+TellsFindingIfRead words table (Err failure) result = Unit {0}
+
 -- the answer to a request by the files that the words name
 pub record AnswersFiles (words : TryWords) (request : Request) (known : Option (List ℕ)) (result : Result Output Failure) : Type 0 where
   pub read : Result (List (List ℕ)) Failure
   pub reads : ReadsInTurn (whole_files words.tables words.file) known read
   pub answers : AnswersTexts words.credential request read result
+  pub told : TellsFindingIfRead words request.filesystems read result
 
 -- the same, if at most one of the files is to be standard input
 abbrev pub AnswersFilesIf : Bool → TryWords → Request → Option (List ℕ) → Result Output Failure → Type 0

@@ -158,7 +158,11 @@ fn check_texts(
 }
 
 /// Lends the texts with the paths of their files.
-fn sources_of<'a>(tables: TableWords<'a>, file: &'a str, texts: &'a WholeTexts) -> WholeSources<'a>
+pub fn sources_of<'a>(
+    tables: TableWords<'a>,
+    file: &'a str,
+    texts: &'a WholeTexts,
+) -> WholeSources<'a>
     ensures paths { paths_in result ≡ map given_path (whole_files (given_tables tables.entry) file.entry.now) }
     ensures texts { texts_in result ≡ texts_of texts.now }
 {

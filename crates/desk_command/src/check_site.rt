@@ -112,7 +112,7 @@ fn push_custodians<'a>(
 }
 
 /// Adds the faults of the file systems.
-fn push_filesystems<'a>(
+pub fn push_filesystems<'a>(
     alloc: Global,
     source: Source<'a>,
     found: &mut Sequence<Finding<'a>>,

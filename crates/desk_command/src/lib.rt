@@ -36,6 +36,7 @@ mod shown_text;
 mod split_command;
 pub mod split_text;
 mod table_files;
+mod told_fault;
 mod try_command;
 pub mod try_text;
 mod word_places;

@@ -22,12 +22,13 @@ pub enum Output {
     Help(String),
     /// The answer of `try` to a text that is consistent.
     Tried(Tried),
-    /// The fault of the first faulty table, or of the exports text: its first faulty line, or its least contradiction.
-    Faulty(SiteFault),
+    /// The fault of the first faulty table, or of the exports text: its first faulty line, or its least contradiction. Beside
+    /// it the finding that standard error tells of it, as `check` prints it.
+    Faulty(SiteFault, String),
     /// The texts that `split` makes.
     Split(String),
-    /// The fault of one of the texts that `split` is given.
-    NotSplit(SplitFault),
+    /// The fault of one of the texts that `split` is given, and the finding that standard error tells of it.
+    NotSplit(SplitFault, String),
     /// What `check` finds.
     Checked(Checked),
 }
@@ -44,7 +45,7 @@ pub fn report<O: Write, E: Write>(
     ensures printed { result ≢ 4 → Appends (O.contents out.old) (O.contents out.new) (spec.printed answer) }
 {
     let status = status_of(&answer);
-    note_unread(&answer, err);
+    note(&answer, err);
     match answer {
         Ok(output) => match output_text(alloc, output) {
             Ok(text) => print(text.as_str(), status, out, err),
@@ -61,15 +62,19 @@ pub fn report<O: Write, E: Write>(
     }
 }
 
-/// Says that `check` did not look at the exports text, if it did not.
-fn note_unread<E: Write>(answer: &Result<Output, Failure>, err: &mut E) {
-    if let Ok(Output::Checked(checked)) = answer
-        && !checked.read_exports
-    {
-        let _ = writeln!(
-            err,
-            "exportdesk: the exports were not looked at, since a table has a fault"
-        );
+/// Tells the finding of a fault, or that `check` did not look at the exports text, if it did not.
+fn note<E: Write>(answer: &Result<Output, Failure>, err: &mut E) {
+    match answer {
+        Ok(Output::Faulty(_, told) | Output::NotSplit(_, told)) => {
+            let _ = err.write_all(told.as_bytes());
+        }
+        Ok(Output::Checked(checked)) if !checked.read_exports => {
+            let _ = writeln!(
+                err,
+                "exportdesk: the exports were not looked at, since a table has a fault"
+            );
+        }
+        _ => {}
     }
 }
 
@@ -80,7 +85,7 @@ fn status_of(answer: &Result<Output, Failure>) -> u8
     match answer {
         Ok(Output::Help(_) | Output::Split(_)) => 0,
         Ok(Output::Tried(tried)) => { if tried.granted { 0 } else { 1 } }
-        Ok(Output::Faulty(_) | Output::NotSplit(_)) => 3,
+        Ok(Output::Faulty(..) | Output::NotSplit(..)) => 3,
         Ok(Output::Checked(checked)) => { if checked.passes { 0 } else { 3 } }
         Err(Failure::Memory) => 4,
         Err(_) => 2,
@@ -94,8 +99,14 @@ fn output_text(alloc: Global, output: Output) -> Result<String, AllocError>
     let mut line = match output {
         Output::Help(text) | Output::Split(text) => return Ok(text),
         Output::Tried(tried) => tried.line,
-        Output::Faulty(fault) => fault_text(alloc, &fault)?,
-        Output::NotSplit(fault) => fault.text(alloc)?,
+        Output::Faulty(fault, told) => {
+            drop(told);
+            fault_text(alloc, &fault)?
+        }
+        Output::NotSplit(fault, told) => {
+            drop(told);
+            fault.text(alloc)?
+        }
         Output::Checked(checked) => return Ok(checked.text),
     };
     line.push('\n')?;

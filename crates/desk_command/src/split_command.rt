@@ -4,14 +4,15 @@ ghost use Rattle.std.specs.Prelude.{◌≡◌, ◌≤◌, MatchResult, false, le
 ghost use Rattle.clap.specs.Words.{found_of, rows_of};
 ghost use Rattle.desk_command.specs.CommandLine.{split_words_in};
 ghost use Rattle.desk_command.specs.SplitCommand.{AnswersSplit, AnswersSplitFiles, TellsSplit, names_input_twice};
-ghost use Rattle.desk_command.specs.SplitText.{split_answer};
 ghost use Rattle.desk_command.specs.Words.{Finds, given_split};
 ghost use Rattle.desk_command.specs.declared.failure.Failure.TheVariants.{Memory};
 
+use crate::check_faults::Source;
 use crate::failure::Failure;
 use crate::files::{FileArgument, is_input, read_text};
 use crate::output::Output;
 use crate::split_text::split_text;
+use crate::told_fault::not_split;
 use crate::words::required;
 use clap::ArgMatches;
 use desk_text::ReadError;
@@ -61,18 +62,26 @@ fn split_files<I: BufRead>(
 {
     let text = read_text(rt, FileArgument::File, words.file, input)?;
     let filesystems = read_text(rt, FileArgument::FileSystems, words.filesystems, input)?;
-    split_texts(rt.alloc(), text.as_str(), filesystems.as_str())
+    let file = Source {
+        path: words.file,
+        text: text.as_str(),
+    };
+    let table = Source {
+        path: words.filesystems,
+        text: filesystems.as_str(),
+    };
+    split_texts(rt.alloc(), file, table)
 }
 
 /// Answers by the two texts.
-fn split_texts(alloc: Global, text: &str, filesystems: &str) -> Result<Output, Failure>
-    requires text { length text.now ≤ 4294967294 }
-    requires filesystems { length filesystems.now ≤ 4294967294 }
-    ensures { MatchResult result (TellsSplit (split_answer text.now filesystems.now)) (λ failure. failure ≡ Memory) }
+fn split_texts(alloc: Global, file: Source<'_>, filesystems: Source<'_>) -> Result<Output, Failure>
+    requires file { length file.text.now ≤ 4294967294 }
+    requires filesystems { length filesystems.text.now ≤ 4294967294 }
+    ensures { MatchResult result (TellsSplit file.entry filesystems.entry) (λ failure. failure ≡ Memory) }
 {
-    match split_text(alloc, text, filesystems) {
+    match split_text(alloc, file.text, filesystems.text) {
         Ok(text) => Ok(Output::Split(text)),
-        Err(ReadError::Fault(fault)) => Ok(Output::NotSplit(fault)),
+        Err(ReadError::Fault(fault)) => not_split(alloc, file, filesystems, fault),
         Err(ReadError::Memory) => Err(Failure::Memory),
     }
 }

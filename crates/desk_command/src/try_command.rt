@@ -1,19 +1,24 @@
 //! The command `try`: one verdict over one exports text.
 
-ghost use Rattle.std.specs.Prelude.{◌≤◌, Ok, length};
+ghost use Rattle.std.specs.Prelude.{◌≤◌, IfOk, Ok, length};
 ghost use Rattle.std.specs.Option.{option_map};
-ghost use Rattle.std.specs.String.{string_bytes};
 ghost use Rattle.clap.specs.Words.{found_of, rows_of};
 ghost use Rattle.desk_command.specs.CommandLine.{try_words_in};
 ghost use Rattle.desk_command.specs.Files.{name_input_twice};
-ghost use Rattle.desk_command.specs.TableFiles.{AreShort, tables_of, texts_of, whole_files};
+ghost use Rattle.desk_command.specs.CheckCommand.{texts_in};
+ghost use Rattle.desk_command.specs.CheckFaults.{AreReadable};
+ghost use Rattle.desk_command.specs.TableFiles.{whole_files};
+ghost use Rattle.desk_command.specs.ToldFault.{IsTold, tables_in};
 ghost use Rattle.desk_command.specs.TryCommand.{AnswersFilesIf, AnswersTexts, AnswersTry, TellsWith};
 ghost use Rattle.desk_command.specs.Words.{Finds, given_try};
 
 use crate::arguments::{Request, read_credential, read_request};
+use crate::check_command::sources_of;
+use crate::check_text::WholeSources;
 use crate::failure::Failure;
 use crate::output::Output;
-use crate::table_files::{TableWords, WholeTexts, names_input_twice, read_whole_texts};
+use crate::table_files::{TableWords, names_input_twice, read_whole_texts};
+use crate::told_fault::faulty;
 use crate::try_text::try_text;
 use crate::words::required;
 use clap::ArgMatches;
@@ -84,7 +89,10 @@ fn answer_request<I: BufRead>(
         return Err(Failure::InputTwice);
     }
     match read_whole_texts(rt, words.tables, words.file, input) {
-        Ok(texts) => answer_texts(rt.alloc(), words.credential, request, &texts),
+        Ok(texts) => {
+            let sources = sources_of(words.tables, words.file, &texts);
+            answer_texts(rt.alloc(), words.credential, request, sources)
+        }
         Err(failure) => {
             drop(request);
             Err(failure)
@@ -97,13 +105,16 @@ fn answer_texts(
     alloc: Global,
     word: Option<&str>,
     request: Request,
-    texts: &WholeTexts,
+    sources: WholeSources<'_>,
 ) -> Result<Output, Failure>
-    requires { AreShort texts.now }
-    ensures { AnswersTexts (option_map (λ word. word.now) word.entry) request (Ok (texts_of texts.now)) result }
+    requires tables { AreReadable sources.tables }
+    requires exports { length sources.exports.text.now ≤ 4294967294 }
+    ensures answers { AnswersTexts (option_map (λ word. word.now) word.entry) request (Ok (texts_in sources.entry)) result }
+    ensures told { IfOk result (IsTold sources.entry request.filesystems) }
 {
-    match read_credential(alloc, word, texts.passwd.as_str(), texts.group.as_str()) {
-        Ok(own) => answer_as(alloc, &own, request, texts),
+    let tables = sources.tables;
+    match read_credential(alloc, word, tables.passwd.text, tables.group.text) {
+        Ok(own) => answer_as(alloc, &own, request, sources),
         Err(failure) => {
             drop(request);
             Err(failure)
@@ -112,29 +123,29 @@ fn answer_texts(
 }
 
 /// Answers a request of a client with this credential, if it is given.
+#[tactic(auto, using(crate::proofs::ToldFindings::told_fault, crate::proofs::ToldFindings::told_of))]
 fn answer_as(
     alloc: Global,
     own: &Option<Cred>,
     request: Request,
-    texts: &WholeTexts,
+    sources: WholeSources<'_>,
 ) -> Result<Output, Failure>
-    requires { AreShort texts.now }
-    ensures { TellsWith (tables_of texts.now) (string_bytes texts.now.exports) own.now request result }
+    requires tables { AreReadable sources.tables }
+    requires exports { length sources.exports.text.now ≤ 4294967294 }
+    ensures answers { TellsWith (tables_in sources.entry) sources.entry.exports.text.now own.now request result }
+    ensures told { IfOk result (IsTold sources.entry request.filesystems) }
 {
     let tables = SiteTables::read(
         alloc,
-        texts.hosts.as_str(),
-        texts.networks.as_str(),
-        texts.passwd.as_str(),
-        texts.group.as_str(),
-        texts.netgroup.as_str(),
+        sources.tables.hosts.text,
+        sources.tables.networks.text,
+        sources.tables.passwd.text,
+        sources.tables.group.text,
+        sources.tables.netgroup.text,
     );
     match tables {
-        Ok(tables) => answer_with(alloc, own, request, &tables, texts.exports.as_str()),
-        Err(ReadError::Fault(fault)) => {
-            drop(request);
-            Ok(Output::Faulty(fault))
-        }
+        Ok(tables) => answer_with(alloc, own, request, &tables, sources),
+        Err(ReadError::Fault(fault)) => faulty(alloc, sources, request.filesystems, fault),
         Err(ReadError::Memory) => {
             drop(request);
             Err(Failure::Memory)
@@ -143,19 +154,23 @@ fn answer_as(
 }
 
 /// Answers a request by these tables and an exports text.
+#[tactic(auto, using(crate::proofs::ToldFindings::told_read, crate::proofs::ToldFindings::told_of))]
 fn answer_with(
     alloc: Global,
     own: &Option<Cred>,
     request: Request,
     tables: &SiteTables,
-    text: &str,
+    sources: WholeSources<'_>,
 ) -> Result<Output, Failure>
-    requires { length text.now ≤ 4294967294 }
-    ensures { TellsWith (Ok tables.now) text.now own.now request result }
+    requires tables { AreReadable sources.tables }
+    requires exports { length sources.exports.text.now ≤ 4294967294 }
+    ensures answers { TellsWith (Ok tables.now) sources.entry.exports.text.now own.now request result }
+    ensures told { IfOk result (IsTold sources.entry request.filesystems) }
 {
+    let filesystems = request.filesystems.copy()?;
     match try_text(
         alloc,
-        text,
+        sources.exports.text,
         tables,
         request.filesystems,
         request.address,
@@ -163,7 +178,7 @@ fn answer_with(
         own,
     ) {
         Ok(tried) => Ok(Output::Tried(tried)),
-        Err(ReadError::Fault(fault)) => Ok(Output::Faulty(fault)),
+        Err(ReadError::Fault(fault)) => faulty(alloc, sources, filesystems, fault),
         Err(ReadError::Memory) => Err(Failure::Memory),
     }
 }

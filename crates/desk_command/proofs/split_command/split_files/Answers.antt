@@ -1,5 +1,5 @@
 -- The files are read from one input, of which at most one is all.
-use Rattle.std.proofs.Common.{◌≡◌, ap, codes, sym}
+use Rattle.std.proofs.Common.{◌≡◌, ap, codes, refl, sym}
 use Rattle.std.proofs.lemmas.Result.{err_from_is_err_and}
 use Rattle.desk_command.specs.Words.{given_split}
 use Rattle.desk_command.proofs.SplitAnswers.{both, file_is_not_input, no_file, no_filesystems}
@@ -22,5 +22,5 @@ pub returns : goal.returns
 returns g c =
     let same : c.args.words.filesystems.now ≡ codes "-" → g.I.Read.remaining c.read_text.new.input ≡ g.I.Read.remaining c.args.input.now =
     λ dash. ap g.I.Read.remaining (c.in_ok-text.ensures.untouched (file_is_not_input (given_split c.args.words) c.requires dash)) in
-    both (given_split c.args.words) (g.I.Read.remaining c.args.input.now) (g.I.Read.remaining c.read_text.new.input) c.in_ok-text.text c.in_ok-filesystems.filesystems c.split_texts.result same c.in_ok-text.ensures.text c.in_ok-filesystems.ensures.text
-    (rw (sym c.as_str.ensures.value, sym c.as_str-2.ensures.value) c.split_texts.ensures)
+    both (given_split c.args.words) (g.I.Read.remaining c.args.input.now) (g.I.Read.remaining c.read_text.new.input) c.in_ok-text.text c.in_ok-filesystems.filesystems (record { path = c.args.words.file; text = c.as_str.result }) (record { path = c.args.words.filesystems; text = c.as_str-2.result }) c.split_texts.result same c.in_ok-text.ensures.text c.in_ok-filesystems.ensures.text
+    (refl, refl) (c.as_str.ensures.value, c.as_str-2.ensures.value) c.split_texts.ensures
