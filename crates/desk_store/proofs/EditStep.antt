@@ -24,7 +24,8 @@ use Rattle.desk_store.specs.Desk.{CommitsOne, HasStored, IsAccepted, IsDesk, IsE
 use Rattle.desk_store.specs.declared.error.DeskError.{DeskError}
 use Rattle.desk_store.specs.declared.error.DeskError.TheVariants as error
 use Rattle.desk_store.specs.Laws.{StoredEditsKeepSiteHistories}
-use Rattle.desk_store.specs.Rows.{IsOfStore}
+use Rattle.desk_store.specs.Rows.{IsOfEdit, IsOfTask}
+use Rattle.desk_store.specs.declared.error.Task.TheVariants as task
 use Rattle.desk_store.specs.declared.desk.Done.{Done}
 use Rattle.desk_store.specs.declared.error.StoreFault.{StoreFault}
 use Rattle.desk_store.proofs.HistoryStep.{holds_more}
@@ -207,7 +208,7 @@ module _ {V : Type 0} (newest_more : NewestOfALongerHistory) (keeps : StoredEdit
   not_store : (fault : StoreFault) → ◌≡◌ {A = Result Done DeskError} (Err (error.Store fault)) (Err error.Schema) → ⊥
   not_store fault is = cc
 
-  edited_not : (failure : DeskError) → IsOfStore failure
+  edited_not : (failure : DeskError) → IsOfTask task.AddRevision failure
       → (HasCleanDisk new → IsTrue new.is_open → IsTrue old.is_open) → (HasCleanDisk new → IsTrue new.is_open → new.committed ≡ old.committed) → Survives old new (AddsWhileOpen (row_of r) old)
       → IsEdited old new before before e (Err failure)
   edited_not failure (inl memory) opened same crash =
@@ -215,7 +216,7 @@ module _ {V : Type 0} (newest_more : NewestOfALongerHistory) (keeps : StoredEdit
       subst P (sym memory) (edited_untold error.Memory refl not_memory opened same crash)
   edited_not failure (inr store) opened same crash =
       let P : DeskError → Type 0 = λ f. IsEdited old new before before e (Err f) in
-      subst P (sym store.1) (edited_untold (error.Store store.0) refl (not_store store.0) opened same crash)
+      subst P (sym store.2) (edited_untold (error.Store store.0) refl (not_store store.0) opened same crash)
 
   edited_stored : (HasCleanDisk new → IsTrue old.is_open × HasStored (row_of r) old new) → newest_in after.heads ≡ put (newest_in before.heads) ready.head → Survives old new (AddsWhileOpen (row_of r) old)
       → IsEdited old new before after e (Ok (record { rev = e.base + 1; already = false }))
@@ -230,6 +231,11 @@ module _ {V : Type 0} (newest_more : NewestOfALongerHistory) (keeps : StoredEdit
     durable = λ clean _. (did clean).1;
   }
 
+-- a refused statement is one that an edit may answer
+pub of_edit : (failure : DeskError) → IsOfTask task.AddRevision failure → IsOfEdit failure
+of_edit failure (inl memory) = subst IsOfEdit (sym memory) tt
+of_edit failure (inr store) = subst IsOfEdit (sym store.2) store.1
+
 -- ---- by what the statement answered, where the body was handed over as bytes
 module _ {V : Type 0} (newest_more : NewestOfALongerHistory) (keeps : StoredEditsKeepSiteHistories) (in_force : V → Content) (old new : State) (before after : Kept V) (e : Edit) (ready : Ready V) (body : List ℕ) where
   in_utf8 : IsUtf8 e.file × IsUtf8 e.caller → IsUtf8 e.text → IsInUtf8 e
@@ -238,7 +244,7 @@ module _ {V : Type 0} (newest_more : NewestOfALongerHistory) (keeps : StoredEdit
   abbrev row : Row
   row = revision_row e.file (e.base + 1) e.caller body
 
-  pub edit_failed : IsAccepted in_force before e ready → IsUtf8 e.file × IsUtf8 e.caller → IsUtf8 body → body ≡ e.text → (failure : DeskError) → IsOfStore failure
+  pub edit_failed : IsAccepted in_force before e ready → IsUtf8 e.file × IsUtf8 e.caller → IsUtf8 body → body ≡ e.text → (failure : DeskError) → IsOfTask task.AddRevision failure
       → (HasCleanDisk new → IsTrue new.is_open → IsTrue old.is_open) → (HasCleanDisk new → IsTrue new.is_open → new.committed ≡ old.committed) → Survives old new (AddsWhileOpen row old)
       → IsEdited old new before before e (Err failure)
   edit_failed accepted names utf8 same failure which opened kept crash =

@@ -1,7 +1,13 @@
 -- What the rows say of a revision is what the history says, and a look leaves a desk as it was.
-use Rattle.std.proofs.Common.{All, Bool, Err, IsTrue, List, None, Ok, Option, Result, Some, [], ap, arith, codes, cond, false, find, get_or, inl, inr, map, pos, refl, subst, suc, sym, true, zero, ℕ, ◌+◌, ◌==◌, ◌∙◌, ◌∷◌, ◌≡◌}
+use Rattle.std.proofs.Common.{Bool, Err, IsTrue, List, None, Ok, Option, Result, Some, [], ap, arith, codes, cond, false, find, get_or, inl, inr, map, pos, refl, subst, suc, sym, true, zero, ℕ, ◌+◌, ◌==◌, ◌&&◌, ◌∙◌, ◌∷◌, ◌≡◌, filter}
 use Rattle.std.specs.Prelude.{Contains, IfOk, IsPermutation}
+use Rattle.std.specs.Cmp.{Equal-is, int_cmp_is}
+use Rattle.std.specs.Ordering.{int_cmp, is_eq}
+use Rattle.std.specs.declared.cmp.Ordering.TheVariants.{Equal}
 use Rattle.std.specs.Str.{bytes_eq}
+use Rattle.std.specs.FinMap.{int_cmp-IsAntisymmetric}
+use Rattle.std.proofs.lemmas.Map.Text.{is_eq-slice_cmp}
+use Rattle.sqlite_value.proofs.OrderLemmas.{value_cmp-Int, value_cmp-Text}
 use Rattle.std.proofs.lemmas.Bool.{cases_Bool, eqb-true, eq-eqb}
 use Rattle.std.proofs.lemmas.List.Sorted.{Contains-permutation, IsPermutation-sym}
 use Rattle.std.proofs.lemmas.Slice.Eq.{bytes_eq-Decides}
@@ -14,7 +20,8 @@ use Rattle.desk_core.specs.History.{revisions_of}
 use Rattle.desk_core.specs.Views.{Kept}
 use Rattle.desk_store.specs.Desk.{IsDesk, Stands, Stays, revision_at, stored_of}
 use Rattle.desk_store.specs.History.{Holds, row_of}
-use Rattle.desk_store.specs.Rows.{Finds, IsRowOf, Says}
+use Rattle.desk_store.specs.Rows.{Finds, Says}
+use Rattle.desk_store.specs.Looks.{are_equal, author_and_text, is_at, is_of, revision_in}
 use Rattle.desk_store.specs.Tables.{IsAtRest, rows_of}
 use Rattle.desk_store.specs.declared.error.DeskError.{DeskError}
 use Rattle.desk_store.specs.declared.desk.Revision.{Revision as Found}
@@ -51,48 +58,83 @@ one_number xs a b numbered (i, at_i, is_i) (j, at_j, is_j) same =
     let place : i ≡ j = omega (arith, first, second, same) in
     sym is_i ∙ ap (λ k. get_or xs k a) place ∙ default xs j a b at_j ∙ is_j
 
-module _ (db : Database) (history : List Revision) (rows : List Row) (holds : Holds db history) (same : IsPermutation (rows_of db (codes "file_rev")) rows) (file : List ℕ) (rev : ℕ) where
-  row_there : (r : Revision) → Contains history r → Contains rows (row_of r)
-  row_there r h = Contains-permutation (rows_of db (codes "file_rev")) rows (row_of r) same (Contains-permutation (map row_of history) _ (row_of r) holds.rows (in_map row_of history r h))
+in_nothing : (row : Row) → Contains [] row → ⊥
+in_nothing row (k, below, is) = omega arith
 
-  revision_there : (row : Row) → Contains rows row → (r : Revision) × Contains history r × (row_of r ≡ row)
-  revision_there row h = from_map row_of history row (Contains-permutation (rows_of db (codes "file_rev")) (map row_of history) row (IsPermutation-sym (map row_of history) _ holds.rows) (Contains-permutation rows _ row (IsPermutation-sym _ rows same) h))
+and_both : (b c : Bool) → (b && c) ≡ true → (b ≡ true) × (c ≡ true)
+and_both true c h = (refl, h)
+and_both false c h = absurd (cc)
 
-  found_some : (row : Row) (found : Found) → Contains rows row → IsRowOf file rev row → Says row found → Some found ≡ stored_of (revision_at history file rev)
-  found_some row found there is says =
+-- the row of a revision passes if it is the revision that is looked for, and only then
+pub of_file : (r : Revision) (file : List ℕ) → is_of file (row_of r) ≡ bytes_eq r.file file
+of_file r file = ap is_eq (value_cmp-Text r.file file) ∙ is_eq-slice_cmp r.file file
+
+of_rev : (n m : ℕ) → n ≡ m → are_equal (Int (pos n)) (Int (pos m)) ≡ true
+of_rev n m same = ap is_eq (value_cmp-Int (pos n) (pos m) ∙ sym (int_cmp_is (pos n) (pos m) Equal (ap pos same)))
+
+rev_of : (n m : ℕ) → are_equal (Int (pos n)) (Int (pos m)) ≡ true → n ≡ m
+rev_of n m same =
+    let e : int_cmp (pos n) (pos m) ≡ Equal = (Equal-is (int_cmp (pos n) (pos m))).0 (ap is_eq (sym (value_cmp-Int (pos n) (pos m))) ∙ same) in
+    let z : pos n ≡ pos m = int_cmp-IsAntisymmetric (pos n) (pos m) e in
+    cc
+
+at_rev : (r : Revision) (file : List ℕ) (rev : ℕ) → r.file ≡ file → r.rev ≡ rev → is_at file rev (row_of r) ≡ true
+at_rev r file rev name number =
+    ap (λ b. b && are_equal (Int (pos r.rev)) (Int (pos rev))) (of_file r file ∙ (bytes_eq-Decides r.file file).1 name) ∙ of_rev r.rev rev number
+
+rev_at_row : (r : Revision) (file : List ℕ) (rev : ℕ) → is_at file rev (row_of r) ≡ true → (r.file ≡ file) × (r.rev ≡ rev)
+rev_at_row r file rev h =
+    let both = and_both (is_of file (row_of r)) (are_equal (Int (pos r.rev)) (Int (pos rev))) h in
+    ((bytes_eq-Decides r.file file).0 (sym (of_file r file) ∙ both.0), rev_of r.rev rev both.1)
+
+module _ (db : Database) (history : List Revision) (rows : List Row) (holds : Holds db history) (file : List ℕ) (rev : ℕ) (same : IsPermutation (revision_in file rev db) rows) where
+  abbrev all : List Row
+  all = rows_of db (codes "file_rev")
+
+  row_there : (r : Revision) → Contains history r → r.file ≡ file → r.rev ≡ rev → Contains rows (author_and_text (row_of r))
+  row_there r h name number =
+      let stored = Contains-permutation (map row_of history) all (row_of r) holds.rows (in_map row_of history r h) in
+      let passes = in_filter (is_at file rev) all (row_of r) stored (at_rev r file rev name number) in
+      Contains-permutation (revision_in file rev db) rows (author_and_text (row_of r)) same (in_map author_and_text (filter (is_at file rev) all) (row_of r) passes)
+
+  revision_there : (row : Row) → Contains rows row → (r : Revision) × Contains history r × (r.file ≡ file) × (r.rev ≡ rev) × (author_and_text (row_of r) ≡ row)
+  revision_there row h =
+      let shown = from_map author_and_text (filter (is_at file rev) all) row (Contains-permutation rows (revision_in file rev db) row (IsPermutation-sym (revision_in file rev db) rows same) h) in
+      let passes = from_filter (is_at file rev) all shown.0 shown.1 in
+      let it = from_map row_of history shown.0 (Contains-permutation all (map row_of history) shown.0 (IsPermutation-sym (map row_of history) all holds.rows) passes.0) in
+      let own = rev_at_row it.0 file rev (ap (is_at file rev) it.2 ∙ passes.1) in
+      (it.0, it.1, own.0, own.1, ap author_and_text it.2 ∙ shown.2)
+
+  found_some : (row : Row) (found : Found) → Contains rows row → Says row found → Some found ≡ stored_of (revision_at history file rev)
+  found_some row found there says =
       let it = revision_there row there in
       let r : Revision = it.0 in
-      let name : Words r.file ≡ Words file = ap (λ x. column x 0) it.2 ∙ is.0 in
-      let number : Int (pos r.rev) ≡ Int (pos rev) = ap (λ x. column x 1) it.2 ∙ is.1 in
-      let author : Words r.author ≡ Words found.author = ap (λ x. column x 2) it.2 ∙ says.0 in
-      let body : Bytes r.body ≡ Bytes found.body = ap (λ x. column x 4) it.2 ∙ says.1 in
-      let f : r.file ≡ file = cc in
-      let n : r.rev ≡ rev = cc in
+      let author : Words r.author ≡ Words found.author = ap (λ x. column x 0) it.4 ∙ says.0 in
+      let body : Bytes r.body ≡ Bytes found.body = ap (λ x. column x 1) it.4 ∙ says.1 in
       let a : r.author ≡ found.author = cc in
       let b : r.body ≡ found.body = cc in
-      let own : bytes_eq r.file file ≡ true = (bytes_eq-Decides r.file file).1 f in
+      let own : bytes_eq r.file file ≡ true = (bytes_eq-Decides r.file file).1 it.2 in
       let kept : Contains (revisions_of file history) r = in_filter (λ (x : Revision). bytes_eq x.file file) history r it.1 own in
       let at : revision_at history file rev ≡ Some r =
-      find_only (λ (x : Revision). x.rev == rev) (revisions_of file history) r kept (eq-eqb r.rev rev n)
-      (λ x h passes. one_number (revisions_of file history) x r (holds.numbered file) h kept (eqb-true x.rev rev passes ∙ sym n)) in
+      find_only (λ (x : Revision). x.rev == rev) (revisions_of file history) r kept (eq-eqb r.rev rev it.3)
+      (λ x h passes. one_number (revisions_of file history) x r (holds.numbered file) h kept (eqb-true x.rev rev passes ∙ sym it.3)) in
       let make : List ℕ → List ℕ → Option Found = λ author body. Some (record { author = author; body = body }) in
       ap (λ x. make x found.body) (sym a) ∙ ap (λ x. make r.author x) (sym b) ∙ ap stored_of (sym at)
 
-  found_none : All (λ row. IsRowOf file rev row → ⊥) rows → None ≡ stored_of (revision_at history file rev)
+  found_none : rows ≡ [] → None ≡ stored_of (revision_at history file rev)
   found_none none =
       let at : revision_at history file rev ≡ None =
       find_none (λ (x : Revision). x.rev == rev) (revisions_of file history) (λ x h passes.
       let from = from_filter (λ (y : Revision). bytes_eq y.file file) history x h in
-      let row = row_there x from.0 in
-      let fails : IsRowOf file rev (row_of x) → ⊥ = subst (λ (y : Row). IsRowOf file rev y → ⊥) row.2 (none row.0 (row_of x) row.1) in
-      fails (ap Words ((bytes_eq-Decides x.file file).0 from.1), ap (λ n. Int (pos n)) (eqb-true x.rev rev passes))) in
+      let row = row_there x from.0 ((bytes_eq-Decides x.file file).0 from.1) (eqb-true x.rev rev passes) in
+      in_nothing (author_and_text (row_of x)) (subst (λ (ys : List Row). Contains ys (author_and_text (row_of x))) none row)) in
       ap stored_of (sym at)
 
-  pub found_is : (found : Option Found) → Finds rows file rev found → found ≡ stored_of (revision_at history file rev)
+  pub found_is : (found : Option Found) → Finds rows found → found ≡ stored_of (revision_at history file rev)
   found_is None h = found_none h
-  found_is (Some found) h = found_some h.0 found h.1 h.2 h.3
+  found_is (Some found) h = found_some h.0 found h.1 h.2
 
-  pub found_if : (result : Result (Option Found) DeskError) → IfOk result (Finds rows file rev) → IfOk result (λ found. found ≡ stored_of (revision_at history file rev))
+  pub found_if : (result : Result (Option Found) DeskError) → IfOk result (Finds rows) → IfOk result (λ found. found ≡ stored_of (revision_at history file rev))
   found_if (Ok found) h = found_is found h
   found_if (Err e) h = tt
 

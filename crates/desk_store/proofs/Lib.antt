@@ -3,10 +3,14 @@ pub mod InsertEffect
 pub mod Inserting
 pub mod SelectText
 pub mod Reading
+pub mod NamedText
+pub mod NamedRows
+pub mod NamedLook
 pub mod CrashLeaves
 pub mod CreateText
 pub mod CreateEffect
 pub mod HistoryStep
+pub mod CallRuns
 pub mod EditRuns
 pub mod SiteHistories
 pub mod EditStep

@@ -1,13 +1,12 @@
 -- The numbers and authors in the rows of a file's revisions, in ascending order of the numbers, are those of its revisions.
-use Rattle.std.proofs.Common.{◌≡◌, ◌∙◌, ap, refl, sym, inl, inr, ℕ, suc, ◌+◌, ◌<◌, ◌≤◌, ◌==◌, ◌&&◌, Bool, true, false, cond, List, [], ◌∷◌, ◌++◌, Option, Some, None, Result, Ok, Err, IfOk, IsPermutation, codes, get_or, length, map, take, arith}
+use Rattle.std.proofs.Common.{◌≡◌, ◌∙◌, ap, refl, sym, inl, inr, ℕ, suc, ◌+◌, ◌<◌, ◌≤◌, ◌==◌, ◌&&◌, Bool, true, false, cond, List, [], ◌∷◌, ◌++◌, filter, Result, Ok, Err, IfOk, IsPermutation, codes, get_or, length, map, take, arith}
 use Rattle.std.specs.Prelude.{nat_lt}
-use Rattle.std.specs.List.{AllByRecursion, cons_option, filter_map, range_with_len, sum_by}
+use Rattle.std.specs.List.{AllByRecursion, range_with_len, sum_by}
 use Rattle.std.specs.List.Sorted.{IsNonDecreasingBy}
-use Rattle.std.specs.Option.{option_map_or}
 use Rattle.std.specs.Str.{bytes_eq}
 use Rattle.std.proofs.lemmas.Bool.{cases_Bool, eq-eqb, eqb-true, le-ltb, ltb-false, ne_eqb}
 use Rattle.std.proofs.lemmas.List.{take_more}
-use Rattle.std.proofs.lemmas.List.Elements.{filter_map-append, recursion_from_All}
+use Rattle.std.proofs.lemmas.List.Elements.{recursion_from_All}
 use Rattle.std.proofs.lemmas.List.Sorted.{sum_by-IsPermutation}
 use Rattle.std.proofs.lemmas.List.Sums.{sum_by-cons}
 use Rattle.std.proofs.lemmas.Slice.Eq.{bytes_eq-Decides}
@@ -17,7 +16,9 @@ use Rattle.desk_core.specs.Head.{Revision}
 use Rattle.desk_core.specs.History.{revisions_of}
 use Rattle.desk_store.specs.History.{Holds, row_of}
 use Rattle.desk_store.specs.Rows.{Lists, listed}
+use Rattle.desk_store.specs.Looks.{is_of, number_and_author, numbers_in}
 use Rattle.desk_store.specs.Tables.{rows_of}
+use Rattle.desk_store.proofs.FoundRows.{of_file}
 use Rattle.desk_store.specs.declared.error.DeskError.{DeskError}
 
 abbrev Pair : Type 0
@@ -142,37 +143,49 @@ same_pairs a (x ∷ xs) (y ∷ ys) same up numbered =
 
 -- ---- sums over rows
 
-sum_more : (f : Pair → ℕ) (one : Option Pair) (rest : List Pair) → sum_by f (cons_option one rest) ≡ option_map_or f one 0 + sum_by f rest
-sum_more f (Some x) rest = sum_by-cons f x rest
-sum_more f None rest = omega arith
-
-sum_listed : (f : Pair → ℕ) (g : Row → Option Pair) (rows : List Row) → sum_by f (filter_map g rows) ≡ sum_by (λ row. option_map_or f (g row) 0) rows
-sum_listed f g [] = refl
-sum_listed f g (row ∷ rows) =
-    let more = sum_more f (g row) (filter_map g rows) in
-    let rest = sum_listed f g rows in
-    let all = sum_by-cons (λ row. option_map_or f (g row) 0) row rows in
+sum_map : {X Y : Type 0} (f : Y → ℕ) (g : X → Y) (xs : List X) → sum_by f (map g xs) ≡ sum_by (λ x. f (g x)) xs
+sum_map f g [] = refl
+sum_map f g (x ∷ xs) =
+    let more = sum_by-cons f (g x) (map g xs) in
+    let rest = sum_map f g xs in
+    let all = sum_by-cons (λ x. f (g x)) x xs in
     omega (arith, more, rest, all)
 
-sum_rows : (h : Row → ℕ) (rs : List Revision) → sum_by h (map row_of rs) ≡ sum_by (λ r. h (row_of r)) rs
-sum_rows h [] = refl
-sum_rows h (r ∷ rs) =
-    let more = sum_by-cons h (row_of r) (map row_of rs) in
-    let rest = sum_rows h rs in
-    let all = sum_by-cons (λ (r : Revision). h (row_of r)) r rs in
-    omega (arith, more, rest, all)
+-- a sum over those that pass
+sum_passing : (f : Row → ℕ) (test : Row → Bool) (rows : List Row) → sum_by f (filter test rows) ≡ sum_by (λ row. cond (test row) (f row) 0) rows
+sum_passing f test [] = refl
+sum_passing f test (row ∷ rows) =
+    let all = sum_by-cons (λ row. cond (test row) (f row) 0) row rows in
+    let rest = sum_passing f test rows in
+    let step = kept (test row) in
+    omega (arith, all, rest, step)
+  where
+    kept : (b : Bool) → sum_by f (cond b (row ∷ filter test rows) (filter test rows)) ≡ cond b (f row) 0 + sum_by f (filter test rows)
+    kept true = sum_by-cons f row (filter test rows)
+    kept false = omega arith
 
-sum_own : (f : Pair → ℕ) (file : List ℕ) (rs : List Revision) → sum_by f (map pair (revisions_of file rs)) ≡ sum_by (λ r. option_map_or f (listed file (row_of r)) 0) rs
+sum_own : (f : Pair → ℕ) (file : List ℕ) (rs : List Revision) → sum_by f (map pair (revisions_of file rs)) ≡ sum_by (λ r. cond (bytes_eq r.file file) (f (pair r)) 0) rs
 sum_own f file [] = refl
 sum_own f file (r ∷ rs) =
-    let all = sum_by-cons (λ (r : Revision). option_map_or f (listed file (row_of r)) 0) r rs in
+    let all = sum_by-cons (λ (r : Revision). cond (bytes_eq r.file file) (f (pair r)) 0) r rs in
     let rest = sum_own f file rs in
     let step = kept (bytes_eq r.file file) in
     omega (arith, all, rest, step)
   where
-    kept : (b : Bool) → sum_by f (map pair (cond b (r ∷ revisions_of file rs) (revisions_of file rs))) ≡ option_map_or f (cond b (Some (pair r)) None) 0 + sum_by f (map pair (revisions_of file rs))
+    kept : (b : Bool) → sum_by f (map pair (cond b (r ∷ revisions_of file rs) (revisions_of file rs))) ≡ cond b (f (pair r)) 0 + sum_by f (map pair (revisions_of file rs))
     kept true = sum_by-cons f (pair r) (map pair (revisions_of file rs))
     kept false = omega arith
+
+-- the row of a revision counts as the revision does
+same_terms : (f : Pair → ℕ) (file : List ℕ) (rs : List Revision)
+    → sum_by (λ r. cond (is_of file (row_of r)) (f (pair r)) 0) rs ≡ sum_by (λ r. cond (bytes_eq r.file file) (f (pair r)) 0) rs
+same_terms f file [] = refl
+same_terms f file (r ∷ rs) =
+    let mine = sum_by-cons (λ (r : Revision). cond (is_of file (row_of r)) (f (pair r)) 0) r rs in
+    let its = sum_by-cons (λ (r : Revision). cond (bytes_eq r.file file) (f (pair r)) 0) r rs in
+    let rest = same_terms f file rs in
+    let own = ap (λ b. cond b (f (pair r)) 0) (of_file r file) in
+    omega (arith, mine, its, rest, own)
 
 numbers_of : (rs : List Revision) → map (λ (q : Pair). q.0) (map pair rs) ≡ map (λ r. r.rev) rs
 numbers_of [] = refl
@@ -182,24 +195,30 @@ pairs_length : (rs : List Revision) → length {A = ℕ × List ℕ} (map pair r
 pairs_length [] = refl
 pairs_length (r ∷ rs) = ap suc (pairs_length rs)
 
-module _ (db : Database) (history : List Revision) (rows : List Row) (holds : Holds db history) (same : IsPermutation (rows_of db (codes "file_rev")) rows) (file : List ℕ) where
-  listed_is : (found : List Pair) → Lists rows file found → found ≡ map pair (revisions_of file history)
+map_push : {X Y : Type 0} (f : X → Y) (xs : List X) (x : X) → map f (xs ++ x ∷ []) ≡ map f xs ++ f x ∷ []
+map_push f [] x = refl
+map_push f (y ∷ xs) x = ap (λ rest. f y ∷ rest) (map_push f xs x)
+
+module _ (db : Database) (history : List Revision) (rows : List Row) (holds : Holds db history) (file : List ℕ) (same : IsPermutation (numbers_in file db) rows) where
+  listed_is : (found : List Pair) → Lists rows found → found ≡ map pair (revisions_of file history)
   listed_is found h =
       let own = revisions_of file history in
+      let all = rows_of db (codes "file_rev") in
       let sums : SameSums found (map pair own) = λ f.
-      let g : Row → ℕ = λ row. option_map_or f (listed file row) 0 in
-      sum_by-IsPermutation f (filter_map (listed file) rows) found h.same ∙ sum_listed f (listed file) rows
-      ∙ sum_by-IsPermutation g (rows_of db (codes "file_rev")) rows same ∙ sum_by-IsPermutation g (map row_of history) (rows_of db (codes "file_rev")) holds.rows
-      ∙ sum_rows g history ∙ sym (sum_own f file history) in
+      let g : Row → ℕ = λ row. f (listed row) in
+      let k : Row → ℕ = λ row. cond (is_of file row) (g (number_and_author row)) 0 in
+      sum_by-IsPermutation f (map listed rows) found h.same ∙ sum_map f listed rows
+      ∙ sum_by-IsPermutation g (numbers_in file db) rows same ∙ sum_map g number_and_author (filter (is_of file) all)
+      ∙ sum_passing (λ row. g (number_and_author row)) (is_of file) all
+      ∙ sum_by-IsPermutation k (map row_of history) all holds.rows ∙ sum_map k row_of history ∙ same_terms f file history ∙ sym (sum_own f file history) in
       same_pairs 1 found (map pair own) sums (ascend_from found h.ascending) (numbers_of own ∙ holds.numbered file ∙ ap (range_with_len 1) (sym (pairs_length own)))
 
-  pub listed_if : (result : Result (List Pair) DeskError) → IfOk result (Lists rows file) → IfOk result (λ found. found ≡ map pair (revisions_of file history))
+  pub listed_if : (result : Result (List Pair) DeskError) → IfOk result (Lists rows) → IfOk result (λ found. found ≡ map pair (revisions_of file history))
   listed_if (Ok found) h = listed_is found h
   listed_if (Err e) h = tt
 
 -- one row more
-pub listed_more : (file : List ℕ) (rows : List Row) (i : ℕ) (row : Row) (found new : List Pair) → i < length rows → row ≡ get_or rows i row → found ≡ filter_map (listed file) (take i rows)
-    → new ≡ found ++ cons_option (listed file row) [] → new ≡ filter_map (listed file) (take (i + 1) rows)
-listed_more file rows i row found new below at so_far is =
-    is ∙ ap (λ xs. xs ++ cons_option (listed file row) []) so_far ∙ sym (filter_map-append (listed file) (take i rows) (row ∷ []))
-    ∙ ap (λ r. filter_map (listed file) (take i rows ++ r ∷ [])) at ∙ ap (filter_map (listed file)) (sym (take_more rows i row below))
+pub listed_more : (rows : List Row) (i : ℕ) (row : Row) (found new : List Pair) → i < length rows → row ≡ get_or rows i row → found ≡ map listed (take i rows)
+    → new ≡ found ++ listed row ∷ [] → new ≡ map listed (take (i + 1) rows)
+listed_more rows i row found new below at so_far is =
+    is ∙ ap (λ xs. xs ++ listed row ∷ []) so_far ∙ sym (map_push listed (take i rows) row) ∙ ap (λ r. map listed (take i rows ++ r ∷ [])) at ∙ ap (map listed) (sym (take_more rows i row below))

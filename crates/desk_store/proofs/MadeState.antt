@@ -17,7 +17,7 @@ use Rattle.desk_store.specs.declared.error.CreateError.TheVariants as refused
 
 by_room : (old : State) (texts : SiteTexts) (e : CreateError) → RefusesRoom old.committed.schema e → RefusesToCreate old.committed.schema texts e
 by_room old texts refused.Schema h = h
-by_room old texts (refused.Store fault) h = tt
+by_room old texts (refused.Store fault) h = h
 by_room old texts refused.Memory h = tt
 by_room old texts (refused.TooLarge file) h = absurd h
 by_room old texts (refused.Fault fault) h = absurd h
@@ -37,7 +37,7 @@ no_room_made V old new texts e h = record {
 
 by_site : (old : State) (texts : SiteTexts) (e : CreateError) → has_one old.committed.schema ≡ false → RefusesSite texts e → RefusesToCreate old.committed.schema texts e
 by_site old texts refused.Schema none h = absurd h
-by_site old texts (refused.Store fault) none h = tt
+by_site old texts (refused.Store fault) none h = absurd h
 by_site old texts refused.Memory none h = tt
 by_site old texts (refused.TooLarge file) none h = (none, h)
 by_site old texts (refused.Fault fault) none h = (none, h)
@@ -98,5 +98,5 @@ module _ (old mid new : State) (texts : SiteTexts) (clean_if_open : IsTrue mid.i
       let kept : new.committed ≡ old.committed = (stored.unchanged clean live).1 ∙ (look.found before).committed in kept in
       elim says [
         | inl memory ↦ subst (λ (f : CreateError). IsCreated {V = V} old new texts (Err f)) (sym memory) (record { made = λ clean. tt; refused = λ clean. tt; unchanged = same; crash = all; mode = stored.autocommit })
-        | inr store ↦ subst (λ (f : CreateError). IsCreated {V = V} old new texts (Err f)) (sym store.1) (record { made = λ clean. tt; refused = λ clean. tt; unchanged = same; crash = all; mode = stored.autocommit })
+        | inr store ↦ subst (λ (f : CreateError). IsCreated {V = V} old new texts (Err f)) (sym store.2) (record { made = λ clean. tt; refused = λ clean. store.1; unchanged = same; crash = all; mode = stored.autocommit })
       ]

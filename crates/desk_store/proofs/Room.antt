@@ -11,7 +11,7 @@ use Rattle.desk_store.proofs.Inserting.{kept_commit}
 
 making : (schema : Schema) (e : CreateError) → IsOfMaking e → RefusesRoom schema e
 making schema e (inl memory) = subst (RefusesRoom schema) (sym memory) tt
-making schema e (inr store) = subst (RefusesRoom schema) (sym store.1) tt
+making schema e (inr store) = subst (RefusesRoom schema) (sym store.2) store.1
 
 module _ (old new : State) (mode : new.in_transaction ≡ false) (survives : Survives old new (λ _. ⊥)) where
   pub not_looked : {T : Type 0} (e : CreateError) → (HasCleanDisk new → IsUnchanged old new ⊎ IsRolledBack old new) → IsOfMaking e → LooksForRoom {T = T} old new (Err e)

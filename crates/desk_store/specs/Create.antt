@@ -31,7 +31,9 @@ use Rattle.sqlite_schema.specs.Names.{same_name, table_named}
 use Rattle.sqlite_schema.specs.declared.schema.View.{View}
 use Rattle.desk_core.specs.Views.{Kept}
 use Rattle.desk_store.specs.Tables.{Adds, HasTables, IsAtRest, IsFree, LeavesCommit, file_rev_table, meta_table, rows_of, table_in}
+use Rattle.desk_store.specs.Rows.{IsFaultOf}
 use Rattle.desk_store.specs.declared.error.StoreFault.{StoreFault}
+use Rattle.desk_store.specs.declared.error.Task.TheVariants as task
 use Rattle.desk_store.specs.declared.error.CreateError.{CreateError}
 use Rattle.desk_store.specs.declared.error.CreateError.TheVariants as refused
 
@@ -114,13 +116,13 @@ RefusesSite texts (refused.Store fault) = ⊥
 RefusesSite texts refused.Memory = Unit {0}
 RefusesSite texts refused.Schema = ⊥
 
--- What making a database is refused for: one of the tables is there, and else what its site is refused for. Store and Memory
--- may stand in place of any.
+-- What making a database is refused for: one of the tables is there, and else what its site is refused for. Memory may stand in
+-- place of any, and so may Store, which tells that a statement that makes the tables was refused for another cause.
 abbrev pub RefusesToCreate : Schema → SiteTexts → CreateError → Type 0
 RefusesToCreate schema texts refused.Schema = has_one schema ≡ true
 RefusesToCreate schema texts (refused.TooLarge file) = (has_one schema ≡ false) × RefusesSite texts (refused.TooLarge file)
 RefusesToCreate schema texts (refused.Fault fault) = (has_one schema ≡ false) × RefusesSite texts (refused.Fault fault)
-RefusesToCreate schema texts (refused.Store fault) = Unit {0}
+RefusesToCreate schema texts (refused.Store fault) = IsFaultOf task.MakeTables fault
 RefusesToCreate schema texts refused.Memory = Unit {0}
 
 -- revision 1 of a file, by `site`
@@ -258,12 +260,12 @@ pub record StoresAll {T : Type 0} (old new : State) (history : List Revision) (r
 
 -- a statement was refused, or there is no memory
 abbrev pub IsOfMaking : CreateError → Type 0
-IsOfMaking e = (e ≡ refused.Memory) ⊎ ((fault : StoreFault) × (e ≡ refused.Store fault))
+IsOfMaking e = (e ≡ refused.Memory) ⊎ ((fault : StoreFault) × IsFaultOf task.MakeTables fault × (e ≡ refused.Store fault))
 
 -- what a look for room is refused for: one of the tables is there; or a statement was refused, or there is no memory
 abbrev pub RefusesRoom : Schema → CreateError → Type 0
 RefusesRoom schema refused.Schema = has_one schema ≡ true
-RefusesRoom schema (refused.Store fault) = Unit {0}
+RefusesRoom schema (refused.Store fault) = IsFaultOf task.MakeTables fault
 RefusesRoom schema refused.Memory = Unit {0}
 RefusesRoom schema (refused.TooLarge file) = ⊥
 RefusesRoom schema (refused.Fault fault) = ⊥

@@ -6,3 +6,4 @@ pub mod Laws
 pub mod Open
 pub mod Create
 pub mod Newest
+pub mod Looks

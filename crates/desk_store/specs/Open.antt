@@ -1,8 +1,10 @@
 -- What opening a desk promises. (this project's own)
-use Rattle.std.specs.Prelude.{◌≡◌, ◌⊎◌, List, [], Result, Ok, Err}
+use Rattle.std.specs.Prelude.{◌≡◌, ◌≢◌, ◌⊎◌, List, [], Result, Ok, Err}
 use Rattle.sqlite_trees.specs.declared.store.Store.{Ghosts}
 use Rattle.sqlite.specs.Held.{Held, state}
 use Rattle.sqlite.specs.Effect.{Database}
+use Rattle.sqlite.specs.declared.error.Error.TheVariants.{SqliteFailure}
+use Rattle.sqlite.specs.declared.error.ErrorCode.TheVariants as code
 use Rattle.desk_core.specs.Head.{Revision}
 use Rattle.desk_store.specs.Desk.{IsSiteHistory, Shown, Stands}
 use Rattle.desk_store.specs.History.{Holds}
@@ -24,9 +26,10 @@ IsLook task.ReadRevisions = Unit {0}
 IsLook task.FindTables = Unit {0}
 IsLook task.ReadVersion = Unit {0}
 
--- what opening may answer: the database is not one of this project, there is no memory, or a statement that looks was refused
+-- what opening may answer: the database is not one of this project, there is no memory, or a statement that looks was refused for another
+-- cause
 abbrev pub IsOfOpening : DeskError → Type 0
-IsOfOpening e = (e ≡ error.Schema) ⊎ ((e ≡ error.Memory) ⊎ ((fault : StoreFault) × IsLook fault.task × (e ≡ error.Store fault)))
+IsOfOpening e = (e ≡ error.Schema) ⊎ ((e ≡ error.Memory) ⊎ ((fault : StoreFault) × IsLook fault.task × (fault.error ≢ SqliteFailure code.OutOfMemory) × (e ≡ error.Store fault)))
 
 -- a database of this project with this history
 pub record IsProject (db : Database) (history : List Revision) : Type 0 where

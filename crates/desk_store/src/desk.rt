@@ -13,16 +13,17 @@ ghost use Rattle.desk_store.specs.Create.{IsMade, MayMake, RefusesToCreate, answ
 ghost use Rattle.desk_store.specs.Desk.{CommitsOne, HasGoodDisk, HasStored, History, IsAccepted, IsEdited, LeavesTables, StandsAt, StaysAsItWas, StepsTo, revision_at, stored_of, told};
 ghost use Rattle.desk_store.specs.History.{row_of};
 ghost use Rattle.desk_store.specs.Open.{IsOfOpening, IsOurs, OpensAt, held_in};
-ghost use Rattle.desk_store.specs.Rows.{IsOfStore};
+ghost use Rattle.desk_store.specs.Rows.{IsOfEdit, IsOfTask};
 ghost use Rattle.desk_store.specs.Tables.{LeavesCommit};
 ghost use Rattle.desk_store.specs.declared.error.DeskError.TheVariants as error;
+ghost use Rattle.desk_store.specs.declared.error.Task.TheVariants as tasks;
 
 use crate::creating::create_state;
 use crate::database::read_state;
 use crate::error::{CreateError, DeskError, Task};
 use crate::laws::stored_edits_keep_site_histories;
 use crate::rows::{find_revision, list_revisions, not_stored};
-use crate::tables::{append_revision, read_revisions};
+use crate::tables::{append_revision, read_numbers, read_revision};
 use desk_core::{Accepted, Edit, Head, Judged, State, newest_of_a_longer_history};
 use desk_policy::{PolicyView, Site};
 use desk_text::{ReadError, Sequence, Text};
@@ -123,6 +124,7 @@ impl<S: Alter + Drop, V: PolicyView + Drop> Desk<S, V> {
             → StepsTo S.Store self.new (asked edit.now) (told result) history pending }
         ensures unanswered { told result ≡ None → first_case (newest_in self.old.state.heads) (asked edit.now) ≡ None }
         ensures schema { result ≢ Err error.Schema }
+        ensures errors { IfErr result IsOfEdit }
 
         // What was not stored changed nothing.
         ensures unchanged { added_if (asked edit.now) (told result) ≡ [] → self.new.state ≡ self.old.state }
@@ -150,11 +152,11 @@ impl<S: Alter + Drop, V: PolicyView + Drop> Desk<S, V> {
         ensures found { HasGoodDisk S.Store self.new → (history pending : History)
             → StandsAt S.Store self.old history pending
             → IfOk result (λ found. found ≡ stored_of (revision_at history file.now rev)) }
-        ensures errors { IfErr result IsOfStore }
+        ensures errors { IfErr result (IsOfTask tasks.ReadRevisions) }
         ensures crash { Survives (state S.Store self.old.conn) (state S.Store self.new.conn) (λ _. ⊥) }
     {
-        match read_revisions(&mut self.conn) {
-            Ok(rows) => find_revision(alloc, rows.as_slice(), file, rev),
+        match read_revision(&mut self.conn, file, rev) {
+            Ok(rows) => find_revision(alloc, rows.as_slice()),
             Err(e) => Err(not_stored(Task::ReadRevisions, e)),
         }
     }
@@ -169,11 +171,11 @@ impl<S: Alter + Drop, V: PolicyView + Drop> Desk<S, V> {
         ensures found { HasGoodDisk S.Store self.new → (history pending : History)
             → StandsAt S.Store self.old history pending
             → IfOk result (λ found. found ≡ map (λ r. (r.rev, r.author)) (revisions_of file.now history)) }
-        ensures errors { IfErr result IsOfStore }
+        ensures errors { IfErr result (IsOfTask tasks.ReadRevisions) }
         ensures crash { Survives (state S.Store self.old.conn) (state S.Store self.new.conn) (λ _. ⊥) }
     {
-        match read_revisions(&mut self.conn) {
-            Ok(rows) => list_revisions(alloc, rows.as_slice(), file),
+        match read_numbers(&mut self.conn, file) {
+            Ok(rows) => list_revisions(alloc, rows.as_slice()),
             Err(e) => Err(not_stored(Task::ReadRevisions, e)),
         }
     }
@@ -216,7 +218,8 @@ impl<S: Alter + Drop, V: PolicyView + Drop> Desk<S, V> {
 
     /// Answers an edit by what it is judged.
     fn judged(&mut self, alloc: Global, edit: &Edit<'_>) -> Result<Done, DeskError>
-        ensures { IsEdited (state S.Store self.old.conn) (state S.Store self.new.conn) self.old.state self.new.state (asked edit.now) result }
+        ensures edited { IsEdited (state S.Store self.old.conn) (state S.Store self.new.conn) self.old.state self.new.state (asked edit.now) result }
+        ensures errors { IfErr result IsOfEdit }
     {
         match self.current.judge(alloc, edit) {
             Ok(Judged::Already(rev)) => Ok(Done { rev, already: true }),
@@ -229,7 +232,8 @@ impl<S: Alter + Drop, V: PolicyView + Drop> Desk<S, V> {
     /// Stores the revision of an edit that this desk, as it is, has accepted, and puts it in force.
     fn store(&mut self, edit: &Edit<'_>, accepted: Accepted<V>) -> Result<Done, DeskError>
         requires accepted { IsAccepted V.in_force self.old.state (asked edit.now) accepted }
-        ensures { IsEdited (state S.Store self.old.conn) (state S.Store self.new.conn) self.old.state self.new.state (asked edit.now) result }
+        ensures edited { IsEdited (state S.Store self.old.conn) (state S.Store self.new.conn) self.old.state self.new.state (asked edit.now) result }
+        ensures errors { IfErr result IsOfEdit }
     {
         newest_of_a_longer_history();
         stored_edits_keep_site_histories();

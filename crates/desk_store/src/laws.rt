@@ -1,6 +1,6 @@
 //! What the definitions of this crate come to, each as a function that does nothing of its own.
 
-ghost use Rattle.desk_store.specs.Laws.{CrashesLeaveDesks, CrashesLeaveFirstHistories, DeclaredTablesAreOurs, EditsAreARun, OneHistory, PendingEditsHaveNoAnswer, StoredEditsKeepSiteHistories};
+ghost use Rattle.desk_store.specs.Laws.{CallsAreARun, CrashesLeaveDesks, CrashesLeaveFirstHistories, DeclaredTablesAreOurs, EditsAreARun, OneHistory, PendingEditsHaveNoAnswer, StoredEditsKeepSiteHistories};
 
 use desk_core::{
     answers_are_right, known_files_have_names, newest_of_a_longer_history,
@@ -12,6 +12,12 @@ use sqlite::Alter;
 /// After any edits on a good disk the answers are a run of the histories, and the desk stands at the run's last history.
 pub fn edits_are_a_run<S: Alter + Drop, V: PolicyView + Drop>()
     ensures { EditsAreARun S V S.Store }
+{}
+
+/// After any edits and looks on a good disk each answer is right at the history at which the desk stood then, the edits are a
+/// run, and the desk stands at the run's last history.
+pub fn calls_are_a_run<S: Alter + Drop, V: PolicyView + Drop>()
+    ensures { CallsAreARun S V S.Store }
 {}
 
 /// A revision that a crash may still bring to light is that of an edit that had no answer, after the last stored one.

@@ -5,6 +5,7 @@ ghost use Rattle.std.specs.Str.{IsUtf8};
 ghost use Rattle.sqlite.specs.Effect.{IsDatabase};
 ghost use Rattle.sqlite.specs.State.{HasCleanDisk, Survives};
 ghost use Rattle.sqlite.specs.Held.{state};
+ghost use Rattle.desk_store.specs.Looks.{numbers_in, revision_in};
 ghost use Rattle.desk_store.specs.Tables.{HasTables, IsAtRest, Adds, AddsWhileOpen, LeavesCommit, revision_row, rows_of};
 
 use crate::declared::has_tables;
@@ -48,6 +49,43 @@ pub(crate) fn read_revisions<S: Alter>(conn: &mut Connection<S>) -> Result<Vec<R
 {
     let select = conn.prepare("SELECT * FROM file_rev")?;
     select.query_all(conn, &[])
+}
+
+/// Reads the numbers and authors of a file's revisions, in any order.
+pub(crate) fn read_numbers<S: Alter>(
+    conn: &mut Connection<S>,
+    file: &str,
+) -> Result<Vec<Row>, Error>
+    requires { HasCleanDisk (state S.Store conn.old) → IsAtRest (state S.Store conn.old) }
+    ensures rest { HasCleanDisk (state S.Store conn.new) → IsAtRest (state S.Store conn.new) }
+    ensures mode { (state S.Store conn.old).in_transaction ≡ false → (state S.Store conn.new).in_transaction ≡ false }
+    ensures rows { HasCleanDisk (state S.Store conn.new) → IfOk result (λ rows. IsPermutation (numbers_in file.now (state S.Store conn.old).committed) rows.items) }
+    ensures opened { HasCleanDisk (state S.Store conn.new) → IsTrue (state S.Store conn.new).is_open → IsTrue (state S.Store conn.old).is_open }
+    ensures live { HasCleanDisk (state S.Store conn.new) → OnOk result (IsTrue (state S.Store conn.new).is_open) }
+    ensures unchanged { HasCleanDisk (state S.Store conn.new) → IsTrue (state S.Store conn.new).is_open → (state S.Store conn.new).committed ≡ (state S.Store conn.old).committed }
+    ensures crash { Survives (state S.Store conn.old) (state S.Store conn.new) (λ _. ⊥) }
+{
+    let select = conn.prepare("SELECT rev, author FROM file_rev WHERE file = ?1")?;
+    select.query_all(conn, params![file])
+}
+
+/// Reads the author and the text of a file's revision with this number: one row, or none.
+pub(crate) fn read_revision<S: Alter>(
+    conn: &mut Connection<S>,
+    file: &str,
+    rev: u32,
+) -> Result<Vec<Row>, Error>
+    requires { HasCleanDisk (state S.Store conn.old) → IsAtRest (state S.Store conn.old) }
+    ensures rest { HasCleanDisk (state S.Store conn.new) → IsAtRest (state S.Store conn.new) }
+    ensures mode { (state S.Store conn.old).in_transaction ≡ false → (state S.Store conn.new).in_transaction ≡ false }
+    ensures rows { HasCleanDisk (state S.Store conn.new) → IfOk result (λ rows. IsPermutation (revision_in file.now rev (state S.Store conn.old).committed) rows.items) }
+    ensures opened { HasCleanDisk (state S.Store conn.new) → IsTrue (state S.Store conn.new).is_open → IsTrue (state S.Store conn.old).is_open }
+    ensures live { HasCleanDisk (state S.Store conn.new) → OnOk result (IsTrue (state S.Store conn.new).is_open) }
+    ensures unchanged { HasCleanDisk (state S.Store conn.new) → IsTrue (state S.Store conn.new).is_open → (state S.Store conn.new).committed ≡ (state S.Store conn.old).committed }
+    ensures crash { Survives (state S.Store conn.old) (state S.Store conn.new) (λ _. ⊥) }
+{
+    let select = conn.prepare("SELECT author, body FROM file_rev WHERE file = ?1 AND rev = ?2")?;
+    select.query_all(conn, params![file, i64::from(rev)])
 }
 
 /// Reads the rows of the database's versions.

@@ -1,5 +1,4 @@
-use Rattle.std.proofs.Common.{ℕ, List, rules, sym, subst, IsPermutation}
-use Rattle.std.specs.List.{filter_map}
+use Rattle.std.proofs.Common.{ℕ, List, rules, sym, subst, map, IsPermutation}
 use Rattle.std.specs.List.Sorted.{IsNonDecreasingBy}
 use Rattle.std.proofs.lemmas.List.Sorted.{IsNonDecreasingBy-from_sort_by_key}
 use Rattle.desk_store.specs.Rows.{Lists, listed}
@@ -10,5 +9,5 @@ returns-clause-listed c =
     let sorted = c.sort_unstable_by_key.new.self.items in
     let up : IsNonDecreasingBy (λ (one : ℕ × List ℕ). one.0) sorted =
     IsNonDecreasingBy-from_sort_by_key (λ (one : ℕ × List ℕ). one.0) _ c.sort_unstable_by_key.ensures.sorted (λ a r q k. search rules) in
-    let same : IsPermutation (filter_map (listed c.args.file.now) c.args.rows.now) sorted = subst (λ xs. IsPermutation xs sorted) c.in_ok-found.ensures.listed c.sort_unstable_by_key.ensures.permutation in
-    subst (Lists c.args.rows.now c.args.file.now) (sym c.from_vec.ensures) (record { same = same; ascending = up })
+    let same : IsPermutation (map listed c.args.rows.now) sorted = subst (λ xs. IsPermutation xs sorted) c.in_ok-found.ensures.listed c.sort_unstable_by_key.ensures.permutation in
+    subst (Lists c.args.rows.now) (sym c.from_vec.ensures) (record { same = same; ascending = up })

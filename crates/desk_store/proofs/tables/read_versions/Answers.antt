@@ -4,18 +4,18 @@ use Rattle.std.specs.declared.alloc.Global.{Global}
 use Rattle.sqlite.specs.Order.{Row}
 use Rattle.sqlite.specs.State.{HasCleanDisk}
 use Rattle.sqlite.specs.Held.{state}
-use Rattle.desk_store.specs.Tables.{select_version}
+use Rattle.desk_store.specs.Tables.{rows_of, select_version}
 use Rattle.desk_store.proofs.Inserting.{rest_after_error, not_run, was_open}
 use Rattle.desk_store.proofs.Reading.{IsRead, versions_whole, reads, read_crash}
 use Rattle.desk_store.proofs.tables.read_versions.Given.{Over}
 use Rattle.desk_store.proofs.tables.read_versions.Goals as goal
 
 outcome : (g : Over) (c : goal.After-drop-select-inside-3 g) → HasCleanDisk (state g.S.Store c.query_all.new.conn)
-    → IsRead (codes "meta") (λ (rows : Vec Row Global). rows.items) (state g.S.Store c.args.conn.now) (state g.S.Store c.query_all.new.conn) c.query_all.result
+    → IsRead (λ db. rows_of db (codes "meta")) (λ (rows : Vec Row Global). rows.items) (state g.S.Store c.args.conn.now) (state g.S.Store c.query_all.new.conn) c.query_all.result
 outcome g c clean =
     let early : HasCleanDisk (state g.S.Store c.prepare.new.self) = omega (arith, c.query_all.ensures.survives.clean) in
     let first : HasCleanDisk (state g.S.Store c.args.conn.now) = omega (arith, c.prepare.ensures.survives.clean) in
-    reads select_version (codes "meta") versions_whole (λ (rows : Vec Row Global). rows.items) _ (state g.S.Store c.prepare.new.self) _ _ c.query_all.result (c.requires first) (c.in_ok-select.ensures.ok early) (c.query_all.ensures.ok clean) (c.query_all.ensures.err clean)
+    reads select_version [] (λ db. rows_of db (codes "meta")) versions_whole (λ (rows : Vec Row Global). rows.items) _ (state g.S.Store c.prepare.new.self) _ _ c.query_all.result (c.requires first) (c.in_ok-select.ensures.ok early) (c.query_all.ensures.ok clean) (c.query_all.ensures.err clean)
 
 pub returns-clause-rest : goal.returns-clause-rest
 returns-clause-rest g c clean = (outcome g c clean).rest
@@ -30,7 +30,7 @@ pub returns-clause-unchanged : goal.returns-clause-unchanged
 returns-clause-unchanged g c clean live = (outcome g c clean).unchanged live
 
 pub returns-clause-crash : goal.returns-clause-crash
-returns-clause-crash g c = read_crash select_version (codes "meta") versions_whole _ _ _ _ c.requires c.in_ok-select.ensures.ok c.prepare.ensures.survives c.query_all.ensures.survives
+returns-clause-crash g c = read_crash select_version [] (λ db. rows_of db (codes "meta")) versions_whole _ _ _ _ c.requires c.in_ok-select.ensures.ok c.prepare.ensures.survives c.query_all.ensures.survives
 
 pub returns-in_err-select-clause-rest : goal.returns-in_err-select-clause-rest
 returns-in_err-select-clause-rest g c clean =

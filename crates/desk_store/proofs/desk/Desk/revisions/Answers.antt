@@ -1,9 +1,9 @@
-use Rattle.std.proofs.Common.{◌≡◌, sym, subst, IfOk, map, IsPermutation, codes}
+use Rattle.std.proofs.Common.{◌≡◌, sym, subst, IfOk, map, IsPermutation}
 use Rattle.sqlite.specs.Held.{state}
 use Rattle.desk_store.specs.Desk.{Stands}
 use Rattle.desk_core.specs.Head.{Revision}
 use Rattle.desk_core.specs.History.{revisions_of}
-use Rattle.desk_store.specs.Tables.{rows_of}
+use Rattle.desk_store.specs.Looks.{numbers_in}
 use Rattle.desk_store.proofs.FoundRows.{desk_still}
 use Rattle.desk_store.proofs.ListedRows.{listed_if}
 use Rattle.desk_store.proofs.desk.Desk.revisions.Goals as goal
@@ -11,18 +11,19 @@ use Rattle.desk_store.proofs.desk.Desk.revisions.Goals.{in-Ok, in-Err}
 
 pub invariant_of-self : goal.invariant_of-self
 invariant_of-self g c =
-    let a = c.read_revisions.ensures in
-    desk_still (state g.S.Store c.self.inside.conn) (state g.S.Store c.read_revisions.new.conn) c.self.inside.current a.opened a.unchanged a.crash c.self.invariant a.rest
+    let a = c.read_numbers.ensures in
+    desk_still (state g.S.Store c.self.inside.conn) (state g.S.Store c.read_numbers.new.conn) c.self.inside.current a.opened a.unchanged a.crash c.self.invariant a.rest
 
 pub returns-clause-found : goal.returns-clause-found
 returns-clause-found g c clean history pending stands =
     let old = state g.S.Store c.self.inside.conn in
     let here : Stands old c.self.inside.current history pending = subst (λ s. Stands (state g.S.Store s.conn) s.state history pending) (sym c.self.view_is) stands in
-    elim c.match-read_revisions.branch [
+    elim c.match-read_numbers.branch [
       | in-Ok w ↦
           let a = w.in-Ok.ensures in
-          let rows : IsPermutation (rows_of old.committed (codes "file_rev")) w.as_slice.result.now = subst (IsPermutation (rows_of old.committed (codes "file_rev"))) (sym w.as_slice.ensures.value) (a.rows clean) in
-          let found = listed_if old.committed history w.as_slice.result.now (here.tables (a.opened clean (a.live clean))) rows c.args.file.now w.list_revisions.result w.list_revisions.ensures.listed in
+          let shown = numbers_in c.args.file.now old.committed in
+          let rows : IsPermutation shown w.as_slice.result.now = subst (IsPermutation shown) (sym w.as_slice.ensures.value) (a.rows clean) in
+          let found = listed_if old.committed history w.as_slice.result.now (here.tables (a.opened clean (a.live clean))) c.args.file.now rows w.list_revisions.result w.list_revisions.ensures.listed in
           subst (λ r. IfOk r (λ found. found ≡ map (λ (r : Revision). (r.rev, r.author)) (revisions_of c.args.file.now history))) (sym w.result-is) found
       | in-Err w ↦ subst (λ r. IfOk r (λ found. found ≡ map (λ (r : Revision). (r.rev, r.author)) (revisions_of c.args.file.now history))) (sym w.result-is) tt
     ]

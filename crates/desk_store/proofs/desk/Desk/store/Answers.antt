@@ -3,7 +3,7 @@ use Rattle.sqlite.specs.Held.{state}
 use Rattle.desk_core.specs.Edit.{asked}
 use Rattle.desk_store.specs.Desk.{IsAccepted, IsEdited}
 use Rattle.desk_store.specs.declared.error.DeskError.TheVariants as error
-use Rattle.desk_store.proofs.EditStep.{desk_after, edit_failed, edit_stored}
+use Rattle.desk_store.proofs.EditStep.{desk_after, edit_failed, edit_stored, of_edit}
 use Rattle.desk_store.proofs.desk.Desk.store.Goals as goal
 
 pub invariant_of-self : goal.invariant_of-self
@@ -17,8 +17,8 @@ invariant_of-self g c clean =
     (edit_failed c.newest_of_a_longer_history.ensures c.stored_edits_keep_site_histories.ensures g.V.PolicyView.in_force old new c.self.inside.current c.self.inside.current e c.args.accepted c.as_bytes-body.result.now accepted a.utf8 c.as_bytes-body.ensures.utf8 c.as_bytes-body.ensures.value error.Memory (inl refl) a.opened a.unchanged a.crash)
     c.self.invariant a.rest clean
 
-pub returns-in-Err : goal.returns-in-Err
-returns-in-Err g c =
+pub returns-in-Err-clause-edited : goal.returns-in-Err-clause-edited
+returns-in-Err-clause-edited g c =
     let old = state g.S.Store c.self.inside.conn in
     let new = state g.S.Store c.append_revision.new.conn in
     let e = asked c.args.edit.now in
@@ -38,8 +38,11 @@ invariant_of-self-2 g c clean =
     (edit_stored c.newest_of_a_longer_history.ensures c.stored_edits_keep_site_histories.ensures g.V.PolicyView.in_force old new c.self.inside.current c.apply.new.self e c.args.accepted c.as_bytes-body.result.now accepted a.utf8 c.as_bytes-body.ensures.utf8 c.as_bytes-body.ensures.value a.opened a.live a.added a.durable c.apply.ensures.heads a.crash)
     c.self.invariant a.rest clean
 
-pub returns : goal.returns
-returns g c =
+pub returns-in-Err-clause-errors : goal.returns-in-Err-clause-errors
+returns-in-Err-clause-errors g c = of_edit c.not_stored.result c.not_stored.ensures.either
+
+pub returns-clause-edited : goal.returns-clause-edited
+returns-clause-edited g c =
     let old = state g.S.Store c.self.inside.conn in
     let new = state g.S.Store c.append_revision.new.conn in
     let e = asked c.args.edit.now in
