@@ -8,13 +8,13 @@
 //! [1]
 //! ```
 //!
-//! A block is a command (`terminal`), its standard input up to a line `END` if its line ends in ` <<END`, what it prints
+//! A block is a command (`terminal`, `tools`), its standard input up to a line `END` if its line ends in ` <<END`, what it prints
 //! on standard output, what it prints on standard error with `!` and a blank before each line (`!` alone before an empty
 //! one), and in brackets its exit status. A carriage return in what it prints is written `\r`. Between blocks empty lines
 //! and those that begin with `#` are skipped.
 
 use crate::report::Report;
-use crate::terminal;
+use crate::{terminal, tools};
 use std::alloc::AllocError;
 
 /// Tries the commands of a text.
@@ -71,7 +71,7 @@ fn try_block(rt: &HostRuntime, report: &mut Report, block: &str) -> Result<(), A
         ("", below)
     };
     let mut found = String::new(rt.alloc());
-    if !terminal::run(rt, &mut found, command, input)? {
+    if !terminal::run(rt, &mut found, command, input)? && !tools::run(rt, &mut found, command)? {
         return report.add_difference(command, "is not a command that can be run");
     }
     if found.as_str() == wanted {

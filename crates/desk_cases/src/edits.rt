@@ -1,9 +1,9 @@
-//! Questions on edits of a site's files.
+//! Questions on edits of a site's files, asked of a state in memory. While a desk is open they are asked of it (`desks`).
 
-use crate::answers::{Asked, number, say, split};
-use crate::policies::say_verdict;
-use crate::site::Site;
-use crate::sites::say_fault;
+use crate::subject::Subject;
+use desk_answers::answers::{Asked, number, say, split};
+use desk_answers::policies::say_verdict;
+use desk_answers::sites::say_fault;
 use desk_core::{Edit, Head, Judged, Refusal, State, can_be_kept};
 use desk_policy::{Plain, PolicyView, SiteFault};
 use desk_text::{Addr, Path, ReadError, Text};
@@ -30,15 +30,15 @@ impl Edits {
 /// Answers a question on edits.
 pub fn answer(
     alloc: Global,
-    site: &mut Site,
+    subject: &mut Subject,
     out: &mut String,
     question: &str,
     text: &str,
 ) -> Asked {
     match question {
-        "head" => head(alloc, &mut site.edits, out, text),
-        "state" => start(alloc, &mut site.edits, out),
-        _ => match &mut site.edits.state {
+        "head" => head(alloc, &mut subject.edits, out, text),
+        "state" => start(alloc, &mut subject.edits, out),
+        _ => match &mut subject.edits.state {
             Some(state) => of_state(alloc, state, out, question, text),
             None => Ok(false),
         },
@@ -56,7 +56,7 @@ fn of_state(
     match question {
         "edit" => edit(alloc, state, out, text),
         "heads" => heads(state, out),
-        "in_force" => in_force(alloc, state, out, text),
+        "in_force" => in_force(alloc, state.view(), out, text),
         _ => Ok(false),
     }
 }
@@ -141,7 +141,8 @@ fn put(
     }
 }
 
-fn edit_of(text: &str) -> Option<Edit<'_>> {
+/// Returns the edit `FILE BASE CALLER KEY TEXT`.
+pub fn edit_of(text: &str) -> Option<Edit<'_>> {
     let (file, rest) = split(text);
     let (base, rest) = split(rest);
     let (caller, rest) = split(rest);
@@ -189,19 +190,19 @@ fn heads(state: &State<Plain>, out: &mut String) -> Asked {
     Ok(true)
 }
 
-fn add_head(out: &mut String, head: &Head) -> Result<(), AllocError> {
+/// Adds the file, the number and the author of a revision.
+pub fn add_head(out: &mut String, head: &Head) -> Result<(), AllocError> {
     let (file, author) = (head.file.as_str(), head.author.as_str());
     let number = head.rev;
     write!(out, "{file} {number} {author}")
 }
 
-/// `in_force CLIENT PATH`: the verdict by the view of the state, as it is printed.
-fn in_force(alloc: Global, state: &State<Plain>, out: &mut String, text: &str) -> Asked {
+/// `in_force CLIENT PATH`: the verdict by the view of the state, or of the desk, as it is printed.
+pub fn in_force(alloc: Global, view: &Plain, out: &mut String, text: &str) -> Asked {
     let (client, path) = split(text);
     let Ok(client) = Addr::read(client) else {
         return Ok(false);
     };
-    let view = state.view();
     match Path::read(alloc, path) {
         Ok(path) => say_verdict(alloc, view.policy(), out, &view.decide(client, &path)),
         Err(_) => Ok(false),

@@ -2,31 +2,16 @@
 //! the others are files that the commands read.
 #![tactic(auto)]
 
-mod addresses;
-mod answers;
 mod cases;
 mod commands;
-mod credentials;
-mod custodians;
+mod databases;
+mod desks;
 mod edits;
-mod entries;
-mod escapes;
-mod exports;
-mod faults;
-mod filesystems;
-mod hosts;
-mod lines;
-mod listings;
-mod netgroups;
-mod nets;
-mod networks;
-mod paths;
-mod policies;
 mod questions;
 mod report;
-mod site;
-mod sites;
+mod subject;
 mod terminal;
+mod tools;
 
 use crate::report::Report;
 use std::alloc::{AllocError, Global};

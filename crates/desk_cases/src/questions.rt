@@ -1,57 +1,35 @@
 //! The questions. What each asks stands at the function that answers it.
 
-ghost use Rattle.std.specs.Prelude.{◌≤◌, length};
-
-use crate::answers::Asked;
-use crate::site::Site;
-use crate::{
-    addresses, credentials, custodians, edits, exports, faults, filesystems, hosts, lines,
-    listings, netgroups, nets, networks, paths, policies, sites,
-};
+use crate::subject::Subject;
+use crate::{databases, desks, edits};
+use desk_answers::answers::Asked;
 use std::alloc::Global;
 
 /// Answers a question.
 pub fn answer(
     alloc: Global,
-    site: &mut Site,
+    subject: &mut Subject,
     out: &mut String,
     question: &str,
     text: &str,
 ) -> Asked {
-    if text.len() > 4294967294 {
-        return Ok(false);
-    }
-    Ok(of_text(alloc, out, question, text)? || of_site(alloc, site, out, question, text)?)
-}
-
-/// Answers a question on a text alone.
-fn of_text(alloc: Global, out: &mut String, question: &str, text: &str) -> Asked
-    requires { length text.now ≤ 4294967294 }
-{
     Ok(
-        addresses::answer(out, question, text)?
-            || nets::answer(out, question, text)?
-            || paths::answer(alloc, out, question, text)?
-            || lines::answer(alloc, out, question, text)?,
+        desk_answers::answer(alloc, &mut subject.site, out, question, text)?
+            || of_history(alloc, subject, out, question, text)?,
     )
 }
 
-/// Answers a question on the tables or the policy, or one that reads them.
-fn of_site(alloc: Global, site: &mut Site, out: &mut String, question: &str, text: &str) -> Asked
-    requires { length text.now ≤ 4294967294 }
-{
+/// Answers a question on the revisions of a site's files.
+fn of_history(
+    alloc: Global,
+    subject: &mut Subject,
+    out: &mut String,
+    question: &str,
+    text: &str,
+) -> Asked {
     Ok(
-        hosts::answer(alloc, site, out, question, text)?
-            || networks::answer(alloc, site, out, question, text)?
-            || netgroups::answer(alloc, site, out, question, text)?
-            || credentials::answer(alloc, site, out, question, text)?
-            || custodians::answer(alloc, site, out, question, text)?
-            || filesystems::answer(alloc, site, out, question, text)?
-            || exports::answer(alloc, site, out, question, text)?
-            || policies::answer(alloc, site, out, question, text)?
-            || listings::answer(alloc, site, out, question, text)?
-            || sites::answer(alloc, site, out, question, text)?
-            || faults::answer(alloc, site, out, question, text)?
-            || edits::answer(alloc, site, out, question, text)?,
+        databases::answer(alloc, &mut subject.database, out, question, text)?
+            || desks::answer(alloc, subject, out, question, text)?
+            || edits::answer(alloc, subject, out, question, text)?,
     )
 }

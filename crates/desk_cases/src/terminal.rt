@@ -3,8 +3,8 @@
 //! lines below. `printf 'TEXT' | ` before `exportdesk` gives a text as standard input. The words and that text may have
 //! the escapes of cases (`escapes`).
 
-use crate::answers::Asked;
-use crate::escapes;
+use desk_answers::answers::Asked;
+use desk_answers::escapes;
 use std::alloc::{AllocError, Global};
 use std::fs;
 

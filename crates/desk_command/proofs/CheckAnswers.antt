@@ -1,8 +1,8 @@
 -- What was found is told, for `check_command` and `check_site_files`.
 use Rattle.std.proofs.Common.{Result, Ok, Err}
+use Rattle.desk_check.specs.declared.check_report.CheckForm.{CheckForm}
+use Rattle.desk_check.specs.declared.check_text.Gathered.{Gathered}
 use Rattle.desk_command.specs.CheckCommand.{ReportsFound, ReportsThis}
-use Rattle.desk_command.specs.declared.check_report.CheckForm.{CheckForm}
-use Rattle.desk_command.specs.declared.check_text.Gathered.{Gathered}
 use Rattle.desk_command.specs.declared.failure.Failure.{Failure}
 use Rattle.desk_command.specs.declared.failure.Failure.TheVariants.{Memory}
 use Rattle.desk_command.specs.declared.output.Output.{Output}

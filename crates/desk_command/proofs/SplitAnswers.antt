@@ -2,11 +2,11 @@
 use Rattle.std.proofs.Common.{◌≡◌, ◌≢◌, ℕ, false, true≢false, codes, List, [], Option, Some, None, IfSome, Result, Ok, Err, String, MatchResult, is_ok, unwrap_or, refl, sym, subst, ap, ap₂, ◌∙◌, ◌&&◌, inl, inr}
 use Rattle.std.proofs.lemmas.Slice.Eq.{bytes_eq-Decides}
 use Rattle.std.specs.String.{string_bytes}
+use Rattle.desk_check.specs.declared.check_faults.Source.{Source}
 use Rattle.desk_command.specs.CommandLine.{SplitWords}
 use Rattle.desk_command.specs.Files.{IsContents, ReadsText}
 use Rattle.desk_command.specs.Input.{text_of}
 use Rattle.desk_command.specs.SplitCommand.{AnswersSplitFiles, AnswersTexts, TellsSplit, names_input_twice}
-use Rattle.desk_command.specs.declared.check_faults.Source.{Source}
 use Rattle.desk_command.specs.declared.failure.Failure.{Failure}
 use Rattle.desk_command.specs.declared.failure.Failure.TheVariants.{Memory}
 use Rattle.desk_command.specs.declared.files.FileArgument.TheVariants.{File, FileSystems}

@@ -4,6 +4,7 @@ use Rattle.std.specs.List.{filter_map}
 use Rattle.std.specs.Result.{result_ok}
 use Rattle.std.specs.String.{string_bytes}
 use Rattle.desk_text.specs.Address.{number_of, read_addr}
+use Rattle.desk_text.specs.Bytes.{read_decimal}
 use Rattle.desk_text.specs.Path.{read_path}
 use Rattle.desk_tables.specs.CredentialText.{read_credential}
 use Rattle.desk_tables.specs.Rules.{TableFault}
@@ -68,6 +69,14 @@ abbrev pub IsBadArgument : List ℕ → Result ℕ AddrFault → List ℕ → Re
 IsBadArgument host (Err bad) dir path mounts other = IsRefusal name.Host host (fault.Address bad) other
 IsBadArgument host (Ok address) dir (Err bad) mounts other = IsRefusal name.Dir dir (fault.Path bad) other
 IsBadArgument host (Ok address) dir (Ok path) mounts other = IsNoTable mounts other
+
+-- the number of a revision that a word writes
+abbrev pub revision_number : List ℕ → Option ℕ
+revision_number word = read_decimal 2147483647 word
+
+-- the failure names this argument, which is not such a number; out of memory says nothing
+abbrev pub IsBadNumber : Argument → List ℕ → Failure → Type 0
+IsBadNumber argument word other = IsRefusal argument word fault.Number other
 
 -- the request that these words of HOST, DIR and MOUNT write
 pub record IsRequest (host dir : List ℕ) (mounts : List (List ℕ)) (request : Request) : Type 0 where

@@ -2,21 +2,22 @@
 use Rattle.std.specs.Prelude.{◌≡◌, ◌⊎◌, ℕ, Bool, true, false, List, [], ◌∷◌, Option, Some, None, Result, Ok, Err, IsErrAnd, codes, is_some, map, unwrap_or, if◌then◌else◌}
 use Rattle.desk_tables.specs.FileSystems.{IsTableOf}
 use Rattle.desk_tables.specs.declared.filesystems.Mount.{Mount}
+use Rattle.desk_check.specs.CheckReport.{Reports}
+use Rattle.desk_check.specs.CheckSite.{GathersSite}
+use Rattle.desk_check.specs.CheckText.{Gathers}
+use Rattle.desk_check.specs.declared.check_report.CheckForm.{CheckForm}
+use Rattle.desk_check.specs.declared.check_site.SiteSources.{SiteSources}
+use Rattle.desk_check.specs.declared.check_text.Gathered.{Gathered}
+use Rattle.desk_check.specs.declared.check_text.WholeSources.{WholeSources}
 use Rattle.desk_command.specs.Arguments.{IsNoTable, first_bad_path, paths_of}
-use Rattle.desk_command.specs.CheckReport.{Reports}
-use Rattle.desk_command.specs.CheckSite.{GathersSite}
-use Rattle.desk_command.specs.CheckText.{Gathers}
 use Rattle.desk_command.specs.CommandLine.{CheckWords, TableWords}
 use Rattle.desk_command.specs.Files.{ReadsInTurn, name_input_twice}
 use Rattle.desk_command.specs.SiteFiles.{site_paths, site_paths_in, site_words, site_texts_in}
 use Rattle.desk_command.specs.TableFiles.{whole_files}
-use Rattle.desk_command.specs.declared.check_report.CheckForm.{CheckForm}
-use Rattle.desk_command.specs.declared.check_site.SiteSources.{SiteSources}
-use Rattle.desk_command.specs.declared.check_text.Gathered.{Gathered}
-use Rattle.desk_command.specs.declared.check_text.WholeSources.{WholeSources}
 use Rattle.desk_command.specs.declared.failure.Failure.{Failure}
 use Rattle.desk_command.specs.declared.failure.Failure.TheVariants.{BesideSite, InputTwice, Memory, Missing}
 use Rattle.desk_command.specs.declared.files.FileArgument.{FileArgument}
+use Rattle.desk_command.specs.declared.files.FileArgument.TheVariants.{Site}
 use Rattle.desk_command.specs.declared.output.Output.{Output}
 use Rattle.desk_command.specs.declared.output.Output.TheVariants.{Checked}
 
@@ -118,7 +119,7 @@ AnswersSiteTexts form folder (Err failure) result = result ≡ Err failure
 -- the answer by the files of a site's folder; out of memory says nothing
 pub record AnswersSiteFiles (form : CheckForm) (folder : List ℕ) (known : Option (List ℕ)) (result : Result Output Failure) : Type 0 where
   pub read : Result (List (List ℕ)) Failure
-  pub reads : ReadsInTurn (site_words (site_paths folder)) known read
+  pub reads : ReadsInTurn (site_words Site (site_paths folder)) known read
   pub answers : AnswersSiteTexts form folder read result
 
 abbrev pub AnswersSite : CheckForm → List ℕ → Option (List ℕ) → Result Output Failure → Type 0

@@ -5,11 +5,14 @@ use Rattle.std.specs.List.{position_from}
 use Rattle.std.specs.Str.{is_utf8}
 use Rattle.clap.specs.declared.error.ErrorKind.{ErrorKind}
 use Rattle.clap.specs.declared.error.ErrorKind.TheVariants.{DisplayHelp, DisplayVersion, OutOfMemory}
+use Rattle.desk_command.specs.AskCommand.{AnswersAsk, AnswersCat, AnswersExports, AnswersLog, AnswersShow}
 use Rattle.desk_command.specs.CheckCommand.{AnswersCheck}
-use Rattle.desk_command.specs.CommandLine.{AskForHelp, Check, CommandWords, Split, Try, command_found, faults_of}
+use Rattle.desk_command.specs.CommandLine.{Ask, AskForHelp, Cat, Check, CommandWords, Exports, Init, Log, Put, Show, Split, Try, command_found, faults_of}
 use Rattle.desk_command.specs.Files.{IsSystem}
+use Rattle.desk_command.specs.InitCommand.{AnswersInit}
 use Rattle.desk_command.specs.Input.{first_line, words_of}
 use Rattle.desk_command.specs.Output.{printed, status_of}
+use Rattle.desk_command.specs.PutCommand.{AnswersPut}
 use Rattle.desk_command.specs.SplitCommand.{AnswersSplit}
 use Rattle.desk_command.specs.TryCommand.{AnswersTry}
 use Rattle.desk_command.specs.Words.{IsMissing}
@@ -54,6 +57,13 @@ abbrev pub AnswersGiven : CommandWords → Option (List ℕ) → Result Output F
 AnswersGiven (Try words) known result = AnswersTry words known result
 AnswersGiven (Split words) known result = AnswersSplit words known result
 AnswersGiven (Check words) known result = AnswersCheck words known result
+AnswersGiven (Init words) known result = AnswersInit words known result
+AnswersGiven (Ask words) known result = AnswersAsk words result
+AnswersGiven (Show words) known result = AnswersShow words result
+AnswersGiven (Exports words) known result = AnswersExports words result
+AnswersGiven (Put words) known result = AnswersPut words known result
+AnswersGiven (Log words) known result = AnswersLog words result
+AnswersGiven (Cat words) known result = AnswersCat words result
 
 -- the answer to what clap finds: that to the command, or that a word is missing
 abbrev pub AnswersFound : Option CommandWords → Option (List ℕ) → Result Output Failure → Type 0

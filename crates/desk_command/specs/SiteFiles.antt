@@ -2,10 +2,9 @@
 use Rattle.std.specs.Prelude.{ℕ, ◌==◌, ◌-◌, ◌≤◌, ◌++◌, Bool, false, List, [], ◌∷◌, Option, Some, codes, length, map, slice_get, if◌then◌else◌}
 use Rattle.std.specs.Option.{option_map_or}
 use Rattle.std.specs.String.{string_bytes}
-use Rattle.desk_command.specs.declared.check_site.SiteSources.{SiteSources}
+use Rattle.desk_check.specs.declared.check_site.SiteSources.{SiteSources}
 use Rattle.desk_command.specs.declared.check_site_files.SiteFiles.{SiteFiles}
 use Rattle.desk_command.specs.declared.files.FileArgument.{FileArgument}
-use Rattle.desk_command.specs.declared.files.FileArgument.TheVariants.{Site}
 
 -- a text ends with a slash
 abbrev pub ends_with_slash : List ℕ → Bool
@@ -21,8 +20,8 @@ site_paths folder =
     path_in folder (codes "custodians") ∷ path_in folder (codes "filesystems") ∷ path_in folder (codes "hosts") ∷ path_in folder (codes "networks") ∷ path_in folder (codes "passwd") ∷ path_in folder (codes "group") ∷ path_in folder (codes "netgroup") ∷ path_in folder (codes "exports") ∷ []
 
 -- files of a site to be read
-abbrev pub site_words : List (List ℕ) → List (FileArgument × Option (List ℕ))
-site_words paths = map (λ path. (Site, Some path)) paths
+abbrev pub site_words : FileArgument → List (List ℕ) → List (FileArgument × Option (List ℕ))
+site_words argument paths = map (λ path. (argument, Some path)) paths
 
 -- what stands for each file, in that order
 abbrev pub site_list : SiteFiles → List (List ℕ)

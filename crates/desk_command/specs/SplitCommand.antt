@@ -1,19 +1,19 @@
 -- The output of `split` by its two files. (this project's own)
 use Rattle.std.specs.Prelude.{◌≡◌, ◌⊎◌, ◌&&◌, ℕ, Bool, true, false, List, Option, Result, Ok, Err, IsOk}
 use Rattle.std.specs.String.{string_bytes}
+use Rattle.desk_check.specs.SplitText.{split_answer}
+use Rattle.desk_check.specs.declared.check_faults.Source.{Source}
+use Rattle.desk_check.specs.declared.split_text.SplitFault.{SplitFault}
 use Rattle.desk_command.specs.CommandLine.{SplitWords}
 use Rattle.desk_command.specs.Files.{IsContents, IsNoText, is_input}
 use Rattle.desk_command.specs.Input.{text_of}
-use Rattle.desk_command.specs.SplitText.{split_answer}
 use Rattle.desk_command.specs.ToldFault.{IsToldSplit}
-use Rattle.desk_command.specs.declared.check_faults.Source.{Source}
 use Rattle.desk_command.specs.declared.failure.Failure.{Failure}
 use Rattle.desk_command.specs.declared.failure.Failure.TheVariants.{InputTwice}
 use Rattle.desk_command.specs.declared.files.FileArgument.TheVariants.{File, FileSystems}
 use Rattle.desk_command.specs.declared.input.TextFault.{TextFault}
 use Rattle.desk_command.specs.declared.output.Output.{Output}
 use Rattle.desk_command.specs.declared.output.Output.TheVariants.{NotSplit, Split}
-use Rattle.desk_command.specs.declared.split_text.SplitFault.{SplitFault}
 
 -- the output has the texts of a split as they are printed, or its fault
 abbrev pub IsSplitBy : Result (List ℕ) SplitFault → Output → Type 0

@@ -12,15 +12,15 @@ use Rattle.desk_policy.specs.View.{IsFaultOf}
 use Rattle.desk_tables.specs.declared.filesystems.Mount.{Mount}
 use Rattle.desk_policy.specs.declared.parsing.SiteTables.{SiteTables}
 use Rattle.desk_policy.specs.declared.site_fault.SiteFault.{SiteFault}
+use Rattle.desk_check.specs.TryText.{IsAnswerBy, answer_of}
+use Rattle.desk_check.specs.declared.check_text.WholeSources.{WholeSources}
 use Rattle.desk_command.specs.Arguments.{IsBadArgument, IsBadOwn, IsRequest, good_own, own_answer}
 use Rattle.desk_command.specs.CheckCommand.{given_path, paths_in, texts_in}
 use Rattle.desk_command.specs.CommandLine.{TryWords}
 use Rattle.desk_command.specs.Files.{ReadsInTurn, name_input_twice}
 use Rattle.desk_command.specs.TableFiles.{whole_files}
 use Rattle.desk_command.specs.ToldFault.{IsTold}
-use Rattle.desk_command.specs.TryText.{IsAnswerBy, answer_of}
 use Rattle.desk_command.specs.declared.arguments.Request.{Request}
-use Rattle.desk_command.specs.declared.check_text.WholeSources.{WholeSources}
 use Rattle.desk_command.specs.declared.failure.Failure.{Failure}
 use Rattle.desk_command.specs.declared.failure.Failure.TheVariants.{InputTwice, Memory}
 use Rattle.desk_command.specs.declared.output.Output.{Output}

@@ -1,11 +1,19 @@
 -- The command that `clap` finds, with its words. (this project's own)
 use Rattle.std.specs.Prelude.{◌≡◌, map, Option, Some, None, Result, Ok, Err}
 use Rattle.std.specs.Option.{option_map}
+use Rattle.desk_command.specs.CommandLine as line
 use Rattle.desk_command.specs.CommandLine.{CheckWords, CommandWords, SplitWords, TryWords, Check as AsksCheck, Try as AsksTry, Split as AsksSplit, words_of_split, words_of_try}
 use Rattle.desk_command.specs.TableFiles.{given_tables}
+use Rattle.desk_command.specs.declared.ask_command.AskWords.{AskWords as LentAskWords}
 use Rattle.desk_command.specs.declared.check_command.CheckWords.{CheckWords as LentCheckWords}
 use Rattle.desk_command.specs.declared.failure.Failure.{Failure}
 use Rattle.desk_command.specs.declared.failure.Failure.TheVariants.{Missing}
+use Rattle.desk_command.specs.declared.init_command.InitWords.{InitWords as LentInitWords}
+use Rattle.desk_command.specs.declared.log_command.CatWords.{CatWords as LentCatWords}
+use Rattle.desk_command.specs.declared.log_command.LogWords.{LogWords as LentLogWords}
+use Rattle.desk_command.specs.declared.put_command.PutWords.{PutWords as LentPutWords}
+use Rattle.desk_command.specs.declared.show_command.ExportsWords.{ExportsWords as LentExportsWords}
+use Rattle.desk_command.specs.declared.show_command.ShowWords.{ShowWords as LentShowWords}
 use Rattle.desk_command.specs.declared.split_command.SplitWords.{SplitWords as LentSplitWords}
 use Rattle.desk_command.specs.declared.try_command.TryWords.{TryWords as LentTryWords}
 use Rattle.desk_command.specs.declared.words.CommandWords.{CommandWords as LentCommandWords}
@@ -29,10 +37,40 @@ given_check words = record {
   form = words.form;
 }
 
+abbrev pub given_init : LentInitWords → line.InitWords
+given_init words = line.words_of_init words.db.now words.dir.now
+
+abbrev pub given_ask : LentAskWords → line.AskWords
+given_ask words = line.words_of_ask words.db.now words.host.now words.dir.now (option_map (λ word. word.now) words.credential)
+
+abbrev pub given_show : LentShowWords → line.ShowWords
+given_show words = line.words_of_show words.db.now words.host.now
+
+abbrev pub given_exports : LentExportsWords → line.ExportsWords
+given_exports words = line.words_of_exports words.db.now
+
+abbrev pub given_put : LentPutWords → line.PutWords
+given_put words =
+    line.words_of_put words.db.now words.name.now words.file.now words.base.now words.caller.now (option_map (λ word. word.now) words.key)
+    (option_map (λ word. word.now) words.key_file)
+
+abbrev pub given_log : LentLogWords → line.LogWords
+given_log words = line.words_of_log words.db.now words.name.now
+
+abbrev pub given_cat : LentCatWords → line.CatWords
+given_cat words = line.words_of_cat words.db.now words.name.now (option_map (λ word. word.now) words.rev)
+
 abbrev pub given : LentCommandWords → CommandWords
 given (lent.Try words) = AsksTry (given_try words)
 given (lent.Split words) = AsksSplit (given_split words)
 given (lent.Check words) = AsksCheck (given_check words)
+given (lent.Init words) = line.Init (given_init words)
+given (lent.Ask words) = line.Ask (given_ask words)
+given (lent.Show words) = line.Show (given_show words)
+given (lent.Exports words) = line.Exports (given_exports words)
+given (lent.Put words) = line.Put (given_put words)
+given (lent.Log words) = line.Log (given_log words)
+given (lent.Cat words) = line.Cat (given_cat words)
 
 -- the failure says that a word is missing
 abbrev pub IsMissing : Failure → Type 0

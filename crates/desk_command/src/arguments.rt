@@ -1,4 +1,4 @@
-//! The arguments of `try`: HOST, DIR, MOUNT and CRED.
+//! The arguments that are parsed: HOST, DIR, MOUNT, CRED and the numbers of revisions.
 
 ghost use Rattle.std.specs.Prelude.{◌≡◌, ◌≤◌, MatchResult, None, Ok, Some, length, map};
 ghost use Rattle.std.specs.Option.{option_map};
@@ -8,13 +8,13 @@ ghost use Rattle.desk_tables.specs.CredentialText.{read_credential as read_cred}
 ghost use Rattle.desk_tables.specs.FileSystems.{IsTableOf};
 ghost use Rattle.desk_tables.specs.Groups.{read_groups};
 ghost use Rattle.desk_tables.specs.Users.{read_users};
-ghost use Rattle.desk_command.specs.Arguments.{AnswersArgument, AnswersOwn, IsBadArgument, IsBadMount, IsNoTable, IsRefusal, IsRequest, first_bad_path, own_answer, paths_of};
+ghost use Rattle.desk_command.specs.Arguments.{AnswersArgument, AnswersOwn, IsBadArgument, IsBadMount, IsBadNumber, IsNoTable, IsRefusal, IsRequest, first_bad_path, own_answer, paths_of, revision_number};
 ghost use Rattle.desk_command.specs.declared.arguments.Argument.TheVariants.{Host};
 ghost use Rattle.desk_command.specs.declared.arguments.ArgumentFault.TheVariants as fault;
 
 use crate::failure::Failure;
 use desk_tables::{Cred, CredFault, FileSystems, Groups, Users, credential};
-use desk_text::{Addr, AddrFault, Path, PathFault, ReadError};
+use desk_text::{Addr, AddrFault, Path, PathFault, ReadError, read_decimal};
 use std::alloc::Global;
 use std::fmt;
 
@@ -26,6 +26,10 @@ pub enum Argument {
     Mount,
     /// The client's own credential.
     Credential,
+    /// The number of the revision that an edit follows.
+    Base,
+    /// The number of a revision.
+    Rev,
 }
 
 /// Why an argument cannot be parsed.
@@ -34,6 +38,8 @@ pub enum ArgumentFault {
     Address(AddrFault),
     Path(PathFault),
     Credential(CredFault),
+    /// It is not a number of 0 to 2,147,483,647.
+    Number,
 }
 
 /// An argument that cannot be parsed.
@@ -74,7 +80,7 @@ pub fn read_request(
 }
 
 /// Parses HOST, the client's address.
-fn read_host(alloc: Global, word: &str) -> Result<Addr, Failure>
+pub fn read_host(alloc: Global, word: &str) -> Result<Addr, Failure>
     ensures { AnswersArgument number_of fault.Address Host word.now (read_addr word.now) result }
 {
     match Addr::read(word) {
@@ -84,12 +90,23 @@ fn read_host(alloc: Global, word: &str) -> Result<Addr, Failure>
 }
 
 /// Parses a path.
-fn read_path(alloc: Global, argument: Argument, word: &str) -> Result<Path, Failure>
+pub fn read_path(alloc: Global, argument: Argument, word: &str) -> Result<Path, Failure>
     ensures { AnswersArgument (λ path. path) fault.Path argument word.now (read_path word.now) result }
 {
     match ReadError::split(Path::read(alloc, word))? {
         Ok(path) => Ok(path),
         Err(fault) => Err(bad_argument(alloc, argument, word, ArgumentFault::Path(fault))),
+    }
+}
+
+/// Parses the number of a revision; that which an edit follows may be 0.
+pub fn read_number(alloc: Global, argument: Argument, word: &str) -> Result<u32, Failure>
+    ensures { MatchResult result (λ number. revision_number word.now ≡ Some number)
+        (λ failure. (revision_number word.now ≡ None) × IsBadNumber argument word.now failure) }
+{
+    match read_decimal(word, 2_147_483_647) {
+        Some(number) => Ok(number),
+        None => Err(bad_argument(alloc, argument, word, ArgumentFault::Number)),
     }
 }
 
@@ -197,12 +214,20 @@ impl fmt::Display for BadArgument {
             Argument::Dir => "DIR",
             Argument::Mount => "MOUNT",
             Argument::Credential => "--as",
+            Argument::Base => "--base",
+            Argument::Rev => "--rev",
         };
         let word = self.word.as_str();
         match self.fault {
             ArgumentFault::Address(fault) => write!(f, "{name} {word:?}: {fault:?}: {fault}"),
             ArgumentFault::Path(fault) => write!(f, "{name} {word:?}: {fault:?}: {fault}"),
             ArgumentFault::Credential(fault) => write!(f, "{name} {word:?}: {fault:?}: {fault}"),
+            ArgumentFault::Number => {
+                write!(
+                    f,
+                    "{name} {word:?}: it is not a number from 0 to 2147483647"
+                )
+            }
         }
     }
 }

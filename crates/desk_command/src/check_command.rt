@@ -3,23 +3,21 @@
 ghost use Rattle.std.specs.Prelude.{◌≡◌, [], Ok, map, unwrap_or};
 ghost use Rattle.std.specs.Option.{option_map};
 ghost use Rattle.clap.specs.Words.{found_of, rows_of};
+ghost use Rattle.desk_check.specs.Finding.{HaveSlices};
 ghost use Rattle.desk_command.specs.CheckCommand.{AnswersCheck, AnswersFilesIf, AnswersByFiles, AnswersTexts, ReportsThis, beside_site, given_path, paths_in, texts_in};
 ghost use Rattle.desk_command.specs.CommandLine.{check_words_in};
 ghost use Rattle.desk_command.specs.Files.{name_input_twice};
-ghost use Rattle.desk_command.specs.Finding.{HaveSlices};
 ghost use Rattle.desk_command.specs.TableFiles.{AreShort, given_tables, texts_of, whole_files};
 ghost use Rattle.desk_command.specs.Words.{given_check};
 
 use crate::arguments::read_mounts;
-use crate::check_faults::{Source, TableSources};
-use crate::check_report::{CheckForm, report_found};
 use crate::check_site_files::check_site;
-use crate::check_text::{Gathered, WholeSources, gather};
 use crate::failure::Failure;
 use crate::output::Output;
 use crate::table_files::{TableWords, WholeTexts, names_input_twice, read_whole_texts};
 use crate::words::is_set;
 use clap::ArgMatches;
+use desk_check::{CheckForm, Gathered, Source, TableSources, WholeSources, gather, report_found};
 use desk_tables::FileSystems;
 use std::alloc::Global;
 use std::io::BufRead;

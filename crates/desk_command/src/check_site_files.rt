@@ -6,16 +6,12 @@ ghost use Rattle.std.specs.String.{string_bytes};
 ghost use Rattle.desk_command.specs.CheckCommand.{AnswersSite, AnswersSiteTexts};
 ghost use Rattle.desk_command.specs.Files.{Leaves, ReadsIfGiven, ReadsInTurn};
 ghost use Rattle.desk_command.specs.SiteFiles.{AreShortFiles, ends_with_slash, path_in, site_list, site_paths, site_paths_in, site_texts_in, site_words};
-ghost use Rattle.desk_command.specs.declared.files.FileArgument.TheVariants.{Site};
 
 use crate::check_command::report;
-use crate::check_faults::{Source, TableSources};
-use crate::check_report::CheckForm;
-use crate::check_site::{SiteSources, gather_site};
-use crate::check_text::WholeSources;
 use crate::failure::Failure;
 use crate::files::{FileArgument, read_if_given};
 use crate::output::Output;
+use desk_check::{CheckForm, SiteSources, Source, TableSources, WholeSources, gather_site};
 use std::alloc::{AllocError, Global};
 use std::io::BufRead;
 
@@ -58,7 +54,7 @@ fn check_paths<I: BufRead>(
     requires { site_list paths.now ≡ site_paths folder.now }
     ensures { AnswersSite form folder.now (I.remaining input.old) result }
 {
-    match read_texts(rt, paths, input) {
+    match read_texts(rt, FileArgument::Site, paths, input) {
         Ok(texts) => check_texts(rt.alloc(), form, folder, paths, &texts),
         Err(failure) => Err(failure),
     }
@@ -84,7 +80,7 @@ fn check_texts(
 }
 
 /// Lends the texts with their paths.
-fn sources_of<'a>(paths: &'a SiteFiles, texts: &'a SiteFiles) -> SiteSources<'a>
+pub fn sources_of<'a>(paths: &'a SiteFiles, texts: &'a SiteFiles) -> SiteSources<'a>
     ensures paths { site_paths_in result ≡ site_list paths.now }
     ensures texts { site_texts_in result ≡ site_list texts.now }
 {
@@ -116,7 +112,7 @@ fn source_of<'a>(path: &'a String, text: &'a String) -> Source<'a>
 }
 
 /// Makes the paths of the files in a folder.
-fn paths_of(alloc: Global, folder: &str) -> Result<SiteFiles, AllocError>
+pub fn paths_of(alloc: Global, folder: &str) -> Result<SiteFiles, AllocError>
     ensures { IfOk result (λ paths. site_list paths ≡ site_paths folder.now) }
 {
     Ok(SiteFiles {
@@ -160,22 +156,23 @@ fn ends_with_slash(text: &str) -> bool
 }
 
 /// Reads the files of these paths.
-fn read_texts<I: BufRead>(
+pub fn read_texts<I: BufRead>(
     rt: &HostRuntime,
+    argument: FileArgument,
     paths: &SiteFiles,
     input: &mut I,
 ) -> Result<SiteFiles, Failure>
-    ensures texts { ReadsInTurn (site_words (site_list paths.now)) (I.remaining input.old) (result_map_both site_list (λ failure. failure) result) }
+    ensures texts { ReadsInTurn (site_words argument (site_list paths.now)) (I.remaining input.old) (result_map_both site_list (λ failure. failure) result) }
     ensures short { IfOk result AreShortFiles }
 {
-    let custodians = read_file(rt, &paths.custodians, input)?;
-    let filesystems = read_file(rt, &paths.filesystems, input)?;
-    let hosts = read_file(rt, &paths.hosts, input)?;
-    let networks = read_file(rt, &paths.networks, input)?;
-    let passwd = read_file(rt, &paths.passwd, input)?;
-    let group = read_file(rt, &paths.group, input)?;
-    let netgroup = read_file(rt, &paths.netgroup, input)?;
-    let exports = read_file(rt, &paths.exports, input)?;
+    let custodians = read_file(rt, argument, &paths.custodians, input)?;
+    let filesystems = read_file(rt, argument, &paths.filesystems, input)?;
+    let hosts = read_file(rt, argument, &paths.hosts, input)?;
+    let networks = read_file(rt, argument, &paths.networks, input)?;
+    let passwd = read_file(rt, argument, &paths.passwd, input)?;
+    let group = read_file(rt, argument, &paths.group, input)?;
+    let netgroup = read_file(rt, argument, &paths.netgroup, input)?;
+    let exports = read_file(rt, argument, &paths.exports, input)?;
     Ok(SiteFiles {
         custodians,
         filesystems,
@@ -189,10 +186,15 @@ fn read_texts<I: BufRead>(
 }
 
 /// Reads the file of this path.
-fn read_file<I: BufRead>(rt: &HostRuntime, path: &String, input: &mut I) -> Result<String, Failure>
-    ensures text { ReadsIfGiven Site (Some (string_bytes path.now)) (I.remaining input.old) result }
+fn read_file<I: BufRead>(
+    rt: &HostRuntime,
+    argument: FileArgument,
+    path: &String,
+    input: &mut I,
+) -> Result<String, Failure>
+    ensures text { ReadsIfGiven argument (Some (string_bytes path.now)) (I.remaining input.old) result }
     ensures short { IfOk result (λ text. length (string_bytes text) ≤ 16777216) }
     ensures left { Leaves (Some (string_bytes path.now)) (I.remaining input.old) (I.remaining input.new) }
 {
-    read_if_given(rt, FileArgument::Site, Some(path.as_str()), input)
+    read_if_given(rt, argument, Some(path.as_str()), input)
 }

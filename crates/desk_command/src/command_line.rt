@@ -12,13 +12,44 @@ use std::alloc::{AllocError, Global};
 pub fn command<'a>(alloc: Global) -> Result<Command<'a>, AllocError>
     ensures { IfOk result (λ command. app_of command ≡ spec.command_line) }
 {
+    let command = text_commands(alloc)?;
+    let command = with_desk_commands(alloc, command)?;
+    with_file_commands(alloc, command)
+}
+
+/// Adds the commands that make a database, and that ask it for its policy.
+fn with_desk_commands<'a>(alloc: Global, command: Command<'a>) -> Result<Command<'a>, AllocError>
+    ensures { IfOk result (λ with. app_of with ≡ spec.with_desk_commands (app_of command.entry)) }
+{
+    command
+        .subcommand(init_command(alloc)?)?
+        .subcommand(ask_command(alloc)?)?
+        .subcommand(show_command(alloc)?)?
+        .subcommand(exports_command(alloc)?)
+}
+
+/// Adds the commands on one file of a database.
+fn with_file_commands<'a>(alloc: Global, command: Command<'a>) -> Result<Command<'a>, AllocError>
+    ensures { IfOk result (λ with. app_of with ≡ spec.with_file_commands (app_of command.entry)) }
+{
+    command
+        .subcommand(put_command(alloc)?)?
+        .subcommand(log_command(alloc)?)?
+        .subcommand(cat_command(alloc)?)
+}
+
+/// Makes the program's command line with the commands on texts.
+fn text_commands<'a>(alloc: Global) -> Result<Command<'a>, AllocError>
+    ensures { IfOk result (λ command. app_of command ≡ spec.text_commands) }
+{
     Command::new(alloc, "exportdesk")
         .version("0.1.0")
         .about("Decides who may mount what, by the exports files of mountd(8)")
         .after_help(
             "Without words, the first line of standard input gives them, and the file - is the rest.\n\n\
-             Status: 0 granted or done, or help was printed; 1 denied; 2 bad words, or a file that cannot\n\
-             be read; 3 a text has a fault; 4 out of memory, or the output could not be written.\n\
+             Status: 0 granted or done, or help was printed; 1 denied, or refused by the rules of edits; 2 bad\n\
+             words, or a file that cannot be read; 3 a text has a fault; 4 out of memory, a database that\n\
+             cannot be used, or the output could not be written.\n\
              docs/RULES.md explains each rule that an exports text can break.",
         )
         .disable_help_subcommand(true)
@@ -80,6 +111,14 @@ fn option<'a>(alloc: Global, name: &'a str, value: &'a str, help: &'a str) -> Ar
         .value_name(value)
         .action(ArgAction::Set)
         .help(help)
+}
+
+/// Makes an option with one value that has to be given.
+fn required_option<'a>(alloc: Global, name: &'a str, value: &'a str, help: &'a str) -> Arg<'a>
+    ensures rule { rule_of result ≡ spec.required_option name.entry.now }
+    ensures local { result.global ≡ false }
+{
+    option(alloc, name, value, help).required(true)
 }
 
 /// Makes the command line of `try FILE HOST DIR MOUNT...` without its options.
@@ -173,6 +212,136 @@ fn check_arguments<'a>(alloc: Global) -> Result<Command<'a>, AllocError>
         )
         .arg(file)?
         .arg(mounts)
+}
+
+/// Makes the command line of `init DB DIR`.
+fn init_command<'a>(alloc: Global) -> Result<Command<'a>, AllocError>
+    ensures shape { IfOk result (λ command. app_of command ≡ spec.init_command) }
+    ensures local { IfOk result (λ command. (out-Command command).has_globals ≡ false) }
+{
+    Command::new(alloc, "init")
+        .about("Makes a database of a site's files")
+        .after_help(
+            "DIR has the files custodians, filesystems, hosts, networks, passwd, group, netgroup and exports;\n\
+             exports is split among the file systems. Each file is stored as revision 1, by site. It prints the\n\
+             warnings of the files, and `ready`. DB is made for its owner alone; a log DB-wal stands beside it.",
+        )
+        .arg(word(alloc, "DB", "The file of the database"))?
+        .arg(word(alloc, "DIR", "The folder of the site's files"))
+}
+
+/// Makes the command line of `ask DB HOST DIR`, with its option.
+fn ask_command<'a>(alloc: Global) -> Result<Command<'a>, AllocError>
+    ensures shape { IfOk result (λ command. app_of command ≡ spec.ask_command) }
+    ensures local { IfOk result (λ command. (out-Command command).has_globals ≡ false) }
+{
+    Command::new(alloc, "ask")
+        .about("Decides one mount request by the policy in force")
+        .arg(word(alloc, "DB", "The file of the database"))?
+        .arg(word(alloc, "HOST", "The IPv4 address of the client"))?
+        .arg(word(alloc, "DIR", "The directory that it asks for"))?
+        .arg(option(
+            alloc,
+            "as",
+            "CRED",
+            "The client's credential in numbers, as 1001:100:5; a granted line says as whom it acts",
+        ))
+}
+
+/// Makes the command line of `show DB HOST`.
+fn show_command<'a>(alloc: Global) -> Result<Command<'a>, AllocError>
+    ensures shape { IfOk result (λ command. app_of command ≡ spec.show_command) }
+    ensures local { IfOk result (λ command. (out-Command command).has_globals ≡ false) }
+{
+    Command::new(alloc, "show")
+        .about("Lists what a client may mount")
+        .arg(word(alloc, "DB", "The file of the database"))?
+        .arg(word(alloc, "HOST", "The IPv4 address of the client"))
+}
+
+/// Makes the command line of `exports DB`.
+fn exports_command<'a>(alloc: Global) -> Result<Command<'a>, AllocError>
+    ensures shape { IfOk result (λ command. app_of command ≡ spec.exports_command) }
+    ensures local { IfOk result (λ command. (out-Command command).has_globals ≡ false) }
+{
+    Command::new(alloc, "exports")
+        .about("Lists the directories of all exports lines, and whom they are for")
+        .arg(word(alloc, "DB", "The file of the database"))
+}
+
+/// Makes the command line of `put DB NAME FILE`, with its options.
+fn put_command<'a>(alloc: Global) -> Result<Command<'a>, AllocError>
+    ensures shape { IfOk result (λ command. app_of command ≡ spec.put_command) }
+    ensures local { IfOk result (λ command. (out-Command command).has_globals ≡ false) }
+{
+    put_arguments(alloc)?
+        .arg(required_option(
+            alloc,
+            "base",
+            "N",
+            "The number of the revision that the edit follows; 0 if there is none",
+        ))?
+        .arg(required_option(alloc, "caller", "CUSTODIAN", "Who edits the file"))?
+        .arg(option(
+            alloc,
+            "key",
+            "KEY",
+            "The caller's key; every user of the machine can see it",
+        ))?
+        .arg(option(
+            alloc,
+            "key-file",
+            "FILE",
+            "The file whose first line is the caller's key; - is standard input",
+        ))
+}
+
+/// Makes the command line of `put DB NAME FILE` without its options.
+fn put_arguments<'a>(alloc: Global) -> Result<Command<'a>, AllocError>
+    ensures shape { IfOk result (λ command. app_of command ≡ spec.put_arguments) }
+    ensures local { IfOk result (λ command. (out-Command command).has_globals ≡ false) }
+{
+    Command::new(alloc, "put")
+        .about("Puts a new text of a file in force, as its next revision")
+        .override_usage(
+            "exportdesk put <DB> <NAME> <FILE> --base <N> --caller <CUSTODIAN> --key-file <FILE>\n       exportdesk put <DB> <NAME> <FILE> --base <N> --caller <CUSTODIAN> --key <KEY>",
+        )
+        .after_help(
+            "NAME is custodians, filesystems, hosts, networks, passwd, group or netgroup, which site keeps, or\n\
+             exports: and a mount point, as exports:/usr, which the custodians of that mount point keep. Nothing\n\
+             is stored unless the site is consistent with the new text.",
+        )
+        .arg(word(alloc, "DB", "The file of the database"))?
+        .arg(word(alloc, "NAME", "The name of the file"))?
+        .arg(word(alloc, "FILE", "The new text; - is standard input"))
+}
+
+/// Makes the command line of `log DB NAME`.
+fn log_command<'a>(alloc: Global) -> Result<Command<'a>, AllocError>
+    ensures shape { IfOk result (λ command. app_of command ≡ spec.log_command) }
+    ensures local { IfOk result (λ command. (out-Command command).has_globals ≡ false) }
+{
+    Command::new(alloc, "log")
+        .about("Lists the revisions of a file with their authors")
+        .arg(word(alloc, "DB", "The file of the database"))?
+        .arg(word(alloc, "NAME", "The name of the file"))
+}
+
+/// Makes the command line of `cat DB NAME`, with its option.
+fn cat_command<'a>(alloc: Global) -> Result<Command<'a>, AllocError>
+    ensures shape { IfOk result (λ command. app_of command ≡ spec.cat_command) }
+    ensures local { IfOk result (λ command. (out-Command command).has_globals ≡ false) }
+{
+    Command::new(alloc, "cat")
+        .about("Prints the text of a file")
+        .arg(word(alloc, "DB", "The file of the database"))?
+        .arg(word(alloc, "NAME", "The name of the file"))?
+        .arg(option(
+            alloc,
+            "rev",
+            "N",
+            "The number of the revision; the newest without it",
+        ))
 }
 
 /// Makes an option without a value.

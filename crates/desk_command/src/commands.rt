@@ -6,11 +6,16 @@ ghost use Rattle.desk_command.specs.CommandLine.{command_of};
 ghost use Rattle.desk_command.specs.Commands.{AnswersCommand, AnswersFirstLine, AnswersFound, AnswersLine, IsBadWord, IsSaid};
 ghost use Rattle.desk_command.specs.Input as spec;
 
+use crate::ask_command::run_ask;
 use crate::check_command::run_check;
 use crate::command_line::command;
 use crate::failure::{Failure, ReadFailure};
+use crate::init_command::run_init;
 use crate::input::{first_line, read_line, words_of};
+use crate::log_command::{run_cat, run_log};
 use crate::output::Output;
+use crate::put_command::run_put;
+use crate::show_command::{run_exports, run_show};
 use crate::split_command::run_split;
 use crate::try_command::run_try;
 use crate::words::{CommandWords, found_command};
@@ -73,6 +78,13 @@ fn run_found<I: BufRead>(
         CommandWords::Try(words) => run_try(rt, words, input),
         CommandWords::Split(words) => run_split(rt, words, input),
         CommandWords::Check(words) => run_check(rt, words, input),
+        CommandWords::Init(words) => run_init(rt, words, input),
+        CommandWords::Ask(words) => run_ask(rt, words),
+        CommandWords::Show(words) => run_show(rt, words),
+        CommandWords::Exports(words) => run_exports(rt, words),
+        CommandWords::Put(words) => run_put(rt, words, input),
+        CommandWords::Log(words) => run_log(rt, words),
+        CommandWords::Cat(words) => run_cat(rt, words),
     }
 }
 

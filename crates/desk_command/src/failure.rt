@@ -39,6 +39,10 @@ pub enum Failure {
     FirstLine(ReadFailure),
     /// Two files are both to be standard input.
     InputTwice,
+    /// Both `--key` and `--key-file` are given.
+    KeyTwice,
+    /// Neither `--key` nor `--key-file` is given.
+    NoKey,
     /// The file that this word names cannot be read.
     File(FileArgument, String, ReadFailure),
     Memory,
@@ -139,6 +143,8 @@ impl fmt::Display for Failure {
             Failure::TooManyMounts => write!(f, "MOUNT: over 256 different mount points"),
             Failure::FirstLine(failure) => write!(f, "{failure}"),
             Failure::InputTwice => write!(f, "two files cannot both be standard input"),
+            Failure::KeyTwice => write!(f, "--key and --key-file: only one of them can be given"),
+            Failure::NoKey => write!(f, "--key or --key-file: it is missing"),
             Failure::File(argument, word, failure) => {
                 let name = argument.name();
                 write!(f, "{name} {word:?}: {failure}")

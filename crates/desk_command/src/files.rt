@@ -26,6 +26,12 @@ pub enum FileArgument {
     Netgroup,
     /// A file in the folder of a site.
     Site,
+    /// A file in the folder of a new database's site.
+    Dir,
+    /// The file with the key of an edit.
+    KeyFile,
+    /// The file of a database.
+    Database,
 }
 
 impl FileArgument {
@@ -40,6 +46,9 @@ impl FileArgument {
             FileArgument::Group => "--group",
             FileArgument::Netgroup => "--netgroup",
             FileArgument::Site => "--site",
+            FileArgument::Dir => "DIR",
+            FileArgument::KeyFile => "--key-file",
+            FileArgument::Database => "DB",
         }
     }
 }

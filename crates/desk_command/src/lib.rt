@@ -14,32 +14,26 @@
 #![tactic(auto)]
 
 mod arguments;
+mod ask_command;
 mod check_command;
-mod check_faults;
-mod check_odd;
-mod check_report;
-mod check_site;
 mod check_site_files;
-mod check_text;
 mod command_line;
 mod commands;
+mod database;
 mod failure;
-mod faults;
 mod files;
-pub mod finding;
-pub mod finding_json;
-pub mod finding_prints;
-mod hints;
+mod init_command;
 mod input;
+mod log_command;
 mod output;
-mod shown_text;
+mod put_command;
+mod questions;
+mod refused;
+mod show_command;
 mod split_command;
-pub mod split_text;
 mod table_files;
 mod told_fault;
 mod try_command;
-pub mod try_text;
-mod word_places;
 mod words;
 
 ghost use Rattle.std.specs.Prelude.{map};

@@ -5,11 +5,11 @@ ghost use Rattle.std.specs.Io.KnownBytes.{Appends};
 ghost use Rattle.std.specs.String.{string_bytes};
 ghost use Rattle.desk_command.specs.Output as spec;
 
-use crate::check_report::Checked;
 use crate::failure::{Failure, Origin, message};
-use crate::faults::fault_text;
-use crate::split_text::SplitFault;
-use crate::try_text::Tried;
+use crate::refused::Refused;
+use desk_check::split_text::SplitFault;
+use desk_check::try_text::Tried;
+use desk_check::{Checked, fault_text};
 use desk_policy::SiteFault;
 use std::alloc::{AllocError, Global};
 use std::io;
@@ -31,6 +31,10 @@ pub enum Output {
     NotSplit(SplitFault, String),
     /// What `check` finds.
     Checked(Checked),
+    /// What a command on a database prints that is not refused, but for a verdict.
+    Done(String),
+    /// Why a command on a database is refused, and the sentence that standard error tells of it.
+    Refused(Refused, String),
 }
 
 /// Prints what a command answers, or why it does not, and returns the exit status.
@@ -65,7 +69,7 @@ pub fn report<O: Write, E: Write>(
 /// Tells the finding of a fault, or that `check` did not look at the exports text, if it did not.
 fn note<E: Write>(answer: &Result<Output, Failure>, err: &mut E) {
     match answer {
-        Ok(Output::Faulty(_, told) | Output::NotSplit(_, told)) => {
+        Ok(Output::Faulty(_, told) | Output::NotSplit(_, told) | Output::Refused(_, told)) => {
             let _ = err.write_all(told.as_bytes());
         }
         Ok(Output::Checked(checked)) if !checked.read_exports => {
@@ -83,10 +87,11 @@ fn status_of(answer: &Result<Output, Failure>) -> u8
     ensures { result ≡ spec.status_of answer.now }
 {
     match answer {
-        Ok(Output::Help(_) | Output::Split(_)) => 0,
+        Ok(Output::Help(_) | Output::Split(_) | Output::Done(_)) => 0,
         Ok(Output::Tried(tried)) => { if tried.granted { 0 } else { 1 } }
         Ok(Output::Faulty(..) | Output::NotSplit(..)) => 3,
         Ok(Output::Checked(checked)) => { if checked.passes { 0 } else { 3 } }
+        Ok(Output::Refused(refused, _)) => refused.status(),
         Err(Failure::Memory) => 4,
         Err(_) => 2,
     }
@@ -97,7 +102,7 @@ fn output_text(alloc: Global, output: Output) -> Result<String, AllocError>
     ensures { IfOk result (λ text. string_bytes text ≡ spec.output_text output) }
 {
     let mut line = match output {
-        Output::Help(text) | Output::Split(text) => return Ok(text),
+        Output::Help(text) | Output::Split(text) | Output::Done(text) => return Ok(text),
         Output::Tried(tried) => tried.line,
         Output::Faulty(fault, told) => {
             drop(told);
@@ -108,6 +113,10 @@ fn output_text(alloc: Global, output: Output) -> Result<String, AllocError>
             fault.text(alloc)?
         }
         Output::Checked(checked) => return Ok(checked.text),
+        Output::Refused(refused, told) => {
+            drop(told);
+            return refused.line(alloc);
+        }
     };
     line.push('\n')?;
     Ok(line)

@@ -7,14 +7,14 @@ ghost use Rattle.desk_command.specs.SplitCommand.{AnswersSplit, AnswersSplitFile
 ghost use Rattle.desk_command.specs.Words.{Finds, given_split};
 ghost use Rattle.desk_command.specs.declared.failure.Failure.TheVariants.{Memory};
 
-use crate::check_faults::Source;
 use crate::failure::Failure;
 use crate::files::{FileArgument, is_input, read_text};
 use crate::output::Output;
-use crate::split_text::split_text;
 use crate::told_fault::not_split;
 use crate::words::required;
 use clap::ArgMatches;
+use desk_check::Source;
+use desk_check::split_text::split_text;
 use desk_text::ReadError;
 use std::alloc::Global;
 use std::io::BufRead;

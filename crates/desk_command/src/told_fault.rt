@@ -1,32 +1,17 @@
-//! What standard error tells beside the fixed line of a fault: the finding that `check` prints of it.
+//! A fault of `try` or `split` with what standard error tells beside it: the finding that `check` prints of it.
 
-ghost use Rattle.std.specs.Prelude.{◌≡◌, ◌≤◌, ◌∷◌, [], All, IfOk, IfSome, MatchResult, OnOk, length, map};
-ghost use Rattle.std.specs.List.{find};
-ghost use Rattle.std.specs.Option.{option_copied};
-ghost use Rattle.std.specs.String.{string_bytes};
-ghost use Rattle.desk_exports.specs.Faults.{IsPlaced};
-ghost use Rattle.desk_tables.specs.FileSystemsText.{read_filesystems};
-ghost use Rattle.desk_command.specs.CheckFaults.{Adds, AreReadable};
-ghost use Rattle.desk_command.specs.CheckOdd.{TellInOrder};
-ghost use Rattle.desk_command.specs.Finding.{HasSlice};
-ghost use Rattle.desk_command.specs.ToldFault.{IsToldFaulty, IsToldNotSplit, TellOne, TellOneOf, TellOneWith, TellSplit, is_about, is_same, odd_of_fault, told_text};
+ghost use Rattle.std.specs.Prelude.{◌≡◌, ◌≤◌, MatchResult, length};
+ghost use Rattle.desk_check.specs.CheckFaults.{AreReadable};
+ghost use Rattle.desk_command.specs.ToldFault.{IsToldFaulty, IsToldNotSplit};
 ghost use Rattle.desk_command.specs.declared.failure.Failure.TheVariants.{Memory};
 
-use crate::check_faults::{Source, push_line_faults};
-use crate::check_odd::{Odd, push_in_order};
-use crate::check_site::push_filesystems;
-use crate::check_text::{WholeSources, gather};
 use crate::failure::Failure;
-use crate::finding::{Finding, Matter};
-use crate::finding_prints::finding_text;
 use crate::output::Output;
-use crate::split_text::SplitFault;
-use crate::word_places::Writing;
-use desk_exports::{PlacedFault, Rule, Scope, Tables, find_faults};
-use desk_policy::{SiteFault, SiteRule, SiteTables};
+use desk_check::split_text::SplitFault;
+use desk_check::{Source, WholeSources, tell_fault, tell_split_fault};
+use desk_policy::SiteFault;
 use desk_tables::FileSystems;
-use desk_text::{LineFault, ReadError, Sequence};
-use std::alloc::{AllocError, Global};
+use std::alloc::Global;
 
 /// Answers `try` with a fault, and tells the first finding about it of those that `check` makes in the same texts.
 pub fn faulty(
@@ -39,43 +24,8 @@ pub fn faulty(
     requires exports { length sources.exports.text.now ≤ 4294967294 }
     ensures { MatchResult result (IsToldFaulty sources.entry filesystems fault) (λ failure. failure ≡ Memory) }
 {
-    let gathered = gather(alloc, sources, filesystems)?;
-    let told = told_text(alloc, first_about(gathered.findings.as_slice(), &fault))?;
-    drop(gathered);
+    let told = tell_fault(alloc, sources, filesystems, &fault)?;
     Ok(Output::Faulty(fault, told))
-}
-
-/// Finds the first of these findings that is about a fault.
-fn first_about<'f, 'a>(findings: &'f [Finding<'a>], fault: &SiteFault) -> Option<&'f Finding<'a>>
-    ensures { option_copied result ≡ find (λ finding. is_about fault.now finding.matter) findings.now }
-{
-    findings
-        .iter()
-        .find(|finding| is_about(fault, finding.matter))
-}
-
-/// Tests whether a finding about this is about a fault.
-fn is_about(fault: &SiteFault, matter: Matter) -> bool
-    ensures { result ≡ is_about fault.now matter }
-{
-    match (matter, fault.other, fault.address) {
-        (Matter::Fault(rule, _), _, _) => rule.number() == fault.rule.number(),
-        (Matter::Contradiction(other, address), Some(line), Some(least)) => {
-            other == line && address == least
-        }
-        (Matter::Contradiction(..), _, _) | (Matter::Warning(_), _, _) => false,
-    }
-}
-
-/// Prints a finding with its line and carets, or nothing if there is none.
-fn told_text(alloc: Global, finding: Option<&Finding>) -> Result<String, AllocError>
-    requires { IfSome (option_copied finding) HasSlice }
-    ensures { IfOk result (λ text. string_bytes text ≡ told_text (option_copied finding.entry)) }
-{
-    match finding {
-        Some(finding) => finding_text(alloc, finding, false),
-        None => Ok(String::new(alloc)),
-    }
 }
 
 /// Answers `split` with a fault of one of these texts, and tells the finding that `check` makes of it.
@@ -89,116 +39,6 @@ pub fn not_split(
     requires filesystems { length filesystems.text.now ≤ 4294967294 }
     ensures { MatchResult result (IsToldNotSplit file.entry filesystems.entry fault) (λ failure. failure ≡ Memory) }
 {
-    let mut findings = Sequence::new(alloc);
-    push_split(alloc, file, filesystems, fault, &mut findings)?;
-    let told = told_text(alloc, findings.as_slice().first())?;
-    drop(findings);
+    let told = tell_split_fault(alloc, file, filesystems, fault)?;
     Ok(Output::NotSplit(fault, told))
-}
-
-/// Adds the findings of FILESYSTEMS, if the fault is one of it, or the finding of this fault of FILE.
-fn push_split<'a>(
-    alloc: Global,
-    file: Source<'a>,
-    filesystems: Source<'a>,
-    fault: SplitFault,
-    found: &mut Sequence<Finding<'a>>,
-) -> Result<(), AllocError>
-    requires file { length file.text.now ≤ 4294967294 }
-    requires filesystems { length filesystems.text.now ≤ 4294967294 }
-    ensures { OnOk result (Adds (TellSplit file.entry filesystems.entry fault) found.old found.new) }
-{
-    match fault {
-        SplitFault::FileSystems(_) => push_filesystems(alloc, filesystems, found),
-        SplitFault::Exports(fault) => push_one(alloc, file, filesystems.text, fault, found),
-    }
-}
-
-/// Adds the finding of this fault of an exports text, whose lines go to the file systems that a text lists.
-fn push_one<'a>(
-    alloc: Global,
-    source: Source<'a>,
-    filesystems: &str,
-    fault: LineFault<Rule>,
-    found: &mut Sequence<Finding<'a>>,
-) -> Result<(), AllocError>
-    requires source { length source.text.now ≤ 4294967294 }
-    requires filesystems { length filesystems.now ≤ 4294967294 }
-    ensures { OnOk result (Adds (TellOne source.entry fault (read_filesystems filesystems.now)) found.old found.new) }
-{
-    match ReadError::split(FileSystems::read(alloc, filesystems))? {
-        Ok(table) => {
-            let site_tables = SiteTables::new(alloc);
-            push_one_with(alloc, source, &table, &site_tables, fault, found)
-        }
-        Err(_) => Ok(()),
-    }
-}
-
-/// Adds the finding of this fault of an exports text with these file systems and tables.
-fn push_one_with<'a>(
-    alloc: Global,
-    source: Source<'a>,
-    filesystems: &FileSystems,
-    site_tables: &SiteTables,
-    fault: LineFault<Rule>,
-    found: &mut Sequence<Finding<'a>>,
-) -> Result<(), AllocError>
-    requires { length source.text.now ≤ 4294967294 }
-    ensures { OnOk result (Adds (TellOneWith source.entry fault filesystems.now site_tables.now) found.old found.new) }
-{
-    let tables = Tables {
-        networks: &site_tables.networks,
-        users: &site_tables.users,
-        groups: &site_tables.groups,
-        filesystems,
-    };
-    let faults = find_faults(alloc, source.text, &tables, Scope::Whole)?;
-    push_one_of(alloc, source, faults.as_slice(), fault, found)
-}
-
-/// Adds the finding of the first of these faults that is this one; if none is, since a rule that comes before it is broken on
-/// its line too, it is told at the first word of the line.
-fn push_one_of<'a>(
-    alloc: Global,
-    source: Source<'a>,
-    faults: &[PlacedFault],
-    fault: LineFault<Rule>,
-    found: &mut Sequence<Finding<'a>>,
-) -> Result<(), AllocError>
-    requires text { length source.text.now ≤ 4294967294 }
-    requires placed { All (IsPlaced source.text.now) faults.now }
-    ensures { OnOk result (Adds (TellOneOf source.entry fault (map (λ one. one.fault) faults.now)) found.old found.new) }
-{
-    match find_same(faults, fault) {
-        Some(one) => push_line_faults(alloc, source, &[*one], found),
-        None => push_on_line(alloc, source, fault, found),
-    }
-}
-
-/// Adds a finding of this fault at the first word of its line.
-fn push_on_line<'a>(
-    alloc: Global,
-    source: Source<'a>,
-    fault: LineFault<Rule>,
-    found: &mut Sequence<Finding<'a>>,
-) -> Result<(), AllocError>
-    requires { length source.text.now ≤ 4294967294 }
-    ensures { OnOk result (Adds (TellInOrder source.entry (odd_of_fault fault ∷ [])) found.old found.new) }
-{
-    let mut odds = Vec::new(alloc);
-    odds.push(Odd {
-        line: fault.line,
-        matter: Matter::Fault(SiteRule::Line(fault.rule), None),
-        word: None,
-    })?;
-    push_in_order(alloc, source, Writing::Exports, odds, found)
-}
-
-/// Finds the first of these faults that is this one.
-fn find_same(faults: &[PlacedFault], fault: LineFault<Rule>) -> Option<&PlacedFault>
-    ensures { option_copied result ≡ find (λ one. is_same fault one.fault) faults.now }
-{
-    faults.iter().find(|one| one.fault.line == fault.line
-        && one.fault.rule.number() == fault.rule.number())
 }

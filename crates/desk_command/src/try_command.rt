@@ -3,10 +3,10 @@
 ghost use Rattle.std.specs.Prelude.{◌≤◌, IfOk, Ok, length};
 ghost use Rattle.std.specs.Option.{option_map};
 ghost use Rattle.clap.specs.Words.{found_of, rows_of};
+ghost use Rattle.desk_check.specs.CheckFaults.{AreReadable};
 ghost use Rattle.desk_command.specs.CommandLine.{try_words_in};
 ghost use Rattle.desk_command.specs.Files.{name_input_twice};
 ghost use Rattle.desk_command.specs.CheckCommand.{texts_in};
-ghost use Rattle.desk_command.specs.CheckFaults.{AreReadable};
 ghost use Rattle.desk_command.specs.TableFiles.{whole_files};
 ghost use Rattle.desk_command.specs.ToldFault.{IsTold, tables_in};
 ghost use Rattle.desk_command.specs.TryCommand.{AnswersFilesIf, AnswersTexts, AnswersTry, TellsWith};
@@ -14,14 +14,14 @@ ghost use Rattle.desk_command.specs.Words.{Finds, given_try};
 
 use crate::arguments::{Request, read_credential, read_request};
 use crate::check_command::sources_of;
-use crate::check_text::WholeSources;
 use crate::failure::Failure;
 use crate::output::Output;
 use crate::table_files::{TableWords, names_input_twice, read_whole_texts};
 use crate::told_fault::faulty;
-use crate::try_text::try_text;
 use crate::words::required;
 use clap::ArgMatches;
+use desk_check::WholeSources;
+use desk_check::try_text::try_text;
 use desk_policy::SiteTables;
 use desk_tables::Cred;
 use desk_text::ReadError;

@@ -1,5 +1,5 @@
 -- Out of memory says nothing of CRED.
-use Rattle.std.proofs.Common.{ℕ, List, Option, Some, None, Result, Ok, Err, refl, map}
+use Rattle.std.proofs.Common.{ℕ, List, Option, Some, None, Result, Ok, Err, refl}
 use Rattle.std.proofs.lemmas.Result.{err_from_is_err_and}
 use Rattle.std.specs.Option.{option_map}
 use Rattle.desk_tables.specs.Groups.{read_groups}

@@ -1,5 +1,5 @@
 -- The files are read from one input, of which at most one is all.
-use Rattle.std.proofs.Common.{◌≡◌, ap, codes, refl, sym}
+use Rattle.std.proofs.Common.{◌≡◌, ap, codes, refl}
 use Rattle.std.proofs.lemmas.Result.{err_from_is_err_and}
 use Rattle.desk_command.specs.Words.{given_split}
 use Rattle.desk_command.proofs.SplitAnswers.{both, file_is_not_input, no_file, no_filesystems}

@@ -1,10 +1,9 @@
 -- At most one file is standard input, so that they are read in turn.
-use Rattle.std.proofs.Common.{◌≡◌, Err, Ok, Result, List, ℕ, false, refl, rules, subst, sym}
+use Rattle.std.proofs.Common.{◌≡◌, Err, Ok, List, ℕ, false, refl, rules, subst, sym}
 use Rattle.desk_command.specs.Files.{name_input_twice}
 use Rattle.std.specs.Option.{option_map}
 use Rattle.desk_command.specs.TableFiles.{given_tables, texts_of, whole_files}
 use Rattle.desk_command.specs.TryCommand.{AnswersFilesIf, AnswersTexts}
-use Rattle.desk_command.specs.declared.failure.Failure.{Failure}
 use Rattle.desk_command.specs.Words.{given_try}
 use Rattle.desk_command.proofs.try_command.answer_request.Goals as goal
 

@@ -1,5 +1,5 @@
 -- A fault of the exports text is told with the same file systems.
-use Rattle.std.proofs.Common.{IfOk, List, subst, sym}
+use Rattle.std.proofs.Common.{IfOk, List, subst}
 use Rattle.desk_tables.specs.declared.filesystems.Mount.{Mount}
 use Rattle.desk_command.specs.ToldFault.{IsTold}
 use Rattle.desk_command.proofs.ToldFindings.{told_of}

@@ -1,0 +1,56 @@
+//! The questions on texts, tables and policies. What each asks stands at the function that answers it.
+
+ghost use Rattle.std.specs.Prelude.{◌≤◌, length};
+
+use crate::answers::Asked;
+use crate::site::Site;
+use crate::{
+    addresses, credentials, custodians, exports, faults, filesystems, hosts, lines, listings,
+    netgroups, nets, networks, paths, policies, sites,
+};
+use std::alloc::Global;
+
+/// Answers a question.
+pub fn answer(
+    alloc: Global,
+    site: &mut Site,
+    out: &mut String,
+    question: &str,
+    text: &str,
+) -> Asked {
+    if text.len() > 4294967294 {
+        return Ok(false);
+    }
+    Ok(of_text(alloc, out, question, text)? || of_site(alloc, site, out, question, text)?)
+}
+
+/// Answers a question on a text alone.
+fn of_text(alloc: Global, out: &mut String, question: &str, text: &str) -> Asked
+    requires { length text.now ≤ 4294967294 }
+{
+    Ok(
+        addresses::answer(out, question, text)?
+            || nets::answer(out, question, text)?
+            || paths::answer(alloc, out, question, text)?
+            || lines::answer(alloc, out, question, text)?,
+    )
+}
+
+/// Answers a question on the tables or the policy, or one that reads them.
+fn of_site(alloc: Global, site: &mut Site, out: &mut String, question: &str, text: &str) -> Asked
+    requires { length text.now ≤ 4294967294 }
+{
+    Ok(
+        hosts::answer(alloc, site, out, question, text)?
+            || networks::answer(alloc, site, out, question, text)?
+            || netgroups::answer(alloc, site, out, question, text)?
+            || credentials::answer(alloc, site, out, question, text)?
+            || custodians::answer(alloc, site, out, question, text)?
+            || filesystems::answer(alloc, site, out, question, text)?
+            || exports::answer(alloc, site, out, question, text)?
+            || policies::answer(alloc, site, out, question, text)?
+            || listings::answer(alloc, site, out, question, text)?
+            || sites::answer(alloc, site, out, question, text)?
+            || faults::answer(alloc, site, out, question, text)?,
+    )
+}

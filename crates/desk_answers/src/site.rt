@@ -1,0 +1,124 @@
+//! The tables and the policy that questions are asked of.
+
+use crate::answers::{Asked, say};
+use desk_netgroup::Netgroups;
+use desk_policy::{Plain, Policy, PolicyView, Verdict, decide};
+use desk_tables::{Custodians, FileSystems, Groups, Hosts, Networks, TableFault, Users};
+use desk_text::{Addr, Path, ReadError, Text};
+use std::alloc::{AllocError, Global};
+use std::collections::BTreeMap;
+
+/// What was read last. Until then a table is without rows, or there is none, and the texts of the site are empty.
+#[derive(Drop)]
+pub struct Site {
+    pub hosts: Hosts,
+    pub networks: Networks,
+    pub netgroups: Netgroups,
+    pub users: Users,
+    pub groups: Groups,
+    pub filesystems: Option<FileSystems>,
+    pub custodians: Option<Custodians>,
+    pub texts: desk_policy::Site,
+    pub policy: Option<InForce>,
+}
+
+/// A policy, or a view of one.
+#[derive(Drop)]
+pub enum InForce {
+    Policy(Policy),
+    View(Plain),
+}
+
+impl InForce {
+    pub fn policy(&self) -> &Policy {
+        match self {
+            InForce::Policy(policy) => policy,
+            InForce::View(view) => view.policy(),
+        }
+    }
+
+    pub fn decide(&self, address: Addr, path: &Path) -> Verdict<'_> {
+        match self {
+            InForce::Policy(policy) => decide(policy, address, path),
+            InForce::View(view) => view.decide(address, path),
+        }
+    }
+}
+
+/// Returns the texts of a site that has none.
+pub fn no_texts(alloc: Global) -> desk_policy::Site {
+    desk_policy::Site {
+        custodians: Text::from_string(String::new(alloc)),
+        filesystems: Text::from_string(String::new(alloc)),
+        hosts: Text::from_string(String::new(alloc)),
+        networks: Text::from_string(String::new(alloc)),
+        passwd: Text::from_string(String::new(alloc)),
+        group: Text::from_string(String::new(alloc)),
+        netgroup: Text::from_string(String::new(alloc)),
+        exports: BTreeMap::new(alloc),
+    }
+}
+
+impl Site {
+    /// Tables without rows, empty texts, and no policy.
+    pub fn new(alloc: Global) -> Site {
+        Site {
+            hosts: Hosts::new(alloc),
+            networks: Networks::new(alloc),
+            netgroups: Netgroups::new(alloc),
+            users: Users::new(alloc),
+            groups: Groups::new(alloc),
+            filesystems: None,
+            custodians: None,
+            texts: no_texts(alloc),
+            policy: None,
+        }
+    }
+
+    /// Puts a policy or a view in force.
+    pub fn put(&mut self, in_force: InForce) {
+        self.policy = Some(in_force);
+    }
+}
+
+/// Sets a table: `read`, or the fault.
+pub fn set<T: Drop>(
+    table: &mut T,
+    out: &mut String,
+    read: Result<T, ReadError<TableFault>>,
+) -> Asked {
+    match read {
+        Ok(read) => {
+            *table = read;
+            say(out, "read")
+        }
+        Err(error) => say_fault(out, error),
+    }
+}
+
+/// Sets a table of which there was none: `read`, or the fault.
+pub fn set_some<T: Drop>(
+    table: &mut Option<T>,
+    out: &mut String,
+    read: Result<T, ReadError<TableFault>>,
+) -> Asked {
+    match read {
+        Ok(read) => {
+            *table = Some(read);
+            say(out, "read")
+        }
+        Err(error) => say_fault(out, error),
+    }
+}
+
+/// Answers that a table cannot be read: `fault line 2 Fields`.
+fn say_fault(out: &mut String, error: ReadError<TableFault>) -> Asked {
+    match error {
+        ReadError::Memory => Err(AllocError),
+        ReadError::Fault(fault) => {
+            let (line, name) = (fault.line, fault.rule.name());
+            write!(out, "fault line {line} {name}")?;
+            Ok(true)
+        }
+    }
+}

@@ -1,0 +1,5 @@
+pub mod FoundFaults
+pub mod FoundSlices
+pub mod HintLemmas
+pub mod ShownTextLemmas
+pub mod ToldFindings

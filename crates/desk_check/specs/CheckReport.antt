@@ -1,0 +1,25 @@
+-- What `check` prints of what it finds, and whether the texts pass. (this project's own)
+use Rattle.std.specs.Prelude.{◌≡◌, ℕ, ◌==◌, Bool, List, length, not, if◌then◌else◌}
+use Rattle.std.specs.List.{list_any}
+use Rattle.std.specs.String.{string_bytes}
+use Rattle.desk_check.specs.Finding.{is_fault}
+use Rattle.desk_check.specs.FindingJson.{findings_json}
+use Rattle.desk_check.specs.FindingPrints.{findings_text}
+use Rattle.desk_check.specs.declared.check_report.CheckForm.{CheckForm}
+use Rattle.desk_check.specs.declared.check_report.Checked.{Checked}
+use Rattle.desk_check.specs.declared.check_text.Gathered.{Gathered}
+use Rattle.desk_check.specs.declared.finding.Finding.{Finding}
+
+-- texts pass without a fault; strictly without any finding
+abbrev pub passes : Bool → List Finding → Bool
+passes strict findings = if strict then length findings == 0 else not (list_any (λ finding. is_fault finding.matter) findings)
+
+-- the findings as they are printed in this form
+abbrev pub printed_findings : CheckForm → List Finding → List ℕ
+printed_findings form findings = if form.json then findings_json findings else findings_text form.brief findings
+
+-- this is told of what was found
+pub record Reports (form : CheckForm) (gathered : Gathered) (checked : Checked) : Type 0 where
+  pub text : string_bytes checked.text ≡ printed_findings form gathered.findings
+  pub passes : checked.passes ≡ passes form.strict gathered.findings
+  pub looked : checked.read_exports ≡ gathered.read_exports

@@ -1,0 +1,71 @@
+-- How findings are printed as JSON. (RFC 8259; the members are this project's own)
+use Rattle.std.specs.Prelude.{ℕ, ◌/◌, ◌%◌, List, [], ◌∷◌, ◌++◌, Option, None, Some, codes, false, if◌then◌else◌}
+use Rattle.std.specs.Char.{encode_utf8, is_control}
+use Rattle.std.specs.Fmt.{digit_glyph}
+use Rattle.std.specs.List.{flat_map}
+use Rattle.std.specs.Str.{chars}
+use Rattle.serde_json.specs.Data.{Data, Members, member, no_members, number, object, string, unsigned}
+use Rattle.serde_json.specs.Written.{compact_text}
+use Rattle.desk_text.specs.Address as addresses
+use Rattle.desk_text.specs.Address.{addr_text}
+use Rattle.desk_text.specs.declared.address.Addr.{Addr}
+use Rattle.desk_check.specs.Finding.{kind_word, line_at, name_of, number_of, slice_at}
+use Rattle.desk_check.specs.FindingPrints.{message}
+use Rattle.desk_check.specs.declared.finding.Finding.{Finding}
+use Rattle.desk_check.specs.declared.finding.Matter.{Matter}
+use Rattle.desk_check.specs.declared.finding.Matter.TheVariants as matter
+
+-- the earlier line, and the address of a contradiction
+abbrev pub other_of : Matter → Option ℕ
+other_of (matter.Fault rule other) = other
+other_of (matter.Contradiction other address) = Some other
+other_of (matter.Warning kind) = None
+
+abbrev pub address_of : Matter → Option Addr
+address_of (matter.Fault rule other) = None
+address_of (matter.Contradiction other address) = Some address
+address_of (matter.Warning kind) = None
+
+-- a member for each, if there is one, before these
+abbrev pub with_other : Option ℕ → Members → Members
+with_other None members = members
+with_other (Some line) members = member (codes "other") (number (unsigned line)) members
+
+abbrev pub with_address : Option Addr → Members → Members
+with_address None members = members
+with_address (Some address) members = member (codes "address") (string (addr_text (addresses.number_of address))) members
+
+-- a finding as an object, its members in the byte order of their keys
+abbrev pub object_of : Option Addr → Option ℕ → Finding → List ℕ → Data
+object_of address other finding text = object (with_address address
+    (member (codes "column") (number (unsigned finding.column))
+    (member (codes "kind") (string (kind_word finding.matter))
+    (member (codes "line") (number (unsigned (line_at finding.place)))
+    (member (codes "name") (string (name_of finding.matter))
+    (with_other other
+    (member (codes "path") (string finding.path.now)
+    (member (codes "rule") (number (unsigned (number_of finding.matter)))
+    (member (codes "text") (string text)
+    (member (codes "word") (string (slice_at finding.source.now finding.place)) no_members))))))))))
+
+abbrev pub value_of : Finding → Data
+value_of finding = object_of (address_of finding.matter) (other_of finding.matter) finding (message finding.source.now finding.place finding.matter)
+
+-- A character of JSON as it is shown. JSON leaves only some control characters as they are, and those in strings alone, where
+-- `\u009b` says the same.
+abbrev pub shown_in_json : ℕ → List ℕ
+shown_in_json c =
+    if is_control c then codes "\\u00" ++ digit_glyph false (c / 16) ∷ digit_glyph false (c % 16) ∷ [] else encode_utf8 c
+
+-- a finding
+abbrev pub object_text : Finding → List ℕ
+object_text finding = flat_map shown_in_json (chars (compact_text (value_of finding)))
+
+-- all findings in their order, with commas between them
+abbrev pub elements_text : List Finding → List ℕ
+elements_text [] = []
+elements_text (finding ∷ more) = object_text finding ++ flat_map (λ later. codes "," ++ object_text later) more
+
+-- the list of them, on a line of its own
+abbrev pub findings_json : List Finding → List ℕ
+findings_json findings = codes "[" ++ elements_text findings ++ codes "]\n"

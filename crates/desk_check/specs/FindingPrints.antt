@@ -1,0 +1,115 @@
+-- How findings are printed. (this project's own)
+use Rattle.std.specs.Prelude.{ℕ, ◌==◌, ◌+◌, ◌-◌, ◌≤◌, Bool, not, List, [], ◌++◌, Option, Some, None, codes, count_by, length, min, nat_lt, slice_range, if◌then◌else◌}
+use Rattle.std.specs.Fmt.{decimal}
+use Rattle.std.specs.Fmt.Cut.{floor_char_boundary}
+use Rattle.std.specs.List.{flat_map}
+use Rattle.std.specs.Str.{IsCharBoundary}
+use Rattle.desk_text.specs.Address as addresses
+use Rattle.desk_text.specs.Address.{addr_text}
+use Rattle.desk_text.specs.declared.place.Place.{Place}
+use Rattle.desk_policy.specs.SiteFault.{rule_sentence}
+use Rattle.desk_policy.specs.Warning.{kind_sentence}
+use Rattle.desk_check.specs.Finding.{is_fault, kind_word, line_at, name_of, number_of, slice_at}
+use Rattle.desk_check.specs.Hints.{hint}
+use Rattle.desk_check.specs.ShownText.{blanks, carets, shown_line, shown_text}
+use Rattle.desk_check.specs.declared.finding.Finding.{Finding}
+use Rattle.desk_check.specs.declared.finding_prints.Excerpt.{Excerpt}
+use Rattle.desk_check.specs.declared.finding.Matter.{Matter}
+use Rattle.desk_check.specs.declared.finding.Matter.TheVariants as matter
+
+-- what the sentence is about: the slice in quotes, or the file as a whole
+abbrev pub subject : List ℕ → Option Place → List ℕ
+subject source None = codes "the file"
+subject source (Some place) = codes "\"" ++ shown_text (slice_at source (Some place)) ++ codes "\""
+
+-- the earlier line of a netgroup, if there is one
+abbrev pub other_text : Option ℕ → List ℕ
+other_text None = []
+other_text (Some line) = codes ": line " ++ decimal line
+
+-- the sentence, as `"-maprot" is not an option of exports(5)`
+abbrev pub sentence : List ℕ → Option Place → Matter → List ℕ
+sentence source place (matter.Fault rule other) = subject source place ++ codes " " ++ rule_sentence rule ++ other_text other
+sentence source place (matter.Contradiction other address) = codes "line " ++ decimal other ++ codes " has other terms for " ++ addr_text (addresses.number_of address)
+sentence source place (matter.Warning kind) = subject source place ++ codes " " ++ kind_sentence kind
+
+-- a hint, if there is one
+abbrev pub hint_text : Option (List ℕ) → List ℕ
+hint_text None = []
+hint_text (Some words) = codes "; " ++ words
+
+-- the sentence with its hint
+abbrev pub message : List ℕ → Option Place → Matter → List ℕ
+message source place matter = sentence source place matter ++ hint_text (hint matter (slice_at source place))
+
+-- where a finding is, as `exports:12:6: `
+abbrev pub position_text : Finding → List ℕ
+position_text finding = shown_text finding.path.now ++ codes ":" ++ decimal (line_at finding.place) ++ codes ":" ++ decimal finding.column ++ codes ": "
+
+-- what it is, as `fault 5 UnknownOption: `
+abbrev pub matter_text : Matter → List ℕ
+matter_text matter = kind_word matter ++ codes " " ++ decimal (number_of matter) ++ codes " " ++ name_of matter ++ codes ": "
+
+-- the first line of a finding, as `exports:12:6: fault 5 UnknownOption: "-maprot" is not an option of exports(5)`
+abbrev pub headline : Finding → List ℕ
+headline finding = position_text finding ++ matter_text finding.matter ++ message finding.source.now finding.place finding.matter ++ codes "\n"
+
+-- how many bytes of a line are shown before the beginning of a slice, and from it on: of a line of at most 200 all
+abbrev pub reach : List ℕ → ℕ
+reach line = if nat_lt 200 (length line) then 100 else 200
+
+-- the part of a line that is shown with a slice that begins there: it is cut where a character begins
+abbrev pub excerpt : List ℕ → ℕ → Excerpt
+excerpt line start = record {
+  start = floor_char_boundary line (start - reach line);
+  end = if nat_lt (start + reach line) (length line) then floor_char_boundary line (start + reach line) else length line;
+}
+
+-- such a part is text, with the byte where the slice begins within it or at its end
+pub record IsAround (line : List ℕ) (start : ℕ) (part : Excerpt) : Type 0 where
+  pub begins : IsCharBoundary line part.start
+  pub ends : IsCharBoundary line part.end
+  pub before : part.start ≤ start
+  pub behind : start ≤ part.end
+
+-- dots in place of what is cut off
+abbrev pub dots_if : Bool → List ℕ
+dots_if cut = if cut then codes "..." else []
+
+-- that part, with dots for what is before it and behind it
+abbrev pub excerpt_text : List ℕ → Excerpt → List ℕ
+excerpt_text line part =
+    dots_if (nat_lt 0 part.start) ++ shown_line (slice_range line part.start part.end) ++ dots_if (nat_lt part.end (length line)) ++ codes "\n"
+
+-- a line of carets under what that part has of the slice
+abbrev pub marks : List ℕ → Place → Excerpt → List ℕ
+marks line place part =
+    (if nat_lt 0 part.start then codes "   " else []) ++ blanks (slice_range line part.start place.start) ++ carets (slice_range line place.start (min place.end part.end)) ++ codes "\n"
+
+-- the line of the file, or what is shown of a long one, and a line of carets under the slice; nothing for a file as a whole
+abbrev pub marked_line : List ℕ → Option Place → List ℕ
+marked_line source None = []
+marked_line source (Some place) = excerpt_text source (excerpt source place.start) ++ marks source place (excerpt source place.start)
+
+-- a finding
+abbrev pub finding_text : Bool → Finding → List ℕ
+finding_text brief finding = headline finding ++ (if brief then [] else marked_line finding.source.now finding.place)
+
+-- so many of what this word says, as `1 fault` and `2 faults`
+abbrev pub counted : ℕ → List ℕ → List ℕ
+counted count word = decimal count ++ codes " " ++ word ++ (if count == 1 then [] else codes "s")
+
+-- how many faults and warnings there are
+abbrev pub fault_count : List Finding → ℕ
+fault_count findings = count_by (λ finding. is_fault finding.matter) findings
+
+abbrev pub warning_count : List Finding → ℕ
+warning_count findings = count_by (λ finding. not (is_fault finding.matter)) findings
+
+-- the last line, as `2 faults, 1 warning`
+abbrev pub count_line : List Finding → List ℕ
+count_line findings = counted (fault_count findings) (codes "fault") ++ codes ", " ++ counted (warning_count findings) (codes "warning") ++ codes "\n"
+
+-- all findings in their order, and the last line
+abbrev pub findings_text : Bool → List Finding → List ℕ
+findings_text brief findings = flat_map (finding_text brief) findings ++ count_line findings

@@ -1,0 +1,16 @@
+pub mod CheckFaults
+pub mod CheckOdd
+pub mod CheckReport
+pub mod CheckSite
+pub mod CheckText
+pub mod Faults
+pub mod Finding
+pub mod FindingJson
+pub mod FindingPrints
+pub mod Hints
+pub mod ShownText
+pub mod SplitText
+pub mod Told
+pub mod ToldFault
+pub mod ToldSite
+pub mod TryText

@@ -1,0 +1,65 @@
+//! What `check` prints of what it finds, and whether the texts pass.
+
+ghost use Rattle.std.specs.Prelude.{◌≡◌, IfOk};
+ghost use Rattle.desk_check.specs.CheckReport.{Reports, passes};
+ghost use Rattle.desk_check.specs.Finding.{HaveSlices};
+
+use crate::check_text::Gathered;
+use crate::finding::{Finding, has_fault};
+use crate::finding_json::findings_json;
+use crate::finding_prints::findings_text;
+use std::alloc::{AllocError, Global};
+
+/// How findings are printed, and when texts pass.
+#[derive(Clone, Copy)]
+pub struct CheckForm {
+    /// Without the lines of the files.
+    pub brief: bool,
+    /// Texts with a warning do not pass.
+    pub strict: bool,
+    /// As a JSON list.
+    pub json: bool,
+}
+
+/// What `check` tells.
+#[derive(Drop)]
+pub struct Checked {
+    /// The findings as they are printed, in whole lines.
+    pub text: String,
+    pub passes: bool,
+    /// Whether the exports text was looked at, since no table has a fault.
+    pub read_exports: bool,
+}
+
+/// Prints what was found in this form.
+pub fn report_found(
+    alloc: Global,
+    form: CheckForm,
+    gathered: &Gathered,
+) -> Result<Checked, AllocError>
+    requires { HaveSlices gathered.now.findings }
+    ensures { IfOk result (Reports form gathered.now) }
+{
+    let findings = gathered.findings.as_slice();
+    let text = if form.json {
+        findings_json(alloc, findings)?
+    } else {
+        findings_text(alloc, findings, form.brief)?
+    };
+    Ok(Checked {
+        text,
+        passes: passes(findings, form.strict),
+        read_exports: gathered.read_exports,
+    })
+}
+
+/// Tests whether texts with these findings pass.
+fn passes(findings: &[Finding], strict: bool) -> bool
+    ensures { result ≡ passes strict findings.now }
+{
+    if strict {
+        findings.is_empty()
+    } else {
+        !has_fault(findings)
+    }
+}

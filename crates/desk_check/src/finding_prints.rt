@@ -1,0 +1,272 @@
+//! How findings are printed, in the form that editors and CI take:
+//! `exports:12:6: fault 5 UnknownOption: "-maprot" is not an option of exports(5)`.
+
+ghost use Rattle.std.specs.Prelude.{◌≡◌, ◌++◌, ◌≤◌, [], IfOk, OnOk, Some, if◌then◌else◌};
+ghost use Rattle.std.specs.Option.{option_map};
+ghost use Rattle.std.specs.Str.{IsCharBoundary};
+ghost use Rattle.std.specs.String.{string_bytes};
+ghost use Rattle.desk_text.specs.Place.{LiesWithin};
+ghost use Rattle.desk_check.specs.Finding.{HasSlice, HaveSlices};
+ghost use Rattle.desk_check.specs.FindingPrints.{IsAround};
+ghost use Rattle.desk_check.specs.FindingPrints as spec;
+
+use crate::finding::{Finding, Matter};
+use crate::hints::hint;
+use crate::shown_text::{push_blanks, push_carets, push_shown, push_shown_line};
+use desk_text::Place;
+use std::alloc::{AllocError, Global};
+
+/// How many bytes a line may have that is shown whole.
+const WHOLE_LENGTH: usize = 200;
+
+/// How many bytes of a longer line are shown before the beginning of a slice, and from it on.
+const REACH: usize = 100;
+
+/// What stands for a part of a line that is cut off.
+const DOTS: &str = "...";
+
+/// The part of a line that is shown: where it begins and ends, in bytes.
+#[derive(Clone, Copy)]
+struct Excerpt {
+    start: usize,
+    end: usize,
+}
+
+/// Prints findings in their order, and at last a line with how many faults and warnings they are: `2 faults, 1 warning`.
+/// Below each finding stand the line of the file and a line of carets under the slice, unless it is to be brief.
+pub fn findings_text(alloc: Global, findings: &[Finding], brief: bool) -> Result<String, AllocError>
+    requires { HaveSlices findings.now }
+    ensures { IfOk result (λ text. string_bytes text ≡ spec.findings_text brief findings.now) }
+{
+    let mut text = String::new(alloc);
+    for finding in findings {
+        push_finding(finding, brief, &mut text)?;
+    }
+    push_count_line(findings, &mut text)?;
+    Ok(text)
+}
+
+/// Prints one finding, in whole lines.
+pub fn finding_text(alloc: Global, finding: &Finding, brief: bool) -> Result<String, AllocError>
+    requires { HasSlice finding.now }
+    ensures { IfOk result (λ text. string_bytes text ≡ spec.finding_text brief finding.now) }
+{
+    let mut text = String::new(alloc);
+    push_finding(finding, brief, &mut text)?;
+    Ok(text)
+}
+
+/// Adds a finding.
+fn push_finding(finding: &Finding, brief: bool, text: &mut String) -> Result<(), AllocError>
+    requires { HasSlice finding.now }
+    ensures { OnOk result (string_bytes text.new ≡ string_bytes text.old ++ spec.finding_text brief finding.now) }
+{
+    push_headline(finding, text)?;
+    match finding.place {
+        Some(place) if !brief => push_marked_line(finding.source, place, text),
+        _ => Ok(()),
+    }
+}
+
+/// Adds the first line of a finding.
+fn push_headline(finding: &Finding, text: &mut String) -> Result<(), AllocError>
+    requires { HasSlice finding.now }
+    ensures { OnOk result (string_bytes text.new ≡ string_bytes text.old ++ spec.headline finding.now) }
+{
+    push_position(finding, text)?;
+    push_matter(finding.matter, text)?;
+    push_message(finding, text)?;
+    text.push('\n')
+}
+
+/// Adds where a finding is: its path, line and column.
+fn push_position(finding: &Finding, text: &mut String) -> Result<(), AllocError>
+    ensures { OnOk result (string_bytes text.new ≡ string_bytes text.old ++ spec.position_text finding.now) }
+{
+    let line = finding.line();
+    let column = finding.column;
+    push_shown(finding.path, text)?;
+    write!(text, ":{line}:{column}: ")
+}
+
+/// Adds what a finding is: `fault` or `warning`, a number and a name.
+fn push_matter(matter: Matter, text: &mut String) -> Result<(), AllocError>
+    ensures { OnOk result (string_bytes text.new ≡ string_bytes text.old ++ spec.matter_text matter) }
+{
+    let kind = matter.kind();
+    let number = matter.number();
+    let name = matter.name();
+    write!(text, "{kind} {number} {name}: ")
+}
+
+/// Adds what a finding says: its sentence, and a hint if there is one.
+pub(crate) fn push_message(finding: &Finding, text: &mut String) -> Result<(), AllocError>
+    requires { HasSlice finding.now }
+    ensures { OnOk result (string_bytes text.new
+        ≡ string_bytes text.old ++ spec.message finding.now.source.now finding.now.place finding.now.matter) }
+{
+    push_sentence(finding, text)?;
+    push_hint(hint(finding.matter, finding.slice()), text)
+}
+
+/// Adds the sentence of a finding.
+fn push_sentence(finding: &Finding, text: &mut String) -> Result<(), AllocError>
+    requires { HasSlice finding.now }
+    ensures { OnOk result (string_bytes text.new
+        ≡ string_bytes text.old ++ spec.sentence finding.now.source.now finding.now.place finding.now.matter) }
+{
+    match finding.matter {
+        Matter::Fault(rule, other) => {
+            push_subject(finding, text)?;
+            let sentence = rule.sentence();
+            write!(text, " {sentence}")?;
+            push_other(other, text)
+        }
+        Matter::Contradiction(other, address) => {
+            write!(text, "line {other} has other terms for {address}")
+        }
+        Matter::Warning(kind) => {
+            push_subject(finding, text)?;
+            let sentence = kind.sentence();
+            write!(text, " {sentence}")
+        }
+    }
+}
+
+/// Adds what the sentence is about: the slice in quotes, of which an empty one reads `"" is not a name`, or the file as a
+/// whole, as in `the file needs a line among the custodians`.
+fn push_subject(finding: &Finding, text: &mut String) -> Result<(), AllocError>
+    requires { HasSlice finding.now }
+    ensures { OnOk result (string_bytes text.new
+        ≡ string_bytes text.old ++ spec.subject finding.now.source.now finding.now.place) }
+{
+    if finding.place.is_none() {
+        return text.push_str("the file");
+    }
+    text.push('"')?;
+    push_shown(finding.slice(), text)?;
+    text.push('"')
+}
+
+/// Adds the earlier line of a netgroup, if there is one.
+fn push_other(other: Option<u32>, text: &mut String) -> Result<(), AllocError>
+    ensures { OnOk result (string_bytes text.new ≡ string_bytes text.old ++ spec.other_text other) }
+{
+    match other {
+        Some(line) => write!(text, ": line {line}"),
+        None => Ok(()),
+    }
+}
+
+/// Adds a hint, if there is one.
+fn push_hint(hint: Option<&str>, text: &mut String) -> Result<(), AllocError>
+    ensures { OnOk result (string_bytes text.new ≡ string_bytes text.old ++ spec.hint_text (option_map (λ hint. hint.now) hint.entry)) }
+{
+    match hint {
+        Some(hint) => write!(text, "; {hint}"),
+        None => Ok(()),
+    }
+}
+
+/// Adds a line of a file, or what is shown of a long one, and a line of carets under this slice of it.
+fn push_marked_line(source: &str, place: Place, text: &mut String) -> Result<(), AllocError>
+    requires { LiesWithin source.now place }
+    ensures { OnOk result (string_bytes text.new ≡ string_bytes text.old ++ spec.marked_line source.now (Some place)) }
+{
+    let part = excerpt_of(source, place.start);
+    push_excerpt(source, part, text)?;
+    push_marks(source, place, part, text)
+}
+
+/// Finds what is shown of a line with a slice that begins at this byte.
+fn excerpt_of(line: &str, start: usize) -> Excerpt
+    requires { IsCharBoundary line.now start }
+    ensures exact { result ≡ spec.excerpt line.now start }
+    ensures around { IsAround line.now start result }
+{
+    let reach = if line.len() > WHOLE_LENGTH {
+        REACH
+    } else {
+        WHOLE_LENGTH
+    };
+    Excerpt {
+        start: line.floor_char_boundary(start.saturating_sub(reach)),
+        end: line.floor_char_boundary(start + reach),
+    }
+}
+
+/// Adds this part of a line, with dots for what is cut off.
+fn push_excerpt(line: &str, part: Excerpt, text: &mut String) -> Result<(), AllocError>
+    requires begins { IsCharBoundary line.now part.start }
+    requires ends { IsCharBoundary line.now part.end }
+    requires ordered { part.start ≤ part.end }
+    ensures { OnOk result (string_bytes text.new ≡ string_bytes text.old ++ spec.excerpt_text line.now part) }
+{
+    push_if(part.start > 0, DOTS, text)?;
+    push_shown_line(&line[part.start..part.end], text)?;
+    push_if(part.end < line.len(), DOTS, text)?;
+    text.push('\n')
+}
+
+/// Adds the line of carets under what this part of a line has of a slice.
+fn push_marks(line: &str, place: Place, part: Excerpt, text: &mut String) -> Result<(), AllocError>
+    requires slice { LiesWithin line.now place }
+    requires around { IsAround line.now place.start part }
+    ensures { OnOk result (string_bytes text.new ≡ string_bytes text.old ++ spec.marks line.now place part) }
+{
+    push_if(part.start > 0, "   ", text)?;
+    push_blanks(&line[part.start..place.start], text)?;
+    let end = if place.end < part.end {
+        place.end
+    } else {
+        part.end
+    };
+    push_carets(&line[place.start..end], text)?;
+    text.push('\n')
+}
+
+/// Adds a text if it is wanted.
+fn push_if(wanted: bool, more: &str, text: &mut String) -> Result<(), AllocError>
+    ensures { OnOk result (string_bytes text.new ≡ string_bytes text.old ++ (if wanted then more.now else [])) }
+{
+    if wanted { text.push_str(more) } else { Ok(()) }
+}
+
+/// Adds the line with how many faults and warnings there are.
+fn push_count_line(findings: &[Finding], text: &mut String) -> Result<(), AllocError>
+    ensures { OnOk result (string_bytes text.new ≡ string_bytes text.old ++ spec.count_line findings.now) }
+{
+    push_counted(count_faults(findings), "fault", text)?;
+    text.push_str(", ")?;
+    push_counted(count_warnings(findings), "warning", text)?;
+    text.push('\n')
+}
+
+fn count_faults(findings: &[Finding]) -> usize
+    ensures { result ≡ spec.fault_count findings.now }
+{
+    findings
+        .iter()
+        .filter(|finding| finding.matter.is_fault())
+        .count()
+}
+
+fn count_warnings(findings: &[Finding]) -> usize
+    ensures { result ≡ spec.warning_count findings.now }
+{
+    findings
+        .iter()
+        .filter(|finding| !finding.matter.is_fault())
+        .count()
+}
+
+/// Adds a count of what this word says.
+fn push_counted(count: usize, word: &str, text: &mut String) -> Result<(), AllocError>
+    ensures { OnOk result (string_bytes text.new ≡ string_bytes text.old ++ spec.counted count word.now) }
+{
+    if count == 1 {
+        write!(text, "{count} {word}")
+    } else {
+        write!(text, "{count} {word}s")
+    }
+}

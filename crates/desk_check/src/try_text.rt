@@ -1,0 +1,100 @@
+//! The verdict on one mount over an exports text.
+
+ghost use Rattle.std.specs.Prelude.{◌≡◌, ◌≤◌, ◌++◌, IfOk, Ok, length};
+ghost use Rattle.std.specs.String.{string_bytes};
+ghost use Rattle.desk_text.specs.Address.{number_of};
+ghost use Rattle.desk_text.specs.Reading.{Reads};
+ghost use Rattle.desk_policy.specs.Parsing.{read_whole_with, without_warnings};
+ghost use Rattle.desk_policy.specs.Verdict.{verdict_result};
+ghost use Rattle.desk_check.specs.TryText.{Tries, acting_text, answer_of, policy_answer};
+
+use desk_policy::{
+    Plain, Policy, PolicyView, SiteFault, SiteTables, Verdict, act_as,
+    parse_whole_without_warnings, verdict_text, warnings_change_no_answer,
+};
+use desk_tables::{Cred, FileSystems};
+use desk_text::{Addr, Path, ReadError};
+use std::alloc::{AllocError, Global};
+
+/// The answer of `try` to a text that is consistent.
+#[derive(Drop)]
+pub struct Tried {
+    /// Whether the mount is granted.
+    pub granted: bool,
+    /// The printed verdict, without a line end.
+    pub line: String,
+}
+
+/// Decides whether a client may mount a directory, by a whole exports text, these tables and these file systems; or returns
+/// the text's fault: its first faulty line, or else its least contradiction. If the client's own credential is given, the
+/// answer says as whom it acts.
+pub fn try_text(
+    alloc: Global,
+    text: &str,
+    site_tables: &SiteTables,
+    filesystems: FileSystems,
+    address: Addr,
+    path: &Path,
+    own: &Option<Cred>,
+) -> Result<Tried, ReadError<SiteFault>>
+    requires { length text.now ≤ 4294967294 }
+    ensures { Tries (read_whole_with site_tables.now filesystems text.now) own.now (number_of address) path.now result }
+{
+    let policy = parse_whole_without_warnings(alloc, text, filesystems, site_tables)?;
+    // No answer rests on the warnings, which are left out.
+    warnings_change_no_answer();
+    answer_by(alloc, policy, address, path, own)
+}
+
+/// Decides whether a client may mount a directory by a policy, or returns its least contradiction.
+fn answer_by(
+    alloc: Global,
+    policy: Policy,
+    address: Addr,
+    path: &Path,
+    own: &Option<Cred>,
+) -> Result<Tried, ReadError<SiteFault>>
+    ensures { Tries (Ok policy) own.now (number_of address) path.now result }
+{
+    let view = Plain::build(alloc, policy)?;
+    let tried = decide_by(alloc, &view, address, path, own)?;
+    Ok(tried)
+}
+
+/// Decides whether a client may mount a directory by a policy in force.
+pub fn decide_by(
+    alloc: Global,
+    view: &Plain,
+    address: Addr,
+    path: &Path,
+    own: &Option<Cred>,
+) -> Result<Tried, AllocError>
+    ensures { IfOk result (λ tried. answer_of tried ≡ policy_answer view.now own.now (number_of address) path.now) }
+{
+    let verdict = view.decide(address, path);
+    let granted = matches!(verdict, Verdict::Granted { .. });
+    let line = verdict_text(alloc, view.policy(), &verdict)?;
+    let line = with_acting(alloc, line, &verdict, own)?;
+    Ok(Tried { granted, line })
+}
+
+/// Adds to the line of a mount that is granted as whom the client acts, if its own credential is given.
+fn with_acting(
+    alloc: Global,
+    line: String,
+    verdict: &Verdict<'_>,
+    own: &Option<Cred>,
+) -> Result<String, AllocError>
+    ensures { IfOk result (λ text. string_bytes text ≡ string_bytes line ++ acting_text (verdict_result verdict.now) own.now) }
+{
+    match own {
+        Some(own) => match verdict {
+            Verdict::Granted { terms, .. } => {
+                let acted = act_as(terms, own);
+                format!(in alloc; "{line} as {acted}")
+            }
+            Verdict::Denied(_) => Ok(line),
+        },
+        None => Ok(line),
+    }
+}

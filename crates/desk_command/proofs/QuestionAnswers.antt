@@ -1,0 +1,108 @@
+-- What a desk answers to a question is an answer by the database that it was opened on, for `questions`.
+use Rattle.std.proofs.Common.{◌≡◌, ◌≢◌, ◌⊎◌, ◌==◌, ◌∙◌, ℕ, Bool, true, false, List, [], ◌∷◌, inl, inr, Option, Some, None, Result, Ok, Err, ap, length, map, refl, subst, sym}
+use Rattle.std.proofs.lemmas.Bool.{eqb-true}
+use Rattle.std.proofs.lemmas.List.{length-map, nil_from_length}
+use Rattle.std.specs.Option.{option_map}
+use Rattle.sqlite_trees.specs.View.{doubt}
+use Rattle.sqlite.specs.Effect.{Database}
+use Rattle.desk_tables.specs.declared.credentials.Cred.{Cred}
+use Rattle.desk_core.specs.Head.{Revision}
+use Rattle.desk_core.specs.History.{revisions_of}
+use Rattle.desk_store.specs.Desk.{stored_of}
+use Rattle.desk_store.specs.Open.{IsOfOpening, IsOurs, IsProject}
+use Rattle.desk_store.specs.declared.desk.Revision.{Revision as Found}
+use Rattle.desk_store.specs.declared.error.DeskError.{DeskError}
+use Rattle.desk_store.specs.declared.error.DeskError.TheVariants as error
+use Rattle.desk_command.specs.Files.{IsUnread}
+use Rattle.desk_command.specs.Questions.{AnswersBy, AnswersFrom, AnswersQuestion, Ask, Cat, Exports, Log, Question, Show, numbered_authors}
+use Rattle.desk_command.specs.Refused.{IsRefusedAs, TellsError}
+use Rattle.desk_command.specs.declared.failure.Failure.{Failure}
+use Rattle.desk_command.specs.declared.failure.Failure.TheVariants.{Memory}
+use Rattle.desk_command.specs.declared.files.FileArgument.TheVariants.{Database as DatabaseFile}
+use Rattle.desk_command.specs.declared.output.Output.{Output}
+use Rattle.desk_command.specs.declared.output.Output.TheVariants.{Refused}
+use Rattle.desk_command.specs.declared.refused.Refused.{Refused as Why}
+use Rattle.desk_command.specs.declared.refused.Refused.TheVariants as refused
+
+-- SQLite does not open a database
+pub unopened : (path : List ℕ) (q : Question) (result : Result Output Failure) → IsRefusedAs refused.Store result → AnswersQuestion path q result
+unopened path q (Ok (Refused why told)) is = subst (λ (w : Why). AnswersQuestion path q (Ok (Refused w told))) (sym is) tt
+unopened path q (Ok output) is = absurd is
+unopened path q (Err Memory) is = tt
+unopened path q (Err failure) is = absurd is
+
+foreign : (path : List ℕ) (db : Database) (q : Question) (result : Result Output Failure) → (IsOurs db → ⊥) → IsRefusedAs refused.Schema result → AnswersQuestion path q result
+foreign path db q (Ok (Refused why told)) none is = subst (λ (w : Why). AnswersQuestion path q (Ok (Refused w told))) (sym is) (db, none)
+foreign path db q (Ok output) none is = absurd is
+foreign path db q (Err Memory) none is = tt
+foreign path db q (Err failure) none is = absurd is
+
+-- a desk is not opened on a database
+pub refuses : (path : List ℕ) (db : Database) (q : Question) (e : DeskError) (result : Result Output Failure) → IsOfOpening e → (e ≡ error.Schema → IsOurs db → ⊥) → TellsError e result → AnswersQuestion path q result
+refuses path db q error.Schema result look none tells = foreign path db q result (none refl) tells
+refuses path db q (error.Store fault) result look none tells = unopened path q result tells
+refuses path db q error.Memory result look none tells = subst (λ (r : Result Output Failure). AnswersQuestion path q r) (sym tells) tt
+refuses path db q (error.Refused refusal) result (inl schema) none tells = absurd (cc)
+refuses path db q (error.Refused refusal) result (inr (inl memory)) none tells = absurd (cc)
+refuses path db q (error.Refused refusal) result (inr (inr (fault, look, known, is))) none tells = absurd (cc)
+
+not_schema : (history : List Revision) (q : Question) (told : _) → AnswersBy history q (Refused refused.Schema told) → ⊥
+not_schema history (Ask address path own) told h = h
+not_schema history (Show address) told h = h
+not_schema history Exports told h = h
+not_schema history (Log file) told h = h
+not_schema history (Cat file rev) told h = h
+
+-- a desk on a database of this project answers
+pub answers : (path : List ℕ) (db : Database) (history : List Revision) (q : Question) (result : Result Output Failure) → IsProject db history → AnswersFrom history q result → AnswersQuestion path q result
+answers path db history q (Err failure) project is = subst (λ (f : Failure). IsUnread DatabaseFile path f) (sym is) tt
+answers path db history q (Ok (Refused refused.Store told)) project h = tt
+answers path db history q (Ok (Refused refused.Schema told)) project h = absurd (not_schema history q told h)
+answers path db history q (Ok output) project h = (db, (history, project, h))
+
+-- a file or revision is not there
+pub none_there : (history : List Revision) (q : Question) (result : Result Output Failure) → ((told : _) → AnswersBy history q (Refused refused.NoRevision told)) → IsRefusedAs refused.NoRevision result → AnswersFrom history q result
+none_there history q (Ok (Refused why told)) none is = subst (λ (w : Why). AnswersFrom history q (Ok (Refused w told))) (sym is) (none told)
+none_there history q (Ok output) none is = absurd is
+none_there history q (Err Memory) none is = refl
+none_there history q (Err failure) none is = absurd is
+
+holds : Bool → Type 0
+holds true = Unit {0}
+holds false = ⊥
+
+apart : true ≡ false → ⊥
+unfolding holds
+apart e = subst holds e tt
+
+empty_map : {X Y : Type 0} (f : X → Y) (xs : List X) → (length (map f xs) == 0) ≡ true → xs ≡ []
+empty_map f xs e = nil_from_length xs (sym (length-map xs f) ∙ eqb-true _ _ e)
+
+pub has_none : (history : List Revision) (file : List ℕ) (found : List (ℕ × List ℕ)) → found ≡ numbered_authors file history → (length found == 0) ≡ true → revisions_of file history ≡ []
+has_none history file found are empty =
+    empty_map (λ (r : Revision). (r.rev, r.author)) (revisions_of file history) (ap (λ (all : List (ℕ × List ℕ)). length all == 0) (sym are) ∙ empty)
+
+pub has_some : (history : List Revision) (file : List ℕ) (found : List (ℕ × List ℕ)) → found ≡ numbered_authors file history → (length found == 0) ≡ false → revisions_of file history ≢ []
+has_some history file found are full none =
+    let nothing : found ≡ [] = are ∙ ap (λ (rs : List Revision). map (λ (r : Revision). (r.rev, r.author)) rs) none in
+    let e : true ≡ false = ap (λ (all : List (ℕ × List ℕ)). length all == 0) (sym nothing) ∙ full in
+    absurd (apart e)
+
+-- the text of a revision that is handed out
+pub stored_body : (o : Option Revision) (found : Found) → Some found ≡ stored_of o → option_map (λ (r : Revision). r.body) o ≡ Some found.body
+stored_body None found e = ap (option_map (λ (f : Found). f.body)) (sym e)
+stored_body (Some r) found e = ap (option_map (λ (f : Found). f.body)) (sym e)
+
+is_none_type : Option Found → Type 0
+is_none_type None = Unit {0}
+is_none_type (Some found) = ⊥
+
+pub stored_none : (o : Option Revision) → None ≡ stored_of o → o ≡ None
+unfolding is_none_type
+stored_none None e = refl
+stored_none (Some r) e = absurd (subst (λ (o : Option Found). is_none_type o) e tt)
+
+-- a connection whose disk told no lie
+pub good_disk : (is_clean : Bool) → is_clean ≡ true → doubt is_clean ≡ 0
+unfolding doubt
+good_disk is_clean e = ap doubt e

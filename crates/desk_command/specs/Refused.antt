@@ -1,0 +1,58 @@
+-- Why a command on a database is refused, as it is printed. (this project's own)
+use Rattle.std.specs.Prelude.{◌≡◌, ℕ, ◌++◌, ◌∷◌, List, [], Result, Ok, Err, codes}
+use Rattle.std.specs.Fmt.{decimal}
+use Rattle.desk_exports.specs.Rules.{rule_name, rule_number}
+use Rattle.desk_core.specs.Prints.{refusal_line}
+use Rattle.desk_core.specs.declared.edit.Refusal.{Refusal}
+use Rattle.desk_core.specs.declared.edit.Refusal.TheVariants as refusal
+use Rattle.desk_store.specs.declared.error.DeskError.{DeskError}
+use Rattle.desk_store.specs.declared.error.DeskError.TheVariants as error
+use Rattle.desk_command.specs.declared.failure.Failure.{Failure}
+use Rattle.desk_command.specs.declared.failure.Failure.TheVariants.{Memory}
+use Rattle.desk_command.specs.declared.output.Output.{Output}
+use Rattle.desk_command.specs.declared.output.Output.TheVariants.{Refused as Tells}
+use Rattle.desk_command.specs.declared.refused.Refused.{Refused}
+use Rattle.desk_command.specs.declared.refused.Refused.TheVariants as refused
+
+-- the exit status of an edit that is refused: 3 for the fault of a site, else 1
+abbrev pub refusal_status : Refusal → ℕ
+refusal_status (refusal.Fault fault) = 3
+refusal_status (refusal.Stale newest) = 1
+refusal_status refusal.UnknownCaller = 1
+refusal_status refusal.BadKey = 1
+refusal_status refusal.UnknownFile = 1
+refusal_status refusal.NotCustodian = 1
+refusal_status refusal.TooLarge = 1
+refusal_status refusal.Full = 1
+
+-- the exit status
+abbrev pub refused_status : Refused → ℕ
+refused_status (refused.Edit refusal) = refusal_status refusal
+refused_status (refused.TooLarge file) = 1
+refused_status (refused.Split fault) = 3
+refused_status refused.NoRevision = 1
+refused_status refused.Store = 4
+refused_status refused.Schema = 4
+
+-- the line that is printed, with its line end
+abbrev pub refused_line : Refused → List ℕ
+refused_line (refused.Edit refusal) = refusal_line refusal ++ 10 ∷ []
+refused_line (refused.TooLarge file) = codes "refused 5 TooLarge " ++ file ++ 10 ∷ []
+refused_line (refused.Split fault) =
+    codes "fault exports line " ++ decimal fault.line ++ codes " rule " ++ decimal (rule_number fault.rule) ++ 32 ∷ rule_name fault.rule ++ 10 ∷ []
+refused_line refused.NoRevision = codes "refused 111 NoRevision\n"
+refused_line refused.Store = codes "refused 201 Store\n"
+refused_line refused.Schema = codes "refused 202 Schema\n"
+
+-- the output tells that it is refused so; out of memory says nothing
+abbrev pub IsRefusedAs : Refused → Result Output Failure → Type 0
+IsRefusedAs why (Ok (Tells found told)) = found ≡ why
+IsRefusedAs why (Err Memory) = Unit {0}
+IsRefusedAs why result = ⊥
+
+-- the output tells why a desk has no answer
+abbrev pub TellsError : DeskError → Result Output Failure → Type 0
+TellsError (error.Refused refusal) result = IsRefusedAs (refused.Edit refusal) result
+TellsError (error.Store fault) result = IsRefusedAs refused.Store result
+TellsError error.Schema result = IsRefusedAs refused.Schema result
+TellsError error.Memory result = result ≡ Err Memory

@@ -1,0 +1,457 @@
+//! The command `init`: a new database of a site's files.
+
+ghost use Rattle.std.specs.Prelude.{◌≡◌, ◌≤◌, ◌++◌, ℕ, [], Err, false, IfOk, List, Ok, OnOk, codes, if◌then◌else◌, length, map, string_bytes, unwrap_or};
+ghost use Rattle.std.specs.BTreeMap.{get_by_text};
+ghost use Rattle.std.specs.List.{flat_map};
+ghost use Rattle.std.specs.Str.{bytes_eq};
+ghost use Rattle.clap.specs.Words.{found_of, rows_of};
+ghost use Rattle.sqlite.specs.Files.{file_state};
+ghost use Rattle.desk_tables.specs.FileSystemsText.{read_filesystems};
+ghost use Rattle.desk_policy.specs.Parsing.{read_site};
+ghost use Rattle.desk_policy.specs.Site.{texts_of};
+ghost use Rattle.desk_command.specs.CommandLine.{init_words_in};
+ghost use Rattle.desk_command.specs.InitCommand.{AnswersInit, AnswersInitSite, AnswersInitTexts, AnswersInitWith, AreParts, ComesTo, IsSiteWith, SplitsExports, ready_text, warning_line};
+ghost use Rattle.desk_command.specs.Refused.{IsRefusedAs};
+ghost use Rattle.desk_command.specs.SiteFiles.{AreShortFiles, site_list};
+ghost use Rattle.desk_command.specs.declared.refused.Refused.TheVariants as refused;
+ghost use Rattle.desk_core.specs.declared.edit.Refusal.TheVariants.{Fault as SiteRefusal};
+ghost use Rattle.desk_command.specs.Words.{Finds, given_init};
+
+use crate::check_site_files::{SiteFiles, paths_of, read_texts, sources_of};
+use crate::database::{has_no_page, log_to_make};
+use crate::failure::Failure;
+use crate::files::FileArgument;
+use crate::output::Output;
+use crate::refused::{
+    Refused, not_opened, not_writable, refused_by_store, refused_by_table, too_large,
+};
+use crate::words::required;
+use clap::ArgMatches;
+use desk_check::split_text::SplitFault;
+use desk_check::{SiteSources, Source, WholeSources, tell_site_fault, tell_split_fault};
+use desk_core::Refusal;
+use desk_exports::{Rule, split};
+use desk_policy::{Plain, Site, SiteFault, Warning, parse};
+use desk_store::{CreateError, Desk};
+use desk_tables::{FileSystems, Mount};
+use desk_text::{LineFault, ReadError, Text};
+use sqlite::{Alter, Connection, Error, FileFrom, FileStore, Wary};
+use std::alloc::{AllocError, Global};
+use std::collections::BTreeMap;
+use std::fs::OpenOptions;
+use std::io::BufRead;
+use std::os::unix::fs::OpenOptionsExt;
+use std::{fs, io};
+
+/// The words of `init`.
+#[derive(Clone, Copy)]
+pub struct InitWords<'a> {
+    pub db: &'a str,
+    pub dir: &'a str,
+}
+
+impl<'a> InitWords<'a> {
+    /// Takes the words of `init` from what `clap` found.
+    pub fn find(found: &ArgMatches<'a>) -> Result<InitWords<'a>, Failure>
+        ensures { Finds given_init (init_words_in (rows_of (found_of found.now))) result }
+    {
+        let db = required(found, "DB")?;
+        let dir = required(found, "DIR")?;
+        Ok(InitWords { db, dir })
+    }
+}
+
+/// Answers `init DB DIR`.
+pub fn run_init<I: BufRead>(
+    rt: &HostRuntime,
+    words: InitWords<'_>,
+    input: &mut I,
+) -> Result<Output, Failure>
+    ensures { AnswersInit (given_init words.entry) (I.remaining input.old) result }
+{
+    let paths = paths_of(rt.alloc(), words.dir)?;
+    let texts = read_texts(rt, FileArgument::Dir, &paths, input)?;
+    init_texts(rt, words.db, &paths, &texts)
+}
+
+/// Makes a database of these texts.
+fn init_texts(
+    rt: &HostRuntime,
+    db: &str,
+    paths: &SiteFiles,
+    texts: &SiteFiles,
+) -> Result<Output, Failure>
+    requires { AreShortFiles texts.now }
+    ensures { AnswersInitTexts (Ok (site_list texts.now)) result }
+{
+    match split_exports(rt.alloc(), texts) {
+        Ok(exports) => init_site(rt, db, paths, texts, exports),
+        Err(ReadError::Fault(fault)) => not_split(rt.alloc(), sources_of(paths, texts), fault),
+        Err(ReadError::Memory) => Err(Failure::Memory),
+    }
+}
+
+/// Answers by the fault for which the exports text is not split.
+fn not_split(
+    alloc: Global,
+    sources: SiteSources<'_>,
+    fault: LineFault<Rule>,
+) -> Result<Output, Failure>
+    requires filesystems { length sources.filesystems.text.now ≤ 4294967294 }
+    requires exports { length sources.whole.exports.text.now ≤ 4294967294 }
+    ensures { IsRefusedAs (refused.Split fault) result }
+{
+    let told = tell_split_fault(
+        alloc,
+        sources.whole.exports,
+        sources.filesystems,
+        SplitFault::Exports(fault),
+    )?;
+    Ok(Output::Refused(Refused::Split(fault), told))
+}
+
+/// Splits the exports text into that of each file system; into none, if the file systems have a fault.
+fn split_exports(
+    alloc: Global,
+    texts: &SiteFiles,
+) -> Result<BTreeMap<String, Text>, ReadError<LineFault<Rule>>>
+    requires { AreShortFiles texts.now }
+    ensures { SplitsExports (read_filesystems (string_bytes texts.now.filesystems)) (string_bytes texts.now.exports) result }
+{
+    match ReadError::split(FileSystems::read(alloc, texts.filesystems.as_str()))? {
+        Ok(table) => split_for(alloc, texts.exports.as_str(), &table),
+        Err(_) => Ok(BTreeMap::new(alloc)),
+    }
+}
+
+/// Splits the exports text among these file systems.
+fn split_for(
+    alloc: Global,
+    text: &str,
+    table: &FileSystems,
+) -> Result<BTreeMap<String, Text>, ReadError<LineFault<Rule>>>
+    requires { length text.now ≤ 16777216 }
+    ensures { SplitsExports (Ok table.now) text.now result }
+{
+    let parts = split(alloc, text, table)?;
+    let exports = by_mount(alloc, table.as_slice(), parts.as_slice())?;
+    Ok(exports)
+}
+
+/// Puts the text of each file system under its printed mount point, from the last one to the first.
+fn by_mount(
+    alloc: Global,
+    mounts: &[Mount],
+    parts: &[String],
+) -> Result<BTreeMap<String, Text>, AllocError>
+    requires { length parts.now ≡ length mounts.now }
+    ensures { IfOk result (AreParts mounts.now (map string_bytes parts.now)) }
+{
+    let mut exports = BTreeMap::new(alloc);
+    let mut left = mounts.len();
+    while left > 0 {
+        left -= 1;
+        let mount = mounts[left].path.text();
+        put_part(alloc, &mut exports, mount, parts[left].as_str())?;
+    }
+    Ok(exports)
+}
+
+/// Puts a text under a mount point.
+fn put_part(
+    alloc: Global,
+    exports: &mut BTreeMap<String, Text>,
+    mount: &str,
+    text: &str,
+) -> Result<(), AllocError>
+    ensures { OnOk result ((name : List ℕ) → unwrap_or (get_by_text exports.new name) []
+        ≡ (if bytes_eq mount.now name then text.now else unwrap_or (get_by_text exports.old name) [])) }
+{
+    let mount = String::from_str(alloc, mount)?;
+    let text = Text::copy(alloc, text)?;
+    exports.insert(mount, text)?;
+    Ok(())
+}
+
+/// Makes a database of the seven files and these exports texts.
+fn init_site(
+    rt: &HostRuntime,
+    db: &str,
+    paths: &SiteFiles,
+    texts: &SiteFiles,
+    exports: BTreeMap<String, Text>,
+) -> Result<Output, Failure>
+    ensures { AnswersInitWith (site_list texts.now) exports result }
+{
+    let site = site_of(rt.alloc(), texts, exports)?;
+    // What is printed takes memory, so it is made before.
+    let ready = ready_text(rt.alloc(), &site)?;
+    match make(rt, db, &site) {
+        Ok(()) => Ok(Output::Done(ready)),
+        Err(refused) => refuse(rt.alloc(), db, sources_of(paths, texts), &site, refused),
+    }
+}
+
+/// Makes the site of the seven files and these exports texts.
+fn site_of(
+    alloc: Global,
+    texts: &SiteFiles,
+    exports: BTreeMap<String, Text>,
+) -> Result<Site, AllocError>
+    ensures { IfOk result (λ site. IsSiteWith (site_list texts.now) exports (texts_of site)) }
+{
+    Ok(Site {
+        custodians: Text::copy(alloc, texts.custodians.as_str())?,
+        filesystems: Text::copy(alloc, texts.filesystems.as_str())?,
+        hosts: Text::copy(alloc, texts.hosts.as_str())?,
+        networks: Text::copy(alloc, texts.networks.as_str())?,
+        passwd: Text::copy(alloc, texts.passwd.as_str())?,
+        group: Text::copy(alloc, texts.group.as_str())?,
+        netgroup: Text::copy(alloc, texts.netgroup.as_str())?,
+        exports,
+    })
+}
+
+/// Writes the warnings of a site, each in a line, and `ready`. A site with a fault has none: it is refused later. Texts that are
+/// too long to be read, which no file can have, count as out of memory.
+fn ready_text(alloc: Global, site: &Site) -> Result<String, AllocError>
+    ensures { IfOk result (λ text. string_bytes text ≡ ready_text (read_site (texts_of site.now))) }
+{
+    if !site.is_readable() {
+        return Err(AllocError);
+    }
+    match parse(alloc, site) {
+        Ok(policy) => warned_text(alloc, policy.warnings()),
+        Err(ReadError::Fault(_)) => String::from_str(alloc, "ready\n"),
+        Err(ReadError::Memory) => Err(AllocError),
+    }
+}
+
+/// Writes a line for each warning, and `ready`.
+fn warned_text(alloc: Global, warnings: &[Warning]) -> Result<String, AllocError>
+    ensures { IfOk result (λ text. string_bytes text ≡ flat_map warning_line warnings.now ++ codes "ready\n") }
+{
+    let mut text = String::new(alloc);
+    push_warnings(warnings, &mut text)?;
+    text.push_str("ready\n")?;
+    Ok(text)
+}
+
+/// Writes a line for each warning.
+fn push_warnings(warnings: &[Warning], text: &mut String) -> Result<(), AllocError>
+    ensures { OnOk result (string_bytes text.new ≡ string_bytes text.old ++ flat_map warning_line warnings.now) }
+{
+    for warning in warnings {
+        push_warning(warning, text)?;
+    }
+    Ok(())
+}
+
+/// Writes the line of a warning.
+fn push_warning(warning: &Warning, text: &mut String) -> Result<(), AllocError>
+    ensures { OnOk result (string_bytes text.new ≡ string_bytes text.old ++ warning_line warning.now) }
+{
+    let file = warning.file.as_str();
+    let line = warning.line;
+    let name = warning.kind.name();
+    let word = warning.word.as_str();
+    write!(text, "warning {file} line {line} {name} {word}\n")
+}
+
+/// The files that are made for a new database.
+#[derive(Drop)]
+struct New<'a> {
+    db: &'a str,
+    /// Whether the database file was made.
+    made: bool,
+    /// The path of the log, if it was not there before.
+    log: Option<String>,
+    /// Whether nothing stood in the database once it was locked: else another process has stored a site since.
+    is_ours: bool,
+}
+
+/// Why a site is not stored.
+#[derive(Drop)]
+pub enum NotMade {
+    /// The file cannot be made, or not be written.
+    File(io::Error),
+    /// SQLite does not open it.
+    Unopened(Error),
+    Create(CreateError),
+    Memory,
+}
+
+/// Stores a site in a new database. What was made for one that is refused is removed.
+fn make(rt: &HostRuntime, db: &str, site: &Site) -> Result<(), NotMade>
+    ensures { ComesTo (texts_of site.now) result }
+{
+    let made = match make_file(rt, db) {
+        Ok(made) => made,
+        Err(error) => return Err(NotMade::File(error)),
+    };
+    let Ok(log) = log_to_make(rt, db) else {
+        return Err(NotMade::Memory);
+    };
+    match Connection::open_from(rt, db, false, Wary) {
+        Ok(conn) => {
+            let is_ours = has_no_tables(&conn);
+            store(
+                rt,
+                conn,
+                site,
+                New {
+                    db,
+                    made,
+                    log,
+                    is_ours,
+                },
+            )
+        }
+        Err((error, left)) => {
+            // Without the lock, the files may be those of another process.
+            if left.is_some() {
+                remove_unopened(
+                    rt,
+                    &New {
+                        db,
+                        made,
+                        log,
+                        is_ours: true,
+                    },
+                );
+            }
+            drop(left);
+            Err(NotMade::Unopened(error))
+        }
+    }
+}
+
+/// Makes the file of a database, for its owner alone, if there is none. Tells whether it was made.
+fn make_file(rt: &HostRuntime, db: &str) -> io::Result<bool> {
+    match OpenOptions::new()
+        .read(true)
+        .write(true)
+        .create_new(true)
+        .mode(0o600)
+        .open(rt, db)
+    {
+        Ok(_) => Ok(true),
+        Err(error) if error.kind() == io::ErrorKind::AlreadyExists => {
+            OpenOptions::new().read(true).write(true).open(rt, db)?;
+            Ok(false)
+        }
+        Err(error) => Err(error),
+    }
+}
+
+/// Stores a site in the database of a connection.
+fn store(
+    rt: &HostRuntime,
+    conn: Connection<FileStore<FileFrom<Wary>>>,
+    site: &Site,
+    new: New<'_>,
+) -> Result<(), NotMade>
+    requires { (file_state conn).in_transaction ≡ false }
+    ensures { ComesTo (texts_of site.now) result }
+{
+    let created: Result<Desk<FileStore<FileFrom<Wary>>, Plain>, _> = Desk::create(
+        rt.alloc(),
+        conn,
+        site,
+    );
+    match created {
+        Ok(desk) => {
+            drop(desk);
+            Ok(())
+        }
+        Err((error, conn)) => {
+            // Before the lock goes with the connection: behind that, another process may write the files.
+            remove(rt, &new);
+            drop(conn);
+            Err(NotMade::Create(error))
+        }
+    }
+}
+
+/// Tests whether a database has no tables.
+fn has_no_tables<S: Alter>(conn: &Connection<S>) -> bool {
+    conn.schema().tables.as_slice().is_empty()
+}
+
+/// Removes the files of a database that SQLite does not open. If its log has a page, another process may have stored a site.
+fn remove_unopened(rt: &HostRuntime, new: &New<'_>) {
+    if let Some(log) = &new.log
+        && has_no_page(rt, log.as_str())
+    {
+        remove(rt, new);
+    }
+}
+
+/// Removes the files that were made for nothing.
+fn remove(rt: &HostRuntime, new: &New<'_>) {
+    if !new.is_ours {
+        return;
+    }
+    if new.made {
+        let _ = fs::remove_file(rt, new.db);
+    }
+    if let Some(log) = &new.log {
+        let _ = fs::remove_file(rt, log.as_str());
+    }
+}
+
+/// Answers by why a site is not stored.
+fn refuse(
+    alloc: Global,
+    db: &str,
+    sources: SiteSources<'_>,
+    site: &Site,
+    refused: NotMade,
+) -> Result<Output, Failure>
+    requires { ComesTo (texts_of site.now) (Err refused) }
+    ensures { AnswersInitSite (texts_of site.now) result }
+{
+    match refused {
+        NotMade::File(error) => not_writable(alloc, db, &error),
+        NotMade::Unopened(error) => not_opened(alloc, db, error),
+        NotMade::Memory => Err(Failure::Memory),
+        NotMade::Create(CreateError::Store(fault)) => refused_by_store(alloc, db, fault),
+        NotMade::Create(CreateError::Schema) => refused_by_table(alloc, db),
+        NotMade::Create(CreateError::Memory) => Err(Failure::Memory),
+        NotMade::Create(CreateError::Fault(fault)) => faulty(alloc, sources, site, fault),
+        NotMade::Create(CreateError::TooLarge(file)) => too_large(alloc, file),
+    }
+}
+
+/// Lends the sources with the exports file of this name, if there is one, in the place of the whole exports text.
+fn with_exports<'a>(sources: SiteSources<'a>, site: &'a Site, name: &'a str) -> SiteSources<'a> {
+    let text = match name.strip_prefix("exports:") {
+        Some(mount) => match site.exports.get(mount) {
+            Some(text) => text.as_str(),
+            None => "",
+        },
+        None => "",
+    };
+    SiteSources {
+        custodians: sources.custodians,
+        filesystems: sources.filesystems,
+        whole: WholeSources {
+            tables: sources.whole.tables,
+            exports: Source { path: name, text },
+        },
+    }
+}
+
+/// Answers by the fault of a site.
+fn faulty(
+    alloc: Global,
+    sources: SiteSources<'_>,
+    site: &Site,
+    fault: SiteFault,
+) -> Result<Output, Failure>
+    ensures { IsRefusedAs (refused.Edit (SiteRefusal fault)) result }
+{
+    let name = fault.file.as_str();
+    let told = tell_site_fault(alloc, with_exports(sources, site, name), &fault)?;
+    Ok(Output::Refused(Refused::Edit(Refusal::Fault(fault)), told))
+}

@@ -1,0 +1,233 @@
+//! Why a command on a database is refused: the fixed line, and the sentence that standard error tells beside it.
+
+ghost use Rattle.std.specs.Prelude.{◌≡◌, ◌++◌, ◌∷◌, [], IfOk, codes};
+ghost use Rattle.std.specs.Fmt.{decimal};
+ghost use Rattle.std.specs.String.{string_bytes};
+ghost use Rattle.desk_command.specs.Refused.{IsRefusedAs, TellsError, refused_line, refused_status};
+ghost use Rattle.desk_command.specs.declared.refused.Refused.TheVariants as refused;
+
+use crate::failure::Failure;
+use crate::output::Output;
+use desk_core::{Edit, Refusal};
+use desk_exports::Rule;
+use desk_store::{DeskError, StoreFault, Task};
+use desk_text::{LineFault, Text};
+use sqlite::{Error, ErrorCode};
+use std::alloc::{AllocError, Global};
+use std::io;
+
+/// Why a command on a database is refused.
+#[derive(Drop)]
+pub enum Refused {
+    /// By the rules of edits, or by the fault of a site.
+    Edit(Refusal),
+    /// The text of this file is too long for a new database.
+    TooLarge(Text),
+    /// The exports text for a new database has this fault, and cannot be split.
+    Split(LineFault<Rule>),
+    /// There is no such file or revision.
+    NoRevision,
+    /// The database cannot be opened, or a statement was refused.
+    Store,
+    /// The database is not one of this project; or a new one would have to take the place of its tables.
+    Schema,
+}
+
+impl Refused {
+    /// Returns the exit status.
+    pub fn status(&self) -> u8
+        ensures { result ≡ refused_status self.now }
+    {
+        match self {
+            Refused::Edit(Refusal::Fault(_)) | Refused::Split(_) => 3,
+            Refused::Edit(_) | Refused::TooLarge(_) | Refused::NoRevision => 1,
+            Refused::Store | Refused::Schema => 4,
+        }
+    }
+
+    /// Writes the fixed line, with its line end.
+    pub fn line(&self, alloc: Global) -> Result<String, AllocError>
+        ensures { IfOk result (λ text. string_bytes text ≡ refused_line self.now) }
+    {
+        match self {
+            Refused::Edit(refusal) => format!(in alloc; "{refusal}\n"),
+            Refused::TooLarge(file) => too_large_line(alloc, file.as_str()),
+            Refused::Split(fault) => {
+                split_line(alloc, fault.line, fault.rule.number(), fault.rule.name())
+            }
+            Refused::NoRevision => String::from_str(alloc, "refused 111 NoRevision\n"),
+            Refused::Store => String::from_str(alloc, "refused 201 Store\n"),
+            Refused::Schema => String::from_str(alloc, "refused 202 Schema\n"),
+        }
+    }
+}
+
+/// Writes the line on a text that is too long. (Split off for its proof.)
+fn too_large_line(alloc: Global, file: &str) -> Result<String, AllocError>
+    ensures { IfOk result (λ text. string_bytes text ≡ codes "refused 5 TooLarge " ++ file.now ++ 10 ∷ []) }
+{
+    format!(in alloc; "refused 5 TooLarge {file}\n")
+}
+
+/// Writes the line on a fault of the exports text. (Split off for its proof.)
+fn split_line(alloc: Global, line: u32, number: u32, name: &str) -> Result<String, AllocError>
+    ensures { IfOk result (λ text. string_bytes text
+        ≡ codes "fault exports line " ++ decimal line ++ codes " rule " ++ decimal number ++ 32 ∷ name.now ++ 10 ∷ []) }
+{
+    format!(in alloc; "fault exports line {line} rule {number} {name}\n")
+}
+
+/// Answers that a file, or its revision of this number, is not there.
+pub fn no_revision(alloc: Global, name: &str, rev: Option<u32>) -> Result<Output, Failure>
+    ensures { IsRefusedAs refused.NoRevision result }
+{
+    let told = match rev {
+        Some(rev) => format!(in alloc; "exportdesk: NAME {name:?}: it has no revision {rev}\n")?,
+        None => format!(in alloc; "exportdesk: NAME {name:?}: it has no revision\n")?,
+    };
+    Ok(Output::Refused(Refused::NoRevision, told))
+}
+
+/// Answers that SQLite does not open a database.
+pub fn not_opened(alloc: Global, db: &str, error: Error) -> Result<Output, Failure>
+    ensures { IsRefusedAs refused.Store result }
+{
+    if matches!(error, Error::SqliteFailure(ErrorCode::OutOfMemory)) {
+        return Err(Failure::Memory);
+    }
+    let told = format!(in alloc; "exportdesk: DB {db:?}: it cannot be opened: {error}\n")?;
+    Ok(Output::Refused(Refused::Store, told))
+}
+
+/// Answers that the system does not open a database for writing.
+pub fn not_writable(alloc: Global, db: &str, error: &io::Error) -> Result<Output, Failure>
+    ensures { IsRefusedAs refused.Store result }
+{
+    let told = format!(in alloc; "exportdesk: DB {db:?}: it cannot be written: {error}\n")?;
+    Ok(Output::Refused(Refused::Store, told))
+}
+
+/// Answers that a statement was refused.
+pub fn refused_by_store(alloc: Global, db: &str, fault: StoreFault) -> Result<Output, Failure>
+    ensures { IsRefusedAs refused.Store result }
+{
+    let task = task_text(fault.task);
+    let error = fault.error;
+    let advice = advice_text(fault.task);
+    let told = format!(in alloc; "exportdesk: DB {db:?}: {task}: {error}{advice}\n")?;
+    Ok(Output::Refused(Refused::Store, told))
+}
+
+/// Answers that a database is not one of this project.
+pub fn refused_by_schema(alloc: Global, db: &str) -> Result<Output, Failure>
+    ensures { IsRefusedAs refused.Schema result }
+{
+    let told = format!(in alloc;
+        "exportdesk: DB {db:?}: it is not a database of exportdesk, or one that was changed by hand\n"
+    )?;
+    Ok(Output::Refused(Refused::Schema, told))
+}
+
+/// Answers that a new database has a table already.
+pub fn refused_by_table(alloc: Global, db: &str) -> Result<Output, Failure>
+    ensures { IsRefusedAs refused.Schema result }
+{
+    let told = format!(in alloc;
+        "exportdesk: DB {db:?}: it has a table meta or file_rev already (put changes a desk)\n"
+    )?;
+    Ok(Output::Refused(Refused::Schema, told))
+}
+
+/// Answers by why a desk has no answer.
+pub fn refused_by_desk(alloc: Global, db: &str, error: DeskError) -> Result<Output, Failure>
+    ensures { TellsError error result }
+{
+    match error {
+        DeskError::Store(fault) => refused_by_store(alloc, db, fault),
+        DeskError::Schema => refused_by_schema(alloc, db),
+        DeskError::Memory => Err(Failure::Memory),
+        DeskError::Refused(refusal) => {
+            Ok(Output::Refused(Refused::Edit(refusal), String::new(alloc)))
+        }
+    }
+}
+
+/// Answers that the text of a file is too long for a new database.
+pub fn too_large(alloc: Global, file: Text) -> Result<Output, Failure>
+    ensures { IsRefusedAs (refused.TooLarge file) result }
+{
+    let told = too_large_told(alloc, file.as_str())?;
+    Ok(Output::Refused(Refused::TooLarge(file), told))
+}
+
+fn too_large_told(alloc: Global, file: &str) -> Result<String, AllocError> {
+    format!(in alloc; "exportdesk: {file}: it is over 65536 bytes\n")
+}
+
+/// Says what a statement was for.
+fn task_text(task: Task) -> &'static str {
+    match task {
+        Task::AddRevision => "adding the revision",
+        Task::ReadRevisions => "reading the revisions",
+        Task::FindTables => "looking for the tables",
+        Task::ReadVersion => "reading the version",
+        Task::MakeTables => "making the tables",
+    }
+}
+
+/// Says what to do about a statement that was refused.
+fn advice_text(task: Task) -> &'static str {
+    match task {
+        Task::AddRevision => {
+            "; the revision may be stored all the same, as log tells, and the same put can be made again"
+        }
+        _ => "",
+    }
+}
+
+/// Says why an edit, whose text is that of this file, is refused; of the fault of a site nothing.
+pub fn refusal_told(
+    alloc: Global,
+    edit: &Edit<'_>,
+    refusal: &Refusal,
+) -> Result<String, AllocError> {
+    let name = edit.file;
+    let caller = edit.caller;
+    match refusal {
+        Refusal::UnknownCaller => {
+            format!(in alloc;
+                "exportdesk: --caller {caller:?}: the custodians file does not list it\n"
+            )
+        }
+        Refusal::BadKey => format!(in alloc; "exportdesk: the key is not that of {caller:?}\n"),
+        Refusal::UnknownFile => {
+            format!(in alloc;
+                "exportdesk: NAME {name:?}: it is not one of the seven files, nor exports: and a listed mount point\n"
+            )
+        }
+        Refusal::NotCustodian => {
+            format!(in alloc; "exportdesk: NAME {name:?}: {caller:?} does not keep it\n")
+        }
+        Refusal::TooLarge => format!(in alloc; "exportdesk: FILE: it is over 65536 bytes\n"),
+        Refusal::Stale(newest) => stale_told(alloc, edit, *newest),
+        Refusal::Full => {
+            format!(in alloc;
+                "exportdesk: NAME {name:?}: it has the last revision that there can be\n"
+            )
+        }
+        Refusal::Fault(_) => Ok(String::new(alloc)),
+    }
+}
+
+/// Says what the newest revision is, if an edit follows another one.
+fn stale_told(alloc: Global, edit: &Edit<'_>, newest: u32) -> Result<String, AllocError> {
+    let name = edit.file;
+    let base = edit.base;
+    if newest == 0 {
+        format!(in alloc; "exportdesk: --base {base}: {name:?} has no revision yet\n")
+    } else {
+        format!(in alloc;
+            "exportdesk: --base {base}: the newest revision of {name:?} is {newest}\n"
+        )
+    }
+}
