@@ -5,24 +5,35 @@ _exportdesk()
     local command=${COMP_WORDS[1]} count=0 is_value=no place
     COMPREPLY=()
     if [ "$COMP_CWORD" -eq 1 ]; then
-        mapfile -t COMPREPLY < <(compgen -W 'try split check --help --version' -- "$word")
+        choices='try split check init ask show exports put log cat --help --version'
+        mapfile -t COMPREPLY < <(compgen -W "$choices" -- "$word")
         return
     fi
     # The arguments before this word, without options and their values.
     for ((place = 2; place < COMP_CWORD; place++)); do
-        # (readline takes `=` for a word of its own)
+        # (readline takes `=` and `:` for words of their own, so that `exports:/usr` is three)
         case $is_value:${COMP_WORDS[place]} in
         no:--hosts | no:--networks | no:--passwd | no:--group | no:--netgroup | no:--site | no:--as) is_value=yes ;;
+        no:--base | no:--caller | no:--key | no:--key-file | no:--rev) is_value=yes ;;
         yes:=) ;;
         yes:*) is_value=no ;;
+        no::) count=$((count - 1)) ;;
         no:-?*) ;;
         *) count=$((count + 1)) ;;
         esac
     done
-    if [ "$command" = try ]; then
-        choices='--hosts --networks --passwd --group --netgroup --as --help'
-    elif [ "$command" = check ]; then
-        choices='--hosts --networks --passwd --group --netgroup --site --brief --strict --json --help'
+    case $command in
+    try) choices='--hosts --networks --passwd --group --netgroup --as --help' ;;
+    check) choices='--hosts --networks --passwd --group --netgroup --site --brief --strict --json --help' ;;
+    ask) choices='--as --help' ;;
+    put) choices='--base --caller --key-file --key --help' ;;
+    cat) choices='--rev --help' ;;
+    esac
+    # Behind `exports:` stands a mount point.
+    if [ "$word" = : ] || [ "$before" = : ]; then
+        compopt -o filenames
+        mapfile -t COMPREPLY < <(compgen -d -- "${word#:}")
+        return
     fi
     if [ "$word" = = ]; then
         word=''
@@ -31,7 +42,8 @@ _exportdesk()
     fi
     case $command:$before:$word in
     try:--hosts:* | try:--networks:* | try:--passwd:* | try:--group:* | try:--netgroup:* | \
-        check:--hosts:* | check:--networks:* | check:--passwd:* | check:--group:* | check:--netgroup:*)
+        check:--hosts:* | check:--networks:* | check:--passwd:* | check:--group:* | check:--netgroup:* | \
+        put:--key-file:*)
         compopt -o filenames
         mapfile -t COMPREPLY < <(compgen -f -- "$word")
         ;;
@@ -39,14 +51,23 @@ _exportdesk()
         compopt -o filenames
         mapfile -t COMPREPLY < <(compgen -d -- "$word")
         ;;
-    try:--as:*) ;;
+    try:--as:* | ask:--as:* | put:--base:* | put:--caller:* | put:--key:* | cat:--rev:*) ;;
     *:-?*) mapfile -t COMPREPLY < <(compgen -W "$choices" -- "$word") ;;
     *)
+        case $command:$count in
+        put:1 | log:1 | cat:1)
+            choices='custodians filesystems hosts networks passwd group netgroup exports:'
+            mapfile -t COMPREPLY < <(compgen -W "$choices" -- "$word")
+            [ "${COMPREPLY[*]}" != exports: ] || compopt -o nospace
+            return
+            ;;
+        esac
         compopt -o filenames
         case $command:$count in
-        try:0 | check:0 | split:[01]) mapfile -t COMPREPLY < <(compgen -f -- "$word") ;;
-        try:1) ;;
-        try:* | check:*) mapfile -t COMPREPLY < <(compgen -d -- "$word") ;;
+        try:0 | check:0 | split:[01] | put:[02]) mapfile -t COMPREPLY < <(compgen -f -- "$word") ;;
+        init:0 | ask:0 | show:0 | exports:0 | log:0 | cat:0) mapfile -t COMPREPLY < <(compgen -f -- "$word") ;;
+        try:1 | ask:1) ;;
+        try:* | check:* | init:1 | ask:2) mapfile -t COMPREPLY < <(compgen -d -- "$word") ;;
         esac
         ;;
     esac
