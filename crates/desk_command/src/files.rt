@@ -7,7 +7,7 @@ ghost use Rattle.std.specs.Option.{option_map};
 ghost use Rattle.desk_command.specs.Files.{IsUnread, Leaves, ReadsIfGiven, ReadsText};
 
 use crate::failure::{Failure, ReadFailure};
-use crate::input::{read_bytes, text_of};
+use crate::input::{LONGEST_TEXT, read_bytes, text_of};
 use std::alloc::Global;
 use std::io::BufRead;
 use std::{fs, io};
@@ -125,7 +125,18 @@ fn open_and_read<I: BufRead>(rt: &HostRuntime, word: &str, input: &mut I) -> io:
     ensures untouched { word.now ≢ codes "-" → input.new ≡ input.old }
 {
     if word == "-" {
-        return read_bytes(rt.alloc(), input);
+        return read_bytes(rt.alloc(), input, 0);
     }
-    read_bytes(rt.alloc(), fs::open(rt, word)?)
+    let file = fs::open(rt, word)?;
+    let room = room_for(&file);
+    read_bytes(rt.alloc(), file, room)
+}
+
+/// Returns how many bytes to make room for before a file is read: its length, up to the most of a text, and one byte more, in
+/// which its end is found.
+fn room_for(file: &fs::File) -> usize {
+    match file.metadata() {
+        Ok(found) => found.len().min(LONGEST_TEXT as u64) as usize + 1,
+        Err(_) => 0,
+    }
 }

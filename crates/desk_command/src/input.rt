@@ -13,7 +13,7 @@ use std::io;
 use std::io::{BufRead, Read};
 
 /// The most bytes of a file, and of the first line of standard input without its line end.
-const LONGEST_TEXT: usize = 16_777_216;
+pub const LONGEST_TEXT: usize = 16_777_216;
 
 /// Why bytes are not taken as a text.
 #[derive(Clone, Copy)]
@@ -24,11 +24,12 @@ pub enum TextFault {
     NotUtf8 { line: usize, column: usize },
 }
 
-/// Reads what a reader gives to its end, and stops behind the most bytes of a text.
-pub fn read_bytes<R: Read + Drop>(alloc: Global, reader: R) -> io::Result<Vec<u8>>
+/// Reads what a reader gives to its end, and stops behind the most bytes of a text. Room for this many bytes is made at once;
+/// there may be more of them, or fewer.
+pub fn read_bytes<R: Read + Drop>(alloc: Global, reader: R, room: usize) -> io::Result<Vec<u8>>
     ensures { IfSome (R.remaining reader) (λ given. IfOk result (λ bytes. bytes.items ≡ take 16777217 given)) }
 {
-    let mut bytes = Vec::new(alloc);
+    let mut bytes = Vec::with_capacity(alloc, room)?;
     let mut reader = reader.take(LONGEST_TEXT as u64 + 1);
     reader.read_to_end(&mut bytes)?;
     Ok(bytes)
