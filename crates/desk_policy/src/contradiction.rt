@@ -1,13 +1,15 @@
 //! Whether the lines of a policy contradict each other: two lines of a file system match one address with equal weight, and
 //! have different terms.
 
-ghost use Rattle.std.specs.Prelude.{◌≡◌, ◌++◌, IfOk, OnOk, slice_get};
-ghost use Rattle.desk_policy.specs.Contradiction.{AreContradictions, IsFoundIn};
+ghost use Rattle.std.specs.Prelude.{◌≡◌, ◌++◌, All, IfOk, IsTrue, OnOk, slice_get};
+ghost use Rattle.desk_policy.specs.Contradiction.{AreConsistent, AreContradictions, IsFoundIn};
 ghost use Rattle.desk_policy.specs.Policy.{AreAscending};
 ghost use Rattle.desk_policy.specs.PrivateFirstLines.{contradiction_of};
 
 use crate::first_lines::{Clash, FirstLines};
 use crate::row::Row;
+use crate::terms::same_terms;
+use desk_exports::Terms;
 use desk_text::{Addr, Sequence};
 use std::alloc::{AllocError, Global};
 
@@ -19,12 +21,15 @@ pub struct Contradiction {
     pub address: Addr,
 }
 
-/// Finds the least contradiction of the lines of a file system, by later line, earlier line and address. Each line is
-/// compared only with the first of the earlier ones under each of its keys.
+/// Finds the least contradiction of the lines of a file system, by later line, earlier line and address. Unless all lines
+/// have the same terms, each is compared with the first of the earlier ones under each of its keys.
 pub fn contradiction_in(alloc: Global, rows: &[Row]) -> Result<Option<Contradiction>, AllocError>
     requires { AreAscending rows.now }
     ensures { IfOk result (IsFoundIn rows.now) }
 {
+    if have_same_terms(rows) {
+        return Ok(None);
+    }
     let mut firsts = FirstLines::new(alloc);
     for i in 0..rows.len() {
         let row = &rows[i];
@@ -38,6 +43,23 @@ pub fn contradiction_in(alloc: Global, rows: &[Row]) -> Result<Option<Contradict
         firsts.add_line(i, row)?;
     }
     Ok(None)
+}
+
+/// Tests whether all lines have the same terms, so that no two of them contradict each other.
+fn have_same_terms(rows: &[Row]) -> bool
+    ensures { IsTrue result → AreConsistent rows.now }
+{
+    match rows.first() {
+        None => true,
+        Some(first) => all_have_terms(rows, &first.entry.terms),
+    }
+}
+
+/// Tests whether each line has these terms.
+fn all_have_terms(rows: &[Row], terms: &Terms) -> bool
+    ensures { IsTrue result → All (λ row. row.entry.terms ≡ terms.now) rows.now }
+{
+    rows.iter().all(|row| same_terms(&row.entry.terms, terms))
 }
 
 /// Lists the lines of a file system that contradict an earlier one: each that has other terms than the first line under one
