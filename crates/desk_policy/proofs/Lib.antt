@@ -1,5 +1,6 @@
 mod VerdictExamples
 pub mod RowAddresses
+pub mod DottedNames
 pub mod EntriesByFileSystem
 pub mod GreatestWeight
 pub mod VerdictLines

@@ -3,6 +3,8 @@
 ghost use Rattle.std.specs.Prelude.{◌≡◌, ◌∷◌, [], IfOk, OnOk, map, string_bytes};
 ghost use Rattle.std.specs.List.{list_any};
 ghost use Rattle.desk_text.specs.Address.{number_of, read_addr};
+ghost use Rattle.desk_text.specs.AddrSet.{is_among};
+ghost use Rattle.desk_tables.specs.Hosts.{addresses_of_host};
 ghost use Rattle.desk_policy.specs.Names.{addresses_of_names, host_stands_for, is_address_like, is_read_as, stands_for};
 ghost use Rattle.desk_policy.specs.PrivateNames.{Gains};
 
@@ -58,12 +60,15 @@ fn push_name(
 ) -> Result<(), AllocError>
     ensures { OnOk result (Gains addresses.old.items addresses.new.items (stands_for netgroups.now hosts.now name.now)) }
 {
-    if is_address_like(name) {
-        return push_host(alloc, hosts, name, addresses);
+    if is_dotted(name) {
+        return push_written(name, addresses);
+    }
+    if is_ipv6(name) {
+        return Ok(());
     }
     match netgroups.hosts_of(alloc, name)? {
         Some(members) => push_hosts(alloc, hosts, members.as_slice(), addresses),
-        None => push_host(alloc, hosts, name, addresses),
+        None => push_listed(alloc, hosts, name, addresses),
     }
 }
 
@@ -99,12 +104,25 @@ fn push_host(
 ) -> Result<(), AllocError>
     ensures { OnOk result (Gains addresses.old.items addresses.new.items (host_stands_for hosts.now name.now)) }
 {
-    if is_ipv6(name) {
-        return Ok(());
-    }
     if is_dotted(name) {
         return push_written(name, addresses);
     }
+    if is_ipv6(name) {
+        return Ok(());
+    }
+    push_listed(alloc, hosts, name, addresses)
+}
+
+/// Adds the addresses that the hosts file gives a name.
+fn push_listed(
+    alloc: Global,
+    hosts: &Hosts,
+    name: &str,
+    addresses: &mut Vec<Addr>,
+) -> Result<(), AllocError>
+    ensures { OnOk result (Gains addresses.old.items addresses.new.items
+        (λ address. is_among address (addresses_of_host hosts.now name.now))) }
+{
     let listed = hosts.addresses(alloc, name)?;
     addresses.extend_from_slice(listed.as_slice())
 }
