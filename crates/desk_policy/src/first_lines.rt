@@ -104,9 +104,7 @@ fn add_first<K: Ord + Drop>(
     ensures { OnOk result ((other : K) → get K.cmp index.new other
         ≡ option_or (get K.cmp index.old other) (if is_eq (K.cmp key other) then Some place else None)) }
 {
-    if !index.contains_key(&key) {
-        index.insert(key, place)?;
-    }
+    index.entry(key)?.or_insert(place);
     Ok(())
 }
 
