@@ -10,9 +10,16 @@ use desk_tables::Cred;
 pub fn same_terms(terms: &Terms, other: &Terms) -> bool
     ensures { Decides result (terms.now ≡ other.now) }
 {
-    terms.ro == other.ro
-        && same_flavours(terms.flavours.as_slice(), other.flavours.as_slice())
-        && same_mapping(&terms.map.get(), &other.map.get())
+    have_parts(terms, other.ro, other.flavours.as_slice(), &other.map.get())
+}
+
+/// Tests whether terms have these parts. (A mapping is copied out of its box, so a caller that asks often does so once.)
+pub fn have_parts(terms: &Terms, ro: bool, flavours: &[Flavour], map: &Mapping) -> bool
+    ensures { Decides result (terms.now ≡ record { ro = ro; flavours = flavours.now; map = map.now }) }
+{
+    terms.ro == ro
+        && same_flavours(terms.flavours.as_slice(), flavours)
+        && same_mapping(&terms.map.get(), map)
 }
 
 fn same_flavours(flavours: &[Flavour], others: &[Flavour]) -> bool
