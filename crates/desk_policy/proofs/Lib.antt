@@ -1,6 +1,6 @@
 mod VerdictExamples
 pub mod RowAddresses
-pub mod DottedNames
+pub mod WrittenAddresses
 pub mod EntriesByFileSystem
 pub mod GreatestWeight
 pub mod VerdictLines

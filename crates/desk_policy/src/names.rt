@@ -2,10 +2,12 @@
 
 ghost use Rattle.std.specs.Prelude.{◌≡◌, ◌∷◌, [], IfOk, OnOk, map, string_bytes};
 ghost use Rattle.std.specs.List.{list_any};
+ghost use Rattle.std.specs.Option.{option_map};
+ghost use Rattle.std.specs.Result.{result_ok};
 ghost use Rattle.desk_text.specs.Address.{number_of, read_addr};
 ghost use Rattle.desk_text.specs.AddrSet.{is_among};
 ghost use Rattle.desk_tables.specs.Hosts.{addresses_of_host};
-ghost use Rattle.desk_policy.specs.Names.{addresses_of_names, host_stands_for, is_address_like, is_read_as, stands_for};
+ghost use Rattle.desk_policy.specs.Names.{addresses_of_names, host_stands_for, is_address_like, stands_for};
 ghost use Rattle.desk_policy.specs.PrivateNames.{Gains};
 
 use desk_netgroup::Netgroups;
@@ -60,10 +62,11 @@ fn push_name(
 ) -> Result<(), AllocError>
     ensures { OnOk result (Gains addresses.old.items addresses.new.items (stands_for netgroups.now hosts.now name.now)) }
 {
-    if is_dotted(name) {
-        return push_written(name, addresses);
+    if let Some(address) = written_address(name) {
+        addresses.push(address)?;
+        return Ok(());
     }
-    if is_ipv6(name) {
+    if is_address_like(name) {
         return Ok(());
     }
     match netgroups.hosts_of(alloc, name)? {
@@ -104,10 +107,11 @@ fn push_host(
 ) -> Result<(), AllocError>
     ensures { OnOk result (Gains addresses.old.items addresses.new.items (host_stands_for hosts.now name.now)) }
 {
-    if is_dotted(name) {
-        return push_written(name, addresses);
+    if let Some(address) = written_address(name) {
+        addresses.push(address)?;
+        return Ok(());
     }
-    if is_ipv6(name) {
+    if is_address_like(name) {
         return Ok(());
     }
     push_listed(alloc, hosts, name, addresses)
@@ -127,12 +131,12 @@ fn push_listed(
     addresses.extend_from_slice(listed.as_slice())
 }
 
-/// Adds the address that a text writes, if it writes one.
-fn push_written(text: &str, addresses: &mut Vec<Addr>) -> Result<(), AllocError>
-    ensures { OnOk result (Gains addresses.old.items addresses.new.items (is_read_as (read_addr text.now))) }
+/// Reads the address that a text writes, if it writes one. A name that begins with a letter is not read to its end.
+fn written_address(text: &str) -> Option<Addr>
+    ensures { option_map number_of result ≡ result_ok (read_addr text.now) }
 {
-    if let Ok(address) = Addr::read(text) {
-        addresses.push(address)?;
+    match text.as_bytes().first() {
+        Some(first) if first.is_ascii_digit() => Addr::read(text).ok(),
+        _ => None,
     }
-    Ok(())
 }
