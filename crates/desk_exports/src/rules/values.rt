@@ -6,7 +6,7 @@ ghost use Rattle.std.specs.List.{list_any};
 ghost use Rattle.desk_tables.specs.CredentialText.{cred_breaks, elements};
 ghost use Rattle.desk_exports.specs.Flavours.{has_bad_flavour};
 ghost use Rattle.desk_exports.specs.Tables.{table_rows};
-ghost use Rattle.desk_exports.specs.Options.{of_value};
+ghost use Rattle.desk_exports.specs.Options.{of_value, takes_value};
 ghost use Rattle.desk_exports.specs.Rules as spec;
 ghost use Rattle.desk_exports.specs.declared.options.Keyword.TheVariants as keyword;
 
@@ -27,6 +27,13 @@ pub(crate) fn is_unknown(setting: &Setting) -> bool
 {
     setting.keyword == Keyword::Unknown
         || (setting.keyword.takes_no_value() && setting.value.is_some())
+}
+
+/// Tests whether an option takes a value.
+pub(crate) fn has_valued_option(settings: &[Setting]) -> bool
+    ensures { result ≡ list_any (λ s. takes_value s.keyword) settings.now }
+{
+    settings.iter().any(|setting| setting.keyword.takes_value())
 }
 
 /// Tests whether an option that takes a value has none, or an empty one.
