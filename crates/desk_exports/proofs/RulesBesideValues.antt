@@ -7,7 +7,7 @@ use Rattle.std.proofs.lemmas.Bool.{both_ways, cases_Bool, cond-true, cond-false,
 use denote.Enum.Bare.{same_true}
 use Rattle.desk_tables.specs.declared.filesystems.FsId.{FsId}
 use Rattle.desk_exports.specs.Options.{gives_value, has_option, of_value, same_keyword, takes_value, value_of}
-use Rattle.desk_exports.specs.Rules.{breaks, first_broken_rule, lacks_value, options_once, rules_in_order, stands_twice}
+use Rattle.desk_exports.specs.Rules.{breaks, first_broken_rule, lacks_value, rules_in_order, stands_twice}
 use Rattle.desk_exports.specs.Tables.{TableRows}
 use Rattle.desk_exports.specs.contracts.options.Keyword.{the_type}
 use Rattle.desk_exports.specs.declared.grammar.GrammarLine.{GrammarLine}

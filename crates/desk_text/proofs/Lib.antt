@@ -11,6 +11,7 @@ pub mod Groups
 pub mod Atoms
 pub mod Quoted
 pub mod AtomsOfWord
+pub mod WordMarks
 pub mod WordList
 pub mod PartPlaces
 pub mod Slashes

@@ -5,7 +5,7 @@ use Rattle.desk_text.specs.Lines.{PhysicalLine}
 use Rattle.desk_text.specs.Word.{RawWord}
 use Rattle.desk_text.specs.declared.lines.Part.{Part}
 use Rattle.desk_text.specs.declared.network.NetText.{NetText}
-use Rattle.desk_text.specs.declared.word.Word.{Word}
+use Rattle.desk_text.specs.declared.raw_word.Word.{Word}
 
 abbrev pub line_of_part : Part → PhysicalLine
 line_of_part p = record { start = p.start; whole = p.whole.now; text = p.text.now }

@@ -12,6 +12,7 @@ pub mod lines;
 pub mod network;
 pub mod path;
 pub mod place;
+pub mod raw_word;
 pub mod reading;
 pub mod sequence;
 pub mod text;

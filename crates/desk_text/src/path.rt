@@ -216,6 +216,16 @@ fn is_dot_component(part: &[u8]) -> bool
 fn printed(alloc: Global, text: &str) -> Result<String, AllocError>
     ensures { IfOk result (λ s. string_bytes s ≡ path_text (components text.now)) }
 {
+    if text == "/" {
+        return String::from_str(alloc, text);
+    }
+    rejoined(alloc, text)
+}
+
+/// Joins the components behind a slash each.
+fn rejoined(alloc: Global, text: &str) -> Result<String, AllocError>
+    ensures { IfOk result (λ s. string_bytes s ≡ path_text (components text.now)) }
+{
     let mut out = String::with_capacity(alloc, text.len())?;
     for part in text.split('/') {
         if !part.is_empty() {

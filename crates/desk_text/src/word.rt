@@ -3,7 +3,7 @@
 //! A quote has to close in its own physical line, even if that line is continued: a forgotten quote is then found where it
 //! stands, and does not swallow the lines behind it.
 
-ghost use Rattle.std.specs.Prelude.{◌≡◌, ℕ, ◌+◌, ◌<◌, ◌≤◌, ◌^◌, ◌++◌, IsTrue, IfOk, OnOk, IfSome, IfNone, map, not, length, List, true, false, slice_index};
+ghost use Rattle.std.specs.Prelude.{◌≡◌, ℕ, ◌+◌, ◌<◌, ◌≤◌, ◌^◌, ◌++◌, IsTrue, IfOk, OnOk, IfSome, IfNone, map, not, length, take, List, true, false, slice_index};
 ghost use Rattle.std.specs.String.{string_bytes};
 ghost use Rattle.desk_text.specs.Bytes.{is_blank};
 ghost use Rattle.desk_text.specs.Word.{has_marks, is_special, read_words, word_value, words_at, has_open_quote, is_quote};
@@ -13,18 +13,10 @@ ghost use Rattle.desk_text.specs.PrivateWord.{IsAtomLen, IsWordLen, is_mark};
 
 use crate::bytes::is_blank;
 use crate::lines::Line;
+pub use crate::raw_word::Word;
 use crate::reading::ReadError;
 use std::alloc::{AllocError, Global};
 use thiserror::Error;
-
-/// A word as it is written: its raw text with quotes and escapes, its place in the text in bytes,
-/// and whether its first raw character is `-`.
-#[derive(Clone, Copy)]
-pub struct Word<'a> {
-    pub raw: &'a str,
-    pub start: usize,
-    pub dashed: bool,
-}
 
 /// The fault of a line: a quote does not close in its physical line.
 #[derive(Clone, Copy, Debug, PartialEq, Eq, Error)]
@@ -46,26 +38,6 @@ pub fn words<'a>(alloc: Global, line: &Line<'a>) -> Result<Vec<Word<'a>>, ReadEr
         }
     }
     Ok(words)
-}
-
-impl<'a> Word<'a> {
-    /// Lends the text of a word that is written without quotes and escapes: it stands for just that.
-    pub fn plain(&self) -> Option<&'a str>
-        ensures value { IfSome result (λ text. text.now ≡ word_value self.now.raw.now) }
-        ensures marked { IfNone result (has_marks self.now.raw.now ≡ true) }
-    {
-        if has_marks(self.raw) {
-            return None;
-        }
-        Some(self.raw)
-    }
-}
-
-/// Tests whether a quote or a backslash stands in a raw word.
-fn has_marks(raw: &str) -> bool
-    ensures { result ≡ has_marks raw.now }
-{
-    raw.as_bytes().iter().any(|b| is_special(*b))
 }
 
 /// Returns what a word stands for: its text without its quotes and escapes.
@@ -129,16 +101,17 @@ fn push_words<'a>(
         if is_blank(bytes[at]) {
             at += 1;
         } else {
-            let Some(len) = word_len(&bytes[at..]) else {
+            let Some(end) = word_end(&bytes[at..]) else {
                 return Ok(false);
             };
-            let raw = &text[at..at + len];
+            let raw = &text[at..at + end.len];
             words.push(Word {
                 raw,
                 start: start + at,
                 dashed: bytes[at] == b'-',
+                marked: end.marked,
             })?;
-            at += len;
+            at += end.len;
         }
     }
     Ok(true)
@@ -190,20 +163,30 @@ pub(crate) fn atom_len(text: &[u8]) -> Option<usize>
     }
 }
 
-/// Returns how long the word is with which the text begins.
-fn word_len(text: &[u8]) -> Option<usize>
+/// How long a word is, and whether a quote or a backslash stands in it.
+#[derive(Clone, Copy)]
+struct WordEnd {
+    len: usize,
+    marked: bool,
+}
+
+/// Finds the end of the word with which the text begins.
+fn word_end(text: &[u8]) -> Option<WordEnd>
     requires some { 0 < length text.now }
     requires word { is_blank (slice_index text.now 0) ≡ false }
-    ensures len { IfSome result (IsWordLen text.now) }
+    ensures len { IfSome result (λ end. IsWordLen text.now end.len) }
+    ensures marks { IfSome result (λ end. has_marks (take end.len text.now) ≡ end.marked) }
     ensures open { IfNone result (has_open_quote text.now ≡ true) }
 {
-    let mut n = 0;
-    while n < text.len() && !is_blank(text[n]) {
-        n += if is_special(text[n]) {
-            atom_len(&text[n..])?
+    let mut len = 0;
+    let mut marked = false;
+    while len < text.len() && !is_blank(text[len]) {
+        if is_special(text[len]) {
+            len += atom_len(&text[len..])?;
+            marked = true;
         } else {
-            1
-        };
+            len += 1;
+        }
     }
-    Some(n)
+    Some(WordEnd { len, marked })
 }

@@ -1,4 +1,5 @@
 use Rattle.std.proofs.Common.{◌∙◌, ◌++◌, ◌∷◌, [], List, ap, map, take}
+use Rattle.desk_text.specs.declared.raw_word.Word.{Word}
 use Rattle.desk_text.specs.Views.{word_of}
 use Rattle.desk_exports.specs.Grammar.{grammar_word}
 use Rattle.desk_exports.specs.declared.grammar.GrammarWord.{GrammarWord}
@@ -11,4 +12,5 @@ loop-word-preserved c =
     c.in_ok-push.ensures.items
     ∙ ap (λ (words : List GrammarWord). words ++ c.in_ok-read-2.field-0 ∷ []) c.loop-word.invariant
     ∙ ap (λ (word : GrammarWord). so_far ++ word ∷ []) c.in_ok-read-2.ensures
-    ∙ mapped_more grammar_word word_of c.args.words.now c.loop-word.word-index _ c.loop-word-test.true
+    ∙ ap (λ (word : Word). so_far ++ grammar_word (word_of word) ∷ []) c.word-item.is
+    ∙ mapped_more grammar_word word_of c.args.words.now c.loop-word.word-index c.word-item.result c.loop-word-test.true

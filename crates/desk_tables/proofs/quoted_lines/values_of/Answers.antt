@@ -1,5 +1,6 @@
 use Rattle.std.proofs.Common.{◌≡◌, ◌∙◌, ◌<◌, ◌+◌, ◌++◌, ◌∷◌, [], ℕ, List, ap, sym, map, length, take, get_or}
 use Rattle.std.proofs.lemmas.List.{map-append, take_more}
+use Rattle.desk_text.specs.declared.raw_word.Word.{Word}
 use Rattle.desk_text.specs.Views.{word_of}
 use Rattle.desk_text.specs.Word.{word_value}
 use Rattle.desk_tables.proofs.quoted_lines.values_of.Goals as goal
@@ -17,4 +18,5 @@ loop-word-preserved c =
     c.in_ok-push.ensures.items
     ∙ ap (λ (values : List (List ℕ)). values ++ c.from_string.result ∷ []) c.loop-word.invariant
     ∙ ap (λ (value : List ℕ). so_far ++ value ∷ []) (c.from_string.ensures ∙ c.in_ok-value.ensures)
-    ∙ one_more (λ w. word_value w.raw) word_of c.args.words.now c.loop-word.word-index _ c.loop-word-test.true
+    ∙ ap (λ (word : Word). so_far ++ word_value word.raw.now ∷ []) c.word-item.is
+    ∙ one_more (λ w. word_value w.raw) word_of c.args.words.now c.loop-word.word-index c.word-item.result c.loop-word-test.true

@@ -1,7 +1,7 @@
 use Rattle.std.proofs.Common.{◌≡◌, ◌+◌, ◌-◌, ◌<◌, ◌++◌, ◌∙◌, sym, ap, subst, refl, map, take, drop, length, get_or, arith, eqb, true}
 use Rattle.std.proofs.lemmas.Str.{IsCharBoundary-start, IsCharBoundary-after_ascii}
 use Rattle.std.proofs.lemmas.List.{take_rest, drop-drop}
-use Rattle.desk_text.specs.Word.{words_at, has_open_quote}
+use Rattle.desk_text.specs.Word.{has_marks, words_at, has_open_quote}
 use Rattle.desk_text.specs.Bytes.{is_blank}
 use Rattle.desk_text.specs.Views.{word_of}
 use Rattle.desk_text.specs.PrivateWord.{IsWordLen}
@@ -34,7 +34,7 @@ loop-at-preserved c =
     let bytes = c.as_bytes-bytes.ensures.value in
     let text = c.args.text.now in
     let at = c.loop-at.at in
-    let n = c.in-Some.len in
+    let n = c.in-Some.end.len in
     let within : at < length text = omega (arith, ap length bytes, c.loop-at-test.true) in
     let rest : take (length c.as_bytes-bytes.result.now - at) (drop at c.as_bytes-bytes.result.now) ≡ drop at text = take_rest c.as_bytes-bytes.result.now at ∙ ap (drop at) bytes in
     let word : IsWordLen (drop at text) n = subst (λ bs. IsWordLen bs n) rest c.in-Some.ensures.len in
@@ -47,3 +47,13 @@ loop-at-preserved c =
       closed = ap has_open_quote (sym (drop-drop n at text)) ∙ open_behind (drop at text) n word.is_run ∙ c.loop-at.invariant.closed;
       boundary = word_end_boundary text at n (omega arith) word;
     }
+
+pub invariant_of-push : goal.invariant_of-push
+invariant_of-push c =
+    let text = c.args.text.now in
+    let at = c.loop-at.at in
+    let n = c.in-Some.end.len in
+    let rest : take (length c.as_bytes-bytes.result.now - at) (drop at c.as_bytes-bytes.result.now) ≡ drop at text = take_rest c.as_bytes-bytes.result.now at ∙ ap (drop at) c.as_bytes-bytes.ensures.value in
+    let len : at + n - at ≡ n = omega arith in
+    let cut : c.range-raw.result.now ≡ take n (drop at text) = c.range-raw.ensures.value ∙ ap (λ k. take k (drop at text)) len in
+    record { marks = ap has_marks (cut ∙ ap (take n) (sym rest)) ∙ c.in-Some.ensures.marks }

@@ -9,8 +9,8 @@ use Rattle.std.specs.Prelude.{encode_utf8}
 use Rattle.std.proofs.lemmas.Bool.{eqb-true, eqb-false}
 use Rattle.desk_text.specs.Path.{components}
 use Rattle.desk_text.proofs.Slashes.{print_empty, print_part, some_printed, none_printed}
-use Rattle.desk_text.proofs.path.printed.Goals as goal
-use Rattle.desk_text.proofs.path.printed.Goals.{In-Some, then-is_empty+in_ok-push-2, else-is_empty}
+use Rattle.desk_text.proofs.path.rejoined.Goals as goal
+use Rattle.desk_text.proofs.path.rejoined.Goals.{In-Some, then-is_empty+in_ok-push-2, else-is_empty}
 
 turn : (c : In-Some) → (length c.loop-part.yielded < length (slice_split (λ b. eqb b 47) c.args.text.now)) × (c.in-Some.part.now ≡ get_or (slice_split (λ b. eqb b 47) c.args.text.now) (length c.loop-part.yielded) c.in-Some.part.now)
 turn c =
