@@ -15,6 +15,7 @@ pub mod CredentialTextLemmas
 pub mod ColonLineLemmas
 pub mod RowLemmas
 pub mod IndexLemmas
+pub mod ListingLemmas
 pub mod CustodianLemmas
 pub mod QuotedLineLemmas
 pub mod FileSystemsTextLemmas

@@ -6,13 +6,15 @@ use Rattle.std.specs.Option.{option_map, option_or}
 use Rattle.std.specs.Str.{bytes_eq}
 use Rattle.std.proofs.lemmas.Bool.{cases_Bool, cond-true, cond-false}
 use Rattle.std.proofs.lemmas.List.{take_more}
-use Rattle.std.proofs.lemmas.List.Folds.{list_any_more}
+use Rattle.std.proofs.lemmas.List.Folds.{find-append, list_any_more}
 use Rattle.desk_text.specs.declared.address.Addr.{Addr}
+use Rattle.desk_tables.specs.PrivateIndex.{is_named, numbered}
+use Rattle.desk_tables.specs.declared.index.Listing.{Listing}
 use Rattle.desk_tables.specs.Networks.{is_network, network_number}
 use Rattle.desk_tables.specs.declared.networks.NetworkName.{NetworkName}
 
 -- the number, if the test holds
-abbrev given : Bool → Addr → Option Addr
+abbrev pub given : Bool → Addr → Option Addr
 given b number = if b then Some number else None
 
 or_given : (o : Option Addr) (b c : Bool) (number : Addr) → option_or (option_or o (given b number)) (given c number) ≡ option_or o (given (b || c) number)
@@ -54,3 +56,15 @@ pub rows_more : (q : List ℕ) (rows : List NetworkName) (i : ℕ) (row : Networ
     → option_or (network_number (take i rows) q) (given (is_network q row) row.number) ≡ network_number (take (i + 1) rows) q
 rows_more q rows i row below is =
     sym (ap (λ rs. network_number rs q) (take_more rows i row below ∙ ap (λ r. take i rows ++ r ∷ []) (sym is)) ∙ number_of_last q (take i rows) row)
+
+-- one more listing
+module _ (rows : List NetworkName) (q : List ℕ) where
+  or_number : (o : Option Listing) (b : Bool) (listing : Listing) → option_map (λ (l : Listing). l.addr) (option_or o (if b then Some listing else None)) ≡ option_or (option_map (λ (l : Listing). l.addr) o) (given b listing.addr)
+  or_number (Some found) b listing = refl
+  or_number None true listing = refl
+  or_number None false listing = refl
+
+  pub numbered_more : (old : List Listing) (listing : Listing) → numbered rows (old ++ listing ∷ []) q ≡ option_or (numbered rows old q) (given (is_named rows q listing) listing.addr)
+  numbered_more old listing =
+      ap (option_map (λ (l : Listing). l.addr)) (find-append (is_named rows q) old (listing ∷ []))
+      ∙ or_number (find (is_named rows q) old) (is_named rows q listing) listing

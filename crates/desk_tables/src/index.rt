@@ -1,12 +1,31 @@
 //! Indexes of tables: what is listed under each name. Look-ups by name or number go by them.
 
-ghost use Rattle.std.specs.Prelude.{◌≡◌, OnOk, option_and_then, slice_get};
+ghost use Rattle.std.specs.Prelude.{◌≡◌, [], OnOk, option_and_then, slice_get, slice_index_or};
 ghost use Rattle.std.specs.Option.{option_copied};
 ghost use Rattle.std.specs.String.{string_bytes};
 ghost use Rattle.desk_tables.specs.PrivateIndex.{AddsFirst, AddsFirstNumber, AddsUnder};
 
+use desk_text::{Addr, Text};
 use std::alloc::{AllocError, Global};
 use std::collections::BTreeMap;
+
+/// A name of a row: the place of the row in its table, that of the name among those of the row, and the row's address.
+#[derive(Clone, Copy)]
+pub struct Listing {
+    pub row: usize,
+    pub name: usize,
+    pub addr: Addr,
+}
+
+/// Lends the name at the place, or the empty text if none is there.
+pub fn name_at(names: &[Text], place: usize) -> &str
+    ensures { result.now ≡ slice_index_or names.now place [] }
+{
+    match names.get(place) {
+        Some(name) => name.as_str(),
+        None => "",
+    }
+}
 
 /// Adds the value under the name, if nothing is there yet.
 pub fn add_first<T: Copy>(

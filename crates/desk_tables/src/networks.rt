@@ -1,14 +1,16 @@
 //! The networks file. (networks(5))
 
-ghost use Rattle.std.specs.Prelude.{◌≡◌, ◌≤◌, ◌∷◌, [], IfOk, OnOk, length, map};
+ghost use Rattle.std.specs.Prelude.{◌≡◌, ◌≤◌, ◌∷◌, [], IfOk, OnOk, Some, length, map, slice_get};
+ghost use Rattle.std.specs.Cmp.Lexicographic.{slice_cmp};
 ghost use Rattle.std.specs.List.{All};
+ghost use Rattle.std.specs.Ordering.{is_lt, nat_cmp};
 ghost use Rattle.desk_text.specs.Reading.{Reads};
 ghost use Rattle.desk_tables.specs.Faults.{IsPlaced};
 ghost use Rattle.desk_tables.specs.Networks as spec;
-ghost use Rattle.desk_tables.specs.PrivateIndex.{AddsFirsts, HasNumbers};
+ghost use Rattle.desk_tables.specs.PrivateIndex.{AddsNumber, AreByName, HasNumbers, KeepsNamed, name_of, numbered};
 
 use crate::faults::{PlacedFault, Slice, find_faults};
-use crate::index::add_first;
+use crate::index::{Listing, name_at};
 use crate::rows::read_rows;
 use crate::rules::{TableFault, TableRule};
 use crate::spaced_lines::{
@@ -16,7 +18,7 @@ use crate::spaced_lines::{
 };
 use desk_text::{Addr, ReadError, Sequence, Text};
 use std::alloc::{AllocError, Global};
-use std::collections::BTreeMap;
+use std::cmp::Ordering;
 use std::marker::Model;
 
 /// A row of the networks file: the number of a network, and its name with its aliases.
@@ -26,23 +28,24 @@ pub struct NetworkName {
     pub names: Sequence<Text>,
 }
 
-/// The rows of a networks file, in the order of its lines, with the number of each name.
+/// The rows of a networks file, in the order of its lines, with a listing of each of their names: in byte order of the
+/// names, and those of one name in the order of the rows.
 #[derive(Drop)]
 pub struct Networks {
     rows: Sequence<NetworkName>,
-    numbers: BTreeMap<String, Addr>,
+    listings: Vec<Listing>,
 }
 
 impl Model for Networks {
     ghost use Rattle.std.specs.Prelude.{List};
-    ghost use Rattle.desk_tables.specs.PrivateIndex.{HasNumbers};
+    ghost use Rattle.desk_tables.specs.PrivateIndex.{AreByName, HasNumbers};
     ghost use Rattle.desk_tables.specs.declared.networks.NetworkName.{NetworkName};
 
     ghost Value = { List NetworkName };
 
     ghost view = { λ networks. networks.rows };
 
-    ghost invariant = { λ networks. HasNumbers networks.rows networks.numbers };
+    ghost invariant = { λ networks. AreByName networks.rows networks.listings.items × HasNumbers networks.rows networks.listings.items };
 }
 
 impl Networks {
@@ -52,7 +55,7 @@ impl Networks {
     {
         Networks {
             rows: Sequence::new(alloc),
-            numbers: BTreeMap::new(alloc),
+            listings: Vec::new(alloc),
         }
     }
 
@@ -64,8 +67,8 @@ impl Networks {
         ensures { Reads result (spec.read_networks text.now) }
     {
         let rows = read_rows(alloc, text, read_line)?;
-        let numbers = numbers_by_name(alloc, rows.as_slice())?;
-        Ok(Networks { rows, numbers })
+        let listings = listings_by_name(alloc, rows.as_slice())?;
+        Ok(Networks { rows, listings })
     }
 
     /// Finds the faults of a text: all its faulty lines, in order, each with the first rule that it breaks and the place
@@ -82,37 +85,86 @@ impl Networks {
     pub fn find(&self, name: &str) -> Option<Addr>
         ensures { result ≡ spec.network_number self.now name.now }
     {
-        self.numbers.get(name).copied()
+        find_number(self.rows.as_slice(), self.listings.as_slice(), name)
     }
 }
 
-/// Indexes the number of the first row of each name.
-fn numbers_by_name(
-    alloc: Global,
-    rows: &[NetworkName],
-) -> Result<BTreeMap<String, Addr>, AllocError>
-    ensures { IfOk result (λ index. HasNumbers rows.now index) }
+/// Finds the number of the first listing of the name.
+fn find_number(rows: &[NetworkName], listings: &[Listing], name: &str) -> Option<Addr>
+    requires { AreByName rows.now listings.now }
+    ensures { result ≡ numbered rows.now listings.now name.now }
 {
-    let mut index = BTreeMap::new(alloc);
-    for row in rows {
-        add_names(alloc, &mut index, row.names.as_slice(), row.number)?;
+    let bytes = name.as_bytes();
+    let first = listings.partition_point(|listing| is_before(rows, listing, bytes));
+    match listings.get(first) {
+        Some(listing) if name == name_of(rows, listing) => Some(listing.addr),
+        _ => None,
     }
-    Ok(index)
 }
 
-/// Adds the number under each name that has none yet.
+/// Lends the name that is listed.
+fn name_of<'a>(rows: &'a [NetworkName], listing: &Listing) -> &'a str
+    ensures { result.now ≡ name_of rows.now listing.now }
+{
+    match rows.get(listing.row) {
+        Some(row) => name_at(row.names.as_slice(), listing.name),
+        None => "",
+    }
+}
+
+/// Lists the names of the rows.
+fn listings_by_name(alloc: Global, rows: &[NetworkName]) -> Result<Vec<Listing>, AllocError>
+    ensures order { IfOk result (λ listings. AreByName rows.now listings.items) }
+    ensures numbers { IfOk result (λ listings. HasNumbers rows.now listings.items) }
+{
+    let mut listings = Vec::new(alloc);
+    for (place, row) in rows.iter().enumerate() {
+        add_names(&mut listings, rows, place, row)?;
+    }
+    sort_by_name(rows, &mut listings)?;
+    Ok(listings)
+}
+
+/// Lists the names of the row at the place.
 fn add_names(
-    alloc: Global,
-    index: &mut BTreeMap<String, Addr>,
-    names: &[Text],
-    number: Addr,
+    listings: &mut Vec<Listing>,
+    rows: &[NetworkName],
+    place: usize,
+    row: &NetworkName,
 ) -> Result<(), AllocError>
-    ensures { OnOk result (AddsFirsts index.old index.new names.now number) }
+    requires { slice_get rows.now place ≡ Some row.now }
+    ensures { OnOk result (AddsNumber rows.now listings.old.items listings.new.items row.now) }
 {
-    for name in names {
-        add_first(alloc, index, name.as_str(), number)?;
+    for name in 0..row.names.len() {
+        listings.push(Listing {
+            row: place,
+            name,
+            addr: row.number,
+        })?;
     }
     Ok(())
+}
+
+/// Compares two listings by their names.
+fn by_name(rows: &[NetworkName], a: &Listing, b: &Listing) -> Ordering
+    ensures { result ≡ slice_cmp nat_cmp (name_of rows.now a.now) (name_of rows.now b.now) }
+{
+    name_of(rows, a).cmp(name_of(rows, b))
+}
+
+/// Tests whether a listing stands before those of the name.
+fn is_before(rows: &[NetworkName], listing: &Listing, name: &[u8]) -> bool
+    ensures { result ≡ is_lt (slice_cmp nat_cmp (name_of rows.now listing.now) name.now) }
+{
+    name_of(rows, listing).as_bytes().cmp(name).is_lt()
+}
+
+/// Sorts the listings by name. Those of one name stay in their order.
+fn sort_by_name(rows: &[NetworkName], listings: &mut Vec<Listing>) -> Result<(), AllocError>
+    ensures order { OnOk result (AreByName rows.now listings.new.items) }
+    ensures kept { KeepsNamed rows.now listings.old.items listings.new.items }
+{
+    listings.sort_by(|a, b| by_name(rows, a, b))
 }
 
 /// Reads the row of a line, or the first rule that it breaks.
