@@ -1,8 +1,10 @@
 -- Lemmas on indexes.
-use Rattle.std.proofs.Common.{◌≡◌, ◌<◌, ◌≤◌, ◌+◌, ◌++◌, cond, ℕ, Bool, true, false, eqb, List, [], ◌∷◌, Option, None, Some, find, length, length-append, take, get_or, ap, sym, ◌∙◌, inl, inr, refl, not, arith}
+use Rattle.std.proofs.Common.{◌≡◌, ◌<◌, ◌≤◌, ◌+◌, ◌++◌, cond, ℕ, Bool, true, false, eqb, List, [], ◌∷◌, Option, None, Some, find, length, length-append, take, get_or, ap, sym, ◌∙◌, inl, inr, refl, not, arith, drop, nat_cmp, suc, tests, zero}
 use Rattle.std.specs.Prelude.{if◌then◌else◌, nat_lt, option_and_then, slice_get}
 use Rattle.std.specs.List.{flat_map, position, position_or_len}
+use Rattle.std.specs.Cmp.Lexicographic.{slice_cmp}
 use Rattle.std.specs.Option.{option_or}
+use Rattle.std.specs.Str.{str_to_ascii_lowercase}
 use Rattle.std.proofs.lemmas.Bool.{cases_Bool}
 use Rattle.std.proofs.lemmas.Bool.Decides.{nat_tests}
 use Rattle.std.proofs.lemmas.Grind.{flat_map-append}
@@ -51,3 +53,17 @@ module _ {X : Type 0} (p : X → Bool) where
             ap (λ b. option_and_then (slice_get xs) (cond b (Some (position_or_len p xs)) None)) past
             ∙ sym (slice_get_past xs (position_or_len p xs) end) ∙ sym (find_at p xs)
       ]
+
+-- where one of two texts ends, they compare as their lengths do
+lengths : (m n : ℕ) → nat_cmp m n ≡ nat_cmp (suc m) (suc n)
+lengths m n = grind (arith, tests)
+
+pub ended : (a b : List ℕ) (i : ℕ) → i ≤ length a → i ≤ length b → (i < length a → length b ≤ i)
+    → slice_cmp nat_cmp (str_to_ascii_lowercase (drop i a)) (str_to_ascii_lowercase (drop i b)) ≡ nat_cmp (length a) (length b)
+ended [] [] zero la lb end = refl
+ended [] (y ∷ b) zero la lb end = grind (arith, tests)
+ended (x ∷ a) [] zero la lb end = grind (arith, tests)
+ended (x ∷ a) (y ∷ b) zero la lb end = let past = end (omega arith) in absurd (omega arith)
+ended [] b (suc i) la lb end = absurd (omega arith)
+ended (x ∷ a) [] (suc i) la lb end = absurd (omega arith)
+ended (x ∷ a) (y ∷ b) (suc i) la lb end = ended a b i (omega arith) (omega arith) (λ less. let past = end (omega arith) in omega arith) ∙ lengths (length a) (length b)

@@ -1,9 +1,8 @@
 -- Values in byte order of their keys, those of one key in an order of their own: what a stable sort keeps, and what stands
 -- where a search for a key ends.
-use Rattle.std.proofs.Common.{◌≡◌, ◌<◌, ◌≤◌, ℕ, Bool, true, false, not, ◌&&◌, List, [], ◌∷◌, Option, Some, None, cond, length, get_or, filter, find, nat_cmp, ap, sym, ◌∙◌, refl, inl, inr, arith}
+use Rattle.std.proofs.Common.{◌≡◌, ◌<◌, ◌≤◌, ◌+◌, ◌++◌, ℕ, Bool, true, false, not, ◌&&◌, List, [], ◌∷◌, Option, Some, None, cond, length, get_or, filter, find, suc, take, zero, nat_cmp, ap, sym, ◌∙◌, refl, inl, inr, arith}
 use Rattle.std.specs.Prelude.{◌⊎◌, slice_get}
 use Rattle.std.specs.Cmp.Lexicographic.{slice_cmp}
-use Rattle.std.specs.List.{position_or_len}
 use Rattle.std.specs.List.Sorted.{IsPartitionPoint, IsPartitionedBy, IsSortedBy, IsStableBy, ties}
 use Rattle.std.specs.Ordering.{is_eq, is_lt, ordering_reverse}
 use Rattle.std.specs.Str.{bytes_eq}
@@ -11,6 +10,8 @@ use Rattle.std.specs.declared.cmp.Ordering.{Ordering}
 use Rattle.std.specs.declared.cmp.Ordering.TheVariants.{Less, Equal, Greater}
 use Rattle.std.proofs.lemmas.Bool.{cases_Bool, cases_lt, cond-false, cond-true, true≢false}
 use Rattle.std.proofs.lemmas.Cmp.{nat_list_cmp_total}
+use Rattle.std.proofs.lemmas.List.{get_or_default, take_more}
+use Rattle.std.proofs.lemmas.List.Elements.{filter-append}
 use Rattle.std.proofs.lemmas.List.Folds.{find_at}
 use Rattle.std.proofs.lemmas.List.Sorted.{ranks_by, sorted_far}
 use Rattle.std.proofs.lemmas.List.Sums.{position_or_len_is}
@@ -32,6 +33,37 @@ apart : (o : Ordering) → is_lt o ≡ true → is_eq (ordering_reverse o) ≡ f
 apart Less h = refl
 apart Equal h = absurd (true≢false (sym h))
 apart Greater h = refl
+
+turned : (o : Ordering) → is_eq o ≡ is_eq (ordering_reverse o)
+turned Less = refl
+turned Equal = refl
+turned Greater = refl
+
+module _ {X : Type 0} (t : X → Bool) where
+  none_kept : (xs : List X) → ((k : ℕ) (d : X) → k < length xs → t (get_or xs k d) ≡ false) → filter t xs ≡ []
+  none_kept [] h = refl
+  none_kept (x ∷ xs) h = cond-false (t x) (x ∷ filter t xs) (filter t xs) (h 0 x (omega arith)) ∙ none_kept xs (λ k d less. h (suc k) d (omega arith))
+
+  none_in_front : (i : ℕ) (xs : List X) → ((k : ℕ) (d : X) → k < i → k < length xs → t (get_or xs k d) ≡ false) → filter t (take i xs) ≡ []
+  none_in_front zero [] h = refl
+  none_in_front zero (x ∷ xs) h = refl
+  none_in_front (suc i) [] h = refl
+  none_in_front (suc i) (x ∷ xs) h =
+      cond-false (t x) (x ∷ filter t (take i xs)) (filter t (take i xs)) (h 0 x (omega arith) (omega arith))
+      ∙ none_in_front i xs (λ k d less within. h (suc k) d (omega arith) (omega arith))
+
+  all_in_front : (i : ℕ) (xs : List X) → ((k : ℕ) (d : X) → i ≤ k → k < length xs → t (get_or xs k d) ≡ false) → filter t xs ≡ filter t (take i xs)
+  all_in_front zero [] h = refl
+  all_in_front zero (x ∷ xs) h = none_kept (x ∷ xs) (λ k d less. h k d (omega arith) less)
+  all_in_front (suc i) [] h = refl
+  all_in_front (suc i) (x ∷ xs) h = ap (λ l. cond (t x) (x ∷ l) l) (all_in_front i xs (λ k d le less. h (suc k) d (omega arith) (omega arith)))
+
+  -- one more value that passes
+  pub kept_more : (xs : List X) (i : ℕ) (x : X) → i < length xs → x ≡ get_or xs i x → t x ≡ true → filter t (take (i + 1) xs) ≡ filter t (take i xs) ++ x ∷ []
+  kept_more xs i x below is passes =
+      ap (filter t) (take_more xs i x below ∙ ap (λ y. take i xs ++ y ∷ []) (sym is))
+      ∙ filter-append t (take i xs) (x ∷ [])
+      ∙ ap (λ l. filter t (take i xs) ++ l) (cond-true (t x) (x ∷ []) [] passes)
 
 -- a value that passes, or the test passes none
 first_of : {X : Type 0} (t : X → Bool) (xs : List X) → ((x : X) × (t x ≡ true)) ⊎ (filter t xs ≡ [])
@@ -70,6 +102,9 @@ module _ {X : Type 0} (key : X → List ℕ) where
 
   abbrev pub is_before : List ℕ → X → Bool
   is_before name x = is_lt (slice_cmp nat_cmp (key x) name)
+
+  pub has_is : (name : List ℕ) (x : X) → is_eq (slice_cmp nat_cmp (key x) name) ≡ has name x
+  has_is name x = turned (slice_cmp nat_cmp (key x) name) ∙ ap is_eq (sym (nat_list_cmp_total.antisymm name (key x))) ∙ is_eq-slice_cmp name (key x)
 
   tied : (x y : X) → ties is_below x y ≡ has (key x) y
   tied x y =
@@ -141,3 +176,17 @@ module _ {X : Type 0} (key : X → List ℕ) where
                 | inl before ↦ before_lacks (get_or xs k d) (point.0 k d (omega arith) before)
                 | inr past ↦ behind_lacks i k d past less (point.1 i d (omega arith) (omega arith)) (lacks (omega arith))
               ]
+
+      -- nothing before the end of the search has the key
+      pub none_before : filter (has name) (take i xs) ≡ []
+      none_before = none_in_front (has name) i xs (λ k d less within. before_lacks (get_or xs k d) (point.0 k d (omega arith) less))
+
+      -- all that have the key stand before a value behind it that does not
+      pub all_before : (j : ℕ) (x : X) → i ≤ j → j < length xs → x ≡ get_or xs j x → has name x ≡ false → filter (has name) xs ≡ filter (has name) (take j xs)
+      all_before j x le below is lacks =
+          all_in_front (has name) j xs (λ k d past within. behind_lacks_from j k d x past within le is lacks)
+        where
+          behind_lacks_from : (j k : ℕ) (d x : X) → j ≤ k → k < length xs → i ≤ j → x ≡ get_or xs j x → has name x ≡ false → has name (get_or xs k d) ≡ false
+          behind_lacks_from j k d x past within le is lacks =
+              let same : get_or xs j d ≡ x = get_or_default xs j d x (omega arith) ∙ sym is in
+              behind_lacks j k d past within (point.1 j d le (omega arith)) (ap (has name) same ∙ lacks)

@@ -1,5 +1,5 @@
 -- What the private contracts of the indexes cite: what stands under each name.
-use Rattle.std.specs.Prelude.{◌≡◌, ◌++◌, ◌==◌, Bool, List, [], ◌∷◌, Option, ℕ, Some, None, String, Vec, filter, find, if◌then◌else◌, slice_get, slice_index_or}
+use Rattle.std.specs.Prelude.{◌≡◌, ◌++◌, ◌==◌, Bool, List, [], ◌∷◌, Option, ℕ, Some, None, String, Vec, filter, find, if◌then◌else◌, map, slice_get, slice_index_or}
 use Rattle.std.specs.BTreeMap.{BTreeMap, get, get_by_text}
 use Rattle.std.specs.List.{flat_map, position}
 use Rattle.std.specs.Option.{option_map, option_map_or, option_or}
@@ -75,15 +75,42 @@ HasNumbers rows listings = (name : List ℕ) → numbered rows listings name ≡
 abbrev pub addresses_under : List ℕ → List HostRow → List Addr
 addresses_under key rows = flat_map (λ row. flat_map (λ name. under key row.addr (str_to_ascii_lowercase name)) row.names) rows
 
+-- the name of a host that is listed, and the same in small letters
+abbrev pub host_of : List HostRow → Listing → List ℕ
+host_of rows listing = option_map_or (λ row. slice_index_or row.names listing.name []) (slice_get rows listing.row) []
+
+abbrev pub host_key : List HostRow → Listing → List ℕ
+host_key rows listing = str_to_ascii_lowercase (host_of rows listing)
+
+-- the listing is of the name that is this one in small letters
+abbrev pub has_key : List HostRow → List ℕ → Listing → Bool
+has_key rows key listing = bytes_eq key (host_key rows listing)
+
+-- the listings are in byte order of their names in small letters
+abbrev pub AreByHost : List HostRow → List Listing → Type 0
+AreByHost rows = IsSortedByKey (host_key rows) (slice_cmp nat_cmp)
+
+-- the new listings of each name are the old ones, in their order
+abbrev pub KeepsHosts : List HostRow → List Listing → List Listing → Type 0
+KeepsHosts rows old new = (key : List ℕ) → filter (has_key rows key) new ≡ filter (has_key rows key) old
+
+-- the addresses that are listed under a name in small letters
+abbrev pub listed_hosts : List HostRow → List Listing → List ℕ → List Addr
+listed_hosts rows listings key = map (λ listing. listing.addr) (filter (has_key rows key) listings)
+
+-- the new listings have the address under each of these names, behind the old ones
+abbrev pub AddsHosts : List HostRow → List Listing → List Listing → Addr → List (List ℕ) → Type 0
+AddsHosts rows old new addr names = (key : List ℕ) → listed_hosts rows new key ≡ listed_hosts rows old key ++ flat_map (λ name. under key addr (str_to_ascii_lowercase name)) names
+
+-- the listings have the addresses of the rows under each name in small letters
+abbrev pub HasAddresses : List HostRow → List Listing → Type 0
+HasAddresses rows listings = (key : List ℕ) → listed_hosts rows listings key ≡ addresses_under key rows
+
 -- the gids of rows under each of their members, in their order
 abbrev pub gids_under : List ℕ → List Group → List ℕ
 gids_under member rows = flat_map (λ row. flat_map (under member row.gid) row.members) rows
 
 module _ {Y Z : Type 0} where
-  -- the index has the addresses of the rows under each name in small letters
-  abbrev pub HasAddresses : List HostRow → BTreeMap (String Y) (Vec Addr Z) → Type 0
-  HasAddresses rows index = (key : List ℕ) → listed index key ≡ addresses_under key rows
-
   -- the index has the gids of the groups under each of their members
   abbrev pub HasMembers : List Group → BTreeMap (String Y) (Vec ℕ Z) → Type 0
   HasMembers rows index = (member : List ℕ) → listed index member ≡ gids_under member rows

@@ -1,16 +1,18 @@
 //! The hosts file. (hosts(5))
 
-ghost use Rattle.std.specs.Prelude.{◌≡◌, ◌≤◌, ◌∷◌, [], IfOk, OnOk, length, map};
+ghost use Rattle.std.specs.Prelude.{◌≡◌, ◌≤◌, ◌∷◌, [], IfOk, OnOk, Some, length, map, slice_get};
+ghost use Rattle.std.specs.Cmp.Lexicographic.{slice_cmp};
 ghost use Rattle.std.specs.List.{All};
+ghost use Rattle.std.specs.Ordering.{is_lt, nat_cmp};
 ghost use Rattle.std.specs.Str.{str_to_ascii_lowercase};
 ghost use Rattle.desk_text.specs.Address.{number_of};
 ghost use Rattle.desk_text.specs.Reading.{Reads};
 ghost use Rattle.desk_tables.specs.Faults.{IsPlaced};
 ghost use Rattle.desk_tables.specs.Hosts as spec;
-ghost use Rattle.desk_tables.specs.PrivateIndex.{AddsUnderEach, HasAddresses, listed};
+ghost use Rattle.desk_tables.specs.PrivateIndex.{AddsHosts, AreByHost, HasAddresses, KeepsHosts, has_key, host_key, host_of, listed_hosts};
 
 use crate::faults::{PlacedFault, Slice, find_faults};
-use crate::index::add_under;
+use crate::index::{Listing, compare_lowered, name_at};
 use crate::rows::read_rows;
 use crate::rules::{TableFault, TableRule};
 use crate::spaced_lines::{
@@ -18,7 +20,7 @@ use crate::spaced_lines::{
 };
 use desk_text::{Addr, AddrSet, ReadError, Sequence, Text, is_ipv6};
 use std::alloc::{AllocError, Global};
-use std::collections::BTreeMap;
+use std::cmp::Ordering;
 use std::marker::Model;
 
 /// A row of the hosts file: an address, and the name of the host with its aliases.
@@ -28,24 +30,24 @@ pub struct HostRow {
     pub names: Sequence<Text>,
 }
 
-/// The rows of a hosts file, in the order of its lines, with the addresses of each name in small
-/// letters.
+/// The rows of a hosts file, in the order of its lines, with a listing of each of their names: in byte order of the names
+/// in small letters, and those of one name in the order of the rows.
 #[derive(Drop)]
 pub struct Hosts {
     rows: Sequence<HostRow>,
-    index: BTreeMap<String, Vec<Addr>>,
+    listings: Vec<Listing>,
 }
 
 impl Model for Hosts {
     ghost use Rattle.std.specs.Prelude.{List};
-    ghost use Rattle.desk_tables.specs.PrivateIndex.{HasAddresses};
+    ghost use Rattle.desk_tables.specs.PrivateIndex.{AreByHost, HasAddresses};
     ghost use Rattle.desk_tables.specs.declared.hosts.HostRow.{HostRow};
 
     ghost Value = { List HostRow };
 
     ghost view = { λ hosts. hosts.rows };
 
-    ghost invariant = { λ hosts. HasAddresses hosts.rows hosts.index };
+    ghost invariant = { λ hosts. AreByHost hosts.rows hosts.listings.items × HasAddresses hosts.rows hosts.listings.items };
 }
 
 impl Hosts {
@@ -55,7 +57,7 @@ impl Hosts {
     {
         Hosts {
             rows: Sequence::new(alloc),
-            index: BTreeMap::new(alloc),
+            listings: Vec::new(alloc),
         }
     }
 
@@ -67,8 +69,8 @@ impl Hosts {
         ensures { Reads result (spec.read_hosts text.now) }
     {
         let rows = read_rows(alloc, text, read_line)?;
-        let index = addresses_by_name(alloc, rows.as_slice())?;
-        Ok(Hosts { rows, index })
+        let listings = listings_by_name(alloc, rows.as_slice())?;
+        Ok(Hosts { rows, listings })
     }
 
     /// Finds the faults of a text: all its faulty lines, in order, each with the first rule that it breaks and the place
@@ -86,7 +88,12 @@ impl Hosts {
     pub fn addresses(&self, alloc: Global, name: &str) -> Result<Vec<Addr>, AllocError>
         ensures { IfOk result (λ v. map number_of v.items ≡ spec.addresses_of_host self.now name.now) }
     {
-        let addresses = listed_addresses(alloc, &self.index, name)?;
+        let addresses = listed_addresses(
+            alloc,
+            self.rows.as_slice(),
+            self.listings.as_slice(),
+            name.as_bytes(),
+        )?;
         Ok(AddrSet::from_vec(addresses).into_vec())
     }
 }
@@ -94,45 +101,102 @@ impl Hosts {
 /// Copies the addresses that are listed under the name.
 fn listed_addresses(
     alloc: Global,
-    index: &BTreeMap<String, Vec<Addr>>,
-    name: &str,
-) -> Result<Vec<Addr>, AllocError>
-    ensures { IfOk result (λ v. v.items ≡ listed index.now (str_to_ascii_lowercase name.now)) }
-{
-    let key = name.to_ascii_lowercase(alloc)?;
-    match index.get(key.as_str()) {
-        Some(addresses) => Vec::from_slice(alloc, addresses.as_slice()),
-        None => Ok(Vec::new(alloc)),
-    }
-}
-
-/// Indexes the addresses of the rows, under each of their names.
-fn addresses_by_name(
-    alloc: Global,
     rows: &[HostRow],
-) -> Result<BTreeMap<String, Vec<Addr>>, AllocError>
-    ensures { IfOk result (λ index. HasAddresses rows.now index) }
+    listings: &[Listing],
+    name: &[u8],
+) -> Result<Vec<Addr>, AllocError>
+    requires { AreByHost rows.now listings.now }
+    ensures { IfOk result (λ v. v.items ≡ listed_hosts rows.now listings.now (str_to_ascii_lowercase name.now)) }
 {
-    let mut index = BTreeMap::new(alloc);
-    for row in rows {
-        add_hosts(alloc, &mut index, row.names.as_slice(), row.addr)?;
+    let mut addresses = Vec::new(alloc);
+    let first = listings.partition_point(|listing| is_before(rows, listing, name));
+    for index in first..listings.len() {
+        let listing = listings[index];
+        if !has_name(rows, &listing, name) {
+            return Ok(addresses);
+        }
+        addresses.push(listing.addr)?;
     }
-    Ok(index)
+    Ok(addresses)
 }
 
-/// Adds the address under each of the names in small letters.
-fn add_hosts(
-    alloc: Global,
-    index: &mut BTreeMap<String, Vec<Addr>>,
-    names: &[Text],
-    address: Addr,
-) -> Result<(), AllocError>
-    ensures { OnOk result (AddsUnderEach str_to_ascii_lowercase index.old index.new names.now address) }
+/// Compares the name that is listed with a name, without ASCII case.
+fn compare_name(rows: &[HostRow], listing: &Listing, name: &[u8]) -> Ordering
+    ensures { result ≡ slice_cmp nat_cmp (host_key rows.now listing.now) (str_to_ascii_lowercase name.now) }
 {
-    for name in names {
-        add_under(index, name.as_str().to_ascii_lowercase(alloc)?, address)?;
+    compare_lowered(host_of(rows, listing).as_bytes(), name)
+}
+
+/// Tests whether a listing is of the name.
+fn has_name(rows: &[HostRow], listing: &Listing, name: &[u8]) -> bool
+    ensures { result ≡ has_key rows.now (str_to_ascii_lowercase name.now) listing.now }
+{
+    compare_name(rows, listing, name).is_eq()
+}
+
+/// Tests whether a listing stands before those of the name.
+fn is_before(rows: &[HostRow], listing: &Listing, name: &[u8]) -> bool
+    ensures { result ≡ is_lt (slice_cmp nat_cmp (host_key rows.now listing.now) (str_to_ascii_lowercase name.now)) }
+{
+    compare_name(rows, listing, name).is_lt()
+}
+
+/// Lends the name that is listed.
+fn host_of<'a>(rows: &'a [HostRow], listing: &Listing) -> &'a str
+    ensures { result.now ≡ host_of rows.now listing.now }
+{
+    match rows.get(listing.row) {
+        Some(row) => name_at(row.names.as_slice(), listing.name),
+        None => "",
+    }
+}
+
+/// Lists the names of the rows.
+fn listings_by_name(alloc: Global, rows: &[HostRow]) -> Result<Vec<Listing>, AllocError>
+    ensures order { IfOk result (λ listings. AreByHost rows.now listings.items) }
+    ensures addresses { IfOk result (λ listings. HasAddresses rows.now listings.items) }
+{
+    let mut listings = Vec::new(alloc);
+    for (place, row) in rows.iter().enumerate() {
+        add_hosts(&mut listings, rows, place, row)?;
+    }
+    sort_by_name(rows, &mut listings)?;
+    Ok(listings)
+}
+
+/// Lists the names of the row at the place.
+fn add_hosts(
+    listings: &mut Vec<Listing>,
+    rows: &[HostRow],
+    place: usize,
+    row: &HostRow,
+) -> Result<(), AllocError>
+    requires { slice_get rows.now place ≡ Some row.now }
+    ensures { OnOk result (AddsHosts rows.now listings.old.items listings.new.items row.now.addr row.now.names) }
+{
+    for name in 0..row.names.len() {
+        listings.push(Listing {
+            row: place,
+            name,
+            addr: row.addr,
+        })?;
     }
     Ok(())
+}
+
+/// Compares two listings by their names.
+fn by_name(rows: &[HostRow], a: &Listing, b: &Listing) -> Ordering
+    ensures { result ≡ slice_cmp nat_cmp (host_key rows.now a.now) (host_key rows.now b.now) }
+{
+    compare_name(rows, a, host_of(rows, b).as_bytes())
+}
+
+/// Sorts the listings by name. Those of one name stay in their order.
+fn sort_by_name(rows: &[HostRow], listings: &mut Vec<Listing>) -> Result<(), AllocError>
+    ensures order { OnOk result (AreByHost rows.now listings.new.items) }
+    ensures kept { KeepsHosts rows.now listings.old.items listings.new.items }
+{
+    listings.sort_by(|a, b| by_name(rows, a, b))
 }
 
 /// Reads the row of a line, or the first rule that it breaks.

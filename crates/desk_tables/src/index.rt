@@ -1,12 +1,16 @@
 //! Indexes of tables: what is listed under each name. Look-ups by name or number go by them.
 
 ghost use Rattle.std.specs.Prelude.{◌≡◌, [], OnOk, option_and_then, slice_get, slice_index_or};
+ghost use Rattle.std.specs.Cmp.Lexicographic.{slice_cmp};
 ghost use Rattle.std.specs.Option.{option_copied};
+ghost use Rattle.std.specs.Ordering.{nat_cmp};
+ghost use Rattle.std.specs.Str.{str_to_ascii_lowercase};
 ghost use Rattle.std.specs.String.{string_bytes};
 ghost use Rattle.desk_tables.specs.PrivateIndex.{AddsFirst, AddsFirstNumber, AddsUnder};
 
 use desk_text::{Addr, Text};
 use std::alloc::{AllocError, Global};
+use std::cmp::Ordering;
 use std::collections::BTreeMap;
 
 /// A name of a row: the place of the row in its table, that of the name among those of the row, and the row's address.
@@ -25,6 +29,24 @@ pub fn name_at(names: &[Text], place: usize) -> &str
         Some(name) => name.as_str(),
         None => "",
     }
+}
+
+/// Compares two texts in small letters.
+pub fn compare_lowered(a: &[u8], b: &[u8]) -> Ordering
+    ensures { result ≡ slice_cmp nat_cmp (str_to_ascii_lowercase a.now) (str_to_ascii_lowercase b.now) }
+{
+    for index in 0..a.len().min(b.len()) {
+        // (most letters are alike as they are, and need not be made small)
+        if a[index] != b[index] {
+            let order = a[index]
+                .to_ascii_lowercase()
+                .cmp(&b[index].to_ascii_lowercase());
+            if order != Ordering::Equal {
+                return order;
+            }
+        }
+    }
+    a.len().cmp(&b.len())
 }
 
 /// Adds the value under the name, if nothing is there yet.

@@ -1,10 +1,9 @@
-use Rattle.std.proofs.Common.{◌≡◌, ◌<◌, ◌∙◌, List, ℕ, Option, [], ap, arith, get_or, length, take}
+use Rattle.std.proofs.Common.{◌≡◌, ◌<◌, ◌∙◌, [], ap, arith, get_or, length, take}
 use Rattle.std.specs.List.{list_any}
 use Rattle.std.specs.Option.{option_map_or, option_or}
 use Rattle.std.specs.Prelude.{slice_index_or}
 use Rattle.std.specs.Str.{bytes_eq}
 use Rattle.std.proofs.lemmas.List.{get_or_default}
-use Rattle.desk_text.specs.declared.address.Addr.{Addr}
 use Rattle.desk_tables.specs.PrivateIndex.{name_of, numbered}
 use Rattle.desk_tables.specs.declared.index.Listing.{Listing}
 use Rattle.desk_tables.specs.declared.networks.NetworkName.{NetworkName}

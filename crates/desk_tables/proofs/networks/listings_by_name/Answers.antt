@@ -1,4 +1,4 @@
-use Rattle.std.proofs.Common.{◌≡◌, ◌∙◌, List, ℕ, Option, ap, rules, take}
+use Rattle.std.proofs.Common.{◌≡◌, ◌∙◌, Option, ap, rules, take}
 use Rattle.std.specs.Option.{option_map, option_or}
 use Rattle.std.proofs.lemmas.List.{take_all}
 use Rattle.desk_text.specs.declared.address.Addr.{Addr}
