@@ -230,7 +230,7 @@ fn read_row(
     if has_long_name(names) {
         return Err(ReadError::Fault(TableRule::Name));
     }
-    let mut copies = Sequence::new(alloc);
+    let mut copies = Sequence::from_vec(Vec::with_capacity(alloc, names.len())?);
     push_copies(alloc, &mut copies, names)?;
     Ok(Some(HostRow {
         addr,

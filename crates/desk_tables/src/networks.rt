@@ -195,7 +195,7 @@ fn read_row(
     if name.len() > 255 || has_long_name(aliases) {
         return Err(ReadError::Fault(TableRule::Name));
     }
-    let mut names = Sequence::new(alloc);
+    let mut names = Sequence::from_vec(Vec::with_capacity(alloc, fields.len())?);
     names.push(Text::copy(alloc, name)?)?;
     push_copies(alloc, &mut names, aliases)?;
     Ok(Some(NetworkName { number, names }))
