@@ -1,11 +1,10 @@
 -- What a desk answers to a question is an answer by the database that it was opened on, for `questions`.
-use Rattle.std.proofs.Common.{◌≡◌, ◌≢◌, ◌⊎◌, ◌==◌, ◌∙◌, ℕ, Bool, true, false, List, [], ◌∷◌, inl, inr, Option, Some, None, Result, Ok, Err, ap, length, map, refl, subst, sym}
+use Rattle.std.proofs.Common.{◌≡◌, ◌≢◌, ◌==◌, ◌∙◌, ℕ, Bool, true, false, List, [], inl, inr, Option, Some, None, Result, Ok, Err, ap, length, map, refl, subst, sym}
 use Rattle.std.proofs.lemmas.Bool.{eqb-true}
 use Rattle.std.proofs.lemmas.List.{length-map, nil_from_length}
 use Rattle.std.specs.Option.{option_map}
 use Rattle.sqlite_trees.specs.View.{doubt}
 use Rattle.sqlite.specs.Effect.{Database}
-use Rattle.desk_tables.specs.declared.credentials.Cred.{Cred}
 use Rattle.desk_core.specs.Head.{Revision}
 use Rattle.desk_core.specs.History.{revisions_of}
 use Rattle.desk_store.specs.Desk.{stored_of}
@@ -14,7 +13,7 @@ use Rattle.desk_store.specs.declared.desk.Revision.{Revision as Found}
 use Rattle.desk_store.specs.declared.error.DeskError.{DeskError}
 use Rattle.desk_store.specs.declared.error.DeskError.TheVariants as error
 use Rattle.desk_command.specs.Files.{IsUnread}
-use Rattle.desk_command.specs.Questions.{AnswersBy, AnswersFrom, AnswersQuestion, Ask, Cat, Exports, Log, Question, Show, numbered_authors}
+use Rattle.desk_command.specs.Questions.{AnswersByDatabase, AnswersByHistory, AnswersQuestion, Ask, Cat, Exports, Log, OutputByHistory, Show, SiteQuestion, numbered_authors}
 use Rattle.desk_command.specs.Refused.{IsRefusedAs, TellsError}
 use Rattle.desk_command.specs.declared.failure.Failure.{Failure}
 use Rattle.desk_command.specs.declared.failure.Failure.TheVariants.{Memory}
@@ -24,29 +23,29 @@ use Rattle.desk_command.specs.declared.output.Output.TheVariants.{Refused}
 use Rattle.desk_command.specs.declared.refused.Refused.{Refused as Why}
 use Rattle.desk_command.specs.declared.refused.Refused.TheVariants as refused
 
--- SQLite does not open a database
-pub unopened : (path : List ℕ) (q : Question) (result : Result Output Failure) → IsRefusedAs refused.Store result → AnswersQuestion path q result
-unopened path q (Ok (Refused why told)) is = subst (λ (w : Why). AnswersQuestion path q (Ok (Refused w told))) (sym is) tt
-unopened path q (Ok output) is = absurd is
-unopened path q (Err Memory) is = tt
-unopened path q (Err failure) is = absurd is
+-- a database at a path answers
+pub at_path : (path : List ℕ) (db : Database) (q : SiteQuestion) (result : Result Output Failure) → AnswersByDatabase db q result → AnswersQuestion path q result
+at_path path db q (Err failure) is = subst (λ (f : Failure). IsUnread DatabaseFile path f) (sym is) tt
+at_path path db q (Ok (Refused refused.Store told)) h = tt
+at_path path db q (Ok output) h = (db, h)
 
-foreign : (path : List ℕ) (db : Database) (q : Question) (result : Result Output Failure) → (IsOurs db → ⊥) → IsRefusedAs refused.Schema result → AnswersQuestion path q result
-foreign path db q (Ok (Refused why told)) none is = subst (λ (w : Why). AnswersQuestion path q (Ok (Refused w told))) (sym is) (db, none)
-foreign path db q (Ok output) none is = absurd is
-foreign path db q (Err Memory) none is = tt
-foreign path db q (Err failure) none is = absurd is
+-- it is refused so
+told_so : (db : Database) (q : SiteQuestion) (why : Why) (result : Result Output Failure) → ((told : _) → AnswersByDatabase db q (Ok (Refused why told))) → IsRefusedAs why result → AnswersByDatabase db q result
+told_so db q why (Ok (Refused found told)) answers is = subst (λ (w : Why). AnswersByDatabase db q (Ok (Refused w told))) (sym is) (answers told)
+told_so db q why (Ok output) answers is = absurd is
+told_so db q why (Err Memory) answers is = refl
+told_so db q why (Err failure) answers is = absurd is
 
 -- a desk is not opened on a database
-pub refuses : (path : List ℕ) (db : Database) (q : Question) (e : DeskError) (result : Result Output Failure) → IsOfOpening e → (e ≡ error.Schema → IsOurs db → ⊥) → TellsError e result → AnswersQuestion path q result
-refuses path db q error.Schema result look none tells = foreign path db q result (none refl) tells
-refuses path db q (error.Store fault) result look none tells = unopened path q result tells
-refuses path db q error.Memory result look none tells = subst (λ (r : Result Output Failure). AnswersQuestion path q r) (sym tells) tt
-refuses path db q (error.Refused refusal) result (inl schema) none tells = absurd (cc)
-refuses path db q (error.Refused refusal) result (inr (inl memory)) none tells = absurd (cc)
-refuses path db q (error.Refused refusal) result (inr (inr (fault, look, known, is))) none tells = absurd (cc)
+pub refuses : (db : Database) (q : SiteQuestion) (e : DeskError) (result : Result Output Failure) → IsOfOpening e → (e ≡ error.Schema → IsOurs db → ⊥) → TellsError e result → AnswersByDatabase db q result
+refuses db q error.Schema result look none tells = told_so db q refused.Schema result (λ told. none refl) tells
+refuses db q (error.Store fault) result look none tells = told_so db q refused.Store result (λ told. tt) tells
+refuses db q error.Memory result look none tells = subst (λ (r : Result Output Failure). AnswersByDatabase db q r) (sym tells) refl
+refuses db q (error.Refused refusal) result (inl schema) none tells = absurd (cc)
+refuses db q (error.Refused refusal) result (inr (inl memory)) none tells = absurd (cc)
+refuses db q (error.Refused refusal) result (inr (inr (fault, look, known, is))) none tells = absurd (cc)
 
-not_schema : (history : List Revision) (q : Question) (told : _) → AnswersBy history q (Refused refused.Schema told) → ⊥
+not_schema : (history : List Revision) (q : SiteQuestion) (told : _) → OutputByHistory history q (Refused refused.Schema told) → ⊥
 not_schema history (Ask address path own) told h = h
 not_schema history (Show address) told h = h
 not_schema history Exports told h = h
@@ -54,15 +53,15 @@ not_schema history (Log file) told h = h
 not_schema history (Cat file rev) told h = h
 
 -- a desk on a database of this project answers
-pub answers : (path : List ℕ) (db : Database) (history : List Revision) (q : Question) (result : Result Output Failure) → IsProject db history → AnswersFrom history q result → AnswersQuestion path q result
-answers path db history q (Err failure) project is = subst (λ (f : Failure). IsUnread DatabaseFile path f) (sym is) tt
-answers path db history q (Ok (Refused refused.Store told)) project h = tt
-answers path db history q (Ok (Refused refused.Schema told)) project h = absurd (not_schema history q told h)
-answers path db history q (Ok output) project h = (db, (history, project, h))
+pub answers : (db : Database) (q : SiteQuestion) (result : Result Output Failure) → IsOurs db → ((history : List Revision) → IsProject db history → AnswersByHistory history q result) → AnswersByDatabase db q result
+answers db q (Err failure) ours by = by ours.0 ours.1
+answers db q (Ok (Refused refused.Store told)) ours by = tt
+answers db q (Ok (Refused refused.Schema told)) ours by = absurd (not_schema ours.0 q told (by ours.0 ours.1))
+answers db q (Ok output) ours by = (ours, by)
 
 -- a file or revision is not there
-pub none_there : (history : List Revision) (q : Question) (result : Result Output Failure) → ((told : _) → AnswersBy history q (Refused refused.NoRevision told)) → IsRefusedAs refused.NoRevision result → AnswersFrom history q result
-none_there history q (Ok (Refused why told)) none is = subst (λ (w : Why). AnswersFrom history q (Ok (Refused w told))) (sym is) (none told)
+pub none_there : (history : List Revision) (q : SiteQuestion) (result : Result Output Failure) → ((told : _) → OutputByHistory history q (Refused refused.NoRevision told)) → IsRefusedAs refused.NoRevision result → AnswersByHistory history q result
+none_there history q (Ok (Refused why told)) none is = subst (λ (w : Why). AnswersByHistory history q (Ok (Refused w told))) (sym is) (none told)
 none_there history q (Ok output) none is = absurd is
 none_there history q (Err Memory) none is = refl
 none_there history q (Err failure) none is = absurd is

@@ -22,21 +22,21 @@ use Rattle.desk_command.specs.declared.failure.Failure.TheVariants.{Memory}
 use Rattle.desk_command.specs.declared.files.FileArgument.TheVariants.{Database as DatabaseFile}
 use Rattle.desk_command.specs.declared.output.Output.{Output}
 use Rattle.desk_command.specs.declared.output.Output.TheVariants.{Done, Refused, Tried}
-use Rattle.desk_command.specs.declared.questions.Question.{Question as LentQuestion}
-use Rattle.desk_command.specs.declared.questions.Question.TheVariants as lent
+use Rattle.desk_command.specs.declared.questions.SiteQuestion.{SiteQuestion as LentQuestion}
+use Rattle.desk_command.specs.declared.questions.SiteQuestion.TheVariants as lent
 use Rattle.desk_command.specs.declared.refused.Refused.TheVariants as refused
 
--- a question: a verdict for an address, a path and the client's credential, if it is given; what an address may mount; all
--- exports; the revisions of a file; its text as of a revision, or else the newest
-pub data Question : Type 0 where
-  Ask : ℕ → List (List ℕ) → Option Cred → Question
-  Show : ℕ → Question
-  Exports : Question
-  Log : List ℕ → Question
-  Cat : List ℕ → Option ℕ → Question
+-- a question on a site: a verdict for an address, a path and the client's credential, if it is given; what an address may mount;
+-- all exports; the revisions of a file; its text as of a revision, or else the newest
+pub data SiteQuestion : Type 0 where
+  Ask : ℕ → List (List ℕ) → Option Cred → SiteQuestion
+  Show : ℕ → SiteQuestion
+  Exports : SiteQuestion
+  Log : List ℕ → SiteQuestion
+  Cat : List ℕ → Option ℕ → SiteQuestion
 
 -- a question by value
-abbrev pub asked_question : LentQuestion → Question
+abbrev pub asked_question : LentQuestion → SiteQuestion
 asked_question (lent.Ask address path own) = Ask (number_of address) path.now own.now
 asked_question (lent.Show address) = Show (number_of address)
 asked_question lent.Exports = Exports
@@ -64,32 +64,33 @@ abbrev pub TellsInForce : List Revision → (Content → Type 0) → Type 0
 TellsInForce history Tells = (content : Content) × IsInForce (site_in (newest_of history)) content × Tells content
 
 -- the output answers a question by a history
-abbrev pub AnswersBy : List Revision → Question → Output → Type 0
-AnswersBy history (Ask address path own) (Tried tried) = TellsInForce history (λ content. answer_of tried ≡ policy_answer content own address path)
-AnswersBy history (Show address) (Done text) = TellsInForce history (λ content. string_bytes text ≡ listing_text content (listing_of content address))
-AnswersBy history Exports (Done text) = TellsInForce history (λ content. string_bytes text ≡ all_exports content)
-AnswersBy history (Log file) (Done text) = (revisions_of file history ≢ []) × (string_bytes text ≡ log_text (numbered_authors file history))
-AnswersBy history (Log file) (Refused refused.NoRevision told) = revisions_of file history ≡ []
-AnswersBy history (Cat file rev) (Done text) = option_map (λ r. r.body) (revision_asked history file rev) ≡ Some (string_bytes text)
-AnswersBy history (Cat file rev) (Refused refused.NoRevision told) = revision_asked history file rev ≡ None
-AnswersBy history question output = ⊥
+abbrev pub OutputByHistory : List Revision → SiteQuestion → Output → Type 0
+OutputByHistory history (Ask address path own) (Tried tried) = TellsInForce history (λ content. answer_of tried ≡ policy_answer content own address path)
+OutputByHistory history (Show address) (Done text) = TellsInForce history (λ content. string_bytes text ≡ listing_text content (listing_of content address))
+OutputByHistory history Exports (Done text) = TellsInForce history (λ content. string_bytes text ≡ all_exports content)
+OutputByHistory history (Log file) (Done text) = (revisions_of file history ≢ []) × (string_bytes text ≡ log_text (numbered_authors file history))
+OutputByHistory history (Log file) (Refused refused.NoRevision told) = revisions_of file history ≡ []
+OutputByHistory history (Cat file rev) (Done text) = option_map (λ r. r.body) (revision_asked history file rev) ≡ Some (string_bytes text)
+OutputByHistory history (Cat file rev) (Refused refused.NoRevision told) = revision_asked history file rev ≡ None
+OutputByHistory history question output = ⊥
 
 -- The answer to a question by a history. That a statement was refused, and that there is no memory, say nothing.
-abbrev pub AnswersFrom : List Revision → Question → Result Output Failure → Type 0
-AnswersFrom history question (Ok (Refused refused.Store told)) = Unit {0}
-AnswersFrom history question (Ok output) = AnswersBy history question output
-AnswersFrom history question (Err failure) = failure ≡ Memory
+abbrev pub AnswersByHistory : List Revision → SiteQuestion → Result Output Failure → Type 0
+AnswersByHistory history question (Ok (Refused refused.Store told)) = Unit {0}
+AnswersByHistory history question (Ok output) = OutputByHistory history question output
+AnswersByHistory history question (Err failure) = failure ≡ Memory
 
--- The output answers a question by a database: by the history that it holds, or it is not one of this project. That a
--- statement was refused says nothing.
-abbrev pub AnswersOver : Database → Question → Output → Type 0
-AnswersOver db question (Refused refused.Schema told) = IsOurs db → ⊥
-AnswersOver db question (Refused refused.Store told) = Unit {0}
-AnswersOver db question output = (history : List Revision) × IsProject db history × AnswersBy history question output
+-- The answer to a question on a database: by each history that it holds, or that it is not one of this project. That a statement
+-- was refused, and that there is no memory, say nothing.
+abbrev pub AnswersByDatabase : Database → SiteQuestion → Result Output Failure → Type 0
+AnswersByDatabase db question (Ok (Refused refused.Schema told)) = IsOurs db → ⊥
+AnswersByDatabase db question (Ok (Refused refused.Store told)) = Unit {0}
+AnswersByDatabase db question (Ok output) = IsOurs db × ((history : List Revision) → IsProject db history → OutputByHistory history question output)
+AnswersByDatabase db question (Err failure) = failure ≡ Memory
 
 -- The answer to a question on the database at a path: by what it holds; or that it cannot be read, or that SQLite does not open
 -- it. Out of memory says nothing.
-abbrev pub AnswersQuestion : List ℕ → Question → Result Output Failure → Type 0
+abbrev pub AnswersQuestion : List ℕ → SiteQuestion → Result Output Failure → Type 0
 AnswersQuestion path question (Err failure) = IsUnread DatabaseFile path failure
 AnswersQuestion path question (Ok (Refused refused.Store told)) = Unit {0}
-AnswersQuestion path question (Ok output) = (db : Database) × AnswersOver db question output
+AnswersQuestion path question (Ok output) = (db : Database) × AnswersByDatabase db question (Ok output)

@@ -9,7 +9,7 @@ ghost use Rattle.desk_command.specs.Words.{Finds, given_ask};
 use crate::arguments::{Argument, read_credential, read_host, read_path};
 use crate::failure::Failure;
 use crate::output::Output;
-use crate::questions::{Question, answer_question};
+use crate::questions::{SiteQuestion, answer_question};
 use crate::words::{optional, required};
 use clap::ArgMatches;
 
@@ -47,5 +47,5 @@ pub fn run_ask(rt: &HostRuntime, words: AskWords<'_>) -> Result<Output, Failure>
     let address = read_host(alloc, words.host)?;
     let path = read_path(alloc, Argument::Dir, words.dir)?;
     let own = read_credential(alloc, words.credential, "", "")?;
-    answer_question(rt, words.db, Question::Ask(address, &path, &own))
+    answer_question(rt, words.db, SiteQuestion::Ask(address, &path, &own))
 }

@@ -9,7 +9,7 @@ ghost use Rattle.desk_command.specs.Words.{Finds, given_cat, given_log};
 use crate::arguments::{Argument, read_number};
 use crate::failure::Failure;
 use crate::output::Output;
-use crate::questions::{Question, answer_question};
+use crate::questions::{SiteQuestion, answer_question};
 use crate::words::{optional, required};
 use clap::ArgMatches;
 
@@ -58,7 +58,7 @@ impl<'a> CatWords<'a> {
 pub fn run_log(rt: &HostRuntime, words: LogWords<'_>) -> Result<Output, Failure>
     ensures { AnswersLog (given_log words.entry) result }
 {
-    answer_question(rt, words.db, Question::Log(words.name))
+    answer_question(rt, words.db, SiteQuestion::Log(words.name))
 }
 
 /// Answers `cat DB NAME [--rev N]`.
@@ -69,5 +69,5 @@ pub fn run_cat(rt: &HostRuntime, words: CatWords<'_>) -> Result<Output, Failure>
         Some(word) => Some(read_number(rt.alloc(), Argument::Rev, word)?),
         None => None,
     };
-    answer_question(rt, words.db, Question::Cat(words.name, rev))
+    answer_question(rt, words.db, SiteQuestion::Cat(words.name, rev))
 }

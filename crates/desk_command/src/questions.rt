@@ -7,7 +7,7 @@ ghost use Rattle.desk_text.specs.Address.{number_of};
 ghost use Rattle.desk_policy.specs.ListingPrints.{listing_text};
 ghost use Rattle.desk_policy.specs.Listings.{listing_of};
 ghost use Rattle.desk_store.specs.Desk.{HasGoodDisk, History, StandsAt};
-ghost use Rattle.desk_command.specs.Questions.{AnswersFrom, AnswersQuestion, Cat, Log, asked_question, log_text, revision_line};
+ghost use Rattle.desk_command.specs.Questions.{AnswersByDatabase, AnswersByHistory, AnswersQuestion, Cat, Log, asked_question, log_text, revision_line};
 
 use crate::database::{Copied, Unopened, open_copy};
 use crate::failure::Failure;
@@ -25,9 +25,9 @@ use std::alloc::{AllocError, Global};
 /// A desk over the copy of a database.
 type CopiedDesk = Desk<FileStore<Memory>, Plain>;
 
-/// What is asked of a database.
+/// What is asked of the site in a database.
 #[derive(Clone, Copy)]
-pub enum Question<'a> {
+pub enum SiteQuestion<'a> {
     /// Whether the client of this address may mount this directory, and as whom it acts, if its credential is given.
     Ask(Addr, &'a Path, &'a Option<Cred>),
     /// What the client of this address may mount.
@@ -44,7 +44,7 @@ pub enum Question<'a> {
 pub fn answer_question(
     rt: &HostRuntime,
     db: &str,
-    question: Question<'_>,
+    question: SiteQuestion<'_>,
 ) -> Result<Output, Failure>
     ensures { AnswersQuestion db.now (asked_question question.entry) result }
 {
@@ -60,10 +60,10 @@ fn answer_over(
     alloc: Global,
     db: &str,
     conn: Copied,
-    question: Question<'_>,
+    question: SiteQuestion<'_>,
 ) -> Result<Output, Failure>
     requires { (file_state conn).in_transaction ≡ false }
-    ensures { AnswersQuestion db.now (asked_question question.entry) result }
+    ensures { AnswersByDatabase (file_state conn).committed (asked_question question.entry) result }
 {
     let opened: Result<CopiedDesk, _> = Desk::open(alloc, conn);
     match opened {
@@ -84,20 +84,20 @@ fn answer_by<S: Alter + Drop>(
     alloc: Global,
     db: &str,
     desk: &mut Desk<S, Plain>,
-    question: Question<'_>,
+    question: SiteQuestion<'_>,
 ) -> Result<Output, Failure>
     ensures { HasGoodDisk S.Store desk.new → (history : History) → StandsAt S.Store desk.old history []
-        → AnswersFrom history (asked_question question.entry) result }
+        → AnswersByHistory history (asked_question question.entry) result }
 {
     match question {
-        Question::Ask(address, path, own) => {
+        SiteQuestion::Ask(address, path, own) => {
             Ok(Output::Tried(decide_by(alloc, desk.view(), address, path, own)?))
         }
-        Question::Show(address) => Ok(Output::Done(shown_text(alloc, desk.view(), address)?)),
-        Question::Exports => Ok(Output::Done(all_exports(alloc, desk.view().policy())?)),
-        Question::Log(name) => log(alloc, db, desk, name),
-        Question::Cat(name, None) => newest_text(alloc, desk, name),
-        Question::Cat(name, Some(rev)) => text_at(alloc, db, desk, name, rev),
+        SiteQuestion::Show(address) => Ok(Output::Done(shown_text(alloc, desk.view(), address)?)),
+        SiteQuestion::Exports => Ok(Output::Done(all_exports(alloc, desk.view().policy())?)),
+        SiteQuestion::Log(name) => log(alloc, db, desk, name),
+        SiteQuestion::Cat(name, None) => newest_text(alloc, desk, name),
+        SiteQuestion::Cat(name, Some(rev)) => text_at(alloc, db, desk, name, rev),
     }
 }
 
@@ -117,7 +117,7 @@ fn log<S: Alter + Drop>(
     name: &str,
 ) -> Result<Output, Failure>
     ensures { HasGoodDisk S.Store desk.new → (history : History) → StandsAt S.Store desk.old history []
-        → AnswersFrom history (Log name.now) result }
+        → AnswersByHistory history (Log name.now) result }
 {
     match desk.revisions(alloc, name) {
         Ok(revisions) if revisions.is_empty() => no_revision(alloc, name, None),
@@ -151,7 +151,7 @@ fn newest_text<S: Alter + Drop>(
     name: &str,
 ) -> Result<Output, Failure>
     ensures { HasGoodDisk S.Store desk.new → (history : History) → StandsAt S.Store desk.old history []
-        → AnswersFrom history (Cat name.now None) result }
+        → AnswersByHistory history (Cat name.now None) result }
 {
     match desk.newest(name) {
         Some(head) => Ok(Output::Done(String::from_str(alloc, head.body.as_str())?)),
@@ -168,7 +168,7 @@ fn text_at<S: Alter + Drop>(
     rev: u32,
 ) -> Result<Output, Failure>
     ensures { HasGoodDisk S.Store desk.new → (history : History) → StandsAt S.Store desk.old history []
-        → AnswersFrom history (Cat name.now (Some rev)) result }
+        → AnswersByHistory history (Cat name.now (Some rev)) result }
 {
     match desk.revision(alloc, name, rev) {
         Ok(Some(revision)) => { Ok(Output::Done(String::from_str(alloc, revision.body.as_str())?)) }

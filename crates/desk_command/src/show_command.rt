@@ -9,7 +9,7 @@ ghost use Rattle.desk_command.specs.Words.{Finds, given_exports, given_show};
 use crate::arguments::read_host;
 use crate::failure::Failure;
 use crate::output::Output;
-use crate::questions::{Question, answer_question};
+use crate::questions::{SiteQuestion, answer_question};
 use crate::words::required;
 use clap::ArgMatches;
 
@@ -52,12 +52,12 @@ pub fn run_show(rt: &HostRuntime, words: ShowWords<'_>) -> Result<Output, Failur
     ensures { AnswersShow (given_show words.entry) result }
 {
     let address = read_host(rt.alloc(), words.host)?;
-    answer_question(rt, words.db, Question::Show(address))
+    answer_question(rt, words.db, SiteQuestion::Show(address))
 }
 
 /// Answers `exports DB`.
 pub fn run_exports(rt: &HostRuntime, words: ExportsWords<'_>) -> Result<Output, Failure>
     ensures { AnswersExports (given_exports words.entry) result }
 {
-    answer_question(rt, words.db, Question::Exports)
+    answer_question(rt, words.db, SiteQuestion::Exports)
 }

@@ -10,12 +10,11 @@ pub returns-in-Ok : goal.returns-in-Ok
 unfolding state
 returns-in-Ok c =
     let opened = c.in-Ok.ensures.opened (good_disk (file_state c.in-Ok.desk.conn).is_clean refl) in
-    let history = opened.0.0 in
-    answers c.args.db.now (file_state c.args.conn).committed history (asked_question c.args.question) c.answer_by-answer.result opened.0.1
-    (c.answer_by-answer.ensures (good_disk (file_state c.answer_by-answer.new.desk.conn).is_clean refl) history (opened.1 history opened.0.1))
+    answers (file_state c.args.conn).committed (asked_question c.args.question) c.answer_by-answer.result opened.0
+    (λ history project. c.answer_by-answer.ensures (good_disk (file_state c.answer_by-answer.new.desk.conn).is_clean refl) history (opened.1 history project))
 
 pub returns-in-Err : goal.returns-in-Err
 unfolding state
 returns-in-Err c =
-    refuses c.args.db.now (file_state c.args.conn).committed (asked_question c.args.question) c.in-Err.error c.refused_by_desk.result c.in-Err.ensures.errors
+    refuses (file_state c.args.conn).committed (asked_question c.args.question) c.in-Err.error c.refused_by_desk.result c.in-Err.ensures.errors
     (c.in-Err.ensures.foreign (good_disk (file_state c.in-Err.conn).is_clean refl)) c.refused_by_desk.ensures
