@@ -1,24 +1,30 @@
 -- What a desk answers to an edit is told, for `put_command`.
-use Rattle.std.proofs.Common.{◌≡◌, ◌≤◌, ℕ, List, [], ◌∷◌, inl, inr, Option, Some, Result, Ok, Err, arith, refl, subst, sym}
+use Rattle.std.proofs.Common.{◌≡◌, ◌≤◌, ◌∙◌, ℕ, Bool, true, List, [], ◌∷◌, inl, inr, Option, Some, None, Result, Ok, Err, IsTrue, arith, refl, subst, sym}
+use Rattle.sqlite_wal.specs.Recovery.{Image}
 use Rattle.sqlite_trees.specs.View.{doubt}
+use Rattle.sqlite_trees.specs.declared.store.Store.{Ghosts}
 use Rattle.sqlite.specs.Effect.{Database}
+use Rattle.sqlite.specs.Held.{Held, state}
+use Rattle.sqlite.specs.Schema.{Schema}
 use Rattle.sqlite.specs.State.{HasCleanDisk, State}
+use Rattle.sqlite.specs.Table.{Table}
+use Rattle.sqlite.proofs.StateLemmas.{survives_then}
+use Rattle.desk_policy.specs.Policy.{Content}
 use Rattle.desk_core.specs.Edit.{Edit, revision_of}
-use Rattle.desk_core.specs.Head.{Revision}
-use Rattle.desk_core.specs.Views.{Kept}
-use Rattle.desk_store.specs.Desk.{IsEdited, Stands}
+use Rattle.desk_store.specs.Desk.{CommitsOne, IsEdited, LeavesTables, Shown, told}
 use Rattle.desk_store.specs.History.{row_of}
-use Rattle.desk_store.specs.Open.{IsOfOpening, IsOurs, IsProject}
+use Rattle.desk_store.specs.Open.{IsOfOpening, IsOurs, OpensAt}
 use Rattle.desk_store.specs.Tables.{Adds}
+use Rattle.desk_store.specs.declared.desk.Done.{Done as Answered}
 use Rattle.desk_store.specs.declared.error.DeskError.{DeskError}
 use Rattle.desk_store.specs.declared.error.DeskError.TheVariants as error
 use Rattle.desk_command.specs.CommandLine.{PutWords}
-use Rattle.desk_command.specs.Files.{HasText, IsUnread, LacksText, Leaves, ReadsInTurn}
-use Rattle.desk_command.specs.PutCommand.{AnswersEdit, AnswersPutFiles, PutsBy, PutsInto, TellsAnswer, key_file_in, key_in, put_files, with_first}
+use Rattle.desk_command.specs.Files.{HasText, LacksText, Leaves, ReadsInTurn}
+use Rattle.desk_command.specs.PutCommand.{AnswersEdit, AnswersPutFiles, FindsForeign, IsNotPut, IsPut, PutsBy, PutsFrom, PutsOver, TellsAnswer, key_file_in, key_in, put_files, with_first}
 use Rattle.desk_command.specs.Refused.{IsRefusedAs, TellsError}
 use Rattle.desk_command.specs.declared.failure.Failure.{Failure}
 use Rattle.desk_command.specs.declared.failure.Failure.TheVariants.{Memory}
-use Rattle.desk_command.specs.declared.files.FileArgument.TheVariants.{Database as DatabaseFile, File, KeyFile}
+use Rattle.desk_command.specs.declared.files.FileArgument.TheVariants.{File, KeyFile}
 use Rattle.desk_command.specs.declared.output.Output.{Output}
 use Rattle.desk_command.specs.declared.output.Output.TheVariants.{Refused}
 use Rattle.desk_command.specs.declared.put_command.KeySource.{KeySource}
@@ -26,61 +32,126 @@ use Rattle.desk_command.specs.declared.put_command.KeySource.TheVariants.{InFile
 use Rattle.desk_command.specs.declared.refused.Refused.{Refused as Why}
 use Rattle.desk_command.specs.declared.refused.Refused.TheVariants as refused
 
--- why an edit has no revision is told
-pub tells_error : {V : Type 0} (old new : State) (before after : Kept V) (e : Edit) (failed : DeskError) (result : Result Output Failure) → IsEdited old new before after e (Err failed) → TellsError failed result → PutsBy old new before after e result
-tells_error old new before after e (error.Refused refusal) (Ok (Refused why told)) edited is =
-    (Err (error.Refused refusal), edited, subst (λ (w : Why). TellsAnswer (Err (error.Refused refusal)) (Refused w told)) (sym is) refl)
-tells_error old new before after e (error.Refused refusal) (Ok output) edited is = absurd is
-tells_error old new before after e (error.Refused refusal) (Err Memory) edited is = refl
-tells_error old new before after e (error.Refused refusal) (Err failure) edited is = absurd is
-tells_error old new before after e (error.Store fault) (Ok (Refused why told)) edited is =
-    (Err (error.Store fault), edited, subst (λ (w : Why). TellsAnswer (Err (error.Store fault)) (Refused w told)) (sym is) tt)
-tells_error old new before after e (error.Store fault) (Ok output) edited is = absurd is
-tells_error old new before after e (error.Store fault) (Err Memory) edited is = refl
-tells_error old new before after e (error.Store fault) (Err failure) edited is = absurd is
-tells_error old new before after e error.Memory result edited is = subst (λ (r : Result Output Failure). PutsBy old new before after e r) (sym is) refl
-tells_error old new before after e error.Schema result edited is = absurd (edited.schema refl)
+-- An edit is put into a desk that was opened on the database of a connection.
+module _ {S : Type 0} (g : Ghosts S) (conn : Held S) (desk after : Shown S Content) (e : Edit) (opens : HasCleanDisk (state g desk.conn) → OpensAt g (state g conn).committed desk) (lives : HasCleanDisk (state g desk.conn) → IsTrue (state g desk.conn).is_open) (tables : LeavesTables (state g conn) (state g desk.conn)) where
+  abbrev first : State
+  first = state g conn
 
+  abbrev mid : State
+  mid = state g desk.conn
+
+  abbrev last : State
+  last = state g after.conn
+
+  no_memory : (result : Result Output Failure) → after ≡ desk → result ≡ Err Memory → IsNotPut first last result
+  no_memory result same is = record {
+    failed = error.Memory;
+    opening = inr (inl refl);
+    foreign = λ good schema ours. absurd (cc);
+    tables = subst (λ (d : Shown S Content). LeavesTables first (state g d.conn)) (sym same) tables;
+    told = is;
+  }
+
+  is_put : (answer : Result Answered DeskError) → IsEdited mid last desk.state after.state e answer → IsPut first last e answer
+  is_put answer edited =
+      let clean : HasCleanDisk last → HasCleanDisk mid = λ good. omega (arith, good, edited.crash.clean) in
+      let same : HasCleanDisk last → mid.committed ≡ first.committed = λ good. tables.same (clean good) (lives (clean good)) in
+      record {
+        before = desk.state;
+        after = after.state;
+        schema = edited.schema;
+        ours = λ good. (opens (clean good)).0;
+        heads = λ good history project. ((opens (clean good)).1 history project).heads;
+        step = λ good history project. edited.step good history [] ((opens (clean good)).1 history project);
+        unchanged = λ good live none. edited.tables good live none ∙ same good;
+        crash = survives_then first mid last (λ _. ⊥) (CommitsOne desk.state e (told answer) mid.committed) (CommitsOne desk.state e (told answer) first.committed) (λ good trees none. absurd none)
+            (λ good trees commits. subst (λ (db : Database). CommitsOne desk.state e (told answer) db trees) (same good) commits) tables.crash edited.crash;
+        stored = λ good some.
+            let it = edited.durable good some in
+            record { live = it.live; adds = subst (λ (db : Database). Adds (row_of (revision_of e)) db last.committed) (same good) it.adds; leaves = it.leaves };
+      }
+
+  pub puts_over : (result : Result Output Failure) → PutsBy g desk after e result → PutsOver first last e result
+  puts_over result (inl (same, is)) = inl (no_memory result same is)
+  puts_over result (inr (answer, edited, tells)) = inr (answer, is_put answer edited, tells)
+
+no_schema : Schema
+no_schema = record { tables = []; indexes = []; views = [] }
+
+is_some_type : Option Table → Type 0
+is_some_type None = ⊥
+is_some_type (Some table) = Unit {0}
+
+empty_is_foreign : IsOurs (record { schema = no_schema; trees = λ _. [] }) → ⊥
+unfolding is_some_type no_schema
+empty_is_foreign ours = subst is_some_type (sym ours.1.holds.tables.meta) tt
+
+-- an empty file is an empty database
+pub finds_empty : FindsForeign
+finds_empty = record { old = record { schema = no_schema; trees = λ _. [] }; is_clean = true; foreign = λ good. empty_is_foreign }
+
+-- a database is not one of this project
+pub foreign : (path : List ℕ) (e : Edit) (result : Result Output Failure) → FindsForeign → IsRefusedAs refused.Schema result → AnswersEdit path e result
+foreign path e (Ok (Refused why told)) finds is = subst (λ (w : Why). AnswersEdit path e (Ok (Refused w told))) (sym is) finds
+foreign path e (Ok output) finds is = absurd is
+foreign path e (Err Memory) finds is = tt
+foreign path e (Err failure) finds is = absurd is
+
+-- SQLite does not open a database, or refused a statement
 pub not_stored : (path : List ℕ) (e : Edit) (result : Result Output Failure) → IsRefusedAs refused.Store result → AnswersEdit path e result
 not_stored path e (Ok (Refused why told)) is = subst (λ (w : Why). AnswersEdit path e (Ok (Refused w told))) (sym is) tt
 not_stored path e (Ok output) is = absurd is
 not_stored path e (Err Memory) is = tt
 not_stored path e (Err failure) is = absurd is
 
-pub foreign : (path : List ℕ) (e : Edit) (result : Result Output Failure) → IsRefusedAs refused.Schema result → AnswersEdit path e result
-foreign path e (Ok (Refused why told)) is = subst (λ (w : Why). AnswersEdit path e (Ok (Refused w told))) (sym is) tt
-foreign path e (Ok output) is = absurd is
-foreign path e (Err Memory) is = tt
-foreign path e (Err failure) is = absurd is
+-- no desk is opened on a database
+not_put : (path : List ℕ) (e : Edit) (failed : DeskError) (result : Result Output Failure) (db : Database) (is_clean : Bool) → IsOfOpening failed → (doubt is_clean ≡ 0 → failed ≡ error.Schema → IsOurs db → ⊥) → TellsError failed result → AnswersEdit path e result
+not_put path e error.Schema result db is_clean look none tells = foreign path e result (record { old = db; is_clean = is_clean; foreign = λ good. none good refl }) tells
+not_put path e (error.Store fault) result db is_clean look none tells = not_stored path e result tells
+not_put path e error.Memory result db is_clean look none tells = subst (λ (r : Result Output Failure). AnswersEdit path e r) (sym tells) tt
+not_put path e (error.Refused refusal) result db is_clean (inl schema) none tells = absurd (cc)
+not_put path e (error.Refused refusal) result db is_clean (inr (inl memory)) none tells = absurd (cc)
+not_put path e (error.Refused refusal) result db is_clean (inr (inr (fault, look, known, is))) none tells = absurd (cc)
 
--- a desk is not opened on a database
-pub not_opened : (path : List ℕ) (e : Edit) (failed : DeskError) (result : Result Output Failure) → IsOfOpening failed → TellsError failed result → AnswersEdit path e result
-not_opened path e error.Schema result look tells = foreign path e result tells
-not_opened path e (error.Store fault) result look tells = not_stored path e result tells
-not_opened path e error.Memory result look tells = subst (λ (r : Result Output Failure). AnswersEdit path e r) (sym tells) tt
-not_opened path e (error.Refused refusal) result (inl schema) tells = absurd (cc)
-not_opened path e (error.Refused refusal) result (inr (inl memory)) tells = absurd (cc)
-not_opened path e (error.Refused refusal) result (inr (inr (fault, look, known, is))) tells = absurd (cc)
+-- of an edit that has no revision, only want of memory is a failure
+failed_so : (path : List ℕ) (e : Edit) (answer : Result Answered DeskError) (failure : Failure) → TellsAnswer answer (Err failure) → AnswersEdit path e (Err failure)
+failed_so path e (Ok done) failure tells = absurd tells
+failed_so path e (Err (error.Refused refusal)) Memory tells = tt
+failed_so path e (Err (error.Refused refusal)) failure tells = absurd tells
+failed_so path e (Err (error.Store fault)) Memory tells = tt
+failed_so path e (Err (error.Store fault)) failure tells = absurd tells
+failed_so path e (Err error.Schema) Memory tells = tt
+failed_so path e (Err error.Schema) failure tells = absurd tells
+failed_so path e (Err error.Memory) failure tells = subst (λ (r : Result Output Failure). AnswersEdit path e r) (sym tells) tt
 
--- an edit is put into a desk that was opened on a database
-pub puts : {V : Type 0} (path : List ℕ) (s t : State) (before after : Kept V) (e : Edit) (result : Result Output Failure) (db : Database)
-    → (HasCleanDisk s → IsOurs db × ((history : List Revision) → IsProject db history → Stands s before history []))
-    → (HasCleanDisk s → s.committed ≡ db) → PutsBy s t before after e result → AnswersEdit path e result
-puts path s t before after e (Err failure) db opens same by = subst (λ (f : Failure). IsUnread DatabaseFile path f) (sym by) tt
-puts path s t before after e (Ok (Refused refused.Store told)) db opens same by = tt
-puts path s t before after e (Ok (Refused refused.Schema told)) db opens same by = tt
-puts path s t before after e (Ok output) db opens same by =
-    let clean : HasCleanDisk t → HasCleanDisk s = λ good. omega (arith, good, by.1.crash.clean) in
-    record {
-      old = db;
-      new = t.committed;
-      is_clean = t.is_clean;
-      answer = by.0;
-      told = by.2;
-      ours = λ good. (opens (clean good)).0;
-      answered = λ good history project. (by.1.step good history [] ((opens (clean good)).1 history project)).answered;
-      stored = λ good some. subst (λ (d : Database). Adds (row_of (revision_of e)) d t.committed) (same (clean good)) (by.1.durable good some).adds;
-    }
+foreign_so : (old new : State) (e : Edit) (answer : Result Answered DeskError) (told : _) → IsPut old new e answer → TellsAnswer answer (Ok (Refused refused.Schema told)) → FindsForeign
+foreign_so old new e (Ok done) told put tells = absurd tells
+foreign_so old new e (Err error.Schema) told put tells = absurd (put.schema refl)
+foreign_so old new e (Err (error.Refused refusal)) told put tells = absurd (cc)
+foreign_so old new e (Err (error.Store fault)) told put tells = absurd (cc)
+foreign_so old new e (Err error.Memory) told put tells = absurd (cc)
+
+answered : (path : List ℕ) (old new : State) (e : Edit) (answer : Result Answered DeskError) (result : Result Output Failure) → IsPut old new e answer → TellsAnswer answer result → AnswersEdit path e result
+answered path old new e answer (Err failure) put tells = failed_so path e answer failure tells
+answered path old new e answer (Ok (Refused refused.Store told)) put tells = tt
+answered path old new e answer (Ok (Refused refused.Schema told)) put tells = foreign_so old new e answer told put tells
+answered path old new e answer (Ok output) put tells = record {
+  old = old.committed;
+  new = new.committed;
+  is_clean = new.is_clean;
+  answer = answer;
+  told = tells;
+  ours = put.ours;
+  answered = λ good history project. (put.step good history project).answered;
+  stored = λ good some. (put.stored good some).adds;
+}
+
+-- an edit is put into the files that a path leads to
+pub answers : {S : Type 0} (g : Ghosts S) (image : Image) (path : List ℕ) (e : Edit) (result : Result Output Failure) (left : Option (Held S)) → PutsFrom g image e result left → AnswersEdit path e result
+answers g image path e result None is = not_stored path e result is
+answers g image path e result (Some left) (conn, opened, inl none) =
+    not_put path e none.failed result (state g conn).committed (state g left).is_clean none.opening none.foreign none.told
+answers g image path e result (Some left) (conn, opened, inr (answer, put, tells)) = answered path (state g conn) (state g left) e answer result put tells
 
 -- FILE has no text
 pub no_file : (words : PutWords) (base : ℕ) (key : KeySource) (known : Option (List ℕ)) (failure : Failure) → LacksText File words.file known failure → AnswersPutFiles words base (key_in key) (key_file_in key) known (Err failure)

@@ -1,18 +1,23 @@
 -- The output of `put` by its words and files. (this project's own)
-use Rattle.std.specs.Prelude.{◌≡◌, ◌≢◌, ◌⊎◌, ℕ, ◌++◌, ◌∷◌, ◌&&◌, Bool, true, false, List, [], Option, Some, None, Result, Ok, Err, IsErrAnd, IsOkAnd, codes, length, if◌then◌else◌}
+use Rattle.std.specs.Prelude.{◌≡◌, ◌≢◌, ◌⊎◌, ℕ, ◌++◌, ◌∷◌, ◌&&◌, Bool, true, false, List, [], Option, Some, None, Result, Ok, Err, IsErrAnd, IsOkAnd, IsTrue, codes, length, if◌then◌else◌}
 use Rattle.std.specs.Fmt.{decimal}
 use Rattle.std.specs.Str.Lines.{IsFirstLine}
 use Rattle.std.specs.String.{string_bytes}
-use Rattle.sqlite.specs.Effect.{Database}
-use Rattle.sqlite.specs.State.{State}
+use Rattle.sqlite_wal.specs.Recovery.{Image}
 use Rattle.sqlite_trees.specs.View.{doubt}
+use Rattle.sqlite_trees.specs.declared.store.Store.{Ghosts}
+use Rattle.sqlite.specs.Effect.{Database}
+use Rattle.sqlite.specs.Held.{Held, state}
+use Rattle.sqlite.specs.Start.{FindsIn}
+use Rattle.sqlite.specs.State.{HasCleanDisk, Opens, State, Survives}
+use Rattle.desk_policy.specs.Policy.{Content}
 use Rattle.desk_core.specs.Edit.{Edit, revision_of}
-use Rattle.desk_core.specs.Head.{Revision}
+use Rattle.desk_core.specs.Head.{Revision, newest_in}
 use Rattle.desk_core.specs.Views.{Kept}
-use Rattle.desk_core.specs.History.{IsAnswered, added_if}
-use Rattle.desk_store.specs.Desk.{IsEdited, told as told_answer}
+use Rattle.desk_core.specs.History.{IsAnswered, added_if, newest_of}
+use Rattle.desk_store.specs.Desk.{CommitsOne, HasStored, IsEdited, LeavesTables, Shown, StepsOn, told as told_answer}
 use Rattle.desk_store.specs.History.{row_of}
-use Rattle.desk_store.specs.Open.{IsOurs, IsProject}
+use Rattle.desk_store.specs.Open.{IsOfOpening, IsOurs, IsProject}
 use Rattle.desk_store.specs.Tables.{Adds}
 use Rattle.desk_store.specs.declared.desk.Done.{Done as Answered}
 use Rattle.desk_store.specs.declared.error.DeskError.{DeskError}
@@ -20,6 +25,7 @@ use Rattle.desk_store.specs.declared.error.DeskError.TheVariants as error
 use Rattle.desk_command.specs.Arguments.{IsBadNumber, revision_number}
 use Rattle.desk_command.specs.CommandLine.{PutWords}
 use Rattle.desk_command.specs.Files.{IsUnread, ReadsInTurn, is_input}
+use Rattle.desk_command.specs.Refused.{IsRefusedAs, TellsError}
 use Rattle.desk_command.specs.declared.arguments.Argument.TheVariants as name
 use Rattle.desk_command.specs.declared.failure.Failure.{Failure}
 use Rattle.desk_command.specs.declared.failure.Failure.TheVariants.{InputTwice, KeyTwice, Memory, NoKey}
@@ -45,36 +51,78 @@ pub record HasReplies (rev : ℕ) (replies : Replies) : Type 0 where
   pub accepted : string_bytes replies.accepted ≡ codes "accepted rev " ++ decimal rev ++ 10 ∷ []
   pub already : string_bytes replies.already ≡ codes "already rev " ++ decimal rev ++ 10 ∷ []
 
--- the output tells the answer of a desk to an edit
-abbrev pub TellsAnswer : Result Answered DeskError → Output → Type 0
-TellsAnswer (Ok done) (Done text) = string_bytes text ≡ reply_line done
-TellsAnswer (Err (error.Refused refusal)) (Refused (refused.Edit found) told) = found ≡ refusal
-TellsAnswer (Err (error.Store fault)) (Refused refused.Store told) = Unit {0}
-TellsAnswer answer output = ⊥
+-- The result tells the answer of a desk to an edit. That an edit is stored, or was, is always told, since its lines are made
+-- before; a refusal or a fault may be told as out of memory.
+abbrev pub TellsAnswer : Result Answered DeskError → Result Output Failure → Type 0
+TellsAnswer (Ok done) (Ok (Done text)) = string_bytes text ≡ reply_line done
+TellsAnswer (Ok done) result = ⊥
+TellsAnswer (Err failed) result = TellsError failed result
 
--- What putting an edit into a desk did: what the desk answers is told. If memory ran out before, nothing was done.
-abbrev pub PutsBy : {V : Type 0} → State → State → Kept V → Kept V → Edit → Result Output Failure → Type 0
-PutsBy old new before after e (Ok output) = (answer : Result Answered DeskError) × IsEdited old new before after e answer × TellsAnswer answer output
-PutsBy old new before after e (Err failure) = failure ≡ Memory
+-- What putting an edit into a desk did: its answer to the edit is told; or memory ran out before, and nothing was done.
+abbrev pub PutsBy : {S V : Type 0} → Ghosts S → Shown S V → Shown S V → Edit → Result Output Failure → Type 0
+PutsBy g old new e result =
+    ((new ≡ old) × (result ≡ Err Memory))
+    ⊎ ((answer : Result Answered DeskError) × IsEdited (state g old.conn) (state g new.conn) old.state new.state e answer × TellsAnswer answer result)
 
--- An edit is put into a desk that was opened on a database: it is answered by the history that this held, and that is told; if it
--- is stored, its revision is the one row more. If the disk returned what was not written, nothing is said.
+-- No edit was put into the database of a connection: it is not one of this project, a statement that looks for that was refused,
+-- or memory ran out. Why is told; the tables are as before, and a crash leaves what it could before.
+pub record IsNotPut (old new : State) (result : Result Output Failure) : Type 0 where
+  pub failed : DeskError
+  pub opening : IsOfOpening failed
+  pub foreign : HasCleanDisk new → failed ≡ error.Schema → IsOurs old.committed → ⊥
+  pub tables : LeavesTables old new
+  pub told : TellsError failed result
+
+-- An edit was put into the database of a connection, and has this answer. It is one of this project, and the answer is by the
+-- history that it held; it then holds the history after the edit, and a crash at any moment leaves what it could before, or the
+-- edit's one commit. Once the edit is answered as stored, its revision is the one row more, and a crash leaves that.
+pub record IsPut (old new : State) (e : Edit) (answer : Result Answered DeskError) : Type 0 where
+  -- what the desk that was opened on it kept beside the tables
+  pub before : Kept Content
+  pub after : Kept Content
+  pub schema : answer ≢ Err error.Schema
+  pub ours : HasCleanDisk new → IsOurs old.committed
+  pub heads : HasCleanDisk new → (history : List Revision) → IsProject old.committed history → newest_in before.heads ≡ newest_of history
+  pub step : HasCleanDisk new → (history : List Revision) → IsProject old.committed history → StepsOn new after e (told_answer answer) history []
+  pub unchanged : HasCleanDisk new → IsTrue new.is_open → added_if e (told_answer answer) ≡ [] → new.committed ≡ old.committed
+  pub crash : Survives old new (CommitsOne before e (told_answer answer) old.committed)
+  pub stored : HasCleanDisk new → added_if e (told_answer answer) ≢ [] → HasStored (row_of (revision_of e)) old new
+
+-- what putting an edit into the database of a connection did, and told
+abbrev pub PutsOver : State → State → Edit → Result Output Failure → Type 0
+PutsOver old new e result = IsNotPut old new result ⊎ ((answer : Result Answered DeskError) × IsPut old new e answer × TellsAnswer answer result)
+
+-- A connection to files that held this image was opened, an edit was put into its database, and this is what is left of it; if
+-- none is left, it was not opened.
+abbrev pub PutsFrom : {S : Type 0} → Ghosts S → Image → Edit → Result Output Failure → Option (Held S) → Type 0
+PutsFrom {S} g image e result (Some left) =
+    (conn : Held S) × (HasCleanDisk (state g conn) → Opens (state g conn) × FindsIn image (state g conn)) × PutsOver (state g conn) (state g left) e result
+PutsFrom g image e result None = IsRefusedAs refused.Store result
+
+-- An edit is put into some database: it is answered by the history that this held, and that is told; if it is stored, its revision
+-- is the one row more. If the disk returned what was not written, nothing is said.
 pub record PutsInto (e : Edit) (output : Output) : Type 0 where
   pub old : Database
   pub new : Database
   pub is_clean : Bool
   pub answer : Result Answered DeskError
-  pub told : TellsAnswer answer output
+  pub told : TellsAnswer answer (Ok output)
   pub ours : doubt is_clean ≡ 0 → IsOurs old
   pub answered : doubt is_clean ≡ 0 → (history : List Revision) → IsProject old history → IsAnswered history e (told_answer answer)
   pub stored : doubt is_clean ≡ 0 → added_if e (told_answer answer) ≢ [] → Adds (row_of (revision_of e)) old new
 
--- the answer to an edit of the database at a path; or that this cannot be read, or SQLite does not open it. Out of memory says
--- nothing.
+-- Some database is not one of this project. If the disk returned what was not written, nothing is said.
+pub record FindsForeign : Type 0 where
+  pub old : Database
+  pub is_clean : Bool
+  pub foreign : doubt is_clean ≡ 0 → IsOurs old → ⊥
+
+-- The answer to an edit of the database at a path: that it was put into what this holds, or that this is not a database of this
+-- project; or that it cannot be read, or SQLite does not open it. Out of memory says nothing.
 abbrev pub AnswersEdit : List ℕ → Edit → Result Output Failure → Type 0
 AnswersEdit path e (Err failure) = IsUnread DatabaseFile path failure
 AnswersEdit path e (Ok (Refused refused.Store told)) = Unit {0}
-AnswersEdit path e (Ok (Refused refused.Schema told)) = Unit {0}
+AnswersEdit path e (Ok (Refused refused.Schema told)) = FindsForeign
 AnswersEdit path e (Ok output) = PutsInto e output
 
 -- the edit that the words ask for, with a key and a text

@@ -18,7 +18,7 @@ use std::os::fd::AsRawFd;
 use std::os::unix::fs::MetadataExt;
 use std::{fs, io};
 
-const CANNOT_OPEN: Error = Error::SqliteFailure(ErrorCode::CannotOpen);
+pub const CANNOT_OPEN: Error = Error::SqliteFailure(ErrorCode::CannotOpen);
 
 /// A connection to a copy of a database in memory.
 pub type Copied = Connection<FileStore<Memory>>;
@@ -102,7 +102,7 @@ fn copy_locked(rt: &HostRuntime, path: &str) -> io::Result<Result<Files<Memory>,
 }
 
 /// Tests whether a regular file with one name stands at a path. A second name would hide its log.
-fn is_plain(rt: &HostRuntime, path: &str) -> io::Result<bool> {
+pub fn is_plain(rt: &HostRuntime, path: &str) -> io::Result<bool> {
     let found = fs::symlink_metadata(rt, path)?;
     Ok(found.is_file() && found.nlink() == 1)
 }

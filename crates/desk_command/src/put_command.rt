@@ -2,18 +2,19 @@
 
 ghost use Rattle.std.specs.Prelude.{◌≡◌, false, IfOk};
 ghost use Rattle.clap.specs.Words.{found_of, rows_of};
-ghost use Rattle.sqlite.specs.Files.{file_state};
+ghost use Rattle.sqlite_wal.specs.Files.{image_at};
+ghost use Rattle.sqlite.specs.Files.{over_files};
 ghost use Rattle.sqlite.specs.Held.{state};
 ghost use Rattle.desk_core.specs.Edit.{asked};
 ghost use Rattle.desk_store.specs.Desk.{IsEdited};
 ghost use Rattle.desk_command.specs.CommandLine.{put_words_in};
-ghost use Rattle.desk_command.specs.PutCommand.{AnswersEdit, AnswersKeyFile, AnswersPut, AnswersPutFiles, GivesKey, HasReplies, IsKeyIn, PutsBy, edit_of, key_in, key_file_in};
+ghost use Rattle.desk_command.specs.PutCommand.{AnswersEdit, AnswersKeyFile, AnswersPut, AnswersPutFiles, GivesKey, HasReplies, IsKeyIn, PutsBy, PutsFrom, PutsOver, edit_of, key_in, key_file_in};
 ghost use Rattle.desk_command.specs.Refused.{IsRefusedAs};
 ghost use Rattle.desk_command.specs.Words.{Finds, given_put};
 ghost use Rattle.desk_command.specs.declared.refused.Refused.TheVariants as refused;
 
 use crate::arguments::{Argument, read_number};
-use crate::database::{log_to_make, remove_log, unread};
+use crate::database::{CANNOT_OPEN, is_plain, log_to_make, remove_log, unread};
 use crate::failure::Failure;
 use crate::files::{FileArgument, is_input, read_if_given};
 use crate::output::Output;
@@ -26,7 +27,7 @@ use desk_check::{SiteSources, Source, TableSources, WholeSources, tell_site_faul
 use desk_core::{Edit, Refusal};
 use desk_policy::Plain;
 use desk_store::{Desk, DeskError, Done};
-use sqlite::{Alter, Connection, FileFrom, FileStore, Wary};
+use sqlite::{Alter, Connection, FileFrom, FileStore, Start, Wary};
 use std::alloc::{AllocError, Global};
 use std::fs::OpenOptions;
 use std::io::BufRead;
@@ -166,12 +167,29 @@ fn edit_of<'a>(words: PutWords<'a>, base: u32, key: &'a str, text: &'a str) -> E
 fn put_edit(rt: &HostRuntime, db: &str, edit: Edit<'_>) -> Result<Output, Failure>
     ensures { AnswersEdit db.now (asked edit.entry) result }
 {
+    match leads_to_plain(rt, db) {
+        Ok(true) => put_in_plain(rt, db, &edit),
+        Ok(false) => not_opened(rt.alloc(), db, CANNOT_OPEN),
+        Err(error) => Err(unread(rt.alloc(), db, error)),
+    }
+}
+
+/// Tests whether a path leads to a regular file with one name. Another, as a FIFO, may be waited for when it is opened.
+fn leads_to_plain(rt: &HostRuntime, path: &str) -> io::Result<bool> {
+    let real = fs::canonicalize(rt, path)?;
+    is_plain(rt, real.as_str())
+}
+
+/// Puts an edit into a regular file, if that can be read and written, and has a database.
+fn put_in_plain(rt: &HostRuntime, db: &str, edit: &Edit<'_>) -> Result<Output, Failure>
+    ensures { AnswersEdit db.now (asked edit.now) result }
+{
     if let Err(error) = fs::open(rt, db) {
         return Err(unread(rt.alloc(), db, error));
     }
     match is_empty_file(rt, db) {
         Ok(true) => refused_by_schema(rt.alloc(), db),
-        Ok(false) => put_in_files(rt, db, &edit),
+        Ok(false) => put_in_files(rt, db, edit),
         Err(error) => not_writable(rt.alloc(), db, &error),
     }
 }
@@ -188,42 +206,60 @@ fn put_in_files(rt: &HostRuntime, db: &str, edit: &Edit<'_>) -> Result<Output, F
     ensures { AnswersEdit db.now (asked edit.now) result }
 {
     let log = log_to_make(rt, db)?;
-    match Connection::open_from(rt, db, false, Wary) {
-        Ok(conn) => put_over(rt, db, conn, edit, &log),
+    let (answer, left) = put_from(rt, db, edit, &log, Wary);
+    if left.is_some() {
+        // Before the lock goes with the connection: behind that, another process may write the log.
+        remove_log(rt, &log);
+    }
+    drop(left);
+    answer
+}
+
+/// A connection to files, where `S` stands for what they held.
+type FilesFrom<S> = Connection<FileStore<FileFrom<S>>>;
+
+/// Puts an edit into a database, which is opened. Beside the answer is the connection, if there is one.
+fn put_from<S: Start>(
+    rt: &HostRuntime,
+    db: &str,
+    edit: &Edit<'_>,
+    log: &Option<String>,
+    start: S,
+) -> (Result<Output, Failure>, Option<FilesFrom<S>>)
+    ensures { PutsFrom over_files (image_at S.Start) (asked edit.now) result.0 result.1 }
+{
+    match Connection::open_from(rt, db, false, start) {
+        Ok(conn) => {
+            let (answer, left) = put_over(rt.alloc(), db, conn, edit);
+            (answer, Some(left))
+        }
         Err((error, left)) => {
             if left.is_some() {
-                remove_log(rt, &log);
+                remove_log(rt, log);
             }
             drop(left);
-            not_opened(rt.alloc(), db, error)
+            (not_opened(rt.alloc(), db, error), None)
         }
     }
 }
 
-/// Puts an edit into the database of a connection.
-fn put_over(
-    rt: &HostRuntime,
+/// Puts an edit into the database of a connection, which is handed back.
+fn put_over<S: Alter + Drop>(
+    alloc: Global,
     db: &str,
-    conn: Connection<FileStore<FileFrom<Wary>>>,
+    conn: Connection<S>,
     edit: &Edit<'_>,
-    log: &Option<String>,
-) -> Result<Output, Failure>
-    requires { (file_state conn).in_transaction ≡ false }
-    ensures { AnswersEdit db.now (asked edit.now) result }
+) -> (Result<Output, Failure>, Connection<S>)
+    requires { (state S.Store conn).in_transaction ≡ false }
+    ensures { PutsOver (state S.Store conn) (state S.Store result.1) (asked edit.now) result.0 }
 {
-    let opened: Result<Desk<FileStore<FileFrom<Wary>>, Plain>, _> = Desk::open(rt.alloc(), conn);
+    let opened: Result<Desk<S, Plain>, _> = Desk::open(alloc, conn);
     match opened {
         Ok(mut desk) => {
-            let answer = put_by(rt.alloc(), db, &mut desk, edit);
-            drop(desk);
-            answer
+            let answer = put_by(alloc, db, &mut desk, edit);
+            (answer, desk.into_connection())
         }
-        Err((error, conn)) => {
-            // Before the lock goes with the connection: behind that, another process may write the log.
-            remove_log(rt, log);
-            drop(conn);
-            refused_by_desk(rt.alloc(), db, error)
-        }
+        Err((error, conn)) => (refused_by_desk(alloc, db, error), conn),
     }
 }
 
@@ -251,7 +287,7 @@ fn put_by<S: Alter + Drop>(
     desk: &mut Desk<S, Plain>,
     edit: &Edit<'_>,
 ) -> Result<Output, Failure>
-    ensures { PutsBy (state S.Store desk.old.conn) (state S.Store desk.new.conn) desk.old.state desk.new.state (asked edit.now) result }
+    ensures { PutsBy S.Store desk.old desk.new (asked edit.now) result }
 {
     let replies = Replies::of(alloc, u64::from(edit.base) + 1)?;
     match edited(alloc, desk, edit) {

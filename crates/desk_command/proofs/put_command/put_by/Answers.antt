@@ -1,12 +1,11 @@
 -- What the desk answers is told.
-use Rattle.std.proofs.Common.{◌≡◌, ◌∙◌, ◌++◌, ◌+◌, ◌∷◌, [], Bool, Ok, ap, ap₂, cond, subst, sym, ℕ}
+use Rattle.std.proofs.Common.{◌≡◌, ◌∙◌, ◌++◌, ◌+◌, ◌∷◌, [], Bool, Err, Ok, ap, ap₂, cond, inr, subst, sym, ℕ}
 use Rattle.std.specs.Fmt.{decimal}
 use Rattle.std.specs.Prelude.{codes}
 use Rattle.std.specs.String.{string_bytes}
 use Rattle.desk_store.specs.declared.error.DeskError.{DeskError}
 use Rattle.desk_command.specs.PutCommand.{reply_line}
 use Rattle.desk_command.specs.Refused.{TellsError}
-use Rattle.desk_command.proofs.PutAnswers.{tells_error}
 use Rattle.desk_command.proofs.put_command.put_by.Goals as goal
 use Rattle.desk_command.proofs.put_command.put_by.Goals.{then-done, else-done}
 
@@ -18,12 +17,11 @@ returns-in-Ok g c =
       | then-done w ↦ ap (λ s. string_bytes s) w.result-is ∙ c.in_ok-replies.ensures.already ∙ ap₂ reply (sym w.if-done.true) number
       | else-done w ↦ ap (λ s. string_bytes s) w.result-is ∙ c.in_ok-replies.ensures.accepted ∙ ap₂ reply (sym w.if-done.false) number
     ] in
-    (Ok c.in-Ok.done, c.in-Ok.ensures, line)
+    inr (Ok c.in-Ok.done, c.in-Ok.ensures, line)
 
 pub returns-in-Err-Refused : goal.returns-in-Err-Refused
 returns-in-Err-Refused g c =
-    tells_error _ _ _ _ _ c.in-Err-Refused.field-0 c.refused.result c.in-Err-Refused.ensures
-    (subst (λ (e : DeskError). TellsError e c.refused.result) (sym c.in-Err-Refused.field-0-is) c.refused.ensures)
+    inr (Err c.in-Err-Refused.field-0, c.in-Err-Refused.ensures, subst (λ (e : DeskError). TellsError e c.refused.result) (sym c.in-Err-Refused.field-0-is) c.refused.ensures)
 
 pub returns : goal.returns
-returns g c = tells_error _ _ _ _ _ c.in-Err.error c.refused_by_desk.result c.in-Err.ensures c.refused_by_desk.ensures
+returns g c = inr (Err c.in-Err.error, c.in-Err.ensures, c.refused_by_desk.ensures)
