@@ -18,7 +18,7 @@ ghost use Rattle.desk_core.specs.declared.edit.Refusal.TheVariants.{Fault as Sit
 ghost use Rattle.desk_command.specs.Words.{Finds, given_init};
 
 use crate::check_site_files::{SiteFiles, paths_of, read_texts, sources_of};
-use crate::database::{has_no_page, log_to_make};
+use crate::database::{has_no_page, log_to_make, remove_log};
 use crate::failure::Failure;
 use crate::files::FileArgument;
 use crate::output::Output;
@@ -266,8 +266,6 @@ struct New<'a> {
     made: bool,
     /// The path of the log, if it was not there before.
     log: Option<String>,
-    /// Whether nothing stood in the database once it was locked: else another process has stored a site since.
-    is_ours: bool,
 }
 
 /// Why a site is not stored.
@@ -293,32 +291,11 @@ fn make(rt: &HostRuntime, db: &str, site: &Site) -> Result<(), NotMade>
         return Err(NotMade::Memory);
     };
     match Connection::open_from(rt, db, false, Wary) {
-        Ok(conn) => {
-            let is_ours = has_no_tables(&conn);
-            store(
-                rt,
-                conn,
-                site,
-                New {
-                    db,
-                    made,
-                    log,
-                    is_ours,
-                },
-            )
-        }
+        Ok(conn) => store(rt, conn, site, New { db, made, log }),
         Err((error, left)) => {
             // Without the lock, the files may be those of another process.
             if left.is_some() {
-                remove_unopened(
-                    rt,
-                    &New {
-                        db,
-                        made,
-                        log,
-                        is_ours: true,
-                    },
-                );
+                remove_unopened(rt, &New { db, made, log });
             }
             drop(left);
             Err(NotMade::Unopened(error))
@@ -354,6 +331,7 @@ fn store(
     requires { (file_state conn).in_transaction ≡ false }
     ensures { ComesTo (texts_of site.now) result }
 {
+    let is_blank = has_no_tables(&conn);
     let created: Result<Desk<FileStore<FileFrom<Wary>>, Plain>, _> = Desk::create(
         rt.alloc(),
         conn,
@@ -366,7 +344,7 @@ fn store(
         }
         Err((error, conn)) => {
             // Before the lock goes with the connection: behind that, another process may write the files.
-            remove(rt, &new);
+            remove_refused(rt, &new, is_blank);
             drop(conn);
             Err(NotMade::Create(error))
         }
@@ -387,11 +365,18 @@ fn remove_unopened(rt: &HostRuntime, new: &New<'_>) {
     }
 }
 
+/// Removes the files that were made for a site that is not stored. A database that had tables keeps its file, and its log
+/// unless that has no page.
+fn remove_refused(rt: &HostRuntime, new: &New<'_>, is_blank: bool) {
+    if is_blank {
+        remove(rt, new);
+    } else {
+        remove_log(rt, &new.log);
+    }
+}
+
 /// Removes the files that were made for nothing.
 fn remove(rt: &HostRuntime, new: &New<'_>) {
-    if !new.is_ours {
-        return;
-    }
     if new.made {
         let _ = fs::remove_file(rt, new.db);
     }
