@@ -1,8 +1,11 @@
 -- What comes of the texts of a new database's site, for `init_command`.
-use Rattle.std.proofs.Common.{◌≡◌, ◌∙◌, ℕ, List, [], ◌∷◌, Result, String, Ok, Err, refl, subst, sym, take}
+use Rattle.std.proofs.Common.{◌∙◌, ℕ, List, [], Result, String, Ok, Err, refl, subst, sym, take}
 use Rattle.std.specs.Prelude.{unwrap_or}
 use Rattle.std.specs.BTreeMap.{BTreeMap, get_by_text}
 use Rattle.std.specs.String.{string_bytes}
+use Rattle.sqlite.specs.Held.{Held, state}
+use Rattle.sqlite.specs.State.{State}
+use Rattle.sqlite_trees.specs.declared.store.Store.{Ghosts}
 use Rattle.desk_text.specs.declared.reading.LineFault.{LineFault}
 use Rattle.desk_text.specs.declared.reading.ReadError.TheVariants.{Fault}
 use Rattle.desk_tables.specs.FileSystemsText.{read_filesystems}
@@ -11,12 +14,15 @@ use Rattle.desk_tables.specs.declared.filesystems.Mount.{Mount}
 use Rattle.desk_exports.specs.Splitting.{split_text}
 use Rattle.desk_exports.specs.declared.rules.Rule.{Rule}
 use Rattle.desk_policy.specs.Site.{SiteTexts}
-use Rattle.desk_command.specs.InitCommand.{AnswersInitBy, AnswersInitOf, AnswersInitSplit, AnswersInitTexts, AnswersInitWith, SplitsExports, TellsSplitFault, part_of}
+use Rattle.desk_store.specs.declared.error.CreateError.{CreateError}
+use Rattle.desk_command.specs.InitCommand.{AnswersInitBy, AnswersInitOf, AnswersInitSplit, AnswersInitTexts, AnswersInitWith, ComesTo, Creates, HasCreated, SplitsExports, Stores, TellsSplitFault, part_of}
 use Rattle.desk_command.specs.Refused.{IsRefusedAs}
 use Rattle.desk_command.specs.SiteFiles.{site_list}
 use Rattle.desk_command.specs.declared.check_site_files.SiteFiles.{SiteFiles}
 use Rattle.desk_command.specs.declared.failure.Failure.{Failure}
 use Rattle.desk_command.specs.declared.failure.Failure.TheVariants.{Memory}
+use Rattle.desk_command.specs.declared.init_command.NotMade.{NotMade}
+use Rattle.desk_command.specs.declared.init_command.NotMade.TheVariants as not_made
 use Rattle.desk_command.specs.declared.output.Output.{Output}
 use Rattle.desk_command.specs.declared.output.Output.TheVariants.{Refused}
 use Rattle.desk_command.specs.declared.refused.Refused.{Refused as Why}
@@ -78,3 +84,28 @@ fault_by Y texts text fault (Err bad) result splits is = absurd splits
 -- it has a fault
 pub with_fault : (Y : Type 0) (texts : SiteFiles) (fault : LineFault Rule) (result : Result Output Failure) → SplitsExports {Y = Y} (read_filesystems (string_bytes texts.filesystems)) (string_bytes texts.exports) (Err (Fault fault)) → IsRefusedAs (refused.Split fault) result → AnswersInitTexts (Ok (site_list texts)) result
 with_fault Y texts fault result = fault_by Y texts (string_bytes texts.exports) fault (read_filesystems (string_bytes texts.filesystems)) result
+
+-- a connection made a database of a site, or refused it
+has_created : (old new : State) (site : SiteTexts) (answer : Result Unit CreateError) → Creates old new site answer → HasCreated site answer
+has_created old new site (Ok done) creates = record {
+  old = old.committed;
+  new = new.committed;
+  is_clean = new.is_clean;
+  made = λ good. let made = creates.made good in (made.none, made.made);
+  refused = λ good. tt;
+}
+has_created old new site (Err error) creates = record {
+  old = old.committed;
+  new = new.committed;
+  is_clean = new.is_clean;
+  made = λ good. tt;
+  refused = λ good. creates.refused good;
+}
+
+-- what storing a site came to is so, whatever the connection
+pub comes_to : {S A : Type 0} (g : Ghosts S) (old new : Held S) (site : SiteTexts) (result : Result (String A) NotMade) → Stores g old new site result → ComesTo site result
+comes_to g old new site (Ok text) stores = (has_created (state g old) (state g new) site (Ok tt) stores.0, stores.1)
+comes_to g old new site (Err (not_made.Create error)) stores = has_created (state g old) (state g new) site (Err error) stores
+comes_to g old new site (Err not_made.Memory) stores = tt
+comes_to g old new site (Err (not_made.File error)) stores = absurd stores
+comes_to g old new site (Err (not_made.Unopened error)) stores = absurd stores

@@ -11,5 +11,6 @@ pub mod ToldFindings
 pub mod Writing
 pub mod QuestionAnswers
 pub mod PutAnswers
+pub mod RevisionLengths
 pub mod InitAnswers
 pub mod AskAnswers

@@ -1,12 +1,15 @@
 -- The output of `init` by its words and files. (this project's own)
-use Rattle.std.specs.Prelude.{◌≡◌, ◌⊎◌, Bool, false, IfErr, OnOk, ℕ, ◌++◌, ◌∷◌, List, [], Option, Result, Ok, Err, String, codes, take, unwrap_or, if◌then◌else◌}
+use Rattle.std.specs.Prelude.{◌≡◌, ◌≤◌, ◌⊎◌, ◌&&◌, Bool, false, IfErr, IsTrue, OnErr, OnOk, ℕ, ◌++◌, ◌∷◌, List, [], Option, Result, Ok, Err, String, codes, length, nat_le, take, unwrap_or, if◌then◌else◌}
 use Rattle.std.specs.BTreeMap.{BTreeMap, get_by_text}
 use Rattle.std.specs.Fmt.{decimal}
 use Rattle.std.specs.List.{flat_map}
 use Rattle.std.specs.Str.{bytes_eq}
 use Rattle.std.specs.String.{string_bytes}
 use Rattle.sqlite.specs.Effect.{Database}
+use Rattle.sqlite.specs.Held.{Held, state}
+use Rattle.sqlite.specs.State.{HasCleanDisk, State, Survives}
 use Rattle.sqlite_trees.specs.View.{doubt}
+use Rattle.sqlite_trees.specs.declared.store.Store.{Ghosts}
 use Rattle.desk_text.specs.Path.{path_text}
 use Rattle.desk_text.specs.declared.reading.LineFault.{LineFault}
 use Rattle.desk_text.specs.declared.reading.ReadError.{ReadError}
@@ -20,10 +23,14 @@ use Rattle.desk_policy.specs.Parsing.{read_site}
 use Rattle.desk_policy.specs.Policy.{Content}
 use Rattle.desk_policy.specs.Site.{SiteTexts}
 use Rattle.desk_policy.specs.Warning.{kind_name}
+use Rattle.desk_policy.specs.declared.site.Site.{Site}
 use Rattle.desk_policy.specs.declared.site_fault.SiteFault.{SiteFault}
 use Rattle.desk_policy.specs.declared.warning.Warning.{Warning}
 use Rattle.desk_core.specs.declared.edit.Refusal.TheVariants.{Fault as SiteRefusal}
-use Rattle.desk_store.specs.Create.{Makes, RefusesToCreate, first_history, has_one}
+use Rattle.desk_core.specs.Judging.{longest_edit}
+use Rattle.desk_store.specs.Create.{Makes, MayMake, RefusesToCreate, first_history, has_one}
+use Rattle.desk_store.specs.Desk.{IsSiteHistory}
+use Rattle.desk_store.specs.Tables.{LeavesCommit}
 use Rattle.desk_store.specs.declared.error.CreateError.{CreateError}
 use Rattle.desk_store.specs.declared.error.CreateError.TheVariants as create
 use Rattle.desk_command.specs.CommandLine.{InitWords}
@@ -43,38 +50,98 @@ abbrev pub warning_line : Warning → List ℕ
 warning_line warning = codes "warning " ++ warning.file ++ codes " line " ++ decimal warning.line ++ 32 ∷ kind_name warning.kind ++ 32 ∷ warning.word ++ 10 ∷ []
 
 -- what is printed of a site that is stored: its warnings, and that it is ready
-abbrev pub ready_text : Result Content SiteFault → List ℕ
-ready_text (Ok policy) = flat_map warning_line policy.warnings ++ codes "ready\n"
-ready_text (Err fault) = codes "ready\n"
+abbrev pub ready_text : List Warning → List ℕ
+ready_text warnings = flat_map warning_line warnings ++ codes "ready\n"
 
--- the output tells what came of making a database of a site
-abbrev pub TellsCreated : SiteTexts → Result Unit CreateError → Output → Type 0
-TellsCreated site (Ok made) (Done text) = string_bytes text ≡ ready_text (read_site site)
-TellsCreated site (Err create.Schema) (Refused refused.Schema told) = Unit {0}
-TellsCreated site (Err (create.Fault fault)) (Refused (refused.Edit refusal) told) = refusal ≡ SiteRefusal fault
-TellsCreated site (Err (create.TooLarge file)) (Refused (refused.TooLarge found) told) = found ≡ file
-TellsCreated site answer output = ⊥
+-- the warnings of a site; one with a fault has none
+abbrev pub warnings_in : Result Content SiteFault → List Warning
+warnings_in (Ok policy) = policy.warnings
+warnings_in (Err fault) = []
 
--- A database is made of a site: none of the two tables was there, and they now hold revision 1 of each file beside what was there;
--- or it is rightly refused. If the disk returned what was not written, nothing is said.
-pub record Creates (site : SiteTexts) (answer : Result Unit CreateError) : Type 0 where
+-- a text is not too long for a revision
+abbrev pub is_short : List ℕ → Bool
+is_short text = nat_le (length text) longest_edit
+
+-- none of the seven files is too long
+abbrev pub are_files_short : Site → Bool
+are_files_short site =
+    is_short site.custodians && is_short site.filesystems && is_short site.hosts && is_short site.networks && is_short site.passwd && is_short site.group && is_short site.netgroup
+
+-- no text of a site is too long for a revision
+pub record HaveRevisionLengths (texts : SiteTexts) : Type 0 where
+  pub custodians : length texts.custodians ≤ longest_edit
+  pub filesystems : length texts.filesystems ≤ longest_edit
+  pub hosts : length texts.hosts ≤ longest_edit
+  pub networks : length texts.networks ≤ longest_edit
+  pub passwd : length texts.passwd ≤ longest_edit
+  pub group : length texts.group ≤ longest_edit
+  pub netgroup : length texts.netgroup ≤ longest_edit
+  pub exports : (mount : List ℕ) → length (texts.exports mount) ≤ longest_edit
+
+-- The text is what is printed of a site once it is stored. One with a text that is too long is refused, and its warnings are not
+-- looked for.
+pub record IsReadyText (site : SiteTexts) (text : List ℕ) : Type 0 where
+  pub short : HaveRevisionLengths site → text ≡ ready_text (warnings_in (read_site site))
+  pub long : ¬ HaveRevisionLengths site → text ≡ ready_text []
+
+-- A database was made of a site: none of the two tables was there, and they now hold revision 1 of each file, which is the history
+-- of a site, beside what was there; and a crash leaves just that.
+pub record HasMade (old new : State) (site : SiteTexts) : Type 0 where
+  pub none : has_one old.committed.schema ≡ false
+  pub made : Makes (first_history site) old.committed new.committed
+  pub stored : IsSiteHistory (first_history site)
+  pub is_open : IsTrue new.is_open
+  pub durable : LeavesCommit new
+
+-- What making a database of a site did to what a connection shows: it is made; or it is rightly refused, and the tables are as
+-- before. A crash at any moment leaves what it could before, or the one commit. If the disk returned what was not written, nothing
+-- but this is said.
+pub record Creates {T : Type 0} (old new : State) (site : SiteTexts) (answer : Result T CreateError) : Type 0 where
+  pub made : HasCleanDisk new → OnOk answer (HasMade old new site)
+  pub refused : HasCleanDisk new → IfErr answer (RefusesToCreate old.committed.schema site)
+  pub unchanged : HasCleanDisk new → IsTrue new.is_open → OnErr answer (new.committed ≡ old.committed)
+  pub crash : Survives old new (MayMake old site answer)
+
+-- What storing a site by a connection came to: it is stored, and the text is the one that is printed of it; or making its database
+-- was refused; or there was no memory for that text, and nothing was done.
+abbrev pub Stores : {S A : Type 0} → Ghosts S → Held S → Held S → SiteTexts → Result (String A) NotMade → Type 0
+Stores g old new site (Ok text) = Creates {T = Unit} (state g old) (state g new) site (Ok tt) × IsReadyText site (string_bytes text)
+Stores g old new site (Err (not_made.Create error)) = Creates {T = Unit} (state g old) (state g new) site (Err error)
+Stores g old new site (Err not_made.Memory) = new ≡ old
+Stores g old new site (Err (not_made.File error)) = ⊥
+Stores g old new site (Err (not_made.Unopened error)) = ⊥
+
+-- A connection that is made and dropped inside made a database of a site, or refused it. Which database it was, no clause can name.
+pub record HasCreated (site : SiteTexts) (answer : Result Unit CreateError) : Type 0 where
   pub old : Database
   pub new : Database
   pub is_clean : Bool
   pub made : doubt is_clean ≡ 0 → OnOk answer ((has_one old.schema ≡ false) × Makes (first_history site) old new)
   pub refused : doubt is_clean ≡ 0 → IfErr answer (RefusesToCreate old.schema site)
 
+-- a site is rightly refused; that the database cannot be opened, or that memory ran out, says nothing
+abbrev pub IsRefusedFor : SiteTexts → NotMade → Type 0
+IsRefusedFor site (not_made.Create error) = HasCreated site (Err error)
+IsRefusedFor site other = Unit {0}
+
+-- what storing a site in a new database came to
+abbrev pub ComesTo : {A : Type 0} → SiteTexts → Result (String A) NotMade → Type 0
+ComesTo site (Ok text) = HasCreated site (Ok tt) × IsReadyText site (string_bytes text)
+ComesTo site (Err refused) = IsRefusedFor site refused
+
+-- the output tells what came of making a database of a site; `ready` is told only of one that is made
+abbrev pub TellsCreated : SiteTexts → Result Unit CreateError → Output → Type 0
+TellsCreated site (Ok made) (Done text) = IsReadyText site (string_bytes text)
+TellsCreated site (Err create.Schema) (Refused refused.Schema told) = Unit {0}
+TellsCreated site (Err (create.Fault fault)) (Refused (refused.Edit refusal) told) = refusal ≡ SiteRefusal fault
+TellsCreated site (Err (create.TooLarge file)) (Refused (refused.TooLarge found) told) = found ≡ file
+TellsCreated site answer output = ⊥
+
 -- a database is made of a site, or refused, and what came of it is told
 pub record MakesDatabase (site : SiteTexts) (output : Output) : Type 0 where
   pub answer : Result Unit CreateError
-  pub creates : Creates site answer
+  pub creates : HasCreated site answer
   pub told : TellsCreated site answer output
-
--- what making a database of a site came to
-abbrev pub ComesTo : SiteTexts → Result Unit NotMade → Type 0
-ComesTo site (Ok done) = Creates site (Ok done)
-ComesTo site (Err (not_made.Create error)) = Creates site (Err error)
-ComesTo site (Err other) = Unit {0}
 
 -- the answer to a site: that of making its database; or this cannot be opened, or a statement was refused
 abbrev pub AnswersInitSite : SiteTexts → Result Output Failure → Type 0

@@ -1,16 +1,16 @@
 //! The command `init`: a new database of a site's files.
 
-ghost use Rattle.std.specs.Prelude.{◌≡◌, ◌≤◌, ◌++◌, ℕ, [], Err, false, IfOk, List, Ok, OnOk, codes, if◌then◌else◌, length, map, string_bytes, unwrap_or};
-ghost use Rattle.std.specs.BTreeMap.{get_by_text};
-ghost use Rattle.std.specs.List.{flat_map};
+ghost use Rattle.std.specs.Prelude.{◌≡◌, ◌≤◌, ◌++◌, ℕ, [], Decides, Err, false, IfOk, List, Ok, OnOk, if◌then◌else◌, length, map, string_bytes, unwrap_or};
+ghost use Rattle.std.specs.BTreeMap.{IsOrdered, get_by_text, values};
+ghost use Rattle.std.specs.List.{flat_map, list_all};
+ghost use Rattle.std.specs.String.{string_cmp};
 ghost use Rattle.std.specs.Str.{bytes_eq};
 ghost use Rattle.clap.specs.Words.{found_of, rows_of};
-ghost use Rattle.sqlite.specs.Files.{file_state};
+ghost use Rattle.sqlite.specs.Held.{state};
 ghost use Rattle.desk_tables.specs.FileSystemsText.{read_filesystems};
-ghost use Rattle.desk_policy.specs.Parsing.{read_site};
 ghost use Rattle.desk_policy.specs.Site.{texts_of};
 ghost use Rattle.desk_command.specs.CommandLine.{init_words_in};
-ghost use Rattle.desk_command.specs.InitCommand.{AnswersInit, AnswersInitSite, AnswersInitTexts, AnswersInitWith, AreParts, ComesTo, IsSiteWith, SplitsExports, ready_text, warning_line};
+ghost use Rattle.desk_command.specs.InitCommand.{AnswersInit, AnswersInitSite, AnswersInitTexts, AnswersInitWith, AreParts, ComesTo, Creates, HaveRevisionLengths, IsReadyText, IsRefusedFor, IsSiteWith, SplitsExports, Stores, are_files_short, is_short, ready_text, warning_line};
 ghost use Rattle.desk_command.specs.Refused.{IsRefusedAs};
 ghost use Rattle.desk_command.specs.SiteFiles.{AreShortFiles, site_list};
 ghost use Rattle.desk_command.specs.declared.refused.Refused.TheVariants as refused;
@@ -35,13 +35,16 @@ use desk_policy::{Plain, Site, SiteFault, Warning, parse};
 use desk_store::{CreateError, Desk};
 use desk_tables::{FileSystems, Mount};
 use desk_text::{LineFault, ReadError, Text};
-use sqlite::{Alter, Connection, Error, FileFrom, FileStore, Wary};
+use sqlite::{Alter, Connection, Error, Wary};
 use std::alloc::{AllocError, Global};
 use std::collections::BTreeMap;
 use std::fs::OpenOptions;
 use std::io::BufRead;
 use std::os::unix::fs::OpenOptionsExt;
 use std::{fs, io};
+
+/// The most bytes that the text of a revision may have.
+const LONGEST_REVISION: usize = 65_536;
 
 /// The words of `init`.
 #[derive(Clone, Copy)]
@@ -184,10 +187,8 @@ fn init_site(
     ensures { AnswersInitWith (site_list texts.now) exports result }
 {
     let site = site_of(rt.alloc(), texts, exports)?;
-    // What is printed takes memory, so it is made before.
-    let ready = ready_text(rt.alloc(), &site)?;
     match make(rt, db, &site) {
-        Ok(()) => Ok(Output::Done(ready)),
+        Ok(ready) => Ok(Output::Done(ready)),
         Err(refused) => refuse(rt.alloc(), db, sources_of(paths, texts), &site, refused),
     }
 }
@@ -212,24 +213,59 @@ fn site_of(
     })
 }
 
-/// Writes the warnings of a site, each in a line, and `ready`. A site with a fault has none: it is refused later. Texts that are
-/// too long to be read, which no file can have, count as out of memory.
+/// Writes the warnings of a site, each in a line, and `ready`. A site that is refused has none: one with a fault, or with a
+/// text that is too long, of which it is not asked what that text says, since that can take long.
 fn ready_text(alloc: Global, site: &Site) -> Result<String, AllocError>
-    ensures { IfOk result (λ text. string_bytes text ≡ ready_text (read_site (texts_of site.now))) }
+    ensures { IfOk result (λ text. IsReadyText (texts_of site.now) (string_bytes text)) }
 {
-    if !site.is_readable() {
-        return Err(AllocError);
+    if !has_revision_lengths(site) {
+        return warned_text(alloc, &[]);
     }
     match parse(alloc, site) {
         Ok(policy) => warned_text(alloc, policy.warnings()),
-        Err(ReadError::Fault(_)) => String::from_str(alloc, "ready\n"),
+        Err(ReadError::Fault(_)) => warned_text(alloc, &[]),
         Err(ReadError::Memory) => Err(AllocError),
     }
 }
 
+/// Tests whether no text of a site is too long for a revision.
+fn has_revision_lengths(site: &Site) -> bool
+    ensures { Decides result (HaveRevisionLengths (texts_of site.now)) }
+{
+    are_files_short(site) && are_exports_short(&site.exports)
+}
+
+/// Tests whether none of the seven files is too long for a revision.
+fn are_files_short(site: &Site) -> bool
+    ensures { result ≡ are_files_short site.now }
+{
+    is_short(&site.custodians)
+        && is_short(&site.filesystems)
+        && is_short(&site.hosts)
+        && is_short(&site.networks)
+        && is_short(&site.passwd)
+        && is_short(&site.group)
+        && is_short(&site.netgroup)
+}
+
+/// Tests whether no exports text is too long for a revision.
+fn are_exports_short(exports: &BTreeMap<String, Text>) -> bool
+    ensures each { result ≡ list_all is_short (values exports.now) }
+    ensures ordered { IsOrdered string_cmp exports.now }
+{
+    exports.values().all(is_short)
+}
+
+/// Tests whether a text is not too long for a revision.
+fn is_short(text: &Text) -> bool
+    ensures { result ≡ is_short text.now }
+{
+    text.as_str().len() <= LONGEST_REVISION
+}
+
 /// Writes a line for each warning, and `ready`.
 fn warned_text(alloc: Global, warnings: &[Warning]) -> Result<String, AllocError>
-    ensures { IfOk result (λ text. string_bytes text ≡ flat_map warning_line warnings.now ++ codes "ready\n") }
+    ensures { IfOk result (λ text. string_bytes text ≡ ready_text warnings.now) }
 {
     let mut text = String::new(alloc);
     push_warnings(warnings, &mut text)?;
@@ -279,8 +315,8 @@ pub enum NotMade {
     Memory,
 }
 
-/// Stores a site in a new database. What was made for one that is refused is removed.
-fn make(rt: &HostRuntime, db: &str, site: &Site) -> Result<(), NotMade>
+/// Stores a site in a new database, and gives what is printed of it.
+fn make(rt: &HostRuntime, db: &str, site: &Site) -> Result<String, NotMade>
     ensures { ComesTo (texts_of site.now) result }
 {
     let made = match make_file(rt, db) {
@@ -290,12 +326,17 @@ fn make(rt: &HostRuntime, db: &str, site: &Site) -> Result<(), NotMade>
     let Ok(log) = log_to_make(rt, db) else {
         return Err(NotMade::Memory);
     };
+    let new = New { db, made, log };
     match Connection::open_from(rt, db, false, Wary) {
-        Ok(conn) => store(rt, conn, site, New { db, made, log }),
+        Ok(conn) => {
+            let (stored, conn) = store(rt, conn, site, &new);
+            drop(conn);
+            stored
+        }
         Err((error, left)) => {
             // Without the lock, the files may be those of another process.
             if left.is_some() {
-                remove_unopened(rt, &New { db, made, log });
+                remove_unopened(rt, &new);
             }
             drop(left);
             Err(NotMade::Unopened(error))
@@ -321,33 +362,59 @@ fn make_file(rt: &HostRuntime, db: &str) -> io::Result<bool> {
     }
 }
 
-/// Stores a site in the database of a connection.
-fn store(
+/// Stores a site in the database of a connection, which is handed back, and gives what is printed of it. The files that were
+/// made for a site that is refused are removed.
+fn store<S: Alter + Drop>(
     rt: &HostRuntime,
-    conn: Connection<FileStore<FileFrom<Wary>>>,
+    conn: Connection<S>,
     site: &Site,
-    new: New<'_>,
-) -> Result<(), NotMade>
-    requires { (file_state conn).in_transaction ≡ false }
-    ensures { ComesTo (texts_of site.now) result }
+    new: &New<'_>,
+) -> (Result<String, NotMade>, Connection<S>)
+    requires { (state S.Store conn).in_transaction ≡ false }
+    ensures { Stores S.Store conn result.1 (texts_of site.now) result.0 }
 {
     let is_blank = has_no_tables(&conn);
-    let created: Result<Desk<FileStore<FileFrom<Wary>>, Plain>, _> = Desk::create(
-        rt.alloc(),
-        conn,
-        site,
-    );
+    let (stored, conn) = store_told(rt.alloc(), conn, site);
+    if stored.is_err() {
+        // Before the lock goes with the connection: behind that, another process may write the files.
+        remove_refused(rt, new, is_blank);
+    }
+    (stored, conn)
+}
+
+/// Stores a site in the database of a connection, which is handed back, and gives what is printed of it.
+fn store_told<S: Alter + Drop>(
+    alloc: Global,
+    conn: Connection<S>,
+    site: &Site,
+) -> (Result<String, NotMade>, Connection<S>)
+    requires { (state S.Store conn).in_transaction ≡ false }
+    ensures { Stores S.Store conn result.1 (texts_of site.now) result.0 }
+{
+    // What is printed takes memory, so it is made before.
+    let Ok(ready) = ready_text(alloc, site) else {
+        return (Err(NotMade::Memory), conn);
+    };
+    let (created, conn) = create(alloc, conn, site);
     match created {
-        Ok(desk) => {
-            drop(desk);
-            Ok(())
-        }
-        Err((error, conn)) => {
-            // Before the lock goes with the connection: behind that, another process may write the files.
-            remove_refused(rt, &new, is_blank);
-            drop(conn);
-            Err(NotMade::Create(error))
-        }
+        Ok(()) => (Ok(ready), conn),
+        Err(error) => (Err(NotMade::Create(error)), conn),
+    }
+}
+
+/// Makes a desk of a site in the database of a connection, which is handed back.
+fn create<S: Alter + Drop>(
+    alloc: Global,
+    conn: Connection<S>,
+    site: &Site,
+) -> (Result<(), CreateError>, Connection<S>)
+    requires { (state S.Store conn).in_transaction ≡ false }
+    ensures { Creates (state S.Store conn) (state S.Store result.1) (texts_of site.now) result.0 }
+{
+    let created: Result<Desk<S, Plain>, _> = Desk::create(alloc, conn, site);
+    match created {
+        Ok(desk) => (Ok(()), desk.into_connection()),
+        Err((error, conn)) => (Err(error), conn),
     }
 }
 
@@ -393,7 +460,7 @@ fn refuse(
     site: &Site,
     refused: NotMade,
 ) -> Result<Output, Failure>
-    requires { ComesTo (texts_of site.now) (Err refused) }
+    requires { IsRefusedFor (texts_of site.now) refused }
     ensures { AnswersInitSite (texts_of site.now) result }
 {
     match refused {

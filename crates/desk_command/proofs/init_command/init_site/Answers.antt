@@ -10,13 +10,8 @@ returns-in_err-site c =
     let p = err_from_is_err_and c.from_residual.result c.from_residual.ensures.1 in
     rw (p.1, p.2) (memory_with c.args.texts.now c.args.exports)
 
-pub returns-in_err-ready : goal.returns-in_err-ready
-returns-in_err-ready c =
-    let p = err_from_is_err_and c.from_residual-in_err-ready.result c.from_residual-in_err-ready.ensures.1 in
-    rw (p.1, p.2) (memory_with c.args.texts.now c.args.exports)
-
 pub returns-in-Ok : goal.returns-in-Ok
-returns-in-Ok c = (texts_of c.in_ok-site.site, c.in_ok-site.ensures, record { answer = Ok tt; creates = c.in-Ok.ensures; told = c.in_ok-ready.ensures })
+returns-in-Ok c = (texts_of c.in_ok-site.site, c.in_ok-site.ensures, record { answer = Ok tt; creates = c.in-Ok.ensures.0; told = c.in-Ok.ensures.1 })
 
 pub returns : goal.returns
 returns c = (texts_of c.in_ok-site.site, c.in_ok-site.ensures, c.refuse.ensures)
