@@ -108,4 +108,5 @@ comes_to g old new site (Ok text) stores = (has_created (state g old) (state g n
 comes_to g old new site (Err (not_made.Create error)) stores = has_created (state g old) (state g new) site (Err error) stores
 comes_to g old new site (Err not_made.Memory) stores = tt
 comes_to g old new site (Err (not_made.File error)) stores = absurd stores
+comes_to g old new site (Err (not_made.Obstacle obstacle)) stores = absurd stores
 comes_to g old new site (Err (not_made.Unopened error)) stores = absurd stores

@@ -109,6 +109,7 @@ Stores g old new site (Ok text) = Creates {T = Unit} (state g old) (state g new)
 Stores g old new site (Err (not_made.Create error)) = Creates {T = Unit} (state g old) (state g new) site (Err error)
 Stores g old new site (Err not_made.Memory) = new ≡ old
 Stores g old new site (Err (not_made.File error)) = ⊥
+Stores g old new site (Err (not_made.Obstacle obstacle)) = ⊥
 Stores g old new site (Err (not_made.Unopened error)) = ⊥
 
 -- A connection that is made and dropped inside made a database of a site, or refused it. Which database it was, no clause can name.

@@ -1,18 +1,18 @@
 -- The files in the folder of a site. (this project's own)
-use Rattle.std.specs.Prelude.{ℕ, ◌==◌, ◌-◌, ◌≤◌, ◌++◌, Bool, false, List, [], ◌∷◌, Option, Some, codes, length, map, slice_get, if◌then◌else◌}
+use Rattle.std.specs.Prelude.{ℕ, ◌==◌, ◌-◌, ◌≤◌, ◌++◌, Bool, true, List, [], ◌∷◌, Option, Some, codes, length, map, slice_get, if◌then◌else◌}
 use Rattle.std.specs.Option.{option_map_or}
 use Rattle.std.specs.String.{string_bytes}
 use Rattle.desk_check.specs.declared.check_site.SiteSources.{SiteSources}
 use Rattle.desk_command.specs.declared.check_site_files.SiteFiles.{SiteFiles}
 use Rattle.desk_command.specs.declared.files.FileArgument.{FileArgument}
 
--- a text ends with a slash
-abbrev pub ends_with_slash : List ℕ → Bool
-ends_with_slash text = option_map_or (λ b. b == 47) (slice_get text (length text - 1)) false
+-- a name may follow the path of a folder as it is: that ends with a slash, or is empty
+abbrev pub needs_no_slash : List ℕ → Bool
+needs_no_slash folder = option_map_or (λ b. b == 47) (slice_get folder (length folder - 1)) true
 
--- the path of a file in a folder
+-- the path of a file in a folder; the empty path is the current folder
 abbrev pub path_in : List ℕ → List ℕ → List ℕ
-path_in folder name = if ends_with_slash folder then folder ++ name else folder ++ codes "/" ++ name
+path_in folder name = if needs_no_slash folder then folder ++ name else folder ++ codes "/" ++ name
 
 -- the paths of a site's files, in the order in which they are read
 abbrev pub site_paths : List ℕ → List (List ℕ)

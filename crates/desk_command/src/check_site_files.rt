@@ -5,7 +5,7 @@ ghost use Rattle.std.specs.Result.{result_map_both};
 ghost use Rattle.std.specs.String.{string_bytes};
 ghost use Rattle.desk_command.specs.CheckCommand.{AnswersSite, AnswersSiteTexts};
 ghost use Rattle.desk_command.specs.Files.{Leaves, ReadsIfGiven, ReadsInTurn};
-ghost use Rattle.desk_command.specs.SiteFiles.{AreShortFiles, ends_with_slash, path_in, site_list, site_paths, site_paths_in, site_texts_in, site_words};
+ghost use Rattle.desk_command.specs.SiteFiles.{AreShortFiles, needs_no_slash, path_in, site_list, site_paths, site_paths_in, site_texts_in, site_words};
 
 use crate::check_command::report;
 use crate::failure::Failure;
@@ -127,11 +127,11 @@ pub fn paths_of(alloc: Global, folder: &str) -> Result<SiteFiles, AllocError>
     })
 }
 
-/// Makes the path of a file in a folder.
+/// Makes the path of a file in a folder; the empty path is the current folder.
 fn path_in(alloc: Global, folder: &str, name: &str) -> Result<String, AllocError>
     ensures { IfOk result (λ path. string_bytes path ≡ path_in folder.now name.now) }
 {
-    if ends_with_slash(folder) {
+    if needs_no_slash(folder) {
         format!(in alloc; "{folder}{name}")
     } else {
         with_slash(alloc, folder, name)
@@ -145,13 +145,13 @@ fn with_slash(alloc: Global, folder: &str, name: &str) -> Result<String, AllocEr
     format!(in alloc; "{folder}/{name}")
 }
 
-/// Tests whether a text ends with a slash.
-fn ends_with_slash(text: &str) -> bool
-    ensures { result ≡ ends_with_slash text.now }
+/// Tests whether a name may follow the path of a folder as it is: if that ends with a slash or is empty.
+fn needs_no_slash(folder: &str) -> bool
+    ensures { result ≡ needs_no_slash folder.now }
 {
-    match text.as_bytes().last() {
+    match folder.as_bytes().last() {
         Some(byte) => *byte == b'/',
-        None => false,
+        None => true,
     }
 }
 

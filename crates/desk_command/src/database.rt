@@ -16,7 +16,7 @@ use std::alloc::{AllocError, Global};
 use std::io::Read;
 use std::os::fd::AsRawFd;
 use std::os::unix::fs::MetadataExt;
-use std::{fs, io};
+use std::{fmt, fs, io};
 
 pub const CANNOT_OPEN: Error = Error::SqliteFailure(ErrorCode::CannotOpen);
 
@@ -180,15 +180,104 @@ fn copy_of(alloc: Global, file: &fs::File) -> io::Result<Memory>
     Ok(copy)
 }
 
-/// Returns the path of the log of a database, if there is none yet.
+/// Returns a path as SQLite takes it for one: to it `:memory:`, or what begins with `file:`, is no path.
+pub fn plain_path(alloc: Global, db: &str) -> Result<String, AllocError> {
+    if db.starts_with('/') {
+        String::from_str(alloc, db)
+    } else {
+        format!(in alloc; "./{db}")
+    }
+}
+
+/// Returns the path of the log of a database, if there is none yet. The database may have to be made too.
 pub fn log_to_make(rt: &HostRuntime, db: &str) -> Result<Option<String>, AllocError> {
-    let Ok(real) = fs::canonicalize(rt, db) else {
-        return Ok(None);
-    };
-    let log = format!(in rt.alloc(); "{}-wal", real.as_str())?;
+    match missing_log(rt, db) {
+        Ok(log) => Ok(log),
+        Err(error) if error.kind() == io::ErrorKind::OutOfMemory => Err(AllocError),
+        Err(_) => Ok(None),
+    }
+}
+
+fn missing_log(rt: &HostRuntime, db: &str) -> io::Result<Option<String>> {
+    let real = real_path(rt, db)?;
+    let log = format!(in rt.alloc(); "{real}-wal")?;
     match fs::symlink_metadata(rt, log.as_str()) {
         Err(error) if error.kind() == io::ErrorKind::NotFound => Ok(Some(log)),
-        _ => Ok(None),
+        Err(error) => Err(error),
+        Ok(_) => Ok(None),
+    }
+}
+
+/// Returns the path of a database without a link in it, beside which SQLite has its log; the path itself if there is no file.
+fn real_path(rt: &HostRuntime, db: &str) -> io::Result<String> {
+    match fs::canonicalize(rt, db) {
+        Ok(real) => Ok(String::from_str(rt.alloc(), real.as_str())?),
+        Err(error) if error.kind() == io::ErrorKind::NotFound => {
+            Ok(String::from_str(rt.alloc(), db)?)
+        }
+        Err(error) => Err(error),
+    }
+}
+
+/// What stands in the way of the files of a database.
+#[derive(Clone, Copy)]
+pub enum Obstacle {
+    /// The database is a folder.
+    Folder,
+    /// The database is a device or the like.
+    NoFile,
+    /// The file of the database has a second name, which hides its log.
+    SecondName,
+    /// A rollback journal has to be played back, or something else has its name.
+    Journal,
+    /// What has the name of the log is not a file with one name.
+    Log,
+}
+
+impl fmt::Display for Obstacle {
+    fn fmt<W: fmt::Write>(&self, f: &mut fmt::Formatter<W>) -> fmt::Result {
+        f.write_str(match self {
+            Obstacle::Folder => "it is a folder",
+            Obstacle::NoFile => "it is not a regular file",
+            Obstacle::SecondName => {
+                "the file has a second name (a hard link), by which its log would not be found: remove one of the two"
+            }
+            Obstacle::Journal => {
+                "beside it is a rollback journal (DB-journal), or something else with that name: open the database with sqlite3 once"
+            }
+            Obstacle::Log => {
+                "beside it is something with the name of its log (DB-wal) that is not a regular file, or has a second name"
+            }
+        })
+    }
+}
+
+/// Finds what stands in the way of the files of a database, if something does. A file that is missing does not.
+pub fn find_obstacle(rt: &HostRuntime, db: &str) -> io::Result<Option<Obstacle>> {
+    let real = real_path(rt, db)?;
+    if let Some(found) = obstacle_at(rt, real.as_str())? {
+        return Ok(Some(found));
+    }
+    let journal = format!(in rt.alloc(); "{real}-journal")?;
+    if !is_settled(rt, journal.as_str())? {
+        return Ok(Some(Obstacle::Journal));
+    }
+    let log = format!(in rt.alloc(); "{real}-wal")?;
+    match obstacle_at(rt, log.as_str())? {
+        Some(_) => Ok(Some(Obstacle::Log)),
+        None => Ok(None),
+    }
+}
+
+/// Tells why what stands at a path is not a regular file with one name; nothing, if it is one or is missing.
+fn obstacle_at(rt: &HostRuntime, path: &str) -> io::Result<Option<Obstacle>> {
+    match fs::symlink_metadata(rt, path) {
+        Ok(found) if found.is_dir() => Ok(Some(Obstacle::Folder)),
+        Ok(found) if !found.is_file() => Ok(Some(Obstacle::NoFile)),
+        Ok(found) if found.nlink() != 1 => Ok(Some(Obstacle::SecondName)),
+        Ok(_) => Ok(None),
+        Err(error) if error.kind() == io::ErrorKind::NotFound => Ok(None),
+        Err(error) => Err(error),
     }
 }
 

@@ -18,12 +18,13 @@ ghost use Rattle.desk_core.specs.declared.edit.Refusal.TheVariants.{Fault as Sit
 ghost use Rattle.desk_command.specs.Words.{Finds, given_init};
 
 use crate::check_site_files::{SiteFiles, paths_of, read_texts, sources_of};
-use crate::database::{has_no_page, log_to_make, remove_log};
+use crate::database::{Obstacle, find_obstacle, has_no_page, log_to_make, plain_path, remove_log};
 use crate::failure::Failure;
 use crate::files::FileArgument;
 use crate::output::Output;
 use crate::refused::{
-    Refused, not_opened, not_writable, refused_by_store, refused_by_table, too_large,
+    Refused, not_opened_at, not_writable, obstructed, refused_by_store, refused_by_table,
+    too_large_told,
 };
 use crate::words::required;
 use clap::ArgMatches;
@@ -189,7 +190,7 @@ fn init_site(
     let site = site_of(rt.alloc(), texts, exports)?;
     match make(rt, db, &site) {
         Ok(ready) => Ok(Output::Done(ready)),
-        Err(refused) => refuse(rt.alloc(), db, sources_of(paths, texts), &site, refused),
+        Err(refused) => refuse(rt, db, sources_of(paths, texts), &site, refused),
     }
 }
 
@@ -296,12 +297,23 @@ fn push_warning(warning: &Warning, text: &mut String) -> Result<(), AllocError>
 
 /// The files that are made for a new database.
 #[derive(Drop)]
-struct New<'a> {
-    db: &'a str,
+struct New {
+    /// The path of the database, as SQLite takes it.
+    path: String,
     /// Whether the database file was made.
     made: bool,
     /// The path of the log, if it was not there before.
     log: Option<String>,
+}
+
+impl New {
+    /// Makes the file of a database, if there is none. What takes memory comes before, so that no file is left behind.
+    fn make(rt: &HostRuntime, db: &str) -> io::Result<New> {
+        let path = plain_path(rt.alloc(), db)?;
+        let log = log_to_make(rt, db)?;
+        let made = make_file(rt, db)?;
+        Ok(New { path, made, log })
+    }
 }
 
 /// Why a site is not stored.
@@ -309,34 +321,43 @@ struct New<'a> {
 pub enum NotMade {
     /// The file cannot be made, or not be written.
     File(io::Error),
+    /// Something stands in the way of the files.
+    Obstacle(Obstacle),
     /// SQLite does not open it.
     Unopened(Error),
     Create(CreateError),
     Memory,
 }
 
-/// Stores a site in a new database, and gives what is printed of it.
+/// Stores a site in a new database, and gives what is printed of it. A file is made only if nothing known stands in the way.
 fn make(rt: &HostRuntime, db: &str, site: &Site) -> Result<String, NotMade>
     ensures { ComesTo (texts_of site.now) result }
 {
-    let made = match make_file(rt, db) {
-        Ok(made) => made,
+    match find_obstacle(rt, db) {
+        Ok(None) => {}
+        Ok(Some(obstacle)) => return Err(NotMade::Obstacle(obstacle)),
         Err(error) => return Err(NotMade::File(error)),
-    };
-    let Ok(log) = log_to_make(rt, db) else {
-        return Err(NotMade::Memory);
-    };
-    let new = New { db, made, log };
-    match Connection::open_from(rt, db, false, Wary) {
+    }
+    match New::make(rt, db) {
+        Ok(new) => make_in(rt, site, &new),
+        Err(error) => Err(NotMade::File(error)),
+    }
+}
+
+/// Stores a site in the files of a new database, and gives what is printed of it.
+fn make_in(rt: &HostRuntime, site: &Site, new: &New) -> Result<String, NotMade>
+    ensures { ComesTo (texts_of site.now) result }
+{
+    match Connection::open_from(rt, new.path.as_str(), false, Wary) {
         Ok(conn) => {
-            let (stored, conn) = store(rt, conn, site, &new);
+            let (stored, conn) = store(rt, conn, site, new);
             drop(conn);
             stored
         }
         Err((error, left)) => {
             // Without the lock, the files may be those of another process.
             if left.is_some() {
-                remove_unopened(rt, &new);
+                remove_unopened(rt, new);
             }
             drop(left);
             Err(NotMade::Unopened(error))
@@ -368,7 +389,7 @@ fn store<S: Alter + Drop>(
     rt: &HostRuntime,
     conn: Connection<S>,
     site: &Site,
-    new: &New<'_>,
+    new: &New,
 ) -> (Result<String, NotMade>, Connection<S>)
     requires { (state S.Store conn).in_transaction ≡ false }
     ensures { Stores S.Store conn result.1 (texts_of site.now) result.0 }
@@ -424,7 +445,7 @@ fn has_no_tables<S: Alter>(conn: &Connection<S>) -> bool {
 }
 
 /// Removes the files of a database that SQLite does not open. If its log has a page, another process may have stored a site.
-fn remove_unopened(rt: &HostRuntime, new: &New<'_>) {
+fn remove_unopened(rt: &HostRuntime, new: &New) {
     if let Some(log) = &new.log
         && has_no_page(rt, log.as_str())
     {
@@ -434,7 +455,7 @@ fn remove_unopened(rt: &HostRuntime, new: &New<'_>) {
 
 /// Removes the files that were made for a site that is not stored. A database that had tables keeps its file, and its log
 /// unless that has no page.
-fn remove_refused(rt: &HostRuntime, new: &New<'_>, is_blank: bool) {
+fn remove_refused(rt: &HostRuntime, new: &New, is_blank: bool) {
     if is_blank {
         remove(rt, new);
     } else {
@@ -443,9 +464,9 @@ fn remove_refused(rt: &HostRuntime, new: &New<'_>, is_blank: bool) {
 }
 
 /// Removes the files that were made for nothing.
-fn remove(rt: &HostRuntime, new: &New<'_>) {
+fn remove(rt: &HostRuntime, new: &New) {
     if new.made {
-        let _ = fs::remove_file(rt, new.db);
+        let _ = fs::remove_file(rt, new.path.as_str());
     }
     if let Some(log) = &new.log {
         let _ = fs::remove_file(rt, log.as_str());
@@ -454,7 +475,7 @@ fn remove(rt: &HostRuntime, new: &New<'_>) {
 
 /// Answers by why a site is not stored.
 fn refuse(
-    alloc: Global,
+    rt: &HostRuntime,
     db: &str,
     sources: SiteSources<'_>,
     site: &Site,
@@ -463,15 +484,46 @@ fn refuse(
     requires { IsRefusedFor (texts_of site.now) refused }
     ensures { AnswersInitSite (texts_of site.now) result }
 {
+    let alloc = rt.alloc();
     match refused {
         NotMade::File(error) => not_writable(alloc, db, &error),
-        NotMade::Unopened(error) => not_opened(alloc, db, error),
+        NotMade::Obstacle(obstacle) => obstructed(alloc, db, obstacle),
+        NotMade::Unopened(error) => not_opened_at(rt, db, error),
         NotMade::Memory => Err(Failure::Memory),
         NotMade::Create(CreateError::Store(fault)) => refused_by_store(alloc, db, fault),
         NotMade::Create(CreateError::Schema) => refused_by_table(alloc, db),
         NotMade::Create(CreateError::Memory) => Err(Failure::Memory),
         NotMade::Create(CreateError::Fault(fault)) => faulty(alloc, sources, site, fault),
-        NotMade::Create(CreateError::TooLarge(file)) => too_large(alloc, file),
+        NotMade::Create(CreateError::TooLarge(file)) => too_large(alloc, sources, file),
+    }
+}
+
+/// Answers that the text of a file is too long for a new database.
+fn too_large(alloc: Global, sources: SiteSources<'_>, file: Text) -> Result<Output, Failure>
+    ensures { IsRefusedAs (refused.TooLarge file) result }
+{
+    let told = match file.as_str().strip_prefix("exports:") {
+        Some(mount) => lines_too_large_told(alloc, sources.whole.exports.path, mount)?,
+        None => too_large_told(alloc, FileArgument::Dir, path_of(sources, file.as_str()))?,
+    };
+    Ok(Output::Refused(Refused::TooLarge(file), told))
+}
+
+/// Says that the lines of a file system are too long for a revision.
+fn lines_too_large_told(alloc: Global, path: &str, mount: &str) -> Result<String, AllocError> {
+    format!(in alloc; "exportdesk: DIR {path:?}: the lines of {mount:?} are over 65536 bytes\n")
+}
+
+/// Lends the path of one of the seven files.
+fn path_of<'a>(sources: SiteSources<'a>, file: &str) -> &'a str {
+    match file {
+        "custodians" => sources.custodians.path,
+        "filesystems" => sources.filesystems.path,
+        "hosts" => sources.whole.tables.hosts.path,
+        "networks" => sources.whole.tables.networks.path,
+        "passwd" => sources.whole.tables.passwd.path,
+        "group" => sources.whole.tables.group.path,
+        _ => sources.whole.tables.netgroup.path,
     }
 }
 

@@ -6,7 +6,9 @@ ghost use Rattle.std.specs.String.{string_bytes};
 ghost use Rattle.desk_command.specs.Refused.{IsRefusedAs, TellsError, refused_line, refused_status};
 ghost use Rattle.desk_command.specs.declared.refused.Refused.TheVariants as refused;
 
+use crate::database::{Obstacle, find_obstacle};
 use crate::failure::Failure;
+use crate::files::FileArgument;
 use crate::output::Output;
 use desk_core::{Edit, Refusal};
 use desk_exports::Rule;
@@ -92,10 +94,34 @@ pub fn no_revision(alloc: Global, name: &str, rev: Option<u32>) -> Result<Output
 pub fn not_opened(alloc: Global, db: &str, error: Error) -> Result<Output, Failure>
     ensures { IsRefusedAs refused.Store result }
 {
-    if matches!(error, Error::SqliteFailure(ErrorCode::OutOfMemory)) {
-        return Err(Failure::Memory);
+    let told = match error {
+        Error::SqliteFailure(ErrorCode::OutOfMemory) => return Err(Failure::Memory),
+        Error::SqliteFailure(ErrorCode::DatabaseBusy) => {
+            format!(in alloc; "exportdesk: DB {db:?}: another process is using it: try again\n")?
+        }
+        _ => format!(in alloc; "exportdesk: DB {db:?}: it cannot be opened: {error}\n")?,
+    };
+    Ok(Output::Refused(Refused::Store, told))
+}
+
+/// Answers that SQLite does not open a database, by what stands in the way of its files, if that is known.
+pub fn not_opened_at(rt: &HostRuntime, db: &str, error: Error) -> Result<Output, Failure>
+    ensures { IsRefusedAs refused.Store result }
+{
+    match error {
+        Error::SqliteFailure(ErrorCode::CannotOpen) => match find_obstacle(rt, db) {
+            Ok(Some(obstacle)) => obstructed(rt.alloc(), db, obstacle),
+            _ => not_opened(rt.alloc(), db, error),
+        },
+        _ => not_opened(rt.alloc(), db, error),
     }
-    let told = format!(in alloc; "exportdesk: DB {db:?}: it cannot be opened: {error}\n")?;
+}
+
+/// Answers by what stands in the way of a database's files.
+pub fn obstructed(alloc: Global, db: &str, obstacle: Obstacle) -> Result<Output, Failure>
+    ensures { IsRefusedAs refused.Store result }
+{
+    let told = format!(in alloc; "exportdesk: DB {db:?}: {obstacle}\n")?;
     Ok(Output::Refused(Refused::Store, told))
 }
 
@@ -103,6 +129,9 @@ pub fn not_opened(alloc: Global, db: &str, error: Error) -> Result<Output, Failu
 pub fn not_writable(alloc: Global, db: &str, error: &io::Error) -> Result<Output, Failure>
     ensures { IsRefusedAs refused.Store result }
 {
+    if error.kind() == io::ErrorKind::OutOfMemory {
+        return Err(Failure::Memory);
+    }
     let told = format!(in alloc; "exportdesk: DB {db:?}: it cannot be written: {error}\n")?;
     Ok(Output::Refused(Refused::Store, told))
 }
@@ -152,16 +181,14 @@ pub fn refused_by_desk(alloc: Global, db: &str, error: DeskError) -> Result<Outp
     }
 }
 
-/// Answers that the text of a file is too long for a new database.
-pub fn too_large(alloc: Global, file: Text) -> Result<Output, Failure>
-    ensures { IsRefusedAs (refused.TooLarge file) result }
-{
-    let told = too_large_told(alloc, file.as_str())?;
-    Ok(Output::Refused(Refused::TooLarge(file), told))
-}
-
-fn too_large_told(alloc: Global, file: &str) -> Result<String, AllocError> {
-    format!(in alloc; "exportdesk: {file}: it is over 65536 bytes\n")
+/// Says that the file of this path, which a word names, has more bytes than a revision may have.
+pub fn too_large_told(
+    alloc: Global,
+    argument: FileArgument,
+    path: &str,
+) -> Result<String, AllocError> {
+    let name = argument.name();
+    format!(in alloc; "exportdesk: {name} {path:?}: it is over 65536 bytes\n")
 }
 
 /// Says what a statement was for.
