@@ -11,7 +11,6 @@ use Rattle.desk_command.specs.declared.arguments.Argument.TheVariants as name
 use Rattle.desk_command.specs.declared.arguments.ArgumentFault.TheVariants as fault
 use Rattle.desk_command.specs.declared.failure.Failure.{Failure}
 use Rattle.desk_command.specs.declared.failure.Failure.TheVariants.{Memory}
-use Rattle.desk_command.specs.declared.output.Output.{Output}
 
 own_memory : (word : Option (List ℕ)) (bad : CredFault) → IsBadOwn word (Some (Err bad)) Memory
 own_memory None bad = refl

@@ -1,5 +1,5 @@
 -- What a desk answers to an edit is told, for `put_command`.
-use Rattle.std.proofs.Common.{◌≡◌, ◌≤◌, ◌∙◌, ℕ, Bool, true, List, [], ◌∷◌, inl, inr, Option, Some, None, Result, Ok, Err, IsTrue, arith, refl, subst, sym}
+use Rattle.std.proofs.Common.{◌≡◌, ◌∙◌, ℕ, Bool, true, List, [], ◌∷◌, inl, inr, Option, Some, None, Result, Ok, Err, IsTrue, arith, refl, subst, sym}
 use Rattle.sqlite_wal.specs.Recovery.{Image}
 use Rattle.sqlite_trees.specs.View.{doubt}
 use Rattle.sqlite_trees.specs.declared.store.Store.{Ghosts}

@@ -1,6 +1,5 @@
 -- The first line is taken.
-use Rattle.std.proofs.Common.{inr, rules}
-use Rattle.desk_command.specs.PutCommand.{IsKeyIn}
+use Rattle.std.proofs.Common.{inr}
 use Rattle.desk_command.proofs.put_command.key_of.Goals as goal
 
 pub returns-in-Some : goal.returns-in-Some

@@ -1,5 +1,5 @@
 -- The key's file is read, and the edit is put.
-use Rattle.std.proofs.Common.{◌∙◌, ◌∷◌, [], Err, List, Ok, ap, inl, refl, subst, ℕ}
+use Rattle.std.proofs.Common.{◌∷◌, [], Err, List, Ok, inl, refl, subst, ℕ}
 use Rattle.std.proofs.lemmas.Result.{err_from_is_err_and}
 use Rattle.std.specs.String.{string_bytes}
 use Rattle.desk_core.specs.Edit.{Edit}
