@@ -17,7 +17,7 @@ use Rattle.desk_exports.specs.declared.options.Setting.{Setting}
 use Rattle.desk_exports.specs.declared.rules.Rule.{Rule}
 use Rattle.desk_exports.specs.declared.rules.Rule.TheVariants as rule
 
-neither : (a b : Bool) → a ≡ false → b ≡ false → (a || b) ≡ false
+pub neither : (a b : Bool) → a ≡ false → b ≡ false → (a || b) ≡ false
 neither a b ea eb = ap (λ x. x || b) ea ∙ eb
 
 not_first : (a b : Bool) → a ≡ false → (a && b) ≡ false

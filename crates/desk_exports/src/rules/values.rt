@@ -1,9 +1,10 @@
 //! The rules on options and their values: unknown options, missing and repeated values, flavours and
 //! credentials. (exports(5))
 
-ghost use Rattle.std.specs.Prelude.{◌≡◌};
+ghost use Rattle.std.specs.Prelude.{◌≡◌, IsTrue, false};
 ghost use Rattle.std.specs.List.{list_any};
 ghost use Rattle.desk_tables.specs.CredentialText.{cred_breaks, elements};
+ghost use Rattle.desk_tables.specs.declared.credential_text.CredFault.{CredFault};
 ghost use Rattle.desk_exports.specs.Flavours.{has_bad_flavour};
 ghost use Rattle.desk_exports.specs.Tables.{table_rows};
 ghost use Rattle.desk_exports.specs.Options.{of_value, takes_value};
@@ -13,7 +14,7 @@ ghost use Rattle.desk_exports.specs.declared.options.Keyword.TheVariants as keyw
 use crate::flavours::has_bad_flavour;
 use crate::options::{Keyword, Setting, value_of};
 use crate::tables::Tables;
-use desk_tables::{CredFault, has_fault};
+use desk_tables::{CredFault, credential, has_fault};
 
 /// Tests whether an option is unknown, or has a value and takes none.
 pub(crate) fn has_unknown_option(settings: &[Setting]) -> bool
@@ -106,5 +107,25 @@ pub(crate) fn breaks_credential(
     match value_of(settings, keyword) {
         Some(text) => has_fault(tables.users, tables.groups, text, fault),
         None => false,
+    }
+}
+
+/// Tests whether the credentials of a line can be read, so that they have no fault.
+pub(crate) fn has_sound_credentials(tables: &Tables, settings: &[Setting]) -> bool
+    ensures { IsTrue result → (fault : CredFault) → spec.cred_has (table_rows tables.now) fault settings.now ≡ false }
+{
+    is_sound_credential(tables, settings, Keyword::MapRoot)
+        && is_sound_credential(tables, settings, Keyword::MapAll)
+}
+
+/// Tests whether the value of an option is a credential, or there is none.
+fn is_sound_credential(tables: &Tables, settings: &[Setting], keyword: Keyword) -> bool
+    ensures { let rows = table_rows tables.now in
+        IsTrue result → (fault : CredFault)
+        → of_value keyword (λ text. cred_breaks rows.users rows.groups (elements text) fault) settings.now ≡ false }
+{
+    match value_of(settings, keyword) {
+        Some(text) => credential(tables.users, tables.groups, text).is_ok(),
+        None => true,
     }
 }

@@ -3,7 +3,7 @@ use Rattle.desk_exports.specs.Tables.{table_rows}
 use Rattle.desk_exports.proofs.RulesBesideValues.{first_beside_values, has_valued}
 use Rattle.desk_exports.proofs.rules.first_broken_rule.Goals as goal
 
-pub returns-else-has_valued_option : goal.returns-else-has_valued_option
-returns-else-has_valued_option c =
-    c.first_broken_of-else-has_valued_option.ensures
-    ∙ first_beside_values (table_rows c.args.tables.now) c.args.own_fs c.args.line.now (sym (c.has_valued_option.ensures ∙ ap has_valued c.settings.ensures) ∙ c.if-has_valued_option.false)
+pub returns-then-not-has_valued_option : goal.returns-then-not-has_valued_option
+returns-then-not-has_valued_option c =
+    c.first_broken_of.ensures
+    ∙ first_beside_values (table_rows c.args.tables.now) c.args.own_fs c.args.line.now (sym (c.has_valued_option.ensures ∙ ap has_valued c.settings.ensures) ∙ c.if-not-has_valued_option.true)
