@@ -14,12 +14,12 @@ ghost use Rattle.desk_command.specs.Words.{Finds, given_put};
 ghost use Rattle.desk_command.specs.declared.refused.Refused.TheVariants as refused;
 
 use crate::arguments::{Argument, read_number};
-use crate::database::{CANNOT_OPEN, is_plain, log_to_make, remove_log, unread};
+use crate::database::{CANNOT_OPEN, is_plain, log_to_make, plain_path, remove_log, unread};
 use crate::failure::Failure;
 use crate::files::{FileArgument, is_input, read_if_given};
 use crate::output::Output;
 use crate::refused::{
-    Refused, not_opened, not_writable, refusal_told, refused_by_desk, refused_by_schema,
+    Refused, not_opened_at, not_writable, refusal_told, refused_by_desk, refused_by_schema,
 };
 use crate::words::{optional, required};
 use clap::ArgMatches;
@@ -169,7 +169,7 @@ fn put_edit(rt: &HostRuntime, db: &str, edit: Edit<'_>) -> Result<Output, Failur
 {
     match leads_to_plain(rt, db) {
         Ok(true) => put_in_plain(rt, db, &edit),
-        Ok(false) => not_opened(rt.alloc(), db, CANNOT_OPEN),
+        Ok(false) => not_opened_at(rt, db, CANNOT_OPEN),
         Err(error) => Err(unread(rt.alloc(), db, error)),
     }
 }
@@ -206,7 +206,8 @@ fn put_in_files(rt: &HostRuntime, db: &str, edit: &Edit<'_>) -> Result<Output, F
     ensures { AnswersEdit db.now (asked edit.now) result }
 {
     let log = log_to_make(rt, db)?;
-    let (answer, left) = put_from(rt, db, edit, &log, Wary);
+    let path = plain_path(rt.alloc(), db)?;
+    let (answer, left) = put_from(rt, db, path.as_str(), edit, &log, Wary);
     if left.is_some() {
         // Before the lock goes with the connection: behind that, another process may write the log.
         remove_log(rt, &log);
@@ -218,17 +219,18 @@ fn put_in_files(rt: &HostRuntime, db: &str, edit: &Edit<'_>) -> Result<Output, F
 /// A connection to files, where `S` stands for what they held.
 type FilesFrom<S> = Connection<FileStore<FileFrom<S>>>;
 
-/// Puts an edit into a database, which is opened. Beside the answer is the connection, if there is one.
+/// Puts an edit into the database at a path, which is opened. Beside the answer is the connection, if there is one.
 fn put_from<S: Start>(
     rt: &HostRuntime,
     db: &str,
+    path: &str,
     edit: &Edit<'_>,
     log: &Option<String>,
     start: S,
 ) -> (Result<Output, Failure>, Option<FilesFrom<S>>)
     ensures { PutsFrom over_files (image_at S.Start) (asked edit.now) result.0 result.1 }
 {
-    match Connection::open_from(rt, db, false, start) {
+    match Connection::open_from(rt, path, false, start) {
         Ok(conn) => {
             let (answer, left) = put_over(rt.alloc(), db, conn, edit);
             (answer, Some(left))
@@ -238,7 +240,7 @@ fn put_from<S: Start>(
                 remove_log(rt, log);
             }
             drop(left);
-            (not_opened(rt.alloc(), db, error), None)
+            (not_opened_at(rt, db, error), None)
         }
     }
 }

@@ -12,7 +12,7 @@ ghost use Rattle.desk_command.specs.Questions.{AnswersByDatabase, AnswersByHisto
 use crate::database::{Copied, Unopened, open_copy};
 use crate::failure::Failure;
 use crate::output::Output;
-use crate::refused::{no_revision, not_opened, refused_by_desk};
+use crate::refused::{no_revision, not_opened_at, refused_by_desk};
 use desk_check::try_text::decide_by;
 use desk_policy::{Plain, PolicyView, all_exports, listing, listing_text};
 use desk_store::Desk;
@@ -51,7 +51,7 @@ pub fn answer_question(
     match open_copy(rt, db) {
         Ok(conn) => answer_over(rt.alloc(), db, conn, question),
         Err(Unopened::Unread(failure)) => Err(failure),
-        Err(Unopened::Refused(error)) => not_opened(rt.alloc(), db, error),
+        Err(Unopened::Refused(error)) => not_opened_at(rt, db, error),
     }
 }
 
