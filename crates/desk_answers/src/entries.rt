@@ -1,6 +1,6 @@
 //! Entries of exports files as answers.
 
-use desk_exports::{Boxed, Clients, Entry};
+use desk_exports::{Boxed, Clients, Entry, Names};
 use desk_text::{Net, Path, Text};
 use std::alloc::AllocError;
 
@@ -29,7 +29,7 @@ fn add_dirs(out: &mut String, dirs: &[Path]) -> Result<(), AllocError> {
 /// Adds whom a line is for: `[a] [b]`, `10.0.0.0/8`, `10.0.0.0/8 by the class of 10`, `ipv6 ::1` or `world`.
 fn add_clients(out: &mut String, clients: &Clients) -> Result<(), AllocError> {
     match clients {
-        Clients::Hosts(names) => add_names(out, names.as_slice()),
+        Clients::Hosts(names) => add_names(out, names),
         Clients::Net(net, noted) => add_net(out, *net, noted),
         Clients::Net6(value) => {
             let value = value.as_str();
@@ -39,9 +39,9 @@ fn add_clients(out: &mut String, clients: &Clients) -> Result<(), AllocError> {
     }
 }
 
-fn add_names(out: &mut String, names: &[Text]) -> Result<(), AllocError> {
-    for name in names {
-        let name = name.as_str();
+fn add_names(out: &mut String, names: &Names) -> Result<(), AllocError> {
+    for index in 0..names.len() {
+        let name = names.get(index);
         write!(out, " [{name}]")?;
     }
     Ok(())

@@ -17,6 +17,7 @@ pub mod PrivateFiles
 pub mod PrivateSplitting
 pub mod PrivateFlavours
 pub mod PrivateFew
+pub mod PrivateNames
 pub mod PrivateGrammar
 pub mod PrivateLines
 pub mod PrivateEntry

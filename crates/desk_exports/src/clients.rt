@@ -8,7 +8,7 @@ ghost use Rattle.desk_exports.specs.Clients as spec;
 
 use crate::boxed::Boxed;
 use crate::entry::Clients;
-use crate::few::Few;
+use crate::names::Names;
 use crate::options::{Keyword, Setting, has_option, value_of};
 use desk_tables::Networks;
 use desk_text::{Addr, Net, Prefix, Text, is_ipv6};
@@ -161,11 +161,11 @@ pub(crate) fn read_clients(
     alloc: Global,
     networks: &Networks,
     settings: &[Setting],
-    names: Few<Text>,
+    names: Names,
 ) -> Result<Option<Clients>, AllocError>
     ensures { IfOk result (λ clients. clients ≡ spec.clients_of networks.now settings.now names) }
 {
-    if !names.as_slice().is_empty() {
+    if !names.is_empty() {
         return Ok(Some(Clients::Hosts(names)));
     }
     if !has_option(settings, Keyword::Network) {

@@ -9,6 +9,9 @@ use std::alloc::{AllocError, Global};
 use std::marker::Model;
 use std::{mem, slice};
 
+/// The most values for which no room is made before they come.
+const A_FEW: usize = 16;
+
 /// A list that mostly has one value, which then lies in the list itself.
 #[derive(Drop)]
 pub struct Few<T> {
@@ -55,6 +58,19 @@ impl<T> Few<T> {
 }
 
 impl<T: Drop> Few<T> {
+    /// Makes the empty list, with room for as many values if they are more than a few.
+    pub(crate) fn with_room(alloc: Global, count: usize) -> Result<Few<T>, AllocError>
+        ensures { IfOk result (λ few. few ≡ []) }
+    {
+        if count <= A_FEW {
+            return Ok(Few::new());
+        }
+        let values = Vec::with_capacity(alloc, count)?;
+        Ok(Few {
+            values: Values::Many(Box::new(alloc, values)?),
+        })
+    }
+
     /// Adds a value at the end. If there is no memory for it, the list is lost.
     pub(crate) fn push(&mut self, alloc: Global, value: T) -> Result<(), AllocError>
         ensures { OnOk result (self.new ≡ self.old ++ value ∷ []) }

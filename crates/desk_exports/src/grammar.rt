@@ -11,8 +11,9 @@ ghost use Rattle.desk_exports.specs.Options.{has_option};
 ghost use Rattle.desk_exports.specs.PrivateGrammar.{pieces_before};
 
 use crate::few::Few;
+use crate::names::Names;
 use crate::options::{Keyword, Setting, has_option, wants_value};
-use desk_text::{Path, PathFault, ReadError, Text, Word, split_at, unquote};
+use desk_text::{Path, PathFault, ReadError, Word, split_at, unquote};
 use std::alloc::{AllocError, Global};
 use std::borrow::CowStr;
 use std::marker::Model;
@@ -88,10 +89,23 @@ pub fn grammar_words<'a>(
     ensures { IfOk result (λ v. v.items ≡ map spec.grammar_word (map word_of words.now)) }
 {
     let mut read = Vec::with_capacity(alloc, words.len())?;
+    grammar_words_into(alloc, &mut read, words)?;
+    Ok(read)
+}
+
+/// Reads raw words, in order, in the room of a vector that had other words.
+pub(crate) fn grammar_words_into<'a>(
+    alloc: Global,
+    read: &mut Vec<GrammarWord<'a>>,
+    words: &[Word<'a>],
+) -> Result<(), AllocError>
+    ensures { OnOk result (read.new.items ≡ map spec.grammar_word (map word_of words.now)) }
+{
+    read.clear();
     for word in words {
         read.push(GrammarWord::read(alloc, word)?)?;
     }
-    Ok(read)
+    Ok(())
 }
 
 /// The words of a line by what they are.
@@ -106,7 +120,7 @@ pub struct GrammarLine {
     /// The options of the dashed words, with their values.
     pub settings: Few<Setting>,
     /// The words that are neither directories, dashed nor values.
-    pub names: Few<Text>,
+    pub names: Names,
 }
 
 impl GrammarLine {
@@ -142,10 +156,10 @@ impl GrammarLine {
     }
 
     /// Lends the names.
-    pub(crate) fn names(&self) -> &[Text]
+    pub(crate) fn names(&self) -> &Names
         ensures { result.now ≡ self.now.names }
     {
-        self.names.as_slice()
+        &self.names
     }
 
     /// Tests whether an option is written.
@@ -193,7 +207,7 @@ fn has_stray_comment(words: &[GrammarWord]) -> bool
 fn paths(alloc: Global, words: &[GrammarWord]) -> Result<Few<Result<Path, PathFault>>, AllocError>
     ensures { IfOk result (λ paths. paths ≡ map (λ w. read_path w.value) words.now) }
 {
-    let mut paths = Few::new();
+    let mut paths = Few::with_room(alloc, words.len())?;
     for word in words {
         paths.push(alloc, read_path(alloc, word.value.as_str())?)?;
     }
@@ -295,22 +309,22 @@ pub(crate) fn after_dash(text: &str) -> &str
     text.strip_prefix('-').unwrap_or(text)
 }
 
-fn names(alloc: Global, words: &[GrammarWord]) -> Result<Few<Text>, AllocError>
+fn names(alloc: Global, words: &[GrammarWord]) -> Result<Names, AllocError>
     ensures { IfOk result (λ names. names ≡ spec.names false words.now) }
 {
-    let mut names = Few::new();
+    let mut names = Names::new();
     push_names(alloc, &mut names, words)?;
     Ok(names)
 }
 
 /// Adds the names among words.
-fn push_names(alloc: Global, names: &mut Few<Text>, words: &[GrammarWord]) -> Result<(), AllocError>
+fn push_names(alloc: Global, names: &mut Names, words: &[GrammarWord]) -> Result<(), AllocError>
     ensures { OnOk result (names.new ≡ names.old ++ spec.names false words.now) }
 {
     let mut taken = false;
     for word in words {
         if !word.dashed && !taken {
-            names.push(alloc, Text::copy(alloc, word.value.as_str())?)?;
+            names.push(alloc, word.value.as_str())?;
         }
         taken = takes_next(word);
     }

@@ -15,6 +15,7 @@ ghost use Rattle.desk_exports.specs.Tables.{table_rows};
 use crate::grammar::{
     GrammarLine, GrammarWord, after_dash, count_absolute, grammar_words, is_absolute, takes_next,
 };
+use crate::names::Names;
 use crate::options::{Keyword, Setting, has_option};
 use crate::rules::Rule;
 use crate::rules::directories::{is_elsewhere, is_not_root, mount_point};
@@ -23,7 +24,7 @@ use crate::rules::networks::has_bad_prefix;
 use crate::rules::values::{breaks_credential, is_unknown, lacks_value};
 use crate::tables::Tables;
 use desk_tables::{CredFault, FileSystems, FsId};
-use desk_text::{Line, Path, PathFault, Place, ReadError, Text, Word, words};
+use desk_text::{Line, Path, PathFault, Place, ReadError, Word, words};
 use std::alloc::{AllocError, Global};
 
 /// A part of a line: a word, a name, an option as it is written, or the value of an option. Words, names and options are
@@ -175,10 +176,15 @@ fn first_hash(words: &[GrammarWord]) -> Option<usize>
 }
 
 /// Finds the name that begins with `/`.
-fn late_place(names: &[Text]) -> Option<usize>
+fn late_place(names: &Names) -> Option<usize>
     ensures { result ≡ position is_absolute names.now }
 {
-    names.iter().position(|name| is_absolute(name.as_str()))
+    for index in 0..names.len() {
+        if is_absolute(names.get(index)) {
+            return Some(index);
+        }
+    }
+    None
 }
 
 /// Finds the directory that is not a valid path.
@@ -297,10 +303,15 @@ fn address_at_fault(line: &GrammarLine) -> FaultyPart
     }
 }
 
-fn bad_name_place(names: &[Text]) -> Option<usize>
+fn bad_name_place(names: &Names) -> Option<usize>
     ensures { result ≡ position rules.is_bad_name names.now }
 {
-    names.iter().position(|name| is_bad_name(name.as_str()))
+    for index in 0..names.len() {
+        if is_bad_name(names.get(index)) {
+            return Some(index);
+        }
+    }
+    None
 }
 
 /// Finds the value of the network, if its prefix is at fault, or else that of the mask.

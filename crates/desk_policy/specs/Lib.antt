@@ -1,6 +1,7 @@
 pub mod Names
 pub mod PrivateNames
 pub mod Row
+pub mod PrivateRowAddrs
 pub mod Policy
 pub mod Warning
 pub mod Weights

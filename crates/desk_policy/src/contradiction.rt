@@ -8,7 +8,7 @@ ghost use Rattle.desk_policy.specs.PrivateFirstLines.{contradiction_of};
 
 use crate::first_lines::{Clash, FirstLines};
 use crate::row::Row;
-use crate::terms::have_parts;
+use crate::terms::same_terms;
 use desk_exports::Terms;
 use desk_text::{Addr, Sequence};
 use std::alloc::{AllocError, Global};
@@ -59,9 +59,7 @@ fn have_same_terms(rows: &[Row]) -> bool
 fn all_have_terms(rows: &[Row], terms: &Terms) -> bool
     ensures { IsTrue result → All (λ row. row.entry.terms ≡ terms.now) rows.now }
 {
-    let flavours = terms.flavours.as_slice();
-    let map = terms.map.get();
-    rows.iter().all(|row| have_parts(&row.entry.terms, terms.ro, flavours, &map))
+    rows.iter().all(|row| same_terms(&row.entry.terms, terms))
 }
 
 /// Lists the lines of a file system that contradict an earlier one: each that has other terms than the first line under one

@@ -25,6 +25,7 @@ pub mod parsing;
 pub mod policy;
 pub mod prints;
 pub mod row;
+pub mod row_addrs;
 pub mod site;
 pub mod site_fault;
 mod terms;
@@ -49,6 +50,7 @@ pub use parsing::{SiteTables, parse, parse_whole, parse_whole_with, parse_whole_
 pub use policy::Policy;
 pub use prints::verdict_text;
 pub use row::Row;
+pub use row_addrs::RowAddrs;
 pub use site::Site;
 pub use site_fault::{FaultPlace, SiteFault, SiteRule};
 pub use unlisted::unlisted_line;

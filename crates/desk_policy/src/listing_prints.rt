@@ -12,8 +12,8 @@ use crate::listings::Shown;
 use crate::policy::Policy;
 use crate::prints::mount_text;
 use crate::row::Row;
-use desk_exports::{Clients, Terms};
-use desk_text::{Net, Path, Text};
+use desk_exports::{Clients, Names, Terms};
+use desk_text::{Net, Path};
 use std::alloc::{AllocError, Global};
 
 /// Writes a listing under the policy: of each file system a line with its mount point, terms and lines, and then a line for
@@ -153,7 +153,7 @@ fn clients_text(alloc: Global, clients: &Clients) -> Result<String, AllocError>
     ensures { IfOk result (λ text. string_bytes text ≡ spec.clients_text clients.now) }
 {
     match clients {
-        Clients::Hosts(names) => joined(alloc, names.as_slice()),
+        Clients::Hosts(names) => joined(alloc, names),
         Clients::Net(net, _) => net_text(alloc, *net),
         Clients::Net6(_) => String::from_str(alloc, "(ipv6)"),
         Clients::World => String::from_str(alloc, "(everyone)"),
@@ -170,17 +170,17 @@ fn net_text(alloc: Global, net: Net) -> Result<String, AllocError>
 }
 
 /// Joins names by commas.
-fn joined(alloc: Global, names: &[Text]) -> Result<String, AllocError>
+fn joined(alloc: Global, names: &Names) -> Result<String, AllocError>
     ensures { IfOk result (λ text. string_bytes text ≡ join_with_byte 44 names.now) }
 {
     let mut text = String::new(alloc);
-    let Some((first, others)) = names.split_first() else {
+    if names.is_empty() {
         return Ok(text);
-    };
-    text.push_str(first.as_str())?;
-    for name in others {
+    }
+    text.push_str(names.get(0))?;
+    for index in 1..names.len() {
         text.push_str(",")?;
-        text.push_str(name.as_str())?;
+        text.push_str(names.get(index))?;
     }
     Ok(text)
 }

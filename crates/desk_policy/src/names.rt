@@ -10,10 +10,11 @@ ghost use Rattle.desk_tables.specs.Hosts.{addresses_of_host};
 ghost use Rattle.desk_policy.specs.Names.{addresses_of_names, host_stands_for, is_address_like, stands_for};
 ghost use Rattle.desk_policy.specs.PrivateNames.{Gains};
 
+use desk_exports::Names;
 use desk_netgroup::Netgroups;
 use desk_tables::Hosts;
 use desk_text::laws::sorted_sets_are_unique;
-use desk_text::{Addr, AddrSet, Text, is_dotted, is_ipv6};
+use desk_text::{Addr, AddrSet, is_dotted, is_ipv6};
 use std::alloc::{AllocError, Global};
 
 /// Lists the addresses for which a written name stands, ascending, without duplicates. A dot address stands for itself, and a text
@@ -39,13 +40,13 @@ pub(crate) fn addresses_of_names(
     alloc: Global,
     netgroups: &Netgroups,
     hosts: &Hosts,
-    names: &[Text],
+    names: &Names,
 ) -> Result<AddrSet, AllocError>
     ensures { IfOk result (λ addresses. addresses ≡ addresses_of_names netgroups.now hosts.now names.now) }
 {
     let mut addresses = Vec::new(alloc);
-    for name in names {
-        push_name(alloc, netgroups, hosts, name.as_str(), &mut addresses)?;
+    for index in 0..names.len() {
+        push_name(alloc, netgroups, hosts, names.get(index), &mut addresses)?;
     }
     // Sets are equal that have the same addresses.
     sorted_sets_are_unique();

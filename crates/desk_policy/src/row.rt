@@ -5,17 +5,17 @@ ghost use Rattle.desk_policy.specs.Names.{addresses_of_names};
 ghost use Rattle.desk_policy.specs.Row.{names_of, row_of};
 
 use crate::names::addresses_of_names;
+use crate::row_addrs::RowAddrs;
 use desk_exports::{Boxed, Clients, Entry};
 use desk_netgroup::Netgroups;
 use desk_tables::Hosts;
-use desk_text::AddrSet;
 use std::alloc::{AllocError, Global};
 
 /// A line of an exports file, with the addresses for which its written names stand.
 #[derive(Drop)]
 pub struct Row {
     pub entry: Boxed<Entry>,
-    pub addrs: AddrSet,
+    pub addrs: RowAddrs,
 }
 
 impl Row {
@@ -39,11 +39,14 @@ fn addresses_of_clients(
     netgroups: &Netgroups,
     hosts: &Hosts,
     clients: &Clients,
-) -> Result<AddrSet, AllocError>
+) -> Result<RowAddrs, AllocError>
     ensures { IfOk result (λ addresses. addresses ≡ addresses_of_names netgroups.now hosts.now (names_of clients.now)) }
 {
     match clients {
-        Clients::Hosts(names) => addresses_of_names(alloc, netgroups, hosts, names.as_slice()),
-        Clients::Net(_, _) | Clients::Net6(_) | Clients::World => Ok(AddrSet::new(alloc)),
+        Clients::Hosts(names) => {
+            let addresses = addresses_of_names(alloc, netgroups, hosts, names)?;
+            RowAddrs::of_set(alloc, addresses)
+        }
+        Clients::Net(_, _) | Clients::Net6(_) | Clients::World => Ok(RowAddrs::new()),
     }
 }

@@ -6,7 +6,7 @@ ghost use Rattle.desk_policy.specs.Warning as spec;
 ghost use Rattle.desk_policy.specs.declared.warning.WarningKind.TheVariants.{UnknownHost};
 
 use crate::names::is_address_like;
-use desk_exports::{Boxed, Clients, Entry};
+use desk_exports::{Boxed, Clients, Entry, Names};
 use desk_netgroup::{GroupLine, Member, Netgroups};
 use desk_tables::{FsId, Hosts};
 use desk_text::{Addr, Sequence, Text, is_dotted, is_ipv6};
@@ -166,13 +166,7 @@ pub(crate) fn push_entry(
 {
     match &entry.clients {
         Clients::Hosts(names) => push_names(
-            alloc,
-            netgroups,
-            hosts,
-            file,
-            entry.line,
-            names.as_slice(),
-            warnings,
+            alloc, netgroups, hosts, file, entry.line, names, warnings,
         ),
         Clients::Net(_, Some(value)) => push_if(
             alloc,
@@ -217,15 +211,16 @@ fn push_names(
     hosts: &Hosts,
     file: &str,
     line: u32,
-    names: &[Text],
+    names: &Names,
     warnings: &mut Sequence<Warning>,
 ) -> Result<(), AllocError>
     ensures { OnOk result (warnings.new
         ≡ warnings.old ++ flat_map (λ name. spec.warning_if file.now line name (spec.name_kind netgroups.now hosts.now name)) names.now) }
 {
-    for name in names {
-        let kind = name_kind(alloc, netgroups, hosts, name.as_str())?;
-        push_if(alloc, warnings, file, line, name.as_str(), kind)?;
+    for index in 0..names.len() {
+        let name = names.get(index);
+        let kind = name_kind(alloc, netgroups, hosts, name)?;
+        push_if(alloc, warnings, file, line, name, kind)?;
     }
     Ok(())
 }

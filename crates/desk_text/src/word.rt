@@ -32,12 +32,24 @@ pub fn words<'a>(alloc: Global, line: &Line<'a>) -> Result<Vec<Word<'a>>, ReadEr
     ensures { ReadsAs (λ v. map word_of v.items) result (read_words line.now) }
 {
     let mut words = Vec::with_capacity(alloc, USUAL_WORDS)?;
+    words_into(&mut words, line)?;
+    Ok(words)
+}
+
+/// Cuts a line into its words, as `words` does, in the room of a vector that had the words of another line.
+pub fn words_into<'a>(
+    words: &mut Vec<Word<'a>>,
+    line: &Line<'a>,
+) -> Result<(), ReadError<OpenQuote>>
+    ensures { ReadsAs (λ _. map word_of words.new.items) result (read_words line.now) }
+{
+    words.clear();
     for part in line.parts() {
-        if !push_words(&mut words, part.start, part.text)? {
+        if !push_words(words, part.start, part.text)? {
             return Err(ReadError::Fault(OpenQuote));
         }
     }
-    Ok(words)
+    Ok(())
 }
 
 /// Returns what a word stands for: its text without its quotes and escapes.

@@ -7,14 +7,20 @@ ghost use Rattle.desk_text.specs.Path.{is_absolute};
 ghost use Rattle.desk_exports.specs.Rules as spec;
 
 use crate::grammar::is_absolute;
+use crate::names::Names;
 use desk_tables::{FileSystems, FsId};
-use desk_text::{Path, PathFault, Text};
+use desk_text::{Path, PathFault};
 
 /// Tests whether a name begins with `/`.
-pub(crate) fn has_late_directory(names: &[Text]) -> bool
+pub(crate) fn has_late_directory(names: &Names) -> bool
     ensures { result ≡ list_any is_absolute names.now }
 {
-    names.iter().any(|name| is_absolute(name.as_str()))
+    for index in 0..names.len() {
+        if is_absolute(names.get(index)) {
+            return true;
+        }
+    }
+    false
 }
 
 /// Tests whether a directory is not a valid path.

@@ -5,13 +5,19 @@ ghost use Rattle.std.specs.List.{list_any};
 ghost use Rattle.desk_text.specs.Address.{is_address, is_dotted};
 ghost use Rattle.desk_exports.specs.Rules as spec;
 
-use desk_text::{Addr, Text, is_dotted};
+use crate::names::Names;
+use desk_text::{Addr, is_dotted};
 
 /// Tests whether a name is neither a name nor an address.
-pub(crate) fn has_bad_name(names: &[Text]) -> bool
+pub(crate) fn has_bad_name(names: &Names) -> bool
     ensures { result ≡ list_any spec.is_bad_name names.now }
 {
-    names.iter().any(|name| is_bad_name(name.as_str()))
+    for index in 0..names.len() {
+        if is_bad_name(names.get(index)) {
+            return true;
+        }
+    }
+    false
 }
 
 pub(crate) fn is_bad_name(name: &str) -> bool

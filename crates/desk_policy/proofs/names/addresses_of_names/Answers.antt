@@ -1,4 +1,4 @@
-use Rattle.std.proofs.Common.{[], ◌∙◌, List, subst, ℕ}
+use Rattle.std.proofs.Common.{[], ◌∙◌, List, arith, subst, ℕ}
 use Rattle.std.specs.List.{list_any}
 use Rattle.std.proofs.lemmas.List.{take_all}
 use Rattle.desk_policy.specs.Names.{stands_for}
@@ -11,7 +11,7 @@ returns c =
     let netgroups = c.args.netgroups.now in
     let hosts = c.args.hosts.now in
     let names = c.args.names.now in
-    let items = c.loop-name.addresses.items in
+    let items = c.loop-index.addresses.items in
     c.from_vec.ensures
     ∙ gathered c.sorted_sets_are_unique.ensures netgroups hosts names items
-    (subst (λ (xs : List (List ℕ)). Gains [] items (λ a. list_any (λ name. stands_for netgroups hosts name a) xs)) (take_all c.loop-name.name-index names c.loop-name-test.false) c.loop-name.invariant)
+    (subst (λ (xs : List (List ℕ)). Gains [] items (λ a. list_any (λ name. stands_for netgroups hosts name a) xs)) (take_all c.loop-index.index names (omega (arith, c.loop-index-test.false, c.len-index-end.ensures))) c.loop-index.invariant)

@@ -5,5 +5,5 @@ use Rattle.desk_policy.specs.Names.{stands_for}
 use Rattle.desk_policy.specs.PrivateNames.{Gains}
 use Rattle.desk_policy.proofs.names.addresses_of_names.Given as goal
 
-abbrev pub invariant-loop-name : goal.invariant-loop-name
-invariant-loop-name l = Gains [] l.addresses.items (λ address. list_any (λ name. stands_for l.netgroups l.hosts name address) (take l.name-index l.names))
+abbrev pub invariant-loop-index : goal.invariant-loop-index
+invariant-loop-index l = Gains [] l.addresses.items (λ address. list_any (λ name. stands_for l.netgroups l.hosts name address) (take l.index l.names))

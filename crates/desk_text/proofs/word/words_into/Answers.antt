@@ -2,7 +2,7 @@ use Rattle.std.proofs.Common.{not, ap, ◌∙◌, subst, sym, IsTrue, rules}
 use Rattle.std.proofs.lemmas.Bool.{cond-true}
 use Rattle.desk_text.proofs.PartPlaces.{fits-at}
 use Rattle.desk_text.proofs.WordList.{words_more, closed_more, open_part}
-use Rattle.desk_text.proofs.word.words.Goals as goal
+use Rattle.desk_text.proofs.word.words_into.Goals as goal
 
 pub push_words-requires : goal.push_words-requires
 push_words-requires c = fits-at c.parts-part-items.result.now _ c.loop-part.part-index _ c.parts-part-items.ensures.parts c.loop-part-test.true c.parts-part-items.ensures.placed

@@ -1,0 +1,80 @@
+//! The addresses of a line in force.
+
+ghost use Rattle.std.specs.Prelude.{◌≡◌, [], IfOk, map};
+ghost use Rattle.std.specs.List.Sorted.{IsStrictlyIncreasing};
+ghost use Rattle.desk_text.specs.Address.{number_of};
+ghost use Rattle.desk_text.specs.AddrSet.{is_among};
+
+use desk_exports::Boxed;
+use desk_text::{Addr, AddrSet};
+use std::alloc::{AllocError, Global};
+use std::marker::Model;
+use std::slice;
+
+/// Addresses in ascending order, each once. An address by itself, which most lines have, takes no memory elsewhere.
+#[derive(Drop)]
+pub struct RowAddrs {
+    values: Values,
+}
+
+#[derive(Drop)]
+enum Values {
+    Nothing,
+    One(Addr),
+    Many(Boxed<AddrSet>),
+}
+
+impl Model for RowAddrs {
+    ghost use Rattle.std.specs.Prelude.{List, ℕ};
+    ghost use Rattle.desk_policy.specs.PrivateRowAddrs.{addresses_in};
+
+    ghost Value = { List ℕ };
+
+    ghost view = { λ addresses. addresses_in addresses.values };
+}
+
+impl RowAddrs {
+    /// Makes the empty set.
+    pub(crate) fn new() -> RowAddrs
+        ensures { result ≡ [] }
+    {
+        RowAddrs {
+            values: Values::Nothing,
+        }
+    }
+
+    /// Takes a set over.
+    pub(crate) fn of_set(alloc: Global, set: AddrSet) -> Result<RowAddrs, AllocError>
+        ensures { IfOk result (λ addresses. addresses ≡ set) }
+    {
+        let values = match set.as_slice() {
+            [] => Values::Nothing,
+            [address] => Values::One(*address),
+            _ => Values::Many(Boxed::new(alloc, set)?),
+        };
+        Ok(RowAddrs { values })
+    }
+
+    /// Tests whether the address is in the set.
+    pub fn contains(&self, address: Addr) -> bool
+        ensures { result ≡ is_among (number_of address) self.now }
+    {
+        match &self.values {
+            Values::Nothing => false,
+            Values::One(only) => *only == address,
+            Values::Many(set) => set.contains(address),
+        }
+    }
+
+    /// Lends the addresses, in ascending order.
+    pub fn as_slice(&self) -> &[Addr]
+        ensures value { map number_of result.now ≡ self.now }
+        ensures ascending { IsStrictlyIncreasing self.now }
+    {
+        match &self.values {
+            Values::Nothing => &[],
+            Values::One(address) => slice::from_ref(address),
+            Values::Many(set) => set.as_slice(),
+        }
+    }
+}
