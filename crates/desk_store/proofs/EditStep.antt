@@ -20,7 +20,7 @@ use Rattle.desk_core.specs.declared.edit.Refusal.{Refusal}
 use Rattle.desk_store.specs.Tables.{Adds, AddsWhileOpen, IsAtRest, LeavesCommit, revision_row}
 use Rattle.sqlite.specs.Order.{Row}
 use Rattle.desk_store.specs.History.{Holds, row_of}
-use Rattle.desk_store.specs.Desk.{CommitsOne, HasStored, IsAccepted, IsDesk, IsEdited, IsInUtf8, IsSiteHistory, Stands, StepsOn, told}
+use Rattle.desk_store.specs.Desk.{AnswersBy, CommitsOne, HasStored, IsAccepted, IsDesk, IsEdited, IsInUtf8, IsJudgedBy, IsSiteHistory, Stands, StepsOn, newest_after, told}
 use Rattle.desk_store.specs.declared.error.DeskError.{DeskError}
 use Rattle.desk_store.specs.declared.error.DeskError.TheVariants as error
 use Rattle.desk_store.specs.Laws.{StoredEditsKeepSiteHistories}
@@ -74,9 +74,10 @@ already_number newest e number (Some case.Already) h = cc
 already_number newest e number (Some case.Stale) h = cc
 already_number newest e number (Some case.Full) h = cc
 
-module _ {V : Type 0} (s : State) (state : Kept V) (e : Edit) where
+module _ {V : Type 0} (s : State) (state : Kept V) (e : Edit) (sound : IsConsistent (site_in (newest_in state.heads))) where
   pub edited_already : (rev : ℕ) → Answers (newest_in state.heads) e (Already rev) → IsEdited s s state state e (Ok (record { rev = rev; already = true }))
   edited_already rev h = record {
+    judged = record { consistent = sound; answers = h; heads = refl };
     number = already_number (newest_in state.heads) e rev (first_case (newest_in state.heads) e) h;
     step = λ clean history pending stands. record { answered = answered s state history pending stands e (Already rev) h; stands = same_history s state history pending stands };
     unanswered = λ none. absurd (let e = none in cc);
@@ -89,6 +90,7 @@ module _ {V : Type 0} (s : State) (state : Kept V) (e : Edit) where
 
   pub edited_refused : (refusal : Refusal) → Answers (newest_in state.heads) e (Refused refusal) → IsEdited s s state state e (Err (error.Refused refusal))
   edited_refused refusal h = record {
+    judged = record { consistent = sound; answers = h; heads = refl };
     number = tt;
     step = λ clean history pending stands. record { answered = answered s state history pending stands e (Refused refusal) h; stands = same_history s state history pending stands };
     unanswered = λ none. absurd (let e = none in cc);
@@ -101,6 +103,7 @@ module _ {V : Type 0} (s : State) (state : Kept V) (e : Edit) where
 
   pub edited_memory : first_case (newest_in state.heads) e ≡ None → IsEdited s s state state e (Err error.Memory)
   edited_memory h = record {
+    judged = record { consistent = sound; answers = h; heads = refl };
     number = tt;
     step = λ clean history pending stands. record { answered = tt; stands = more_pending s state history pending stands (revision_of e) };
     unanswered = λ _. h;
@@ -124,7 +127,7 @@ no_case newest e number (Some case.Already) h = absurd (cc)
 no_case newest e number (Some case.Stale) h = absurd (cc)
 no_case newest e number (Some case.Full) h = absurd (cc)
 
-module _ {V : Type 0} (newest_more : NewestOfALongerHistory) (keeps : StoredEditsKeepSiteHistories) (in_force : V → Content) (old new : State) (before after : Kept V) (e : Edit) (ready : Ready V) (accepted : IsAccepted in_force before e ready) (utf8 : IsInUtf8 e) where
+module _ {V : Type 0} (newest_more : NewestOfALongerHistory) (keeps : StoredEditsKeepSiteHistories) (in_force : V → Content) (old new : State) (before after : Kept V) (e : Edit) (ready : Ready V) (sound : IsConsistent (site_in (newest_in before.heads))) (accepted : IsAccepted in_force before e ready) (utf8 : IsInUtf8 e) where
   abbrev r : Revision
   r = revision_of e
 
@@ -186,10 +189,11 @@ module _ {V : Type 0} (newest_more : NewestOfALongerHistory) (keeps : StoredEdit
     crash = λ clean trees may. elim (crash.crash clean trees may) [ inl as_before ↦ inl as_before | inr adds ↦ inr (none, consistent, adds.1) ];
   }
 
-  edited_untold : (failure : DeskError) → told (Err failure) ≡ None → ◌≢◌ {A = Result Done DeskError} (Err failure) (Err error.Schema)
+  edited_untold : (failure : DeskError) → AnswersBy (newest_in before.heads) e (Err failure) → told (Err failure) ≡ None → ◌≢◌ {A = Result Done DeskError} (Err failure) (Err error.Schema)
       → (HasCleanDisk new → IsTrue new.is_open → IsTrue old.is_open) → (HasCleanDisk new → IsTrue new.is_open → new.committed ≡ old.committed) → Survives old new (AddsWhileOpen (row_of r) old)
       → IsEdited old new before before e (Err failure)
-  edited_untold failure untold other opened same crash = record {
+  edited_untold failure answers untold other opened same crash = record {
+    judged = record { consistent = sound; answers = answers; heads = ap (newest_after (newest_in before.heads) e) (sym untold) };
     number = tt;
     step = λ clean history pending stands.
         let Q : Option Answer → Type 0 = λ t. StepsOn new before e t history pending in
@@ -213,14 +217,15 @@ module _ {V : Type 0} (newest_more : NewestOfALongerHistory) (keeps : StoredEdit
       → IsEdited old new before before e (Err failure)
   edited_not failure (inl memory) opened same crash =
       let P : DeskError → Type 0 = λ f. IsEdited old new before before e (Err f) in
-      subst P (sym memory) (edited_untold error.Memory refl not_memory opened same crash)
+      subst P (sym memory) (edited_untold error.Memory none refl not_memory opened same crash)
   edited_not failure (inr store) opened same crash =
       let P : DeskError → Type 0 = λ f. IsEdited old new before before e (Err f) in
-      subst P (sym store.2) (edited_untold (error.Store store.0) refl (not_store store.0) opened same crash)
+      subst P (sym store.2) (edited_untold (error.Store store.0) accepted.answers refl (not_store store.0) opened same crash)
 
   edited_stored : (HasCleanDisk new → IsTrue old.is_open × HasStored (row_of r) old new) → newest_in after.heads ≡ put (newest_in before.heads) ready.head → Survives old new (AddsWhileOpen (row_of r) old)
       → IsEdited old new before after e (Ok (record { rev = e.base + 1; already = false }))
   edited_stored did heads crash = record {
+    judged = record { consistent = sound; answers = accepted.answers; heads = heads ∙ ap (put (newest_in before.heads)) accepted.head };
     number = refl;
     step = λ clean history pending stands. record { answered = answered old before history pending stands e (Stored (e.base + 1)) accepted.answers; stands = stands_on clean (did clean).0 (did clean).1.adds (did clean).1.leaves heads history pending stands };
     unanswered = λ untold. absurd (let e = untold in cc);
@@ -237,7 +242,7 @@ of_edit failure (inl memory) = subst IsOfEdit (sym memory) tt
 of_edit failure (inr store) = subst IsOfEdit (sym store.2) store.1
 
 -- ---- by what the statement answered, where the body was handed over as bytes
-module _ {V : Type 0} (newest_more : NewestOfALongerHistory) (keeps : StoredEditsKeepSiteHistories) (in_force : V → Content) (old new : State) (before after : Kept V) (e : Edit) (ready : Ready V) (body : List ℕ) where
+module _ {V : Type 0} (newest_more : NewestOfALongerHistory) (keeps : StoredEditsKeepSiteHistories) (in_force : V → Content) (old new : State) (before after : Kept V) (e : Edit) (ready : Ready V) (body : List ℕ) (sound : IsConsistent (site_in (newest_in before.heads))) where
   in_utf8 : IsUtf8 e.file × IsUtf8 e.caller → IsUtf8 e.text → IsInUtf8 e
   in_utf8 names text = record { file = names.0; caller = names.1; text = text }
 
@@ -249,7 +254,7 @@ module _ {V : Type 0} (newest_more : NewestOfALongerHistory) (keeps : StoredEdit
       → IsEdited old new before before e (Err failure)
   edit_failed accepted names utf8 same failure which opened kept crash =
       let P : List ℕ → Type 0 = λ b. Survives old new (AddsWhileOpen (revision_row e.file (e.base + 1) e.caller b) old) in
-      edited_not newest_more keeps in_force old new before before e ready accepted (in_utf8 names (subst IsUtf8 same utf8)) failure which opened kept (subst P same crash)
+      edited_not newest_more keeps in_force old new before before e ready sound accepted (in_utf8 names (subst IsUtf8 same utf8)) failure which opened kept (subst P same crash)
 
   pub edit_stored : IsAccepted in_force before e ready → IsUtf8 e.file × IsUtf8 e.caller → IsUtf8 body → body ≡ e.text
       → (HasCleanDisk new → IsTrue new.is_open → IsTrue old.is_open) → (HasCleanDisk new → IsTrue new.is_open) → (HasCleanDisk new → Adds row old.committed new.committed) → (HasCleanDisk new → LeavesCommit new)
@@ -258,7 +263,7 @@ module _ {V : Type 0} (newest_more : NewestOfALongerHistory) (keeps : StoredEdit
   edit_stored accepted names utf8 same opened live adds durable heads crash =
       let P : List ℕ → Type 0 = λ b. Survives old new (AddsWhileOpen (revision_row e.file (e.base + 1) e.caller b) old) in
       let Q : List ℕ → Type 0 = λ b. Adds (revision_row e.file (e.base + 1) e.caller b) old.committed new.committed in
-      edited_stored newest_more keeps in_force old new before after e ready accepted (in_utf8 names (subst IsUtf8 same utf8)) (λ clean. (opened clean (live clean), record { live = live clean; adds = subst Q same (adds clean); leaves = durable clean })) heads (subst P same crash)
+      edited_stored newest_more keeps in_force old new before after e ready sound accepted (in_utf8 names (subst IsUtf8 same utf8)) (λ clean. (opened clean (live clean), record { live = live clean; adds = subst Q same (adds clean); leaves = durable clean })) heads (subst P same crash)
 
 -- ---- a desk that was edited is a desk
 pub desk_after : {V : Type 0} (old new : State) (before after : Kept V) (e : Edit) (result : Result Done DeskError) → IsEdited old new before after e result

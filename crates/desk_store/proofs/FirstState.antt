@@ -9,13 +9,13 @@ use Rattle.desk_policy.specs.View.{HasFault}
 use Rattle.desk_policy.specs.declared.site_fault.SiteFault.{SiteFault}
 use Rattle.desk_core.specs.Head.{CanBeKept, Revision, newest_in}
 use Rattle.desk_core.specs.Judging.{is_of_seven}
-use Rattle.desk_core.specs.Site.{IsConsistent, site_in}
+use Rattle.desk_core.specs.Site.{IsConsistent, IsSound, site_in}
 use Rattle.desk_core.specs.Views.{Kept}
 use Rattle.desk_store.specs.Create.{IsFaultOfSeven, IsFaultOrMemory, IsFirstState, IsSevenOrMemory, IsUtf8Revision, RefusesSite, first_history, first_long, first_long_mount, history_with, mounts_of}
 use Rattle.desk_store.specs.declared.error.CreateError.{CreateError}
 use Rattle.desk_store.specs.declared.error.CreateError.TheVariants as refused
 use Rattle.desk_store.proofs.FirstHistory.{can_be_kept, listed_ascend, listed_read_back, newest_first, site_history}
-use Rattle.desk_store.proofs.FirstSite.{fault_of_site, no_seven_fault, other_fault, seven_fault}
+use Rattle.desk_store.proofs.FirstSite.{fault_of_site, no_seven_fault, other_fault, seven_fault, site_reads}
 
 pub heads_kept : (texts : SiteTexts) (heads : List Revision) (ms : List Mount) → heads ≡ history_with texts ms → ms ≡ mounts_of texts → first_long texts ≡ None → first_long_mount texts (mounts_of texts) ≡ None → All CanBeKept heads
 heads_kept texts heads ms made listed short rest =
@@ -31,6 +31,7 @@ module _ (texts : SiteTexts) (heads : List Revision) (made : heads ≡ first_his
         heads_are = same ∙ made;
         stored = site_history texts (mounts_of texts) up (listed_read_back back texts) short rest (subst (All IsUtf8Revision) made utf8) consistent;
         newest = ap newest_in (same ∙ made) ∙ newest_first texts (mounts_of texts) up;
+        consistent = subst IsSound (site_reads texts) consistent;
       }
   if_made order back short rest utf8 (Err e) same sound = tt
 

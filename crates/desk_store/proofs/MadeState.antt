@@ -9,7 +9,7 @@ use Rattle.sqlite.proofs.StateLemmas.{survives_then}
 use Rattle.desk_policy.specs.Site.{SiteTexts}
 use Rattle.desk_core.specs.Head.{Revision, newest_in}
 use Rattle.desk_core.specs.Views.{Kept}
-use Rattle.desk_store.specs.Create.{HasRoom, HasSeenRoom, IsCreated, IsFirstState, IsMade, IsOfMaking, LooksForRoom, Makes, MakesFirst, MakesTables, MayMake, RefusesRoom, RefusesSite, RefusesToCreate, StoresAll, first_history, has_one}
+use Rattle.desk_store.specs.Create.{HasRoom, HasSeenRoom, IsCreated, IsFirstState, IsMade, IsOfMaking, IsOfRoom, JudgesSite, LooksForRoom, Makes, MakesFirst, MakesTables, MayMake, RefusesRoom, RefusesSite, RefusesToCreate, StoresAll, first_history, has_one}
 use Rattle.desk_store.specs.Desk.{IsSiteHistory, LeavesTables}
 use Rattle.desk_store.specs.Tables.{LeavesCommit}
 use Rattle.desk_store.specs.declared.error.CreateError.{CreateError}
@@ -26,8 +26,24 @@ by_room old texts (refused.Fault fault) h = absurd h
 early : (V : Type 0) (old new : State) (texts : SiteTexts) (e : CreateError) → Survives old new (λ _. ⊥) → Survives old new (MayMake {T = Kept V} old texts (Err e))
 early V old new texts e s = record { clean = s.clean; shield = s.shield; counts = s.counts; limit = s.limit; closes = s.closes; crash = λ clean trees may. elim (s.crash clean trees may) [ inl before ↦ inl before | inr none ↦ absurd none ] }
 
+room_judged : (V : Type 0) (texts : SiteTexts) (e : CreateError) → IsOfRoom e → JudgesSite {T = Kept V} texts (Err e)
+room_judged V texts refused.Schema h = tt
+room_judged V texts (refused.Store fault) h = h
+room_judged V texts refused.Memory h = tt
+room_judged V texts (refused.TooLarge file) h = absurd h
+room_judged V texts (refused.Fault fault) h = absurd h
+
+site_judged : (V : Type 0) (texts : SiteTexts) (e : CreateError) → RefusesSite texts e → JudgesSite {T = Kept V} texts (Err e)
+site_judged V texts refused.Schema h = tt
+site_judged V texts (refused.Store fault) h = absurd h
+site_judged V texts refused.Memory h = tt
+site_judged V texts (refused.TooLarge file) h = h
+site_judged V texts (refused.Fault fault) h = h
+
 pub no_room_made : {T : Type 0} (V : Type 0) (old new : State) (texts : SiteTexts) (e : CreateError) → LooksForRoom {T = T} old new (Err e) → IsCreated {V = V} old new texts (Err e)
 no_room_made V old new texts e h = record {
+  judged = room_judged V texts e h.kind;
+  heads = tt;
   made = λ clean. tt;
   refused = λ clean. by_room old texts e (h.refused clean);
   unchanged = λ clean live. h.leaves.same clean live;
@@ -44,6 +60,8 @@ by_site old texts (refused.Fault fault) none h = (none, h)
 
 pub site_refused : {T : Type 0} (V : Type 0) (old new : State) (texts : SiteTexts) (x : T) (e : CreateError) → LooksForRoom old new (Ok x) → RefusesSite texts e → IsCreated {V = V} old new texts (Err e)
 site_refused V old new texts x e h says = record {
+  judged = site_judged V texts e says;
+  heads = tt;
   made = λ clean. tt;
   refused = λ clean. by_site old texts e (h.found clean).none says;
   unchanged = λ clean live. h.leaves.same clean live;
@@ -68,6 +86,8 @@ module _ (old mid new : State) (texts : SiteTexts) (clean_if_open : IsTrue mid.i
   pub made_state : {T U V : Type 0} (x : T) (y : U) (state : Kept V) → LooksForRoom old mid (Ok x) → StoresAll mid new (first_history texts) (Ok y) → IsFirstState texts state.heads → (IsTrue new.is_open → LeavesCommit new)
       → IsCreated old new texts (Ok state)
   made_state x y state look stored first law = record {
+    judged = (first.consistent, first.stored);
+    heads = first.heads_are;
     made = λ clean.
         let after = stored.crash (room_of x look) in
         let before : HasCleanDisk mid = omega (arith, after.clean) in
@@ -97,6 +117,6 @@ module _ (old mid new : State) (texts : SiteTexts) (clean_if_open : IsTrue mid.i
       let before : HasCleanDisk mid = omega (arith, after.clean) in
       let kept : new.committed ≡ old.committed = (stored.unchanged clean live).1 ∙ (look.found before).committed in kept in
       elim says [
-        | inl memory ↦ subst (λ (f : CreateError). IsCreated {V = V} old new texts (Err f)) (sym memory) (record { made = λ clean. tt; refused = λ clean. tt; unchanged = same; crash = all; mode = stored.autocommit })
-        | inr store ↦ subst (λ (f : CreateError). IsCreated {V = V} old new texts (Err f)) (sym store.2) (record { made = λ clean. tt; refused = λ clean. store.1; unchanged = same; crash = all; mode = stored.autocommit })
+        | inl memory ↦ subst (λ (f : CreateError). IsCreated {V = V} old new texts (Err f)) (sym memory) (record { judged = tt; heads = tt; made = λ clean. tt; refused = λ clean. tt; unchanged = same; crash = all; mode = stored.autocommit })
+        | inr store ↦ subst (λ (f : CreateError). IsCreated {V = V} old new texts (Err f)) (sym store.2) (record { judged = store.1; heads = tt; made = λ clean. tt; refused = λ clean. store.1; unchanged = same; crash = all; mode = stored.autocommit })
       ]

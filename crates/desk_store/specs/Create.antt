@@ -25,6 +25,7 @@ use Rattle.desk_policy.specs.declared.site_fault.SiteFault.{SiteFault}
 use Rattle.desk_core.specs.Head.{Revision, newest_in}
 use Rattle.desk_core.specs.History.{IsHistory, newest_of}
 use Rattle.desk_core.specs.Judging.{is_of_seven, longest_edit, seven}
+use Rattle.desk_core.specs.Site.{IsConsistent}
 use Rattle.desk_store.specs.Desk.{IsSiteHistory, LeavesTables, Shown, Stands}
 use Rattle.desk_store.specs.History.{Holds}
 use Rattle.sqlite_schema.specs.Names.{same_name, table_named}
@@ -144,11 +145,12 @@ history_with texts mounts = map (revision_of_seven texts) seven ++ map (revision
 abbrev pub first_history : SiteTexts → List Revision
 first_history texts = history_with texts (mounts_of texts)
 
--- the heads of a state are the first revisions of a site, which are the history of a site
+-- the heads of a state are the first revisions of a site, which is consistent, and they are the history of a site
 pub record IsFirstState (texts : SiteTexts) (heads : List Revision) : Type 0 where
   pub heads_are : heads ≡ first_history texts
   pub stored : IsSiteHistory (first_history texts)
   pub newest : newest_in heads ≡ newest_of (first_history texts)
+  pub consistent : IsConsistent texts
 
 -- what a revision stores is UTF-8
 pub record IsUtf8Revision (revision : Revision) : Type 0 where
@@ -270,6 +272,14 @@ RefusesRoom schema refused.Memory = Unit {0}
 RefusesRoom schema (refused.TooLarge file) = ⊥
 RefusesRoom schema (refused.Fault fault) = ⊥
 
+-- what a look for room is refused for, whatever the disk does: not for the site
+abbrev pub IsOfRoom : CreateError → Type 0
+IsOfRoom refused.Schema = Unit {0}
+IsOfRoom (refused.Store fault) = IsFaultOf task.MakeTables fault
+IsOfRoom refused.Memory = Unit {0}
+IsOfRoom (refused.TooLarge file) = ⊥
+IsOfRoom (refused.Fault fault) = ⊥
+
 pub record HasSeenRoom (old new : State) : Type 0 where
   pub was_open : IsTrue old.is_open
   pub is_open : IsTrue new.is_open
@@ -282,6 +292,7 @@ pub record LooksForRoom {T : Type 0} (old new : State) (result : Result T Create
   pub leaves : LeavesTables old new
   pub mode : new.in_transaction ≡ false
   pub found : HasCleanDisk new → OnOk result (HasSeenRoom old new)
+  pub kind : IfErr result IsOfRoom
   pub refused : HasCleanDisk new → IfErr result (RefusesRoom old.committed.schema)
 
 -- made: none of the tables was there; a state stands at revision 1 of each file, by `site`, in tables beside what was there;
@@ -308,8 +319,20 @@ MayMake old texts (Err refused.Schema) trees = ⊥
 MayMake old texts (Err (refused.Fault fault)) trees = ⊥
 MayMake old texts (Err (refused.TooLarge file)) trees = ⊥
 
+-- How a site is judged when a database is made of it, whatever the disk does: that is done only of a consistent site, whose first
+-- revisions are the history of a site; and a fault, or a text that is too long, is told only of a site that is refused for it.
+abbrev pub JudgesSite : {T : Type 0} → SiteTexts → Result T CreateError → Type 0
+JudgesSite texts (Ok made) = IsConsistent texts × IsSiteHistory (first_history texts)
+JudgesSite texts (Err (refused.Fault fault)) = RefusesSite texts (refused.Fault fault)
+JudgesSite texts (Err (refused.TooLarge file)) = RefusesSite texts (refused.TooLarge file)
+JudgesSite texts (Err (refused.Store fault)) = IsFaultOf task.MakeTables fault
+JudgesSite texts (Err refused.Schema) = Unit {0}
+JudgesSite texts (Err refused.Memory) = Unit {0}
+
 -- what making a database did, all together (each part is a clause of `create`)
 pub record IsCreated {V : Type 0} (old new : State) (texts : SiteTexts) (result : Result (Kept V) CreateError) : Type 0 where
+  pub judged : JudgesSite texts result
+  pub heads : IfOk result (λ made. made.heads ≡ first_history texts)
   pub made : HasCleanDisk new → IfOk result (IsMade old new texts)
   pub refused : HasCleanDisk new → IfErr result (RefusesToCreate old.committed.schema texts)
   pub unchanged : HasCleanDisk new → IsTrue new.is_open → OnErr result (new.committed ≡ old.committed)

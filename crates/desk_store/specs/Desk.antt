@@ -12,7 +12,7 @@ use Rattle.sqlite.specs.Order.{Row}
 use Rattle.sqlite.specs.Tree.{Trees}
 use Rattle.desk_policy.specs.Policy.{Content}
 use Rattle.desk_core.specs.Edit.{Already, Answer, Edit, Refused, Stored, revision_of}
-use Rattle.desk_core.specs.Head.{Revision, last_revision, newest_in, put}
+use Rattle.desk_core.specs.Head.{Newest, Revision, last_revision, newest_in, put}
 use Rattle.desk_core.specs.History.{IsAnswered, IsHistory, added_if, newest_of, revisions_of}
 use Rattle.desk_core.specs.Judging.{Answers, IsFileName, first_case, longest_edit, seven}
 use Rattle.desk_core.specs.Site.{IsConsistent, site_in}
@@ -99,6 +99,29 @@ pending_after pending e (Some (Stored number)) = []
 pending_after pending e (Some (Already number)) = pending
 pending_after pending e (Some (Refused refusal)) = pending
 
+-- What an edit is answered by these newest revisions, whatever the disk does: what the definition says. The store refuses only
+-- an edit that could be stored, and memory runs out only where none of the eight cases holds.
+abbrev pub AnswersBy : Newest → Edit → Result Done DeskError → Type 0
+AnswersBy newest e (Ok done) = Answers newest e (if done.already then Already done.rev else Stored done.rev)
+AnswersBy newest e (Err (error.Refused refusal)) = Answers newest e (Refused refusal)
+AnswersBy newest e (Err (error.Store fault)) = Answers newest e (Stored (e.base + 1))
+AnswersBy newest e (Err error.Schema) = ⊥
+AnswersBy newest e (Err error.Memory) = first_case newest e ≡ None
+
+-- the newest revisions after an answer: that of a stored edit is the newest of its file
+abbrev pub newest_after : Newest → Edit → Option Answer → Newest
+newest_after newest e None = newest
+newest_after newest e (Some (Stored number)) = put newest (revision_of e)
+newest_after newest e (Some (Already number)) = newest
+newest_after newest e (Some (Refused refusal)) = newest
+
+-- How an edit is judged, whatever the disk does: the newest revisions of the desk write a consistent site, the answer is by
+-- them, and they are then those after the answer.
+pub record IsJudgedBy {V : Type 0} (before after : Kept V) (e : Edit) (result : Result Done DeskError) : Type 0 where
+  pub consistent : IsConsistent (site_in (newest_in before.heads))
+  pub answers : AnswersBy (newest_in before.heads) e result
+  pub heads : newest_in after.heads ≡ newest_after (newest_in before.heads) e (told result)
+
 -- The one commit of an edit: its row, where it was answered as stored; the same row may be there without an answer, if it
 -- could take effect; a repeat and a refused edit commit nothing.
 abbrev pub CommitsOne : {V : Type 0} → Kept V → Edit → Option Answer → Database → Trees → Type 0
@@ -134,6 +157,7 @@ pub record HasStored (row : Row) (old new : State) : Type 0 where
 
 -- what an edit did to a desk, all together (each part is a clause of `edit`)
 pub record IsEdited {V : Type 0} (old new : State) (before after : Kept V) (e : Edit) (result : Result Done DeskError) : Type 0 where
+  pub judged : IsJudgedBy before after e result
   pub number : IfOk result (λ done. done.rev ≡ e.base + 1)
   pub step : HasCleanDisk new → (history pending : History) → Stands old before history pending → StepsOn new after e (told result) history pending
   pub unanswered : told result ≡ None → first_case (newest_in before.heads) e ≡ None

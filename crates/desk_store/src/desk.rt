@@ -8,9 +8,9 @@ ghost use Rattle.desk_core.specs.Edit.{asked, revision_of};
 ghost use Rattle.desk_core.specs.Head.{newest_in};
 ghost use Rattle.desk_core.specs.History.{added_if, newest_of, revisions_of};
 ghost use Rattle.desk_core.specs.Judging.{first_case};
-ghost use Rattle.desk_core.specs.Site.{IsInForce, site_in};
-ghost use Rattle.desk_store.specs.Create.{IsMade, MayMake, RefusesToCreate, answer_of};
-ghost use Rattle.desk_store.specs.Desk.{CommitsOne, HasGoodDisk, HasStored, History, IsAccepted, IsEdited, LeavesTables, StandsAt, StaysAsItWas, StepsTo, revision_at, stored_of, told};
+ghost use Rattle.desk_core.specs.Site.{IsConsistent, IsInForce, site_in};
+ghost use Rattle.desk_store.specs.Create.{IsMade, JudgesSite, MayMake, RefusesToCreate, answer_of, first_history};
+ghost use Rattle.desk_store.specs.Desk.{CommitsOne, HasGoodDisk, HasStored, History, IsAccepted, IsEdited, IsJudgedBy, LeavesTables, StandsAt, StaysAsItWas, StepsTo, revision_at, stored_of, told};
 ghost use Rattle.desk_store.specs.History.{row_of};
 ghost use Rattle.desk_store.specs.Open.{IsOfOpening, IsOurs, OpensAt, held_in};
 ghost use Rattle.desk_store.specs.Rows.{IsOfEdit, IsOfTask};
@@ -118,6 +118,9 @@ impl<S: Alter + Drop, V: PolicyView + Drop> Desk<S, V> {
     pub fn edit(&mut self, alloc: Global, edit: &Edit<'_>) -> Result<Done, DeskError>
         ensures number { IfOk result (λ done. done.rev ≡ edit.now.base + 1) }
 
+        // Whatever the disk does, the answer is by the newest revisions of the desk, which are then those after it.
+        ensures judged { IsJudgedBy self.old.state self.new.state (asked edit.now) result }
+
         // Wherever the desk stood, the edit is answered by that history, and the desk stands at the history after it.
         ensures step { HasGoodDisk S.Store self.new → (history pending : History)
             → StandsAt S.Store self.old history pending
@@ -138,6 +141,8 @@ impl<S: Alter + Drop, V: PolicyView + Drop> Desk<S, V> {
         ensures durable { HasGoodDisk S.Store self.new → added_if (asked edit.now) (told result) ≢ []
             → HasStored (row_of (revision_of (asked edit.now))) (state S.Store self.old.conn) (state S.Store self.new.conn) }
     {
+        // The view is that of a consistent site.
+        let _view = self.current.view();
         self.judged(alloc, edit)
     }
 
@@ -153,7 +158,7 @@ impl<S: Alter + Drop, V: PolicyView + Drop> Desk<S, V> {
             → StandsAt S.Store self.old history pending
             → IfOk result (λ found. found ≡ stored_of (revision_at history file.now rev)) }
         ensures errors { IfErr result (IsOfTask tasks.ReadRevisions) }
-        ensures crash { Survives (state S.Store self.old.conn) (state S.Store self.new.conn) (λ _. ⊥) }
+        ensures tables { LeavesTables (state S.Store self.old.conn) (state S.Store self.new.conn) }
     {
         match read_revision(&mut self.conn, file, rev) {
             Ok(rows) => find_revision(alloc, rows.as_slice()),
@@ -172,7 +177,7 @@ impl<S: Alter + Drop, V: PolicyView + Drop> Desk<S, V> {
             → StandsAt S.Store self.old history pending
             → IfOk result (λ found. found ≡ map (λ r. (r.rev, r.author)) (revisions_of file.now history)) }
         ensures errors { IfErr result (IsOfTask tasks.ReadRevisions) }
-        ensures crash { Survives (state S.Store self.old.conn) (state S.Store self.new.conn) (λ _. ⊥) }
+        ensures tables { LeavesTables (state S.Store self.old.conn) (state S.Store self.new.conn) }
     {
         match read_numbers(&mut self.conn, file) {
             Ok(rows) => list_revisions(alloc, rows.as_slice()),
@@ -180,9 +185,10 @@ impl<S: Alter + Drop, V: PolicyView + Drop> Desk<S, V> {
         }
     }
 
-    /// Gives the connection back, as it stands.
+    /// Gives the connection back, as it stands, with no transaction open.
     pub fn into_connection(self) -> Connection<S>
-        ensures { result ≡ self.conn }
+        ensures same { result ≡ self.conn }
+        ensures mode { HasCleanDisk (state S.Store result) → (state S.Store result).in_transaction ≡ false }
     {
         self.conn
     }
@@ -199,6 +205,11 @@ impl<S: Alter + Drop, V: PolicyView + Drop> Desk<S, V> {
 
         // The desk stands at the first revisions, in tables beside what was there, and a crash leaves just that.
         ensures made { IfOk result (λ desk. HasGoodDisk S.Store desk → IsMade (state S.Store conn) (state S.Store desk.conn) (texts_of site.now) desk.state) }
+
+        // Whatever the disk does, a desk is made only of a consistent site, and has its first revisions; and a site is refused only
+        // for what it is.
+        ensures judged { JudgesSite (texts_of site.now) (answer_of result) }
+        ensures heads { IfOk result (λ desk. desk.state.heads ≡ first_history (texts_of site.now)) }
 
         // A refusal names the first reason in the order of `RefusesToCreate`, or out of memory or a refused statement. While the
         // store is open the tables are as before; what a crash leaves is said below.
@@ -218,6 +229,7 @@ impl<S: Alter + Drop, V: PolicyView + Drop> Desk<S, V> {
 
     /// Answers an edit by what it is judged.
     fn judged(&mut self, alloc: Global, edit: &Edit<'_>) -> Result<Done, DeskError>
+        requires sound { IsConsistent (site_in (newest_in self.old.state.heads)) }
         ensures edited { IsEdited (state S.Store self.old.conn) (state S.Store self.new.conn) self.old.state self.new.state (asked edit.now) result }
         ensures errors { IfErr result IsOfEdit }
     {
@@ -231,6 +243,7 @@ impl<S: Alter + Drop, V: PolicyView + Drop> Desk<S, V> {
 
     /// Stores the revision of an edit that this desk, as it is, has accepted, and puts it in force.
     fn store(&mut self, edit: &Edit<'_>, accepted: Accepted<V>) -> Result<Done, DeskError>
+        requires sound { IsConsistent (site_in (newest_in self.old.state.heads)) }
         requires accepted { IsAccepted V.in_force self.old.state (asked edit.now) accepted }
         ensures edited { IsEdited (state S.Store self.old.conn) (state S.Store self.new.conn) self.old.state self.new.state (asked edit.now) result }
         ensures errors { IfErr result IsOfEdit }

@@ -12,7 +12,7 @@ pub returns-in-Err-Memory-clause-edited : goal.returns-in-Err-Memory-clause-edit
 returns-in-Err-Memory-clause-edited g c =
     let e = asked c.args.edit.now in
     let none : first_case (newest_in c.self.inside.current.heads) e ≡ None = subst (λ f. Judges g.V.PolicyView.in_force c.self.inside.current e (Err f)) c.in-Err-Memory.field-0-is c.in-Err-Memory.ensures in
-    edited_memory (state g.S.Store c.args.self.now.conn) c.args.self.now.state e
+    edited_memory (state g.S.Store c.args.self.now.conn) c.args.self.now.state e c.requires.sound
     (subst (λ s. first_case (newest_in s.state.heads) e ≡ None) c.self.view_is none)
 
 pub returns-in-Ok-Already-clause-edited : goal.returns-in-Ok-Already-clause-edited
@@ -20,5 +20,5 @@ returns-in-Ok-Already-clause-edited g c =
     let e = asked c.args.edit.now in
     let answers : Answers (newest_in c.self.inside.current.heads) e (Already c.in-Ok-Already.rev) =
     subst (λ j. Judges g.V.PolicyView.in_force c.self.inside.current e (Ok j)) (c.in-Ok-Already.field-0-is ∙ ap judged.Already c.in-Ok-Already.rev-is) c.in-Ok-Already.ensures in
-    edited_already (state g.S.Store c.args.self.now.conn) c.args.self.now.state e c.in-Ok-Already.rev
+    edited_already (state g.S.Store c.args.self.now.conn) c.args.self.now.state e c.requires.sound c.in-Ok-Already.rev
     (subst (λ s. Answers (newest_in s.state.heads) e (Already c.in-Ok-Already.rev)) c.self.view_is answers)
