@@ -2,11 +2,10 @@
 //! first ` = ` of a line counts: in a text it is written `\s= `. A question without a text is `QUESTION = ANSWER`. Empty
 //! lines and those that begin with `#` are skipped.
 
-use crate::questions;
 use crate::report::Report;
-use crate::subject::Subject;
 use desk_answers::answers::split;
 use desk_answers::escapes;
+use desk_store_answers::Subject;
 use std::alloc::{AllocError, Global};
 use std::str;
 
@@ -87,7 +86,7 @@ fn ask(
     let Ok(text) = str::from_utf8(trial.text.as_slice()) else {
         return Ok(Some("has a wrong escape"));
     };
-    if !questions::answer(alloc, subject, &mut trial.found, question, text)? {
+    if !desk_store_answers::answer(alloc, subject, &mut trial.found, question, text)? {
         return Ok(Some("cannot be asked"));
     }
     Ok(None)

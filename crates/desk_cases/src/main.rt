@@ -4,12 +4,7 @@
 
 mod cases;
 mod commands;
-mod databases;
-mod desks;
-mod edits;
-mod questions;
 mod report;
-mod subject;
 mod terminal;
 mod tools;
 

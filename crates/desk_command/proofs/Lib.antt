@@ -1,16 +1,1 @@
-pub mod CheckAnswers
 pub mod ClapAnswers
-pub mod FirstBad
-pub mod FilesInTurn
-pub mod KnownBytes
-pub mod KnownText
-pub mod MountWords
-pub mod SplitAnswers
-pub mod TextFaults
-pub mod ToldFindings
-pub mod Writing
-pub mod QuestionAnswers
-pub mod PutAnswers
-pub mod RevisionLengths
-pub mod InitAnswers
-pub mod AskAnswers

@@ -1,41 +1,25 @@
 -- What the program answers to the words of a command, and how it ends. (this project's own)
-use Rattle.std.specs.Prelude.{◌≡◌, ◌≢◌, ◌⊎◌, ℕ, Bool, not, List, [], ◌∷◌, take, Option, Some, None, IfSome, Result, Ok, Err, IsErrAnd}
+use Rattle.std.specs.Prelude.{◌≡◌, ◌≢◌, ◌⊎◌, ℕ, List, [], ◌∷◌, take, Option, Some, None, IfSome, Result, Ok, Err, IsErrAnd}
 use Rattle.std.specs.Io.BufRead.{take_through}
-use Rattle.std.specs.List.{position_from}
-use Rattle.std.specs.Str.{is_utf8}
 use Rattle.clap.specs.declared.error.ErrorKind.{ErrorKind}
 use Rattle.clap.specs.declared.error.ErrorKind.TheVariants.{DisplayHelp, DisplayVersion, OutOfMemory}
-use Rattle.desk_command.specs.AskCommand.{AnswersAsk, AnswersCat, AnswersExports, AnswersLog, AnswersShow}
-use Rattle.desk_command.specs.CheckCommand.{AnswersCheck}
-use Rattle.desk_command.specs.CommandLine.{Ask, AskForHelp, Cat, Check, CommandWords, Exports, Init, Log, Put, Show, Split, Try, command_found, faults_of}
-use Rattle.desk_command.specs.Files.{IsSystem}
-use Rattle.desk_command.specs.InitCommand.{AnswersInit}
-use Rattle.desk_command.specs.Input.{first_line, words_of}
-use Rattle.desk_command.specs.Output.{printed, status_of}
-use Rattle.desk_command.specs.PutCommand.{AnswersPut}
-use Rattle.desk_command.specs.SplitCommand.{AnswersSplit}
-use Rattle.desk_command.specs.TryCommand.{AnswersTry}
-use Rattle.desk_command.specs.Words.{IsMissing}
-use Rattle.desk_command.specs.declared.failure.Failure.{Failure}
-use Rattle.desk_command.specs.declared.failure.Failure.TheVariants.{FirstLine, Memory, Usage, Word}
-use Rattle.desk_command.specs.declared.failure.ReadFailure.TheVariants.{Text}
-use Rattle.desk_command.specs.declared.input.TextFault.{TextFault}
-use Rattle.desk_command.specs.declared.output.Output.{Output}
-use Rattle.desk_command.specs.declared.output.Output.TheVariants.{Help}
-
--- bytes that are not UTF-8
-abbrev pub is_not_utf8 : List ℕ → Bool
-is_not_utf8 word = not (is_utf8 word)
-
--- the place, from 1, of the first word that is not UTF-8
-abbrev pub bad_word : List (List ℕ) → Option ℕ
-bad_word words = position_from is_not_utf8 1 words
-
--- the failure names the first word that is not UTF-8; out of memory says nothing
-abbrev pub IsBadWord : List (List ℕ) → Failure → Type 0
-IsBadWord words (Word place) = bad_word words ≡ Some place
-IsBadWord words Memory = Unit {0}
-IsBadWord words failure = ⊥
+use Rattle.desk_words.specs.CommandLine.{Ask, AskForHelp, Cat, Check, CommandWords, Exports, Init, Log, Put, Show, Split, Try, command_found, faults_of}
+use Rattle.desk_words.specs.Files.{IsUnreadLine}
+use Rattle.desk_words.specs.Input.{IsBadWord, first_line, words_of}
+use Rattle.desk_words.specs.Words.{IsMissing}
+use Rattle.desk_words.specs.declared.failure.Failure.{Failure}
+use Rattle.desk_words.specs.declared.failure.Failure.TheVariants.{FirstLine, Memory, Usage}
+use Rattle.desk_words.specs.declared.failure.ReadFailure.TheVariants.{Text}
+use Rattle.desk_words.specs.declared.input.TextFault.{TextFault}
+use Rattle.desk_text_commands.specs.CheckCommand.{AnswersCheck}
+use Rattle.desk_text_commands.specs.Output.{printed, status_of}
+use Rattle.desk_text_commands.specs.SplitCommand.{AnswersSplit}
+use Rattle.desk_text_commands.specs.TryCommand.{AnswersTry}
+use Rattle.desk_text_commands.specs.declared.output.Output.{Output}
+use Rattle.desk_text_commands.specs.declared.output.Output.TheVariants.{Help}
+use Rattle.desk_database_commands.specs.AskCommand.{AnswersAsk, AnswersCat, AnswersExports, AnswersLog, AnswersShow}
+use Rattle.desk_database_commands.specs.InitCommand.{AnswersInit}
+use Rattle.desk_database_commands.specs.PutCommand.{AnswersPut}
 
 -- an error of clap is help for the two kinds that are asked for, and else a failure; out of memory says nothing
 abbrev pub IsSaid : ErrorKind → Result Output Failure → Type 0
@@ -78,12 +62,6 @@ AnswersCommand words known result = IsNoCommand words result ⊎ AnswersFound (c
 abbrev pub AnswersLine : Result (List ℕ) TextFault → Option (List ℕ) → Result Output Failure → Type 0
 AnswersLine (Ok line) rest result = (result ≡ Err Memory) ⊎ AnswersCommand (words_of line) rest result
 AnswersLine (Err fault) rest result = result ≡ Err (FirstLine (Text fault))
-
--- the failure says that the system could not read the first line; out of memory says nothing
-abbrev pub IsUnreadLine : Failure → Type 0
-IsUnreadLine (FirstLine reason) = IsSystem reason
-IsUnreadLine Memory = Unit {0}
-IsUnreadLine failure = ⊥
 
 -- the answer to the first line of an input; what stands behind that line is left to the reader
 pub record AnswersInput (known : Option (List ℕ)) (result : Result Output Failure) : Type 0 where

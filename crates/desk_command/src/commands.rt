@@ -1,30 +1,29 @@
 //! From words to what the program prints.
 
-ghost use Rattle.std.specs.Prelude.{◌≡◌, ◌∷◌, MatchResult, codes, map};
+ghost use Rattle.std.specs.Prelude.{map};
 ghost use Rattle.clap.specs.Words.{kind_of, subcommand_rows_of};
-ghost use Rattle.desk_command.specs.CommandLine.{command_of};
-ghost use Rattle.desk_command.specs.Commands.{AnswersCommand, AnswersFirstLine, AnswersFound, AnswersLine, IsBadWord, IsSaid};
-ghost use Rattle.desk_command.specs.Input as spec;
+ghost use Rattle.desk_words.specs.CommandLine.{command_of};
+ghost use Rattle.desk_words.specs.Input as spec;
+ghost use Rattle.desk_command.specs.Commands.{AnswersCommand, AnswersFirstLine, AnswersFound, AnswersLine, IsSaid};
 
-use crate::ask_command::run_ask;
-use crate::check_command::run_check;
-use crate::command_line::command;
-use crate::failure::{Failure, ReadFailure};
-use crate::init_command::run_init;
-use crate::input::{first_line, read_line, words_of};
-use crate::log_command::{run_cat, run_log};
-use crate::output::Output;
-use crate::put_command::run_put;
-use crate::show_command::{run_exports, run_show};
-use crate::split_command::run_split;
-use crate::try_command::run_try;
-use crate::words::{CommandWords, found_command};
 use clap::ArgMatches;
 use clap::error::ErrorKind;
+use desk_database_commands::ask_command::run_ask;
+use desk_database_commands::init_command::run_init;
+use desk_database_commands::log_command::{run_cat, run_log};
+use desk_database_commands::put_command::run_put;
+use desk_database_commands::show_command::{run_exports, run_show};
+use desk_text_commands::check_command::run_check;
+use desk_text_commands::output::Output;
+use desk_text_commands::split_command::run_split;
+use desk_text_commands::try_command::run_try;
+use desk_words::command_line::command;
+use desk_words::failure::{Failure, ReadFailure};
+use desk_words::input::{command_words, first_line, read_line, words_of};
+use desk_words::words::{CommandWords, found_command};
 use std::alloc::Global;
 use std::convert::AsSlice;
 use std::io::BufRead;
-use std::str;
 
 /// Runs the command on the first line of standard input.
 pub fn run_first_line<I: BufRead>(rt: &HostRuntime, input: &mut I) -> Result<Output, Failure>
@@ -86,22 +85,6 @@ fn run_found<I: BufRead>(
         CommandWords::Log(words) => run_log(rt, words),
         CommandWords::Cat(words) => run_cat(rt, words),
     }
-}
-
-/// Returns the texts of words behind the program's name, or the place of the first that is not UTF-8.
-fn command_words<'a, S: AsSlice<u8>>(alloc: Global, words: &'a [S]) -> Result<Vec<&'a str>, Failure>
-    ensures { let given = map S.items words.now in
-        MatchResult result (λ line. map (λ word. word.now) line.items ≡ codes "exportdesk" ∷ given) (IsBadWord given) }
-{
-    let mut line = Vec::new(alloc);
-    line.push("exportdesk")?;
-    for (index, word) in words.iter().enumerate() {
-        match str::from_utf8(word.as_slice()) {
-            Ok(text) => line.push(text)?,
-            Err(_) => return Err(Failure::Word(index + 1)),
-        }
-    }
-    Ok(line)
 }
 
 /// Returns what `clap` says in place of a command: help or the version, or what is wrong with the words.

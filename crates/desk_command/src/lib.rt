@@ -13,37 +13,16 @@
 //! ```
 #![tactic(auto)]
 
-mod arguments;
-mod ask_command;
-mod check_command;
-mod check_site_files;
-mod command_line;
 mod commands;
-mod database;
-mod failure;
-mod files;
-mod init_command;
-mod input;
-mod log_command;
-mod output;
-mod put_command;
-mod questions;
-mod refused;
-mod show_command;
-mod split_command;
-mod table_files;
-mod told_fault;
-mod try_command;
-mod words;
 
 ghost use Rattle.std.specs.Prelude.{map};
 ghost use Rattle.std.specs.Io.KnownBytes.{Appends};
 ghost use Rattle.desk_command.specs.Commands.{Runs};
 
 use crate::commands::{run_first_line, run_words};
-use crate::failure::Origin;
-use crate::output::report;
-pub use output::print_memory;
+pub use desk_text_commands::output::print_memory;
+use desk_text_commands::output::report;
+use desk_words::failure::Origin;
 use std::convert::AsSlice;
 use std::io::{BufRead, Write};
 

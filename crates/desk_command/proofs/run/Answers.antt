@@ -1,8 +1,8 @@
 -- The answer to the words is the one that is reported.
 use Rattle.std.proofs.Common.{◌<◌, ℕ, List, [], ◌∷◌, length, map, rules, Option, Result, arith}
+use Rattle.desk_words.specs.declared.failure.Failure.{Failure}
+use Rattle.desk_text_commands.specs.declared.output.Output.{Output}
 use Rattle.desk_command.specs.Commands.{AnswersCommand, AnswersProgram}
-use Rattle.desk_command.specs.declared.failure.Failure.{Failure}
-use Rattle.desk_command.specs.declared.output.Output.{Output}
 use Rattle.desk_command.proofs.run.Goals as goal
 
 some_words : {X : Type 0} (f : X → List ℕ) (xs : List X) (known : Option (List ℕ)) (result : Result Output Failure) → 0 < length xs → AnswersCommand (map f xs) known result → AnswersProgram (map f xs) known result

@@ -1,7 +1,7 @@
 -- The line that was read is answered, or it could not be read.
 use Rattle.std.proofs.Common.{inl, inr, subst, List, ℕ}
+use Rattle.desk_words.specs.Input.{first_line}
 use Rattle.desk_command.specs.Commands.{AnswersLine}
-use Rattle.desk_command.specs.Input.{first_line}
 use Rattle.desk_command.proofs.commands.run_first_line.Goals as goal
 
 pub returns-in-Ok : goal.returns-in-Ok

@@ -1,0 +1,23 @@
+-- The output of a command on a database that is refused. (this project's own)
+use Rattle.std.specs.Prelude.{◌≡◌, Result, Ok, Err}
+use Rattle.desk_store.specs.declared.error.DeskError.{DeskError}
+use Rattle.desk_store.specs.declared.error.DeskError.TheVariants as error
+use Rattle.desk_words.specs.declared.failure.Failure.{Failure}
+use Rattle.desk_words.specs.declared.failure.Failure.TheVariants.{Memory}
+use Rattle.desk_text_commands.specs.declared.output.Output.{Output}
+use Rattle.desk_text_commands.specs.declared.output.Output.TheVariants.{Refused as Tells}
+use Rattle.desk_text_commands.specs.declared.refused.Refused.{Refused}
+use Rattle.desk_text_commands.specs.declared.refused.Refused.TheVariants as refused
+
+-- the output tells that it is refused so; out of memory says nothing
+abbrev pub IsRefusedAs : Refused → Result Output Failure → Type 0
+IsRefusedAs why (Ok (Tells found told)) = found ≡ why
+IsRefusedAs why (Err Memory) = Unit {0}
+IsRefusedAs why result = ⊥
+
+-- the output tells why a desk has no answer
+abbrev pub TellsError : DeskError → Result Output Failure → Type 0
+TellsError (error.Refused refusal) result = IsRefusedAs (refused.Edit refusal) result
+TellsError (error.Store fault) result = IsRefusedAs refused.Store result
+TellsError error.Schema result = IsRefusedAs refused.Schema result
+TellsError error.Memory result = result ≡ Err Memory

@@ -1,0 +1,18 @@
+//! The commands on a database: `init` makes one, `put` makes an edit, and `ask`, `show`, `exports`, `log` and `cat` ask.
+//!
+//! Its promise: each answers by what its database holds, a question over a copy, which changes nothing; and what is said to be
+//! done is stored. What only the system decides, as whether a database can be opened, is left open.
+//!
+//! ```text
+//! run_exports(&rt, ExportsWords { db: "desk.db" }) // Output::Done: the directories of all exports lines
+//! ```
+#![tactic(auto)]
+
+pub mod ask_command;
+mod database;
+pub mod init_command;
+pub mod log_command;
+pub mod put_command;
+mod questions;
+pub mod show_command;
+mod told_refusal;

@@ -1,0 +1,3 @@
+pub mod CheckAnswers
+pub mod SplitAnswers
+pub mod ToldFindings

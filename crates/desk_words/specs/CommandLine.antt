@@ -1,0 +1,369 @@
+-- The command line, as `clap` reads it. (this project's own)
+use Rattle.std.specs.Prelude.{◌⊎◌, ℕ, Bool, true, false, List, ◌∷◌, Option, Some, None, codes, if◌then◌else◌, option_and_then, option_map}
+use Rattle.std.specs.Option.{option_map_or}
+use Rattle.std.specs.Str.{bytes_eq}
+use Rattle.clap.specs.Lexer.{usize_max}
+use Rattle.clap.specs.Words.{App, IsAmong, Kinds, Row, Rule, all_of, fault_of, first_of, new_app, new_rule, subcommand_of, with_rule, with_subcommand}
+use Rattle.clap.specs.declared.builder.ArgAction.TheVariants.{Set, SetTrue}
+use Rattle.clap.specs.declared.error.ErrorKind.TheVariants.{DisplayHelp, DisplayVersion}
+
+-- an argument that is required, and taken as it is
+abbrev pub word : List ℕ → Rule
+word name = record (new_rule name) { required = true; action = Some Set }
+
+-- MOUNT.., one word or more
+abbrev pub mount_words : Rule
+mount_words = record (word (codes "MOUNT")) { range = Some (record { start_inclusive = 1; end_inclusive = usize_max }) }
+
+-- an option with one value
+abbrev pub option : List ℕ → Rule
+option name = record (new_rule name) { long = Some name; action = Some Set; value_names = 1 }
+
+-- an option with one value that has to be given
+abbrev pub required_option : List ℕ → Rule
+required_option name = record (option name) { required = true }
+
+-- an option without a value
+abbrev pub flag : List ℕ → Rule
+flag name = record (new_rule name) { long = Some name; action = Some SetTrue }
+
+-- a command with the options of the tables too
+abbrev pub with_tables : App → App
+with_tables app =
+    with_rule (with_rule (with_rule (with_rule (with_rule app (option (codes "hosts"))) (option (codes "networks"))) (option (codes "passwd"))) (option (codes "group"))) (option (codes "netgroup"))
+
+-- the arguments of `try FILE HOST DIR MOUNT..`
+abbrev pub try_arguments : App
+try_arguments = with_rule (with_rule (with_rule (with_rule (new_app (codes "try")) (word (codes "FILE"))) (word (codes "HOST"))) (word (codes "DIR"))) mount_words
+
+-- `try` with its options
+abbrev pub try_command : App
+try_command = with_rule (with_tables try_arguments) (option (codes "as"))
+
+-- `split FILE FILESYSTEMS`
+abbrev pub split_command : App
+split_command = with_rule (with_rule (new_app (codes "split")) (word (codes "FILE"))) (word (codes "FILESYSTEMS"))
+
+-- an argument that may be left out, and is taken as it is
+abbrev pub optional_word : List ℕ → Rule
+optional_word name = record (new_rule name) { action = Some Set }
+
+-- MOUNT.., no word or more
+abbrev pub optional_mounts : Rule
+optional_mounts = record (optional_word (codes "MOUNT")) { range = Some (record { start_inclusive = 1; end_inclusive = usize_max }) }
+
+-- the arguments of `check FILE MOUNT..`, which are left out with `--site`
+abbrev pub check_arguments : App
+check_arguments = with_rule (with_rule (new_app (codes "check")) (optional_word (codes "FILE"))) optional_mounts
+
+-- `check` with its options
+abbrev pub check_command : App
+check_command =
+    with_rule (with_rule (with_rule (with_rule (with_tables check_arguments) (option (codes "site"))) (flag (codes "brief"))) (flag (codes "strict"))) (flag (codes "json"))
+
+-- the program without its subcommands
+abbrev pub program : App
+program = record (new_app (codes "exportdesk")) {
+  top = record (new_app (codes "exportdesk")).top {
+    has_version = true;
+    disable_help_subcommand = true;
+    subcommand_required = true;
+  };
+}
+
+-- the program with the commands on texts
+abbrev pub text_commands : App
+text_commands = with_subcommand (with_subcommand (with_subcommand program try_command.top) split_command.top) check_command.top
+
+-- `init DB DIR`
+abbrev pub init_command : App
+init_command = with_rule (with_rule (new_app (codes "init")) (word (codes "DB"))) (word (codes "DIR"))
+
+-- `ask DB HOST DIR [--as CRED]`
+abbrev pub ask_command : App
+ask_command = with_rule (with_rule (with_rule (with_rule (new_app (codes "ask")) (word (codes "DB"))) (word (codes "HOST"))) (word (codes "DIR"))) (option (codes "as"))
+
+-- `show DB HOST`
+abbrev pub show_command : App
+show_command = with_rule (with_rule (new_app (codes "show")) (word (codes "DB"))) (word (codes "HOST"))
+
+-- `exports DB`
+abbrev pub exports_command : App
+exports_command = with_rule (new_app (codes "exports")) (word (codes "DB"))
+
+-- `put DB NAME FILE` without its options
+abbrev pub put_arguments : App
+put_arguments = with_rule (with_rule (with_rule (new_app (codes "put")) (word (codes "DB"))) (word (codes "NAME"))) (word (codes "FILE"))
+
+-- `put DB NAME FILE --base N --caller C`, with `--key K` or `--key-file FILE`
+abbrev pub put_command : App
+put_command =
+    with_rule (with_rule (with_rule (with_rule put_arguments (required_option (codes "base"))) (required_option (codes "caller"))) (option (codes "key"))) (option (codes "key-file"))
+
+-- `log DB NAME`
+abbrev pub log_command : App
+log_command = with_rule (with_rule (new_app (codes "log")) (word (codes "DB"))) (word (codes "NAME"))
+
+-- `cat DB NAME [--rev N]`
+abbrev pub cat_command : App
+cat_command = with_rule (with_rule (with_rule (new_app (codes "cat")) (word (codes "DB"))) (word (codes "NAME"))) (option (codes "rev"))
+
+-- a program with the commands that make a database and ask it for its policy
+abbrev pub with_desk_commands : App → App
+with_desk_commands app = with_subcommand (with_subcommand (with_subcommand (with_subcommand app init_command.top) ask_command.top) show_command.top) exports_command.top
+
+-- a program with the commands on one file of a database
+abbrev pub with_file_commands : App → App
+with_file_commands app = with_subcommand (with_subcommand (with_subcommand app put_command.top) log_command.top) cat_command.top
+
+-- the program's command line: its subcommands
+abbrev pub command_line : App
+command_line = with_file_commands (with_desk_commands text_commands)
+
+-- the words behind the program's name, as clap is given them
+abbrev pub line_of : List (List ℕ) → List (List ℕ)
+line_of words = codes "exportdesk" ∷ words
+
+-- the kinds of error that clap may find in the words
+abbrev pub faults_of : List (List ℕ) → Kinds
+faults_of words = fault_of command_line (line_of words)
+
+-- the words ask for help or for the version
+abbrev pub AskForHelp : List (List ℕ) → Type 0
+AskForHelp words = IsAmong DisplayHelp (faults_of words) ⊎ IsAmong DisplayVersion (faults_of words)
+
+-- the words of the options that name files of tables
+pub record TableWords : Type 0 where
+  pub hosts : Option (List ℕ)
+  pub networks : Option (List ℕ)
+  pub passwd : Option (List ℕ)
+  pub group : Option (List ℕ)
+  pub netgroup : Option (List ℕ)
+
+-- those among the arguments that clap finds
+abbrev pub table_words_in : List Row → TableWords
+table_words_in rows = record {
+  hosts = first_of (codes "hosts") rows;
+  networks = first_of (codes "networks") rows;
+  passwd = first_of (codes "passwd") rows;
+  group = first_of (codes "group") rows;
+  netgroup = first_of (codes "netgroup") rows;
+}
+
+-- the words of `try`
+pub record TryWords : Type 0 where
+  pub file : List ℕ
+  pub host : List ℕ
+  pub dir : List ℕ
+  pub mounts : List (List ℕ)
+  pub tables : TableWords
+  pub credential : Option (List ℕ)
+
+abbrev pub words_of_try : List ℕ → List ℕ → List ℕ → List (List ℕ) → TableWords → Option (List ℕ) → TryWords
+words_of_try file host dir mounts tables credential = record { file = file; host = host; dir = dir; mounts = mounts; tables = tables; credential = credential }
+
+-- the words of `try` by those of FILE, HOST, DIR and MOUNT.., if none is missing, and by those of its options
+abbrev pub try_words_from : Option (List ℕ) → Option (List ℕ) → Option (List ℕ) → Option (List (List ℕ)) → TableWords → Option (List ℕ) → Option TryWords
+try_words_from (Some file) (Some host) (Some dir) (Some mounts) tables credential = Some (words_of_try file host dir mounts tables credential)
+try_words_from file host dir mounts tables credential = None
+
+-- the words of `try` among the arguments that clap finds
+abbrev pub try_words_in : List Row → Option TryWords
+try_words_in rows =
+    try_words_from (first_of (codes "FILE") rows) (first_of (codes "HOST") rows) (first_of (codes "DIR") rows) (all_of (codes "MOUNT") rows)
+    (table_words_in rows) (first_of (codes "as") rows)
+
+-- the words of `split`
+pub record SplitWords : Type 0 where
+  pub file : List ℕ
+  pub filesystems : List ℕ
+
+abbrev pub words_of_split : List ℕ → List ℕ → SplitWords
+words_of_split file filesystems = record { file = file; filesystems = filesystems }
+
+-- the words of `split` by those of FILE and FILESYSTEMS, if none is missing
+abbrev pub split_words_from : Option (List ℕ) → Option (List ℕ) → Option SplitWords
+split_words_from (Some file) (Some filesystems) = Some (words_of_split file filesystems)
+split_words_from file filesystems = None
+
+-- the words of `split` among the arguments that clap finds
+abbrev pub split_words_in : List Row → Option SplitWords
+split_words_in rows = split_words_from (first_of (codes "FILE") rows) (first_of (codes "FILESYSTEMS") rows)
+
+-- the words of `check`
+pub record CheckWords : Type 0 where
+  pub file : Option (List ℕ)
+  pub mounts : Option (List (List ℕ))
+  pub tables : TableWords
+  pub site : Option (List ℕ)
+  pub brief : Bool
+  pub strict : Bool
+  pub json : Bool
+
+-- an option without a value is given
+abbrev pub is_set : List ℕ → List Row → Bool
+is_set name rows = option_map_or (λ value. bytes_eq value (codes "true")) (first_of name rows) false
+
+-- the words of `check` among the arguments that clap finds
+abbrev pub check_words_in : List Row → CheckWords
+check_words_in rows = record {
+  file = first_of (codes "FILE") rows;
+  mounts = all_of (codes "MOUNT") rows;
+  tables = table_words_in rows;
+  site = first_of (codes "site") rows;
+  brief = is_set (codes "brief") rows;
+  strict = is_set (codes "strict") rows;
+  json = is_set (codes "json") rows;
+}
+
+-- the words of `init`
+pub record InitWords : Type 0 where
+  pub db : List ℕ
+  pub dir : List ℕ
+
+abbrev pub words_of_init : List ℕ → List ℕ → InitWords
+words_of_init db dir = record { db = db; dir = dir }
+
+-- the words of `ask`
+pub record AskWords : Type 0 where
+  pub db : List ℕ
+  pub host : List ℕ
+  pub dir : List ℕ
+  pub credential : Option (List ℕ)
+
+abbrev pub words_of_ask : List ℕ → List ℕ → List ℕ → Option (List ℕ) → AskWords
+words_of_ask db host dir credential = record { db = db; host = host; dir = dir; credential = credential }
+
+-- the words of `show`
+pub record ShowWords : Type 0 where
+  pub db : List ℕ
+  pub host : List ℕ
+
+abbrev pub words_of_show : List ℕ → List ℕ → ShowWords
+words_of_show db host = record { db = db; host = host }
+
+-- the words of `exports`
+pub record ExportsWords : Type 0 where
+  pub db : List ℕ
+
+abbrev pub words_of_exports : List ℕ → ExportsWords
+words_of_exports db = record { db = db }
+
+-- the words of `put`
+pub record PutWords : Type 0 where
+  pub db : List ℕ
+  pub name : List ℕ
+  pub file : List ℕ
+  pub base : List ℕ
+  pub caller : List ℕ
+  pub key : Option (List ℕ)
+  pub key_file : Option (List ℕ)
+
+abbrev pub words_of_put : List ℕ → List ℕ → List ℕ → List ℕ → List ℕ → Option (List ℕ) → Option (List ℕ) → PutWords
+words_of_put db name file base caller key key_file = record { db = db; name = name; file = file; base = base; caller = caller; key = key; key_file = key_file }
+
+-- the words of `log`
+pub record LogWords : Type 0 where
+  pub db : List ℕ
+  pub name : List ℕ
+
+abbrev pub words_of_log : List ℕ → List ℕ → LogWords
+words_of_log db name = record { db = db; name = name }
+
+-- the words of `cat`
+pub record CatWords : Type 0 where
+  pub db : List ℕ
+  pub name : List ℕ
+  pub rev : Option (List ℕ)
+
+abbrev pub words_of_cat : List ℕ → List ℕ → Option (List ℕ) → CatWords
+words_of_cat db name rev = record { db = db; name = name; rev = rev }
+
+-- the words of each command by those of its arguments, if none is missing, and by those of its options
+abbrev pub init_words_from : Option (List ℕ) → Option (List ℕ) → Option InitWords
+init_words_from (Some db) (Some dir) = Some (words_of_init db dir)
+init_words_from db dir = None
+
+abbrev pub ask_words_from : Option (List ℕ) → Option (List ℕ) → Option (List ℕ) → Option (List ℕ) → Option AskWords
+ask_words_from (Some db) (Some host) (Some dir) credential = Some (words_of_ask db host dir credential)
+ask_words_from db host dir credential = None
+
+abbrev pub show_words_from : Option (List ℕ) → Option (List ℕ) → Option ShowWords
+show_words_from (Some db) (Some host) = Some (words_of_show db host)
+show_words_from db host = None
+
+abbrev pub put_words_from : Option (List ℕ) → Option (List ℕ) → Option (List ℕ) → Option (List ℕ) → Option (List ℕ) → Option (List ℕ) → Option (List ℕ) → Option PutWords
+put_words_from (Some db) (Some name) (Some file) (Some base) (Some caller) key key_file = Some (words_of_put db name file base caller key key_file)
+put_words_from db name file base caller key key_file = None
+
+abbrev pub log_words_from : Option (List ℕ) → Option (List ℕ) → Option LogWords
+log_words_from (Some db) (Some name) = Some (words_of_log db name)
+log_words_from db name = None
+
+abbrev pub cat_words_from : Option (List ℕ) → Option (List ℕ) → Option (List ℕ) → Option CatWords
+cat_words_from (Some db) (Some name) rev = Some (words_of_cat db name rev)
+cat_words_from db name rev = None
+
+-- the words of each command among the arguments that clap finds
+abbrev pub init_words_in : List Row → Option InitWords
+init_words_in rows = init_words_from (first_of (codes "DB") rows) (first_of (codes "DIR") rows)
+
+abbrev pub ask_words_in : List Row → Option AskWords
+ask_words_in rows = ask_words_from (first_of (codes "DB") rows) (first_of (codes "HOST") rows) (first_of (codes "DIR") rows) (first_of (codes "as") rows)
+
+abbrev pub show_words_in : List Row → Option ShowWords
+show_words_in rows = show_words_from (first_of (codes "DB") rows) (first_of (codes "HOST") rows)
+
+abbrev pub exports_words_in : List Row → Option ExportsWords
+exports_words_in rows = option_map words_of_exports (first_of (codes "DB") rows)
+
+abbrev pub put_words_in : List Row → Option PutWords
+put_words_in rows =
+    put_words_from (first_of (codes "DB") rows) (first_of (codes "NAME") rows) (first_of (codes "FILE") rows) (first_of (codes "base") rows) (first_of (codes "caller") rows)
+    (first_of (codes "key") rows) (first_of (codes "key-file") rows)
+
+abbrev pub log_words_in : List Row → Option LogWords
+log_words_in rows = log_words_from (first_of (codes "DB") rows) (first_of (codes "NAME") rows)
+
+abbrev pub cat_words_in : List Row → Option CatWords
+cat_words_in rows = cat_words_from (first_of (codes "DB") rows) (first_of (codes "NAME") rows) (first_of (codes "rev") rows)
+
+-- a command with its words
+pub data CommandWords : Type 0 where
+  Try : TryWords → CommandWords
+  Split : SplitWords → CommandWords
+  Check : CheckWords → CommandWords
+  Init : InitWords → CommandWords
+  Ask : AskWords → CommandWords
+  Show : ShowWords → CommandWords
+  Exports : ExportsWords → CommandWords
+  Put : PutWords → CommandWords
+  Log : LogWords → CommandWords
+  Cat : CatWords → CommandWords
+
+-- the command of this name on a database, with its words among the arguments that clap finds, if none is missing
+abbrev pub desk_command_in : List ℕ → List Row → Option CommandWords
+desk_command_in name rows =
+    if bytes_eq name (codes "init") then option_map Init (init_words_in rows)
+    else (if bytes_eq name (codes "ask") then option_map Ask (ask_words_in rows)
+    else (if bytes_eq name (codes "show") then option_map Show (show_words_in rows)
+    else (if bytes_eq name (codes "exports") then option_map Exports (exports_words_in rows)
+    else (if bytes_eq name (codes "put") then option_map Put (put_words_in rows)
+    else (if bytes_eq name (codes "log") then option_map Log (log_words_in rows)
+    else (if bytes_eq name (codes "cat") then option_map Cat (cat_words_in rows)
+    else None))))))
+
+-- the command of this name with its words among the arguments that clap finds, if none is missing
+abbrev pub command_in : List ℕ → List Row → Option CommandWords
+command_in name rows =
+    if bytes_eq name (codes "try") then option_map Try (try_words_in rows)
+    else (if bytes_eq name (codes "split") then option_map Split (split_words_in rows)
+    else (if bytes_eq name (codes "check") then Some (Check (check_words_in rows))
+    else desk_command_in name rows))
+
+-- the command that clap finds, if it finds one
+abbrev pub command_of : Option (List ℕ × List Row) → Option CommandWords
+command_of found = option_and_then (λ command. command_in command.0 command.1) found
+
+abbrev pub command_found : List (List ℕ) → Option CommandWords
+command_found words = command_of (subcommand_of command_line (line_of words))
