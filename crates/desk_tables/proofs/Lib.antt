@@ -12,6 +12,7 @@ pub mod HostLawLemmas
 pub mod NetworkLemmas
 pub mod HostLemmas
 pub mod CredentialTextLemmas
+pub mod SoundCredential
 pub mod ColonLineLemmas
 pub mod RowLemmas
 pub mod IndexLemmas

@@ -3,11 +3,11 @@
 //! Each fault is asked of the text by itself, so that an exports line can ask each of its rules by itself; the first in the
 //! order of their numbers is reported.
 
-ghost use Rattle.std.specs.Prelude.{◌≡◌, ◌==◌, ◌≤◌, ◌&&◌, List, Some, [], find, is_none, length};
+ghost use Rattle.std.specs.Prelude.{◌≡◌, ◌==◌, ◌≤◌, ◌&&◌, IfSome, List, Ok, Some, [], find, is_none, length};
 ghost use Rattle.std.specs.List.{filter_map, list_any};
 ghost use Rattle.std.specs.Option.{option_copied};
 ghost use Rattle.desk_tables.specs.CredentialText.{lone_user_breaks, cred_breaks, cred_fault_number, cred_faults, elements, gid_of, is_name, is_out_of_range, read_credential, uid_of, user_named, user_and_groups_breaks};
-ghost use Rattle.desk_tables.specs.PrivateCredentialText.{lone_user_answer, user_and_groups_answer};
+ghost use Rattle.desk_tables.specs.PrivateCredentialText.{AreSoundGids, lone_user_answer, sound_gid, sound_uid, user_and_groups_answer};
 ghost use Rattle.desk_tables.specs.Groups.{group_of_name};
 ghost use Rattle.desk_tables.specs.Users.{user_of_name};
 ghost use Rattle.desk_tables.specs.declared.credential_text.CredFault.TheVariants.{TooManyGroups};
@@ -132,6 +132,10 @@ fn without_groups(users: &Users, groups: &Groups, user: &str) -> Result<Cred, Cr
 fn with_groups(users: &Users, groups: &Groups, user: &str, others: &str) -> Result<Cred, CredFault>
     ensures { Some result ≡ user_and_groups_answer users.now groups.now user.now (elements others.now) }
 {
+    // Most have no fault, which one walk tells.
+    if let Some(cred) = sound_credential(users, groups, user, others) {
+        return Ok(cred);
+    }
     if let Some(fault) = user_and_groups_fault(users, groups, user, others) {
         return Err(fault);
     }
@@ -142,6 +146,49 @@ fn with_groups(users: &Users, groups: &Groups, user: &str, others: &str) -> Resu
         }),
         None => Err(CredFault::UnknownUser),
     }
+}
+
+/// Reads the credential of a user and the groups that others names, if none of them has a fault.
+fn sound_credential(users: &Users, groups: &Groups, user: &str, others: &str) -> Option<Cred>
+    ensures { IfSome result (λ cred. user_and_groups_answer users.now groups.now user.now (elements others.now) ≡ Some (Ok cred)) }
+{
+    let uid = sound_uid(users, user)?;
+    let gids = sound_gids(groups, others)?;
+    Some(Cred { uid, gids })
+}
+
+/// Finds the number of a user, if the element is not empty.
+fn sound_uid(users: &Users, user: &str) -> Option<u32>
+    ensures { result ≡ sound_uid users.now user.now }
+{
+    if user.is_empty() {
+        return None;
+    }
+    uid_of(users, user)
+}
+
+/// Lists the numbers of the groups that a text names, if each of them has one and they are at most sixteen.
+fn sound_gids(groups: &Groups, others: &str) -> Option<GroupIds>
+    ensures { IfSome result (AreSoundGids groups.now (elements others.now)) }
+{
+    let mut gids = GroupIds::none();
+    for element in others.split(':') {
+        if gids.is_full() {
+            return None;
+        }
+        gids.push(sound_gid(groups, element)?);
+    }
+    Some(gids)
+}
+
+/// Finds the number of a group, if the element is not empty.
+fn sound_gid(groups: &Groups, element: &str) -> Option<u32>
+    ensures { result ≡ sound_gid groups.now element.now }
+{
+    if element.is_empty() {
+        return None;
+    }
+    gid_of(groups, element)
 }
 
 /// Finds the first fault of a user and the groups that others names.

@@ -1,6 +1,6 @@
 //! Credentials: as whom a client acts. (exports(5))
 
-ghost use Rattle.std.specs.Prelude.{◌≡◌, ◌<◌, ◌≤◌, ◌++◌, [], ◌∷◌, length};
+ghost use Rattle.std.specs.Prelude.{◌≡◌, ◌==◌, ◌<◌, ◌≤◌, ◌++◌, [], ◌∷◌, length};
 ghost use Rattle.std.specs.Option.{option_map};
 ghost use Rattle.desk_tables.specs.Credentials.{at_most_16};
 ghost use Rattle.desk_tables.specs.PrivateCredentials.{AddsOnce};
@@ -66,6 +66,13 @@ impl GroupIds {
         GroupIds {
             items: ArrayVec::new(),
         }
+    }
+
+    /// Tests whether there are sixteen group numbers.
+    pub(crate) fn is_full(&self) -> bool
+        ensures { result ≡ (length self.now == 16) }
+    {
+        self.items.is_full()
     }
 
     /// Adds a group number; there is room for it.
