@@ -1,13 +1,13 @@
--- Lemmas on cutting the last piece off a text.
+-- Lemmas on cutting the first or the last piece off a text.
 use Rattle.std.proofs.Common.{◌≡◌, ◌∙◌, ◌⊎◌, inl, inr, ℕ, ◌<◌, ◌≤◌, ◌+◌, Bool, true, false, eqb, List, [], ◌∷◌, ◌++◌, Option, Some, None, MatchOption, length, take, drop, ap, sym, refl, arith, lit<, take-append-drop}
 use Rattle.std.specs.Borrow.{Bor}
-use Rattle.std.specs.List.{onto_first, slice_split}
+use Rattle.std.specs.List.{after_first, onto_first, slice_split}
 use Rattle.std.specs.Str.{NoCharPasses}
 use Rattle.std.specs.Str.Pattern.{RFindsChar}
 use Rattle.std.proofs.lemmas.Bool.{cases_Bool, ne_eqb}
 use Rattle.std.proofs.lemmas.List.{get_or_default}
-use Rattle.std.proofs.lemmas.List.Splits.{length-slice_split, slice_split-cons_no, slice_split-cons_yes, slice_split_none}
-use Rattle.std.proofs.lemmas.Str.Pattern.{NoCharPasses-char, drop_at_char}
+use Rattle.std.proofs.lemmas.List.Splits.{length-slice_split, slice_split-cons_no, slice_split-cons_yes, slice_split_first, slice_split_none}
+use Rattle.std.proofs.lemmas.Str.Pattern.{IsSplitOnceResult, NoCharPasses-char, drop_at_char, split_once_first}
 
 onto_first-append : {X : Type 0} (x : X) (parts rest : List (List X)) → 0 < length parts → onto_first x (parts ++ rest) ≡ onto_first x parts ++ rest
 onto_first-append x [] rest l = absurd (omega arith)
@@ -31,6 +31,18 @@ split_append p (x ∷ xs) y ys e =
 -- a text without the separator is one piece
 one_piece : (c : ℕ) (bs : List ℕ) → NoCharPasses (λ d. eqb d c) bs → c < 128 → slice_split (λ b. eqb b c) bs ≡ bs ∷ []
 one_piece c bs none low = slice_split_none (λ b. eqb b c) bs (λ k d l. ap (λ b. eqb b c) (get_or_default bs k d 0 l) ∙ ne_eqb _ c (NoCharPasses-char c bs k none low l))
+
+-- takes the clause of `split_once` at a comma
+pub cut_first : (bs : List ℕ) (r : Option (Bor (List ℕ) × Bor (List ℕ))) → IsSplitOnceResult 44 bs r
+    → MatchOption r (slice_split (λ b. eqb b 44) bs ≡ bs ∷ []) (λ x. slice_split (λ b. eqb b 44) bs ≡ x.0.now ∷ slice_split (λ b. eqb b 44) x.1.now)
+cut_first bs None h = one_piece 44 bs h (lit< tt)
+cut_first bs (Some x) h =
+    let p : ℕ → Bool = λ b. eqb b 44 in
+    let cut = split_once_first 44 bs (Some x) h (lit< tt) in
+    slice_split_first p bs 0 cut.0 ∙ ap (λ first. first ∷ slice_split p (after_first p bs)) (sym cut.1) ∙ ap (λ behind. x.0.now ∷ slice_split p behind) (sym cut.2)
+
+pub some_piece : (p : ℕ → Bool) (bs : List ℕ) → 0 < length (slice_split p bs)
+some_piece p bs = omega (arith, length-slice_split p bs)
 
 -- takes the clause of `rsplit_once` at an ASCII character
 pub cut_last : (bs : Bor (List ℕ)) (r : Option (Bor (List ℕ) × Bor (List ℕ)))

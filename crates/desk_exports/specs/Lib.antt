@@ -18,6 +18,5 @@ pub mod PrivateSplitting
 pub mod PrivateFlavours
 pub mod PrivateFew
 pub mod PrivateNames
-pub mod PrivateGrammar
 pub mod PrivateLines
 pub mod PrivateEntry

@@ -1,6 +1,6 @@
 //! The words of a line by what they are: directories, options with their values, and names. (exports(5))
 
-ghost use Rattle.std.specs.Prelude.{◌≡◌, ◌≤◌, ◌++◌, ◌==◌, ◌∷◌, [], IfOk, None, OnOk, drop, false, length, map, slice_index};
+ghost use Rattle.std.specs.Prelude.{◌≡◌, ◌≤◌, ◌++◌, ◌==◌, ◌||◌, ◌∷◌, [], IfOk, OnOk, drop, false, length, map, slice_index, if◌then◌else◌};
 ghost use Rattle.std.specs.List.{list_any, prefix_len, slice_split};
 ghost use Rattle.std.specs.Option.{option_copied};
 ghost use Rattle.desk_text.specs.Path.{is_absolute, read_path};
@@ -8,12 +8,11 @@ ghost use Rattle.desk_text.specs.Views.{word_of};
 ghost use Rattle.desk_text.specs.Word.{word_value};
 ghost use Rattle.desk_exports.specs.Grammar as spec;
 ghost use Rattle.desk_exports.specs.Options.{has_option};
-ghost use Rattle.desk_exports.specs.PrivateGrammar.{pieces_before};
 
 use crate::few::Few;
 use crate::names::Names;
 use crate::options::{Keyword, Setting, has_option, wants_value};
-use desk_text::{Path, PathFault, ReadError, Word, split_at, unquote};
+use desk_text::{Path, PathFault, ReadError, Word, unquote};
 use std::alloc::{AllocError, Global};
 use std::borrow::CowStr;
 use std::marker::Model;
@@ -130,8 +129,9 @@ impl GrammarLine {
     {
         let count = count_absolute(words);
         let directories = paths(alloc, &words[..count])?;
-        let settings = settings(alloc, &words[count..])?;
-        let names = names(alloc, &words[count..])?;
+        let mut settings = Few::new();
+        let mut names = Names::new();
+        push_words(alloc, &mut settings, &mut names, &words[count..])?;
         Ok(GrammarLine {
             is_v4: is_v4(words),
             has_stray_comment: has_stray_comment(words),
@@ -221,30 +221,46 @@ fn read_path(alloc: Global, text: &str) -> Result<Result<Path, PathFault>, Alloc
     ReadError::split(Path::read(alloc, text))
 }
 
-fn settings(alloc: Global, words: &[GrammarWord]) -> Result<Few<Setting>, AllocError>
-    ensures { IfOk result (λ settings. settings ≡ spec.settings words.now) }
+/// Adds the options and the names of words, the first of which is no option's value.
+fn push_words(
+    alloc: Global,
+    settings: &mut Few<Setting>,
+    names: &mut Names,
+    words: &[GrammarWord],
+) -> Result<(), AllocError>
+    ensures settings { OnOk result (settings.new ≡ settings.old ++ spec.settings words.now) }
+    ensures names { OnOk result (names.new ≡ names.old ++ spec.names false words.now) }
 {
-    let mut settings = Few::new();
+    let mut taken = false;
     for (index, word) in words.iter().enumerate() {
-        push_word(alloc, &mut settings, word, &words[index + 1..])?;
+        taken = push_word(alloc, settings, names, word, taken, &words[index + 1..])?;
     }
-    Ok(settings)
+    Ok(())
 }
 
-/// Adds the options of a word, behind which the others stand.
+/// Adds the options of a word, behind which the others stand, or the name that it is unless it is taken as a value.
+/// Returns whether it takes the next word, where that is not dashed, as a value.
 fn push_word(
     alloc: Global,
     settings: &mut Few<Setting>,
+    names: &mut Names,
     word: &GrammarWord,
+    taken: bool,
     others: &[GrammarWord],
-) -> Result<(), AllocError>
-    ensures { OnOk result (settings.new ≡ settings.old ++ spec.settings_at word.now others.now) }
+) -> Result<bool, AllocError>
+    ensures settings { OnOk result (settings.new ≡ settings.old ++ spec.settings_at word.now others.now) }
+    ensures names { OnOk result
+        (names.new ≡ names.old ++ (if word.now.dashed || taken then [] else word.now.value ∷ [])) }
+    ensures takes { IfOk result (λ takes. takes ≡ spec.takes_next word.now) }
 {
     if word.dashed {
         let text = after_dash(word.value.as_str());
-        push_pieces(alloc, settings, offered(others), text)?;
+        return push_pieces(alloc, settings, offered(others), text);
     }
-    Ok(())
+    if !taken {
+        names.push(alloc, word.value.as_str())?;
+    }
+    Ok(false)
 }
 
 /// Returns the next word, if there is one and it is not dashed.
@@ -257,49 +273,25 @@ fn offered<'a>(words: &'a [GrammarWord<'_>]) -> Option<&'a str>
     }
 }
 
-/// Adds the option of each piece of a text; the last one alone is offered a value.
+/// Adds the option of each piece of a text; the last one alone is offered a value. Returns whether that one wants it.
 fn push_pieces(
     alloc: Global,
     settings: &mut Few<Setting>,
     offer: Option<&str>,
     text: &str,
-) -> Result<(), AllocError>
-    ensures { OnOk result
+) -> Result<bool, AllocError>
+    ensures settings { OnOk result
         (settings.new ≡ settings.old ++ spec.settings_of (option_copied offer.entry) (slice_split (λ b. b == 44) text.now)) }
+    ensures wants { IfOk result (λ wants. wants ≡ spec.last_wants (slice_split (λ b. b == 44) text.now)) }
 {
-    let (others, last) = without_last(text);
-    push_without_offer(alloc, settings, others)?;
-    settings.push(alloc, Setting::read(alloc, offer, last)?)?;
-    Ok(())
-}
-
-/// Cuts the last piece off a text. Nothing is before it if it is the only one.
-fn without_last(text: &str) -> (Option<&str>, &str)
-    ensures { slice_split (λ b. b == 44) text.now ≡ pieces_before (option_copied result.0) ++ result.1.now ∷ [] }
-{
-    match text.rsplit_once(',') {
-        Some((others, last)) => (Some(others), last),
-        None => (None, text),
-    }
-}
-
-/// Adds the option of each piece of a text, if there is one.
-fn push_without_offer(
-    alloc: Global,
-    settings: &mut Few<Setting>,
-    text: Option<&str>,
-) -> Result<(), AllocError>
-    ensures { OnOk result
-        (settings.new ≡ settings.old ++ map (spec.setting None) (pieces_before (option_copied text.entry))) }
-{
-    let Some(text) = text else {
-        return Ok(());
-    };
-    let pieces = split_at(alloc, text, ',')?;
-    for piece in &pieces {
+    let mut rest = text;
+    while let Some((piece, behind)) = rest.split_once(',') {
         settings.push(alloc, Setting::read(alloc, None, piece)?)?;
+        rest = behind;
     }
-    Ok(())
+    let (last, wants) = Setting::read_offered(alloc, offer, rest)?;
+    settings.push(alloc, last)?;
+    Ok(wants)
 }
 
 /// Returns a text behind the dash that it begins with.
@@ -307,28 +299,6 @@ pub(crate) fn after_dash(text: &str) -> &str
     ensures { result.now ≡ spec.after_dash text.now }
 {
     text.strip_prefix('-').unwrap_or(text)
-}
-
-fn names(alloc: Global, words: &[GrammarWord]) -> Result<Names, AllocError>
-    ensures { IfOk result (λ names. names ≡ spec.names false words.now) }
-{
-    let mut names = Names::new();
-    push_names(alloc, &mut names, words)?;
-    Ok(names)
-}
-
-/// Adds the names among words.
-fn push_names(alloc: Global, names: &mut Names, words: &[GrammarWord]) -> Result<(), AllocError>
-    ensures { OnOk result (names.new ≡ names.old ++ spec.names false words.now) }
-{
-    let mut taken = false;
-    for word in words {
-        if !word.dashed && !taken {
-            names.push(alloc, word.value.as_str())?;
-        }
-        taken = takes_next(word);
-    }
-    Ok(())
 }
 
 /// Tests whether a word takes the next one, where that is not dashed, as a value.
@@ -342,6 +312,8 @@ pub(crate) fn takes_next(word: &GrammarWord) -> bool
 fn last_wants(text: &str) -> bool
     ensures { result ≡ spec.last_wants (slice_split (λ b. b == 44) text.now) }
 {
-    let (_, last) = without_last(text);
-    wants_value(last)
+    match text.rsplit_once(',') {
+        Some((_, last)) => wants_value(last),
+        None => wants_value(text),
+    }
 }

@@ -1,4 +1,4 @@
-use Rattle.std.proofs.Common.{arith, length, ap, subst, sym, ◌≡◌, ◌<◌, ◌∙◌}
+use Rattle.std.proofs.Common.{length, ap, sym, ◌≡◌, ◌∙◌}
 use Rattle.std.specs.String.{string_bytes}
 use Rattle.desk_exports.specs.PrivateNames.{names_in, pieces_of}
 use Rattle.desk_exports.proofs.NamePieces.{piece_count}
