@@ -1,6 +1,7 @@
 -- The least clash of a line at one key, and at one address more.
-use Rattle.std.proofs.Common.{◌≡◌, ◌≢◌, ◌⊎◌, ℕ, ◌<◌, ◌^◌, ◌||◌, Bool, true, false, cond, eqb, List, [], ◌∷◌, ◌++◌, Option, Some, None, ap, arith, inl, inr, refl, subst, sym, ◌∙◌}
-use Rattle.std.specs.Prelude.{find, nat_lt, option_and_then, slice_get}
+use Rattle.std.proofs.Common.{◌≡◌, ◌≢◌, ◌⊎◌, ℕ, ◌<◌, ◌^◌, ◌||◌, Bool, true, false, cond, eqb, List, [], ◌∷◌, ◌++◌, Option, Some, None, ap, arith, inl, inr, length, refl, subst, sym, ◌∙◌}
+use Rattle.std.specs.Prelude.{find, nat_lt, option_and_then, slice_get, unwrap_or}
+use Rattle.std.specs.List.{position}
 use Rattle.std.proofs.lemmas.Bool.{and_parts, cases_lt, cond-true, cond-false, eq-eqb, eqb-true, le-ltb, lt-ltb, or_cases, or_left, or_right, true≢false}
 use Rattle.std.proofs.lemmas.List.Folds.{list_any-append}
 use Rattle.desk_text.specs.Address.{number_of}
@@ -8,10 +9,9 @@ use Rattle.desk_text.specs.AddrSet.{is_among}
 use Rattle.desk_text.specs.Network.{Block}
 use Rattle.desk_exports.specs.declared.entry.Terms.{Terms}
 use Rattle.desk_policy.specs.declared.first_lines.Clash.{Clash}
-use Rattle.desk_policy.specs.declared.first_lines.FirstLines.{FirstLines}
 use Rattle.desk_policy.specs.declared.row.Row.{Row}
-use Rattle.desk_policy.specs.PrivateFirstLines.{AreFirsts, ClashesAt, earlier_clash, Everybody, Host, has_key, IsClashAmong, IsClashWith, IsLineKey, IsUpTo, is_everybody, is_host_among, is_network, LeastClash, least_of, LineKey, Network, place_at, same_block}
-use Rattle.desk_policy.proofs.Places.{found_there}
+use Rattle.desk_policy.specs.PrivateFirstLines.{ClashesAt, earlier_clash, Everybody, Host, has_key, IsClashAmong, IsClashWith, IsLineKey, IsUpTo, is_everybody, is_host_among, is_network, LeastClash, least_of, LineKey, Network, same_block}
+use Rattle.desk_policy.proofs.Places.{found_there, there_or_past}
 
 pub same_blocks : (net other : Block) → same_block net other ≡ true → net ≡ other
 same_blocks net other e =
@@ -29,10 +29,10 @@ only_everybody (Host address) e = absurd (true≢false (sym e))
 only_everybody (Network other) e = absurd (true≢false (sym e))
 only_everybody Everybody e = refl
 
--- the line that is found at the place under a key is the first that has it
-pub first_there : (firsts : FirstLines) (earlier : List Row) (key : LineKey) (place : Option ℕ) → AreFirsts firsts earlier → place ≡ place_at firsts key
-    → option_and_then (slice_get earlier) place ≡ find (has_key key) earlier
-first_there firsts earlier key place are is = ap (option_and_then (slice_get earlier)) (is ∙ are key) ∙ found_there (has_key key) earlier
+-- the line at the place under a key, or past the lines if there is none, is the first that has the key
+pub first_there : (earlier : List Row) (key : LineKey) (place : Option ℕ) → place ≡ position (has_key key) earlier
+    → slice_get earlier (unwrap_or place (length earlier)) ≡ find (has_key key) earlier
+first_there earlier key place is = there_or_past earlier place ∙ ap (option_and_then (slice_get earlier)) is ∙ found_there (has_key key) earlier
 
 none_at : (terms : Terms) (address : ℕ) (first : Option Row) → IsClashWith terms address first None → (other : Row) → first ≡ Some other → terms ≢ other.entry.terms → ⊥
 none_at terms address None h other e apart = cc

@@ -1,25 +1,25 @@
 -- A line is added under its keys, and the addresses before one that comes later are less.
-use Rattle.std.proofs.Common.{◌≡◌, ℕ, ◌<◌, ◌&&◌, ◌||◌, Bool, true, cond, eqb, List, [], ◌∷◌, length, length-take, get_or, map, take, Option, Some, None, Result, Ok, Err, OnOk, ap, arith, inl, inr, refl, sym, ◌∙◌}
+use Rattle.std.proofs.Common.{◌≡◌, ℕ, ◌+◌, ◌<◌, ◌&&◌, ◌||◌, ◌++◌, Bool, true, false, cond, eqb, List, [], ◌∷◌, length, length-take, get_or, take, Option, Some, None, Result, Ok, Err, OnOk, ap, arith, inl, inr, refl, sym, ◌∙◌}
 use Rattle.std.specs.Prelude.{if◌then◌else◌}
 use Rattle.std.specs.BTreeMap.{get}
 use Rattle.std.specs.Cmp.{nat_cmp_is}
-use Rattle.std.specs.List.{list_any}
+use Rattle.std.specs.List.{position}
 use Rattle.std.specs.List.Sorted.{IsStrictlyIncreasing}
 use Rattle.std.specs.Option.{option_or}
 use Rattle.std.specs.Ordering.{is_eq, nat_cmp, ordering_then}
 use Rattle.std.specs.declared.cmp.Ordering.{Ordering}
 use Rattle.std.specs.declared.cmp.Ordering.TheVariants.{Less, Equal, Greater}
 use Rattle.std.proofs.Math.Bool.{and_comm}
-use Rattle.std.proofs.lemmas.Bool.{cases_order, eq-eqb, eqb-true, ne_eqb}
-use Rattle.std.proofs.lemmas.List.{get_or_default, get_or-take}
-use Rattle.std.proofs.lemmas.List.Folds.{Any-from_list_any}
+use Rattle.std.proofs.lemmas.Bool.{cases_Bool, cases_order, eq-eqb, eqb-true, ne_eqb}
+use Rattle.std.proofs.lemmas.List.{get_or_default, get_or-take, length-take-le}
+use Rattle.std.proofs.lemmas.List.Folds.{Any-from_list_any, list_any-append}
 use Rattle.std.proofs.lemmas.Map.Keys.{below_from_sorted, sorted_from_strictly_increasing}
-use Rattle.desk_text.specs.Address.{number_of}
 use Rattle.desk_text.specs.AddrSet.{is_among}
-use Rattle.desk_text.specs.declared.address.Addr.{Addr}
 use Rattle.desk_text.specs.Network.{Block}
 use Rattle.desk_policy.specs.declared.first_lines.FirstLines.{FirstLines}
-use Rattle.desk_policy.specs.PrivateFirstLines.{Everybody, Host, is_host_among, is_network, LineKey, Network, network_cmp, place_at, same_block}
+use Rattle.desk_policy.specs.declared.row.Row.{Row}
+use Rattle.desk_policy.specs.PrivateFirstLines.{AddsLine, AreFirsts, Everybody, has_key, Host, is_host_among, is_network, LineKey, Network, network_cmp, place_at, same_block}
+use Rattle.desk_policy.proofs.Places.{place_more}
 
 pub on_ok : {A E : Type 0} {P Q : Type 0} → (result : Result A E) → (P → Q) → OnOk result P → OnOk result Q
 on_ok (Ok value) f h = f h
@@ -56,18 +56,6 @@ same_key net other =
 abbrev pub Adds : (LineKey → Bool) → ℕ → FirstLines → FirstLines → Type 0
 Adds passes place old new = (key : LineKey) → place_at new key ≡ option_or (place_at old key) (if passes key then Some place else None)
 
-among_numbers : (n : ℕ) (items : List Addr) → list_any (λ address. eqb (number_of address) n) items ≡ is_among n (map number_of items)
-among_numbers n [] = refl
-among_numbers n (item ∷ items) = ap (λ b. eqb (number_of item) n || b) (among_numbers n items)
-
-pub adds_hosts : (old new : FirstLines) (place : ℕ) (items : List Addr) (addresses : List ℕ) → map number_of items ≡ addresses → new.networks ≡ old.networks → new.everybody ≡ old.everybody
-    → ((other : ℕ) → get nat_cmp new.hosts other ≡ option_or (get nat_cmp old.hosts other) (if list_any (λ address. eqb (number_of address) other) items then Some place else None))
-    → Adds (is_host_among addresses) place old new
-adds_hosts old new place items addresses is nets world hosts (Host n) =
-    hosts n ∙ ap (λ b. option_or (get nat_cmp old.hosts n) (cond b (Some place) None)) (among_numbers n items ∙ ap (is_among n) is)
-adds_hosts old new place items addresses is nets world hosts (Network net) = ap (λ index. get network_cmp index (net.prefix, net.first)) nets ∙ or_none _
-adds_hosts old new place items addresses is nets world hosts Everybody = world ∙ or_none _
-
 pub adds_network : (old new : FirstLines) (place : ℕ) (net : Block) (key : ℕ × ℕ) → key ≡ (net.prefix, net.first) → new.hosts ≡ old.hosts → new.everybody ≡ old.everybody
     → ((other : ℕ × ℕ) → get network_cmp new.networks other ≡ option_or (get network_cmp old.networks other) (if is_eq (network_cmp key other) then Some place else None))
     → Adds (is_network net) place old new
@@ -86,3 +74,39 @@ before_less xs i up l n e =
     let here : get_or xs any.0 0 ≡ any.1 = get_or_default xs any.0 0 any.1 (omega arith) ∙ sym (get_or-take i xs any.0 any.1 lt) ∙ any.3 in
     let same = eqb-true any.1 n any.4 in
     omega arith
+
+or_both : (old : Option ℕ) (place : ℕ) (a b : Bool)
+    → option_or (option_or old (if a then Some place else None)) (if b then Some place else None) ≡ option_or old (if a || (b || false) then Some place else None)
+or_both (Some x) place a b = refl
+or_both None place true b = refl
+or_both None place false true = refl
+or_both None place false false = refl
+
+-- a number that is greater than those so far is none of them, so that nothing has changed under it
+pub not_yet : (xs : List ℕ) (n place : ℕ) (old new : Option ℕ) → ((other : ℕ) → is_among other xs ≡ true → other < n)
+    → new ≡ option_or old (if is_among n xs then Some place else None) → new ≡ old
+not_yet xs n place old new above is =
+    elim (cases_Bool (is_among n xs)) [
+      | inl among ↦ absurd (let l = above n among in omega arith)
+      | inr apart ↦ is ∙ ap (λ b. option_or old (cond b (Some place) None)) apart ∙ sym (or_none old)
+    ]
+
+-- one address more is added
+pub adds_more : (xs : List ℕ) (n place other : ℕ) (old between new : Option ℕ)
+    → between ≡ option_or old (if is_among other xs then Some place else None)
+    → new ≡ option_or between (if is_eq (nat_cmp n other) then Some place else None)
+    → new ≡ option_or old (if is_among other (xs ++ n ∷ []) then Some place else None)
+adds_more xs n place other old between new before here =
+    here ∙ ap (λ b. option_or between (cond b (Some place) None)) (is_eq-nat_cmp n other)
+    ∙ ap (λ o. option_or o (cond (eqb n other) (Some place) None)) before
+    ∙ or_both old place (is_among other xs) (eqb n other)
+    ∙ ap (λ b. option_or old (cond b (Some place) None)) (sym (list_any-append (λ x. eqb x other) xs (n ∷ [])))
+
+-- the first lines, one line on
+pub firsts_more : (rows : List Row) (i : ℕ) (row : Row) (old new : FirstLines) → i < length rows → row ≡ get_or rows i row
+    → AreFirsts old (take i rows) → AddsLine old new (length (take i rows)) row → AreFirsts new (take (i + 1) rows)
+firsts_more rows i row old new below is firsts adds = λ key.
+    adds key
+    ∙ ap (λ (o : Option ℕ). option_or o (cond (has_key key row) (Some (length (take i rows))) None)) (firsts key)
+    ∙ ap (λ n. option_or (position (has_key key) (take i rows)) (cond (has_key key row) (Some n) None)) (length-take-le i rows (omega (arith, below)))
+    ∙ place_more (has_key key) rows i row below is

@@ -1,6 +1,6 @@
 -- Lemmas on indexes.
 use Rattle.std.proofs.Common.{◌≡◌, ◌<◌, ◌≤◌, ◌+◌, ◌++◌, cond, ℕ, Bool, true, false, eqb, List, [], ◌∷◌, Option, None, Some, find, length, length-append, take, get_or, ap, sym, ◌∙◌, inl, inr, refl, not, arith}
-use Rattle.std.specs.Prelude.{if◌then◌else◌, nat_lt, option_and_then, slice_get}
+use Rattle.std.specs.Prelude.{if◌then◌else◌, nat_lt, option_and_then, slice_get, unwrap_or}
 use Rattle.std.specs.List.{position, position_or_len}
 use Rattle.std.specs.Option.{option_or}
 use Rattle.std.proofs.lemmas.Bool.{cases_Bool}
@@ -19,6 +19,11 @@ push_at : (place len : ℕ) (end passes : Bool) → eqb place len ≡ end → pl
 push_at place len true true is up = grind (arith, nat_tests)
 push_at place len true false is up = grind (arith, nat_tests)
 push_at place len false passes is up = grind (arith, nat_tests)
+
+-- past the values there is none
+pub there_or_past : {X : Type 0} (xs : List X) (place : Option ℕ) → slice_get xs (unwrap_or place (length xs)) ≡ option_and_then (slice_get xs) place
+there_or_past xs None = slice_get_past xs (length xs) (omega arith)
+there_or_past xs (Some place) = refl
 
 module _ {X : Type 0} (p : X → Bool) where
   push : (xs : List X) (x : X) → position p (xs ++ x ∷ []) ≡ option_or (position p xs) (if p x then Some (length xs) else None)

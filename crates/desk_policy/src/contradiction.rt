@@ -33,14 +33,13 @@ pub fn contradiction_in(alloc: Global, rows: &[Row]) -> Result<Option<Contradict
     let mut firsts = FirstLines::new(alloc);
     for i in 0..rows.len() {
         let row = &rows[i];
-        if let Some(clash) = firsts.clash(&rows[..i], row) {
+        if let Some(clash) = firsts.add_line(&rows[..i], row)? {
             return Ok(Some(Contradiction {
                 line: row.entry.line,
                 other: clash.line,
                 address: clash.address,
             }));
         }
-        firsts.add_line(i, row)?;
     }
     Ok(None)
 }
@@ -73,9 +72,8 @@ pub fn contradictions(alloc: Global, rows: &[Row]) -> Result<Sequence<Contradict
     let mut found = Sequence::new(alloc);
     for place in 0..rows.len() {
         let row = &rows[place];
-        let clash = firsts.clash(&rows[..place], row);
+        let clash = firsts.add_line(&rows[..place], row)?;
         push_clash(&mut found, row.entry.line, clash)?;
-        firsts.add_line(place, row)?;
     }
     Ok(found)
 }

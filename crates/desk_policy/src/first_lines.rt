@@ -4,13 +4,14 @@
 //! contradict each other nowhere, all of them under one key have the same terms; so a new line is compared with the first
 //! one alone.
 
-ghost use Rattle.std.specs.Prelude.{◌≡◌, ◌==◌, ℕ, None, OnOk, Some, [], option_and_then, slice_get, if◌then◌else◌};
+ghost use Rattle.std.specs.Prelude.{◌≡◌, ℕ, IfOk, None, OnOk, Some, [], length, slice_get, unwrap_or, if◌then◌else◌};
 ghost use Rattle.std.specs.BTreeMap.{get};
-ghost use Rattle.std.specs.List.{list_any};
-ghost use Rattle.std.specs.Option.{option_copied, option_or};
+ghost use Rattle.std.specs.List.{position};
+ghost use Rattle.std.specs.Option.{option_or};
 ghost use Rattle.std.specs.Ordering.{is_eq, nat_cmp};
 ghost use Rattle.desk_text.specs.Address.{number_of};
-ghost use Rattle.desk_policy.specs.PrivateFirstLines.{AddsLine, AreFirsts, HasBlock, IsClashAmong, IsClashWith, IsLeastClash, earlier_clash, is_host_among};
+ghost use Rattle.desk_text.specs.AddrSet.{is_among};
+ghost use Rattle.desk_policy.specs.PrivateFirstLines.{AddsLine, AreFirsts, HasBlock, Host, IsClashAmong, IsClashWith, IsLeastClash, earlier_clash, has_key, is_host_among};
 
 use crate::row::Row;
 use crate::terms::same_terms;
@@ -46,88 +47,69 @@ impl FirstLines {
         }
     }
 
-    /// Adds the line at this place under each of its keys that no line had.
-    pub fn add_line(&mut self, place: usize, row: &Row) -> Result<(), AllocError>
-        ensures { OnOk result (AddsLine self.old self.new place row.now) }
-    {
-        match &row.entry.clients {
-            Clients::Hosts(_) => add_hosts(&mut self.hosts, row.addrs.as_slice(), place),
-            Clients::Net(net, _) => {
-                let key = (net.prefix().get(), net.first().number());
-                add_first(&mut self.networks, key, place)
-            }
-            Clients::Net6(_) => Ok(()),
-            Clients::World => {
-                self.everybody = self.everybody.or(Some(place));
-                Ok(())
-            }
-        }
-    }
-
-    /// Finds the least clash of a line with the first of the earlier ones under each of its keys.
-    pub fn clash(&self, earlier: &[Row], row: &Row) -> Option<Clash>
-        requires { AreFirsts self.now earlier.now }
-        ensures clash { IsLeastClash earlier.now row.now result }
+    /// Adds a line under each of its keys that no earlier line has, and finds its least clash with the first of the earlier
+    /// ones under each of its keys.
+    pub fn add_line(&mut self, earlier: &[Row], row: &Row) -> Result<Option<Clash>, AllocError>
+        requires { AreFirsts self.old earlier.now }
+        ensures clash { IfOk result (IsLeastClash earlier.now row.now) }
+        ensures adds { OnOk result (AddsLine self.old self.new (length earlier.now) row.now) }
         ensures block { HasBlock row.now.entry.clients }
     {
         match &row.entry.clients {
-            Clients::Hosts(_) => self.clash_of_hosts(earlier, row),
+            Clients::Hosts(_) => add_hosts(&mut self.hosts, earlier, row),
             Clients::Net(net, _) => {
                 let key = (net.prefix().get(), net.first().number());
-                clash_at(earlier, self.networks.get(&key).copied(), row, net.first())
+                let place = first_under(&mut self.networks, key, earlier.len())?;
+                Ok(clash_at(earlier, place, row, net.first()))
             }
-            Clients::Net6(_) => None,
-            Clients::World => clash_at(earlier, self.everybody, row, Addr::from_number(0)),
+            Clients::Net6(_) => Ok(None),
+            Clients::World => {
+                let place = self.everybody.unwrap_or(earlier.len());
+                self.everybody = Some(place);
+                Ok(clash_at(earlier, place, row, Addr::from_number(0)))
+            }
         }
-    }
-
-    /// Finds the least clash of a line at the addresses of its names, which ascend.
-    fn clash_of_hosts(&self, earlier: &[Row], row: &Row) -> Option<Clash>
-        requires { AreFirsts self.now earlier.now }
-        ensures { IsClashAmong earlier.now row.now.entry.terms (is_host_among row.now.addrs) result }
-    {
-        let mut found = None;
-        for address in row.addrs.as_slice() {
-            let place = self.hosts.get(&address.number()).copied();
-            found = earlier_clash(found, clash_at(earlier, place, row, *address));
-        }
-        found
     }
 }
 
-/// Adds the place under the key, unless one stands there.
-fn add_first<K: Ord + Drop>(
+/// Adds a line under each address of its names, which ascend, and finds its least clash there.
+fn add_hosts(
+    hosts: &mut BTreeMap<u32, usize>,
+    earlier: &[Row],
+    row: &Row,
+) -> Result<Option<Clash>, AllocError>
+    requires { (address : ℕ) → get nat_cmp hosts.old address ≡ position (has_key (Host address)) earlier.now }
+    ensures clash { IfOk result (IsClashAmong earlier.now row.now.entry.terms (is_host_among row.now.addrs)) }
+    ensures adds { OnOk result ((address : ℕ) → get nat_cmp hosts.new address
+        ≡ option_or (get nat_cmp hosts.old address) (if is_among address row.now.addrs then Some (length earlier.now) else None)) }
+{
+    let mut found = None;
+    for address in row.addrs.as_slice() {
+        let place = first_under(hosts, address.number(), earlier.len())?;
+        found = earlier_clash(found, clash_at(earlier, place, row, *address));
+    }
+    Ok(found)
+}
+
+/// Gives the place that stands under the key; if there is none, this place, which is put there.
+fn first_under<K: Ord + Drop>(
     index: &mut BTreeMap<K, usize>,
     key: K,
     place: usize,
-) -> Result<(), AllocError>
-    ensures { OnOk result ((other : K) → get K.cmp index.new other
+) -> Result<usize, AllocError>
+    ensures first { IfOk result (λ first. first ≡ unwrap_or (get K.cmp index.old key) place) }
+    ensures adds { OnOk result ((other : K) → get K.cmp index.new other
         ≡ option_or (get K.cmp index.old other) (if is_eq (K.cmp key other) then Some place else None)) }
 {
-    index.entry(key)?.or_insert(place);
-    Ok(())
+    Ok(*index.entry(key)?.or_insert(place))
 }
 
-/// Adds the place under each address, unless one stands there.
-fn add_hosts(
-    hosts: &mut BTreeMap<u32, usize>,
-    addresses: &[Addr],
-    place: usize,
-) -> Result<(), AllocError>
-    ensures { OnOk result ((other : ℕ) → get nat_cmp hosts.new other
-        ≡ option_or (get nat_cmp hosts.old other) (if list_any (λ address. number_of address == other) addresses.now then Some place else None)) }
+/// Compares a line with the one at this place, which is the first under one of its keys. If there is none, the place is past
+/// the earlier lines.
+fn clash_at(earlier: &[Row], place: usize, row: &Row, address: Addr) -> Option<Clash>
+    ensures { IsClashWith row.now.entry.terms (number_of address) (slice_get earlier.now place) result }
 {
-    for address in addresses {
-        add_first(hosts, address.number(), place)?;
-    }
-    Ok(())
-}
-
-/// Compares a line with the one at this place, which is the first under one of its keys.
-fn clash_at(earlier: &[Row], place: Option<usize>, row: &Row, address: Addr) -> Option<Clash>
-    ensures { IsClashWith row.now.entry.terms (number_of address) (option_and_then (slice_get earlier.now) place) result }
-{
-    let other = line_at(earlier, place)?;
+    let other = earlier.get(place)?;
     if same_terms(&row.entry.terms, &other.entry.terms) {
         return None;
     }
@@ -135,16 +117,6 @@ fn clash_at(earlier: &[Row], place: Option<usize>, row: &Row, address: Addr) -> 
         line: other.entry.line,
         address,
     })
-}
-
-/// Gives the line at a place, if there is one.
-fn line_at(rows: &[Row], place: Option<usize>) -> Option<&Row>
-    ensures { option_copied result ≡ option_and_then (slice_get rows.now) place }
-{
-    match place {
-        Some(place) => rows.get(place),
-        None => None,
-    }
 }
 
 /// Gives the clash with the earlier line; of clashes with one line, the former.

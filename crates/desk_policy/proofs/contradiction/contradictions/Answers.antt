@@ -1,15 +1,14 @@
-use Rattle.std.proofs.Common.{◌≡◌, ◌∙◌, ◌+◌, ◌++◌, ℕ, List, [], Option, Some, None, take, cond, sym, subst, ap, arith}
-use Rattle.std.specs.Option.{option_or}
+use Rattle.std.proofs.Common.{◌≡◌, ◌∙◌, ◌+◌, ◌++◌, ℕ, List, [], take, sym, subst, ap, arith}
 use Rattle.std.proofs.lemmas.List.{take_all}
 use Rattle.desk_exports.specs.declared.entry.Entry.{Entry}
 use Rattle.desk_policy.specs.declared.contradiction.Contradiction.{Contradiction}
 use Rattle.desk_policy.specs.declared.row.Row.{Row}
 use Rattle.desk_policy.specs.Contradiction.{AreContradictions}
-use Rattle.desk_policy.specs.PrivateFirstLines.{contradiction_of, LineKey, has_key}
+use Rattle.desk_policy.specs.PrivateFirstLines.{contradiction_of}
 use Rattle.desk_policy.proofs.Contradicting.{blocks_more}
 use Rattle.desk_policy.proofs.FirstDiffers.{next}
 use Rattle.desk_policy.proofs.LeastOfAll.{first_is_least}
-use Rattle.desk_policy.proofs.Places.{place_more}
+use Rattle.desk_policy.proofs.KeyPlaces.{firsts_more}
 use Rattle.desk_policy.proofs.contradiction.contradictions.Goals as goal
 
 none_yet : (rows : List Row) (found : List Contradiction) → found ≡ [] → AreContradictions rows [] found
@@ -32,15 +31,14 @@ loop-place-preserved c =
     let i = c.loop-place.place in
     let row = c.index-rows-place.result in
     let kept = c.loop-place.invariant in
-    let pushed : c.push_clash.new.found ≡ c.loop-place.found ++ contradiction_of row.entry.line c.clash-clash.result =
-    c.in_ok-push_clash.ensures ∙ ap (λ (entry : Entry). c.loop-place.found ++ contradiction_of entry.line c.clash-clash.result) c.deref.ensures in
+    let clash = c.in_ok-clash.clash in
+    let pushed : c.push_clash.new.found ≡ c.loop-place.found ++ contradiction_of row.entry.line clash =
+    c.in_ok-push_clash.ensures ∙ ap (λ (entry : Entry). c.loop-place.found ++ contradiction_of entry.line clash) c.deref.ensures in
     record {
       listed = subst (AreContradictions rows (take (i + 1) rows)) (sym pushed)
-          (next rows c.requires i row c.loop-place-test.true c.index-rows-place.is kept.blocks c.clash-clash.ensures.block c.loop-place.found c.clash-clash.result kept.listed c.clash-clash.ensures.clash);
-      firsts = λ (key : LineKey). c.in_ok-add_line.ensures key
-          ∙ ap (λ (o : Option ℕ). option_or o (cond (has_key key row) (Some i) None)) (kept.firsts key)
-          ∙ place_more (has_key key) rows i row c.loop-place-test.true c.index-rows-place.is;
-      blocks = blocks_more rows c.requires i row c.loop-place-test.true c.index-rows-place.is kept.blocks c.clash-clash.ensures.block;
+          (next rows c.requires i row c.loop-place-test.true c.index-rows-place.is kept.blocks c.in_ok-clash.ensures.block c.loop-place.found clash kept.listed c.in_ok-clash.ensures.clash);
+      firsts = firsts_more rows i row c.loop-place.firsts c.add_line.new.self c.loop-place-test.true c.index-rows-place.is kept.firsts c.in_ok-clash.ensures.adds;
+      blocks = blocks_more rows c.requires i row c.loop-place-test.true c.index-rows-place.is kept.blocks c.in_ok-clash.ensures.block;
     }
 
 all_of : (rows : List Row) (i : ℕ) (found : List Contradiction) → take i rows ≡ rows → AreContradictions rows (take i rows) found → AreContradictions rows rows found

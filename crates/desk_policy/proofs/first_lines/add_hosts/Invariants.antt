@@ -1,14 +1,16 @@
--- The addresses so far have the place, unless one stood there before.
-use Rattle.std.proofs.Common.{◌≡◌, ◌==◌, ℕ, None, Some, take}
+-- The least clash at the addresses so far, which have a place.
+use Rattle.std.proofs.Common.{◌≡◌, ℕ, None, Some, length, take}
 use Rattle.std.specs.Prelude.{if◌then◌else◌}
 use Rattle.std.specs.BTreeMap.{get}
-use Rattle.std.specs.List.{list_any}
 use Rattle.std.specs.Option.{option_or}
 use Rattle.std.specs.Ordering.{nat_cmp}
-use Rattle.desk_text.specs.Address.{number_of}
+use Rattle.desk_text.specs.AddrSet.{is_among}
+use Rattle.desk_policy.specs.PrivateFirstLines.{IsClashAmong, is_host_among}
 use Rattle.desk_policy.proofs.first_lines.add_hosts.Given as goal
 
 abbrev pub invariant-loop-address : goal.invariant-loop-address
-invariant-loop-address l =
-    (other : ℕ) → get nat_cmp l.hosts other
-    ≡ option_or (get nat_cmp l.initial.hosts other) (if list_any (λ address. number_of address == other) (take l.address-index l.addresses) then Some l.place else None)
+invariant-loop-address l = record {
+  clash : IsClashAmong l.earlier l.row.entry.terms (is_host_among (take l.address-index l.row.addrs)) l.found;
+  adds : (address : ℕ) → get nat_cmp l.hosts address
+      ≡ option_or (get nat_cmp l.initial.hosts address) (if is_among address (take l.address-index l.row.addrs) then Some (length l.earlier) else None);
+}
