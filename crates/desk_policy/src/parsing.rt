@@ -260,7 +260,7 @@ fn lines_in_force(
     ensures warnings { OnOk result (warnings.new
         ≡ warnings.old ++ flat_map (entry_warnings site_tables.now.netgroups site_tables.now.hosts name.now) entries) }
 {
-    let mut rows = Sequence::new(alloc);
+    let mut rows = Sequence::from_vec(Vec::with_capacity(alloc, entries.len())?);
     for entry in entries.into_vec() {
         push_entry(
             alloc,
