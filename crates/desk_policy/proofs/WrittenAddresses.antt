@@ -1,6 +1,7 @@
 -- A name that writes an address has digits and dots alone, and stands for that address.
-use Rattle.std.proofs.Common.{◌≡◌, ℕ, ◌==◌, ◌||◌, ◌&&◌, Bool, true, false, cond, List, [], ◌∷◌, ◌++◌, ◌∙◌, ap, arith, map, refl, sym}
-use Rattle.std.specs.Prelude.{Err, not, Ok, Result, Some}
+use Rattle.std.proofs.Common.{◌≡◌, ℕ, ◌==◌, ◌||◌, ◌&&◌, Bool, true, false, cond, List, [], ◌∷◌, ◌++◌, ◌∙◌, ap, arith, length, map, refl, slice_index_or, sym}
+use Rattle.std.specs.Prelude.{Err, IfSome, None, not, Ok, Option, Result, Some}
+use Rattle.std.specs.Option.{option_map}
 use Rattle.std.specs.Char.{is_ascii_digit}
 use Rattle.std.specs.List.{list_all, onto_first}
 use Rattle.std.specs.Result.{result_ok}
@@ -9,14 +10,14 @@ use Rattle.std.proofs.lemmas.Bool.Decides.{nat_tests}
 use Rattle.std.proofs.lemmas.List.{map-append}
 use Rattle.std.proofs.lemmas.List.Folds.{list_any-append}
 use Rattle.desk_text.specs.Address.{dotted_parts, is_dotted, number_of, read_addr}
-use Rattle.desk_text.specs.AddrSet.{is_among}
+use Rattle.desk_text.specs.AddrSet.{is_among, sorted_set}
 use Rattle.desk_text.specs.Bytes.{is_digits, is_ipv6}
 use Rattle.desk_text.specs.declared.address.Addr.{Addr}
 use Rattle.desk_text.specs.declared.address.AddrFault.{AddrFault}
 use Rattle.desk_text.specs.declared.address.AddrFault.TheVariants.{Digits, Parts}
 use Rattle.desk_tables.specs.declared.hosts.HostRow.{HostRow}
 use Rattle.desk_netgroup.specs.declared.group_line.GroupLine.{GroupLine}
-use Rattle.desk_policy.specs.Names.{host_stands_for, is_address_like, is_read_as, stands_for}
+use Rattle.desk_policy.specs.Names.{addresses_of_names, host_stands_for, is_address_like, is_read_as, number_read, stands_for}
 use Rattle.desk_policy.specs.PrivateNames.{Gains}
 
 abbrev are_digits : List (List ℕ) → Bool
@@ -103,3 +104,21 @@ module _ (hosts : List HostRow) (name : List ℕ) (a : ℕ) where
     pub name_written : (n : ℕ) → Some n ≡ result_ok (read_addr name) → stands_for netgroups hosts name a ≡ (n == a)
     name_written n e =
         cond-true (is_address_like name) _ _ (or_right (is_ipv6 name) (is_dotted name) (read_dotted name n (was_ok (read_addr name) n e))) ∙ host_written n e
+
+-- a name that writes an address, by itself, stands for it alone
+only_written : (netgroups : List GroupLine) (hosts : List HostRow) (name : List ℕ) (n : ℕ) → Some n ≡ result_ok (read_addr name)
+    → addresses_of_names netgroups hosts (name ∷ []) ≡ n ∷ []
+only_written netgroups hosts name n e =
+    let read = was_ok (read_addr name) n e in
+    let dotted = read_dotted name n read in
+    ap (λ (xs : List ℕ). sorted_set (xs ++ [])) (
+    cond-true (is_address_like name) _ _ (or_right (is_ipv6 name) (is_dotted name) dotted)
+    ∙ cond-false (is_ipv6 name) _ _ (dotted_is_no_ipv6 name dotted) ∙ cond-true (is_dotted name) _ _ dotted ∙ ap number_read read)
+
+-- of the only name, what was read is all that the names stand for
+pub only_name : (names : List (List ℕ)) (found : Option Addr) → length names ≡ 1 → option_map number_of found ≡ result_ok (read_addr (slice_index_or names 0 []))
+    → IfSome found (λ address. (netgroups : List GroupLine) (hosts : List HostRow) → addresses_of_names netgroups hosts names ≡ number_of address ∷ [])
+only_name names None one e = tt
+only_name [] (Some address) one e = absurd (omega arith)
+only_name (name ∷ []) (Some address) one e = λ netgroups hosts. only_written netgroups hosts name (number_of address) e
+only_name (name ∷ other ∷ names) (Some address) one e = absurd (omega arith)

@@ -1,12 +1,14 @@
 //! The addresses for which written names stand. (exports(5), netgroup(5), hosts(5))
 
-ghost use Rattle.std.specs.Prelude.{◌≡◌, ◌∷◌, [], IfOk, OnOk, map, string_bytes};
+ghost use Rattle.std.specs.Prelude.{◌≡◌, ◌∷◌, [], IfOk, IfSome, List, OnOk, map, string_bytes};
 ghost use Rattle.std.specs.List.{list_any};
 ghost use Rattle.std.specs.Option.{option_map};
 ghost use Rattle.std.specs.Result.{result_ok};
 ghost use Rattle.desk_text.specs.Address.{number_of, read_addr};
 ghost use Rattle.desk_text.specs.AddrSet.{is_among};
 ghost use Rattle.desk_tables.specs.Hosts.{addresses_of_host};
+ghost use Rattle.desk_tables.specs.declared.hosts.HostRow.{HostRow};
+ghost use Rattle.desk_netgroup.specs.declared.group_line.GroupLine.{GroupLine};
 ghost use Rattle.desk_policy.specs.Names.{addresses_of_names, host_stands_for, is_address_like, stands_for};
 ghost use Rattle.desk_policy.specs.PrivateNames.{Gains};
 
@@ -51,6 +53,16 @@ pub(crate) fn addresses_of_names(
     // Sets are equal that have the same addresses.
     sorted_sets_are_unique();
     Ok(AddrSet::from_vec(addresses))
+}
+
+/// Reads the address that the names write, if it is the only name.
+pub(crate) fn only_address(names: &Names) -> Option<Addr>
+    ensures { IfSome result (λ address. (netgroups : List GroupLine) (hosts : List HostRow) → addresses_of_names netgroups hosts names.now ≡ number_of address ∷ []) }
+{
+    if names.len() != 1 {
+        return None;
+    }
+    written_address(names.get(0))
 }
 
 /// Adds the addresses for which a written name stands.

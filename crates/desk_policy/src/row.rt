@@ -4,9 +4,9 @@ ghost use Rattle.std.specs.Prelude.{◌≡◌, IfOk};
 ghost use Rattle.desk_policy.specs.Names.{addresses_of_names};
 ghost use Rattle.desk_policy.specs.Row.{names_of, row_of};
 
-use crate::names::addresses_of_names;
+use crate::names::{addresses_of_names, only_address};
 use crate::row_addrs::RowAddrs;
-use desk_exports::{Boxed, Clients, Entry};
+use desk_exports::{Boxed, Clients, Entry, Names};
 use desk_netgroup::Netgroups;
 use desk_tables::Hosts;
 use std::alloc::{AllocError, Global};
@@ -43,10 +43,23 @@ fn addresses_of_clients(
     ensures { IfOk result (λ addresses. addresses ≡ addresses_of_names netgroups.now hosts.now (names_of clients.now)) }
 {
     match clients {
-        Clients::Hosts(names) => {
-            let addresses = addresses_of_names(alloc, netgroups, hosts, names)?;
-            RowAddrs::of_set(alloc, addresses)
-        }
+        Clients::Hosts(names) => addresses_of_hosts(alloc, netgroups, hosts, names),
         Clients::Net(_, _) | Clients::Net6(_) | Clients::World => Ok(RowAddrs::new()),
     }
+}
+
+/// Finds the addresses for which these names stand. An address by itself, which most lines have, needs no memory.
+fn addresses_of_hosts(
+    alloc: Global,
+    netgroups: &Netgroups,
+    hosts: &Hosts,
+    names: &Names,
+) -> Result<RowAddrs, AllocError>
+    ensures { IfOk result (λ addresses. addresses ≡ addresses_of_names netgroups.now hosts.now names.now) }
+{
+    if let Some(address) = only_address(names) {
+        return Ok(RowAddrs::of_address(address));
+    }
+    let addresses = addresses_of_names(alloc, netgroups, hosts, names)?;
+    RowAddrs::of_set(alloc, addresses)
 }

@@ -1,6 +1,6 @@
 //! The addresses of a line in force.
 
-ghost use Rattle.std.specs.Prelude.{◌≡◌, [], IfOk, map};
+ghost use Rattle.std.specs.Prelude.{◌≡◌, ◌∷◌, [], IfOk, map};
 ghost use Rattle.std.specs.List.Sorted.{IsStrictlyIncreasing};
 ghost use Rattle.desk_text.specs.Address.{number_of};
 ghost use Rattle.desk_text.specs.AddrSet.{is_among};
@@ -40,6 +40,15 @@ impl RowAddrs {
     {
         RowAddrs {
             values: Values::Nothing,
+        }
+    }
+
+    /// Makes the set of one address.
+    pub(crate) fn of_address(address: Addr) -> RowAddrs
+        ensures { result ≡ number_of address ∷ [] }
+    {
+        RowAddrs {
+            values: Values::One(address),
         }
     }
 
