@@ -11,7 +11,7 @@ ghost use Rattle.desk_exports.specs.Tables.{table_rows};
 
 use crate::files::{Scope, home_of};
 use crate::grammar::GrammarLine;
-use crate::lines::{has_entry, read_grammar_line};
+use crate::lines::{WordRoom, has_entry};
 use crate::places::{place_at_fault, place_of_open_quote};
 use crate::rules::Rule;
 use crate::tables::Tables;
@@ -38,17 +38,19 @@ pub fn find_faults(
     ensures placed { IfOk result (All (IsPlaced text.now)) }
 {
     let lines = logical_lines(alloc, text)?;
+    let mut room = WordRoom::new(alloc);
     let mut found = Sequence::new(alloc);
     for line in &lines {
-        push_fault(alloc, line, tables, scope, &mut found)?;
+        push_fault(alloc, &mut room, line, tables, scope, &mut found)?;
     }
     Ok(found)
 }
 
 /// Adds the fault of a logical line, if it has one.
-fn push_fault(
+fn push_fault<'a>(
     alloc: Global,
-    line: &Line,
+    room: &mut WordRoom<'a>,
+    line: &Line<'a>,
     tables: &Tables,
     scope: Scope,
     found: &mut Sequence<PlacedFault>,
@@ -56,16 +58,17 @@ fn push_fault(
     ensures { OnOk result
         (AddsFault found.old found.new line.now (spec.answered_line (spec.line_says (table_rows tables.now) scope) line.now)) }
 {
-    if let Some(fault) = line_fault(alloc, line, tables, scope)? {
+    if let Some(fault) = line_fault(alloc, room, line, tables, scope)? {
         found.push(fault)?;
     }
     Ok(())
 }
 
 /// Finds the fault of a logical line, if it has one.
-fn line_fault(
+fn line_fault<'a>(
     alloc: Global,
-    line: &Line,
+    room: &mut WordRoom<'a>,
+    line: &Line<'a>,
     tables: &Tables,
     scope: Scope,
 ) -> Result<Option<PlacedFault>, AllocError>
@@ -73,7 +76,7 @@ fn line_fault(
         ≡ fault_of (spec.answered_line (spec.line_says (table_rows tables.now) scope) line.now)) }
     ensures placed { IfOk result (λ found. IfSome found (IsFaultOn line.now)) }
 {
-    match ReadError::split(read_grammar_line(alloc, line))? {
+    match ReadError::split(room.read_line(alloc, line))? {
         Ok(grammar) => {
             let found = words_fault(alloc, line, tables, scope, &grammar);
             drop(grammar);

@@ -7,7 +7,7 @@ ghost use Rattle.desk_exports.specs.Splitting as spec;
 ghost use Rattle.desk_exports.specs.PrivateSplitting.{Sends, with_more};
 
 use crate::grammar::GrammarLine;
-use crate::lines::read_grammar_line;
+use crate::lines::WordRoom;
 use crate::rules::Rule;
 use desk_tables::{FileSystems, FsId};
 use desk_text::{Line, LineFault, ReadError, logical_lines};
@@ -28,8 +28,9 @@ pub fn split(
 {
     let lines = logical_lines(alloc, text)?;
     let mut texts = empty_texts(alloc, filesystems.len())?;
+    let mut room = WordRoom::new(alloc);
     for line in &lines {
-        send_line(alloc, filesystems, line, &mut texts)?;
+        send_line(alloc, &mut room, filesystems, line, &mut texts)?;
     }
     Ok(texts)
 }
@@ -46,15 +47,16 @@ fn empty_texts(alloc: Global, count: usize) -> Result<Vec<String>, AllocError>
 }
 
 /// Adds a logical line to the text of the file system that it goes to, if it goes to one.
-fn send_line(
+fn send_line<'a>(
     alloc: Global,
+    room: &mut WordRoom<'a>,
     filesystems: &FileSystems,
-    line: &Line,
+    line: &Line<'a>,
     texts: &mut Vec<String>,
 ) -> Result<(), ReadError<LineFault<Rule>>>
     ensures { Sends filesystems.now result (map string_bytes texts.old.items) (map string_bytes texts.new.items) line.now }
 {
-    match destination_of(alloc, filesystems, line) {
+    match destination_of(alloc, room, filesystems, line) {
         Ok(Some(fs)) => {
             append_line(texts, fs, line)?;
             Ok(())
@@ -65,14 +67,15 @@ fn send_line(
 }
 
 /// Finds the file system that a logical line goes to, if it goes to one, or returns the first rule that it breaks.
-fn destination_of(
+fn destination_of<'a>(
     alloc: Global,
+    room: &mut WordRoom<'a>,
     filesystems: &FileSystems,
-    line: &Line,
+    line: &Line<'a>,
 ) -> Result<Option<FsId>, ReadError<Rule>>
     ensures { Reads result (spec.destination_of filesystems.now line.now) }
 {
-    match ReadError::split(read_grammar_line(alloc, line))? {
+    match ReadError::split(room.read_line(alloc, line))? {
         Ok(grammar) => match destination_by(filesystems, &grammar) {
             Ok(fs) => Ok(fs),
             Err(rule) => Err(ReadError::Fault(rule)),
