@@ -1,18 +1,15 @@
--- A path is under another where its printed form goes on behind the other's.
+-- A path is under another where what is kept of it goes on behind what is kept of the other.
 use Rattle.std.proofs.Common.{◌≡◌, ◌≢◌, ◌⊎◌, inl, inr, ℕ, ◌≤◌, Bool, true, false, ◌&&◌, ◌||◌, eqb, ltb, eq-eqb, List, [], ◌∷◌, ◌++◌, length, length-append, get_or, drop, refl, sym, ap, ◌∙◌, arith}
-use Rattle.std.specs.List.{flat_map, starts_with, AllByRecursion}
+use Rattle.std.specs.List.{starts_with, AllByRecursion}
 use Rattle.std.specs.Str.{bytes_eq}
 use Rattle.std.proofs.lemmas.Bool.{and_right, cases_Bool, cases_lt, eqb-true, eqb-false, lt-ltb, ne_eqb, true≢false}
 use Rattle.std.proofs.lemmas.Bool.Decides.{Decides-eqb}
 use Rattle.std.proofs.lemmas.List.{drop_all, drop_more}
 use Rattle.std.proofs.lemmas.Slice.Eq.{starts_is}
 use Rattle.std.proofs.Math.Bool.{and-true}
-use Rattle.desk_text.specs.Path.{components, path_text, is_under}
-use Rattle.desk_text.specs.PrivatePath.{ends_before, ends_component, goes_below}
-use Rattle.desk_text.proofs.Slashes.{IsComponent, NoSlash, are_components, slashes}
-
-abbrev slashed : List (List ℕ) → List ℕ
-slashed path = flat_map (λ part. 47 ∷ part) path
+use Rattle.desk_text.specs.Path.{components, is_under}
+use Rattle.desk_text.specs.PrivatePath.{ends_before, ends_component, goes_below, kept_text}
+use Rattle.desk_text.proofs.Slashes.{IsComponent, NoSlash, are_components}
 
 apart : (a : ℕ) → eqb a 47 ≡ false → eqb 47 a ≡ false
 apart a e = ne_eqb 47 a (λ same. eqb-false a 47 e (sym same))
@@ -22,48 +19,28 @@ and_assoc true b c = refl
 and_assoc false b c = refl
 
 component_below : (x y : List ℕ) (path above : List (List ℕ)) → NoSlash x → NoSlash y
-    → goes_below (x ++ slashed path) (y ++ slashed above) ≡ (bytes_eq x y && goes_below (slashed path) (slashed above))
+    → goes_below (x ++ kept_text path) (y ++ kept_text above) ≡ (bytes_eq x y && goes_below (kept_text path) (kept_text above))
 component_below [] [] path above h k = refl
 component_below [] (b ∷ y) [] above h k = refl
-component_below [] (b ∷ y) (z ∷ path) above h k = ap (λ t. t && goes_below (z ++ slashed path) (y ++ slashed above)) (apart b k.0)
+component_below [] (b ∷ y) (z ∷ path) above h k = ap (λ t. t && goes_below (z ++ kept_text path) (y ++ kept_text above)) (apart b k.0)
 component_below (a ∷ x) [] path [] h k = h.0
-component_below (a ∷ x) [] path (z ∷ above) h k = ap (λ t. t && goes_below (x ++ slashed path) (z ++ slashed above)) h.0
+component_below (a ∷ x) [] path (z ∷ above) h k = ap (λ t. t && goes_below (x ++ kept_text path) (z ++ kept_text above)) h.0
 component_below (a ∷ x) (b ∷ y) path above h k =
-    ap (λ t. eqb a b && t) (component_below x y path above h.1 k.1) ∙ sym (and_assoc (eqb a b) (bytes_eq x y) (goes_below (slashed path) (slashed above)))
+    ap (λ t. eqb a b && t) (component_below x y path above h.1 k.1) ∙ sym (and_assoc (eqb a b) (bytes_eq x y) (goes_below (kept_text path) (kept_text above)))
 
-slashed_below : (path above : List (List ℕ)) → AllByRecursion IsComponent path → AllByRecursion IsComponent above → goes_below (slashed path) (slashed above) ≡ is_under path above
-slashed_below [] [] h k = refl
-slashed_below (x ∷ path) [] h k = refl
-slashed_below [] (y ∷ above) h k = refl
-slashed_below (x ∷ path) (y ∷ above) h k =
-    component_below x y path above h.0.1 k.0.1 ∙ ap (λ t. bytes_eq x y && t) (slashed_below path above h.1 k.1)
+kept_below : (path above : List (List ℕ)) → AllByRecursion IsComponent path → AllByRecursion IsComponent above → goes_below (kept_text path) (kept_text above) ≡ is_under path above
+kept_below [] [] h k = refl
+kept_below (x ∷ path) [] h k = refl
+kept_below [] (y ∷ above) h k = refl
+kept_below (x ∷ path) (y ∷ above) h k =
+    component_below x y path above h.0.1 k.0.1 ∙ ap (λ t. bytes_eq x y && t) (kept_below path above h.1 k.1)
 
--- `/` is under no other path
-root_below : (y : List ℕ) (above : List (List ℕ)) → IsComponent y → goes_below (path_text []) (slashed (y ∷ above)) ≡ false
-root_below [] above h = absurd (true≢false (sym h.0))
-root_below (b ∷ y) above h = refl
-
-paths_below : (path : List (List ℕ)) (y : List ℕ) (above : List (List ℕ)) → AllByRecursion IsComponent path → AllByRecursion IsComponent (y ∷ above)
-    → goes_below (path_text path) (path_text (y ∷ above)) ≡ is_under path (y ∷ above)
-paths_below [] y above h k = ap (goes_below (path_text [])) (sym (slashes y above)) ∙ root_below y above k.0
-paths_below (x ∷ path) y above h k =
-    ap (λ t. goes_below t (path_text (y ∷ above))) (sym (slashes x path)) ∙ ap (goes_below (slashed (x ∷ path))) (sym (slashes y above))
-    ∙ slashed_below (x ∷ path) (y ∷ above) h k
-
-under_clean : (path above : List (List ℕ)) → AllByRecursion IsComponent path → AllByRecursion IsComponent above → path_text above ≢ 47 ∷ []
-    → goes_below (path_text path) (path_text above) ≡ is_under path above
-under_clean path [] h k root = absurd (root refl)
-under_clean path (y ∷ above) h k root = paths_below path y above h k
-
--- of two texts that print their own components, the other not being `/`
-pub under_printed : (path above : List ℕ) → path_text (components path) ≡ path → path_text (components above) ≡ above → above ≢ 47 ∷ []
+-- of two texts that keep their own components
+pub under_kept : (path above : List ℕ) → kept_text (components path) ≡ path → kept_text (components above) ≡ above
     → goes_below path above ≡ is_under (components path) (components above)
-under_printed path above e f root =
-    ap (λ t. goes_below t above) (sym e) ∙ ap (goes_below (path_text (components path))) (sym f)
-    ∙ under_clean (components path) (components above) (are_components path) (are_components above) (λ h. root (sym f ∙ h))
-
-pub under_root : (path above : List ℕ) → above ≡ 47 ∷ [] → true ≡ is_under (components path) (components above)
-under_root path above e = ap (λ t. is_under (components path) (components t)) (sym e)
+under_kept path above e f =
+    ap (λ t. goes_below t above) (sym e) ∙ ap (goes_below (kept_text (components path))) (sym f)
+    ∙ kept_below (components path) (components above) (are_components path) (are_components above)
 
 -- what strip_prefix tells of the text
 pub goes_below-front : (above rest : List ℕ) → goes_below (above ++ rest) above ≡ ends_component rest

@@ -51,14 +51,13 @@ pub printed_paths_differ : PrintedPathsDiffer
 printed_paths_differ path other p q same =
     sym (joined_components path (components_from path p)) ∙ ap components same ∙ joined_components other (components_from other q)
 
--- the same texts are those of the same paths
-pub same_texts : (text other : List ℕ) (r : Bool) → path_text (components text) ≡ text → path_text (components other) ≡ other → r ≡ pointwise eqb text other
-    → r ≡ same_path (components text) (components other)
-same_texts text other r own own' is =
-    let texts = slice_eq-Decides Decides-eqb text other r is in
-    same_from_decides r (same_path (components text) (components other))
-    (λ e. ap components (texts.0 e), λ same. texts.1 (sym own ∙ ap path_text same ∙ own'))
-    (slice_eq-Decides bytes_eq-Decides (components text) (components other) _ refl)
+-- paths that are printed alike are the same
+pub same_printed : (path other : List (List ℕ)) (r : Bool) → IsPath path → IsPath other → r ≡ pointwise eqb (path_text path) (path_text other) → r ≡ same_path path other
+same_printed path other r p q is =
+    let texts = slice_eq-Decides Decides-eqb (path_text path) (path_text other) r is in
+    same_from_decides r (same_path path other)
+    (λ e. printed_paths_differ path other p q (texts.0 e), λ same. texts.1 (ap path_text same))
+    (slice_eq-Decides bytes_eq-Decides path other _ refl)
 
 -- the parts of a printed path
 parts_of_joined : (part : List ℕ) (path : List (List ℕ)) → AllByRecursion IsComponent (part ∷ path) → slice_split (λ b. eqb b 47) (join_with_byte 47 (part ∷ path)) ≡ part ∷ path

@@ -1,12 +1,13 @@
 -- The parts between the slashes of a text.
-use Rattle.std.proofs.Common.{◌≡◌, ℕ, ◌+◌, ◌<◌, Bool, true, false, ◌||◌, not, eqb, List, [], ◌∷◌, ◌++◌, length, get_or, take, drop, filter, refl, sym, ap, ◌∙◌}
+use Rattle.std.proofs.Common.{◌≡◌, ◌⊎◌, inl, inr, ℕ, ◌+◌, ◌<◌, Bool, true, false, ◌||◌, not, eqb, List, [], ◌∷◌, ◌++◌, length, get_or, take, drop, filter, refl, sym, ap, ◌∙◌}
 use Rattle.std.specs.List.{list_any, slice_split}
-use Rattle.std.proofs.lemmas.Bool.{or_parts, cond-true, eqb-true}
+use Rattle.std.proofs.lemmas.Bool.{or_parts, cond-true, eqb-true, true≢false}
 use Rattle.std.proofs.lemmas.List.{take_more}
 use Rattle.std.proofs.lemmas.List.Recursion.{or_push}
 use Rattle.std.proofs.lemmas.List.Splits.{slice_split-cons_yes, join_with_byte-slice_split}
 use Rattle.desk_text.specs.Path.{components, path_text, is_dot_component, is_absolute}
-use Rattle.desk_text.specs.PrivatePath.{is_empty}
+use Rattle.desk_text.specs.PrivatePath.{is_empty, kept_text}
+use Rattle.desk_text.proofs.Slashes.{slashes}
 
 -- one more part
 pub any_more : (test : List ℕ → Bool) (parts : List (List ℕ)) (k : ℕ) (part : List ℕ) → (k < length parts) × (part ≡ get_or parts k part) → (found : Bool) → found ≡ list_any test (take k parts)
@@ -34,6 +35,20 @@ printed_already (b ∷ text) h e =
     ∙ ap path_text (keeps_all (slice_split (λ b. eqb b 47) text) e)
     ∙ ap (λ t. 47 ∷ t) (join_with_byte-slice_split 47 text)
     ∙ ap (λ x. x ∷ text) (sym (eqb-true b 47 h))
+
+-- and kept as it is
+pub kept_already : (text : List ℕ) → is_absolute text ≡ true → list_any is_empty (slice_split (λ b. eqb b 47) (drop 1 text)) ≡ false → kept_text (components text) ≡ text
+kept_already text h e =
+    elim (kept_or_root (components text)) [
+      | inl same ↦ same ∙ printed_already text h e
+      | inr root ↦
+          let bare : text ≡ 47 ∷ [] = sym (printed_already text h e) ∙ ap path_text root in
+          absurd (true≢false (ap (λ t. list_any is_empty (slice_split (λ b. eqb b 47) (drop 1 t))) (sym bare) ∙ e))
+    ]
+  where
+    kept_or_root : (path : List (List ℕ)) → (kept_text path ≡ path_text path) ⊎ (path ≡ [])
+    kept_or_root [] = inr refl
+    kept_or_root (c ∷ path) = inl (slashes c path)
 
 -- and no part before it is `.` or `..`
 pub dots_behind : (text : List ℕ) → is_absolute text ≡ true → list_any is_dot_component (slice_split (λ b. eqb b 47) (drop 1 text)) ≡ list_any is_dot_component (slice_split (λ b. eqb b 47) text)

@@ -7,6 +7,7 @@ use Rattle.std.proofs.lemmas.List.Elements.{All-from_recursion, filter_more}
 use Rattle.std.proofs.lemmas.List.Concat.{flat_map-append}
 use Rattle.std.proofs.lemmas.List.Splits.{slice_split_at, slice_split_none}
 use Rattle.desk_text.specs.Path.{components, path_text}
+use Rattle.desk_text.specs.PrivatePath.{kept_text}
 
 abbrev pub NoSlash : List ℕ → Type 0
 NoSlash part = AllByRecursion (λ b. eqb b 47 ≡ false) part
@@ -58,13 +59,22 @@ pub slashes : (c : List ℕ) (path : List (List ℕ)) → flat_map (λ part. 47 
 slashes c [] = append-nil (47 ∷ c)
 slashes c (d ∷ path) = ap (λ t. 47 ∷ (c ++ t)) (slashes d path)
 
-pub some_printed : (path : List (List ℕ)) → 0 < length (flat_map (λ part. 47 ∷ part) path) → flat_map (λ part. 47 ∷ part) path ≡ path_text path
-some_printed [] h = absurd (omega arith)
-some_printed (c ∷ path) h = slashes c path
+-- a path as it is kept has just its components
+pub components-kept_text : (text : List ℕ) → components (kept_text (components text)) ≡ components text
+components-kept_text text = kept_components_of (components text) (are_components text)
+  where
+    kept_components_of : (path : List (List ℕ)) → AllByRecursion IsComponent path → components (kept_text path) ≡ path
+    kept_components_of [] h = refl
+    kept_components_of (c ∷ path) h = ap components (slashes c path) ∙ joined_components (c ∷ path) h
 
-pub none_printed : (path : List (List ℕ)) → length (flat_map (λ part. 47 ∷ part) path) ≡ 0 → 47 ∷ [] ≡ path_text path
-none_printed [] h = refl
-none_printed (c ∷ path) h = absurd (omega arith)
+-- what is kept of a path tells how it is printed
+pub kept_some : (path : List (List ℕ)) → 0 < length (kept_text path) → kept_text path ≡ path_text path
+kept_some [] h = absurd (omega arith)
+kept_some (c ∷ path) h = slashes c path
+
+pub kept_none : (path : List (List ℕ)) → length (kept_text path) ≡ 0 → 47 ∷ [] ≡ path_text path
+kept_none [] h = refl
+kept_none (c ∷ path) h = absurd (omega arith)
 
 module _ (parts : List (List ℕ)) (i : ℕ) (part : List ℕ) (at : (i < length parts) × (part ≡ get_or parts i part)) (out new : List ℕ)
     (so_far : out ≡ flat_map (λ part. 47 ∷ part) (filter (λ part. not (eqb (length part) 0)) (take i parts))) where

@@ -1,12 +1,17 @@
--- What the private contracts of the paths cite: being under another path, by the printed forms.
+-- What the private contracts of the paths cite: how a path is kept, and being under another path, by the kept forms.
 use Rattle.std.specs.Prelude.{ℕ, ◌==◌, ◌&&◌, ◌||◌, nat_lt, Bool, true, false, List, [], ◌∷◌, length, slice_index}
+use Rattle.std.specs.List.{flat_map}
+
+-- a path as it is kept: each component behind a slash, so that nothing is kept of `/`
+abbrev pub kept_text : List (List ℕ) → List ℕ
+kept_text path = flat_map (λ part. 47 ∷ part) path
 
 -- a text ends here, or goes on with a slash
 abbrev pub ends_component : List ℕ → Bool
 ends_component [] = true
 ends_component (b ∷ text) = b == 47
 
--- a printed path is another one, or goes on behind it with a slash
+-- a kept path is another one, or goes on behind it with a slash
 abbrev pub goes_below : List ℕ → List ℕ → Bool
 goes_below path [] = ends_component path
 goes_below [] (a ∷ above) = false

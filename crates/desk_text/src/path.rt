@@ -1,12 +1,12 @@
 //! Paths of directories. A path is the list of its components, however many slashes its text has between them.
 
-ghost use Rattle.std.specs.Prelude.{◌≡◌, ℕ, ◌++◌, ◌∷◌, IfOk, IfErr, List, length};
+ghost use Rattle.std.specs.Prelude.{◌≡◌, ℕ, ◌++◌, ◌∷◌, ◌<◌, IfOk, IfErr, List, length};
 ghost use Rattle.std.specs.List.{list_any, slice_split};
 ghost use Rattle.std.specs.String.{string_bytes};
 ghost use Rattle.std.specs.Bool.{◌==◌};
 ghost use Rattle.desk_text.specs.Path.{IsPath, components, is_absolute, is_dot_component, is_under, path_fault_number, path_text, read_path, same_path};
 ghost use Rattle.desk_text.specs.Reading.{Reads};
-ghost use Rattle.desk_text.specs.PrivatePath.{ends_before, goes_below, is_empty};
+ghost use Rattle.desk_text.specs.PrivatePath.{ends_before, goes_below, is_empty, kept_text};
 
 use crate::reading::ReadError;
 use std::alloc::{AllocError, Global};
@@ -17,7 +17,7 @@ use thiserror::Error;
 /// The most bytes that the text of a path may have, slashes counted.
 pub const LONGEST_PATH: usize = 1024;
 
-/// An absolute path, seen as its components.
+/// An absolute path, seen as its components. Each is kept behind a slash, so that `/` takes no memory.
 #[derive(Clone, Debug, Drop)]
 pub struct Path {
     text: String,
@@ -26,13 +26,14 @@ pub struct Path {
 impl Model for Path {
     ghost use Rattle.std.specs.Prelude.{◌≡◌, ℕ, List};
     ghost use Rattle.std.specs.String.{string_bytes};
-    ghost use Rattle.desk_text.specs.Path.{IsPath, components, path_text};
+    ghost use Rattle.desk_text.specs.Path.{components};
+    ghost use Rattle.desk_text.specs.PrivatePath.{kept_text};
 
     ghost Value = { List (List ℕ) };
 
     ghost view = { λ p. components (string_bytes p.text) };
 
-    ghost invariant = { λ p. path_text (components (string_bytes p.text)) ≡ string_bytes p.text };
+    ghost invariant = { λ p. kept_text (components (string_bytes p.text)) ≡ string_bytes p.text };
 }
 
 impl PartialEq for Path {
@@ -51,7 +52,7 @@ impl PartialEq for Path {
         ensures printed { result ≡ on path_text (pointwise ◌==◌) self.now other.now }
         ensures same { result ≡ same_path self.now other.now }
     {
-        self.text == other.text
+        self.text() == other.text()
     }
 }
 
@@ -79,7 +80,7 @@ impl Ord for Path {
     ghost matches_eq = { Prim.search (comparing, rules) };
 
     fn cmp(&self, other: &Path) -> Ordering {
-        self.text.cmp(&other.text)
+        self.text().cmp(other.text())
     }
 }
 
@@ -143,7 +144,7 @@ impl Path {
             return Err(ReadError::Fault(PathFault::NulByte));
         }
         let text = if parts.has_empty {
-            printed(alloc, text)?
+            rejoined(alloc, text)?
         } else {
             String::from_str(alloc, text)?
         };
@@ -154,8 +155,7 @@ impl Path {
     pub fn is_under(&self, above: &Path) -> bool
         ensures { result ≡ is_under self.now above.now }
     {
-        let above = above.text.as_str();
-        above == "/" || goes_below(self.text.as_bytes(), above.as_bytes())
+        goes_below(self.text.as_bytes(), above.text.as_bytes())
     }
 
     /// Returns the path as it is printed.
@@ -163,11 +163,15 @@ impl Path {
         ensures printed { result.now ≡ path_text self.now }
         ensures path { IsPath self.now }
     {
-        self.text.as_str()
+        if self.text.is_empty() {
+            "/"
+        } else {
+            self.text.as_str()
+        }
     }
 }
 
-/// Tests whether a printed path is another one, or goes on behind it with a slash. The byte behind the other one is asked
+/// Tests whether a kept path is another one, or goes on behind it with a slash. The byte behind the other one is asked
 /// first: mostly it tells.
 fn goes_below(path: &[u8], above: &[u8]) -> bool
     ensures { result ≡ goes_below path.now above.now }
@@ -175,7 +179,7 @@ fn goes_below(path: &[u8], above: &[u8]) -> bool
     ends_component(path, above.len()) && path.starts_with(above)
 }
 
-/// Tests whether a component of a printed path ends before this place.
+/// Tests whether a component of a kept path ends before this place.
 fn ends_component(path: &[u8], place: usize) -> bool
     ensures { result ≡ ends_before path.now place }
 {
@@ -212,29 +216,17 @@ fn is_dot_component(part: &[u8]) -> bool
     part == b".".as_slice() || part == b"..".as_slice()
 }
 
-/// Writes the components with a slash before each, or one slash if there are none.
-fn printed(alloc: Global, text: &str) -> Result<String, AllocError>
-    ensures { IfOk result (λ s. string_bytes s ≡ path_text (components text.now)) }
-{
-    if text == "/" {
-        return String::from_str(alloc, text);
-    }
-    rejoined(alloc, text)
-}
-
-/// Joins the components behind a slash each.
+/// Joins the components of an absolute text behind a slash each. One of its slashes, or more, counts for nothing.
 fn rejoined(alloc: Global, text: &str) -> Result<String, AllocError>
-    ensures { IfOk result (λ s. string_bytes s ≡ path_text (components text.now)) }
+    requires { 0 < length text.now }
+    ensures { IfOk result (λ s. string_bytes s ≡ kept_text (components text.now)) }
 {
-    let mut out = String::with_capacity(alloc, text.len())?;
+    let mut out = String::with_capacity(alloc, text.len() - 1)?;
     for part in text.split('/') {
         if !part.is_empty() {
             out.push('/')?;
             out.push_str(part)?;
         }
-    }
-    if out.is_empty() {
-        out.push('/')?;
     }
     Ok(out)
 }
