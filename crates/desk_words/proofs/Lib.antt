@@ -1,4 +1,5 @@
 pub mod ClapAnswers
+pub mod Drafts
 pub mod FilesInTurn
 pub mod FirstBad
 pub mod KnownBytes

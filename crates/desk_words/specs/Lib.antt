@@ -2,4 +2,5 @@ pub mod Arguments
 pub mod CommandLine
 pub mod Files
 pub mod Input
+pub mod PrivateDraft
 pub mod Words

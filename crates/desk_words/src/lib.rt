@@ -15,6 +15,7 @@
 pub mod arguments;
 pub mod command_line;
 pub mod database_words;
+mod draft;
 pub mod failure;
 pub mod files;
 pub mod input;

@@ -1,16 +1,6 @@
 -- Each command is added to those before it.
-use Rattle.std.proofs.Common.{◌∙◌, ap, ap₂}
-use Rattle.std.proofs.lemmas.Result.{IfOk-weaker}
-use Rattle.clap.specs.Words.{App, app_of, with_subcommand}
 use Rattle.desk_words.proofs.command_line.with_desk_commands.Goals as goal
 
 pub returns : goal.returns
 returns c =
-    IfOk-weaker c.subcommand-4.result _ _
-    (λ m h.
-    h.shape c.in_ok-exports_command.ensures.local
-    ∙ ap₂ with_subcommand (c.in_ok-subcommand-3.ensures.shape c.in_ok-show_command.ensures.local
-    ∙ ap₂ with_subcommand (c.in_ok-subcommand-2.ensures.shape c.in_ok-ask_command.ensures.local
-    ∙ ap₂ with_subcommand (c.in_ok-subcommand.ensures.shape c.in_ok-init_command.ensures.local
-    ∙ ap (with_subcommand (app_of c.args.command)) (ap (λ (a : App). a.top) c.in_ok-init_command.ensures.shape)) (ap (λ (a : App). a.top) c.in_ok-ask_command.ensures.shape)) (ap (λ (a : App). a.top) c.in_ok-show_command.ensures.shape)) (ap (λ (a : App). a.top) c.in_ok-exports_command.ensures.shape))
-    c.subcommand-4.ensures
+    λ app made. c.subcommand-4.ensures _ _ (c.subcommand-3.ensures _ _ (c.subcommand-2.ensures _ _ (c.subcommand.ensures _ _ (made) c.init_command.ensures) c.ask_command.ensures) c.show_command.ensures) c.exports_command.ensures
