@@ -1,8 +1,11 @@
 -- What is added to a command that is being made.
-use Rattle.std.proofs.Common.{◌≡◌, ◌∙◌, ◌||◌, ap, ap₂, Option, Some, None, IsSomeAnd}
+use Rattle.std.proofs.Common.{◌≡◌, ◌∙◌, ◌||◌, false, ap, ap₂, Option, Some, None, IsSomeAnd}
+use Rattle.clap.specs.Simple.{app_of_fields}
 use Rattle.clap.specs.Words.{AddsArg, AddsSubcommand, App, Rule, with_rule, with_subcommand}
 use Rattle.clap.specs.declared.builder.Arg.{Arg}
 use Rattle.clap.specs.declared.builder.Command.{Command}
+use Rattle.clap.specs.declared.builder.Command.TheOpen.{Command-F}
+use Rattle.clap.specs.declared.builder.Command.TheViews.{out-Command}
 use Rattle.clap.specs.declared.builder.range.ValueRange.{ValueRange}
 use Rattle.desk_words.specs.PrivateDraft.{IsArgument, IsCommand}
 
@@ -24,3 +27,10 @@ command_added old sub new app added before is adds = record {
 pub range_is : (given : Option ValueRange) (range : ValueRange) → IsSomeAnd given (λ found. found ≡ range) → given ≡ Some range
 range_is None range same = elim same [ ]
 range_is (Some found) range same = ap Some same
+
+-- a command by its fields
+pub by_fields : (command : Command) (fields : Command-F Command) (app : App) → out-Command command ≡ fields → app_of_fields fields ≡ app → fields.has_globals ≡ false → IsCommand app command
+by_fields command fields app same is local = record {
+  is = ap app_of_fields same ∙ is;
+  local = ap (λ (given : Command-F Command). given.has_globals) same ∙ local;
+}

@@ -3,4 +3,5 @@ pub mod CommandLine
 pub mod Files
 pub mod Input
 pub mod PrivateDraft
+pub mod PrivateWords
 pub mod Words

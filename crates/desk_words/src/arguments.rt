@@ -32,6 +32,20 @@ pub enum Argument {
     Rev,
 }
 
+impl Argument {
+    /// Names the argument as the usage does.
+    fn name(self) -> &'static str {
+        match self {
+            Argument::Host => "HOST",
+            Argument::Dir => "DIR",
+            Argument::Mount => "MOUNT",
+            Argument::Credential => "--as",
+            Argument::Base => "--base",
+            Argument::Rev => "--rev",
+        }
+    }
+}
+
 /// Why an argument cannot be parsed.
 #[derive(Clone, Copy)]
 pub enum ArgumentFault {
@@ -209,25 +223,20 @@ fn bad_argument(alloc: Global, argument: Argument, word: &str, fault: ArgumentFa
 
 impl fmt::Display for BadArgument {
     fn fmt<W: fmt::Write>(&self, f: &mut fmt::Formatter<W>) -> fmt::Result {
-        let name = match self.argument {
-            Argument::Host => "HOST",
-            Argument::Dir => "DIR",
-            Argument::Mount => "MOUNT",
-            Argument::Credential => "--as",
-            Argument::Base => "--base",
-            Argument::Rev => "--rev",
-        };
+        let name = self.argument.name();
         let word = self.word.as_str();
-        match self.fault {
-            ArgumentFault::Address(fault) => write!(f, "{name} {word:?}: {fault:?}: {fault}"),
-            ArgumentFault::Path(fault) => write!(f, "{name} {word:?}: {fault:?}: {fault}"),
-            ArgumentFault::Credential(fault) => write!(f, "{name} {word:?}: {fault:?}: {fault}"),
-            ArgumentFault::Number => {
-                write!(
-                    f,
-                    "{name} {word:?}: it is not a number from 0 to 2147483647"
-                )
-            }
+        let fault = self.fault;
+        write!(f, "{name} {word:?}: {fault}")
+    }
+}
+
+impl fmt::Display for ArgumentFault {
+    fn fmt<W: fmt::Write>(&self, f: &mut fmt::Formatter<W>) -> fmt::Result {
+        match self {
+            ArgumentFault::Address(fault) => write!(f, "{fault:?}: {fault}"),
+            ArgumentFault::Path(fault) => write!(f, "{fault:?}: {fault}"),
+            ArgumentFault::Credential(fault) => write!(f, "{fault:?}: {fault}"),
+            ArgumentFault::Number => f.write_str("it is not a number from 0 to 2147483647"),
         }
     }
 }

@@ -4,6 +4,7 @@ ghost use Rattle.std.specs.Prelude.{◌≡◌, Some, None, MatchResult};
 ghost use Rattle.std.specs.Option.{option_map};
 ghost use Rattle.clap.specs.Words.{first_of, found_of, rows_of, subcommand_rows_of};
 ghost use Rattle.desk_words.specs.CommandLine.{command_in, command_of, desk_command_in, is_set};
+ghost use Rattle.desk_words.specs.PrivateWords.{file_command_in};
 ghost use Rattle.desk_words.specs.Words.{Finds, IsMissing, given};
 
 use crate::database_words::{
@@ -65,6 +66,18 @@ fn found_desk_words<'m, 'a>(
         "ask" => Ok(CommandWords::Ask(AskWords::find(words)?)),
         "show" => Ok(CommandWords::Show(ShowWords::find(words)?)),
         "exports" => Ok(CommandWords::Exports(ExportsWords::find(words)?)),
+        _ => found_file_words(name, words),
+    }
+}
+
+/// Takes the words of the command of this name that is on one file of a database.
+fn found_file_words<'m, 'a>(
+    name: &str,
+    words: &'m ArgMatches<'a>,
+) -> Result<CommandWords<'m, 'a>, Failure>
+    ensures { Finds given (file_command_in name.now (rows_of (found_of words.now))) result }
+{
+    match name {
         "put" => Ok(CommandWords::Put(PutWords::find(words)?)),
         "log" => Ok(CommandWords::Log(LogWords::find(words)?)),
         "cat" => Ok(CommandWords::Cat(CatWords::find(words)?)),
