@@ -1,5 +1,5 @@
 -- The output of `put` by its words and files. (this project's own)
-use Rattle.std.specs.Prelude.{◌≡◌, ◌≢◌, ◌⊎◌, ℕ, ◌++◌, ◌∷◌, ◌&&◌, Bool, true, false, List, [], Option, Some, None, Result, Ok, Err, IsErrAnd, IsOkAnd, IsTrue, codes, length, if◌then◌else◌}
+use Rattle.std.specs.Prelude.{◌≡◌, ◌≢◌, ◌⊎◌, ℕ, ◌++◌, ◌∷◌, ◌&&◌, true, false, List, [], Option, Some, None, Result, Ok, Err, IsErrAnd, IsOkAnd, IsTrue, codes, length, if◌then◌else◌}
 use Rattle.std.specs.Fmt.{decimal}
 use Rattle.std.specs.Str.Lines.{IsFirstLine}
 use Rattle.std.specs.String.{string_bytes}

@@ -5,14 +5,15 @@ ghost use Rattle.sqlite_disk.specs.Memory.{memory_is_usable};
 ghost use Rattle.sqlite.specs.Files.{file_state};
 ghost use Rattle.desk_words.specs.Files.{IsUnread};
 ghost use Rattle.desk_words.specs.declared.files.FileArgument.TheVariants.{Database};
-ghost use Rattle.desk_database_commands.specs.Database.{AreUsable, IsUnopened};
+ghost use Rattle.desk_database_commands.specs.Database.{AreUsable, IsUnopened, copy_unopened, is_want_of_memory};
 
 use desk_words::failure::{Failure, ReadFailure};
 use desk_words::files::FileArgument;
 use os::RangeLock;
-use sqlite::{Connection, Error, ErrorCode, FileStore, Options};
+use sqlite::{Alter, Connection, Error, ErrorCode, FileStore, Options};
 use sqlite_disk::{Disk, Files, Memory};
 use std::alloc::{AllocError, Global};
+use std::fs::OpenOptions;
 use std::io::Read;
 use std::os::fd::AsRawFd;
 use std::os::unix::fs::MetadataExt;
@@ -37,29 +38,51 @@ pub fn open_copy(rt: &HostRuntime, path: &str) -> Result<Copied, Unopened>
     ensures settled { IfOk result (λ conn. (file_state conn).in_transaction ≡ false) }
     ensures unopened { IfErr result (IsUnopened path.now) }
 {
-    let files = match copy_files(rt, path) {
-        Ok(files) => files,
-        Err(error) => return Err(error),
-    };
+    match copy_files(rt, path) {
+        Ok(files) => open_copied(rt.alloc(), files),
+        Err(error) => Err(error),
+    }
+}
+
+/// Opens a connection to files in memory.
+fn open_copied(alloc: Global, files: Files<Memory>) -> Result<Copied, Unopened>
+    requires { AreUsable files }
+    ensures settled { IfOk result (λ conn. (file_state conn).in_transaction ≡ false) }
+    ensures unopened { (path : List ℕ) → IfErr result (IsUnopened path) }
+{
     // The seed is for a log that nobody reads again.
-    match Connection::open_files(rt.alloc(), files, Options::new(0)) {
+    match Connection::open_files(alloc, files, Options::new(0)) {
         Ok(conn) => Ok(conn),
         Err((error, left)) => {
             drop(left);
-            Err(Unopened::of_error(error))
+            Err(Unopened::of_copy(error))
         }
     }
 }
 
 impl Unopened {
-    /// Returns what an error of SQLite is: out of memory is a failure.
-    pub fn of_error(error: Error) -> Unopened
-        ensures { (path : List ℕ) → IsUnopened path result }
+    /// Returns why a copy in memory is not opened, by the error of SQLite: out of memory is a failure.
+    pub fn of_copy(error: Error) -> Unopened
+        ensures unopened { (path : List ℕ) → IsUnopened path result }
+        ensures memory { result ≡ copy_unopened error }
     {
-        match error {
-            Error::SqliteFailure(ErrorCode::OutOfMemory) => Unopened::Unread(Failure::Memory),
-            _ => Unopened::Refused(error),
+        if is_want_of_memory(error) {
+            Unopened::Unread(Failure::Memory)
+        } else {
+            Unopened::Refused(error)
         }
+    }
+}
+
+/// Tests whether an error of a copy in memory is that there is no memory. A copy that cannot grow is told as a failure of the
+/// disk, and it has no disk that could fail otherwise.
+pub fn is_want_of_memory(error: Error) -> bool
+    ensures { result ≡ is_want_of_memory error }
+{
+    match error {
+        Error::SqliteFailure(ErrorCode::OutOfMemory) => true,
+        Error::SqliteFailure(ErrorCode::SystemIoFailure) => true,
+        _ => false,
     }
 }
 
@@ -95,7 +118,7 @@ fn copy_locked(rt: &HostRuntime, path: &str) -> io::Result<Result<Files<Memory>,
         return Ok(Err(CANNOT_OPEN));
     }
     let file = fs::open(rt, real.as_str())?;
-    if let Err(error) = lock(&file) {
+    if let Err(error) = lock(&file, RangeLock::Shared) {
         return Ok(Err(error));
     }
     copy_under_lock(rt, real.as_str(), &file)
@@ -107,9 +130,9 @@ pub fn is_plain(rt: &HostRuntime, path: &str) -> io::Result<bool> {
     Ok(found.is_file() && found.nlink() == 1)
 }
 
-/// Takes the lock that SQLite's readers hold. It goes when the file is closed.
-fn lock(file: &fs::File) -> Result<(), Error> {
-    if os::try_lock_range(file.as_raw_fd(), RangeLock::Shared, 1 << 30, 512) == 0 {
+/// Takes the locks of SQLite, shared as its readers do, or alone. They go when the file is closed.
+fn lock(file: &fs::File, kind: RangeLock) -> Result<(), Error> {
+    if os::try_lock_range(file.as_raw_fd(), kind, 1 << 30, 512) == 0 {
         return Ok(());
     }
     match io::Error::from_raw_os_error(os::errno()).kind() {
@@ -181,6 +204,45 @@ fn copy_of(alloc: Global, file: &fs::File) -> io::Result<Memory>
     let mut copy = Memory::new(alloc);
     copy.write_at(0, bytes.as_slice())?;
     Ok(copy)
+}
+
+/// Opens a database file alone: until it is closed, no other command opens the database. None is opened if another process has
+/// it, or if the path has led to another file by then.
+pub fn open_alone(rt: &HostRuntime, path: &str) -> io::Result<Option<fs::File>> {
+    let real = real_path(rt, path)?;
+    if !is_plain(rt, real.as_str())? {
+        return Ok(None);
+    }
+    let file = OpenOptions::new()
+        .read(true)
+        .write(true)
+        .open(rt, real.as_str())?;
+    if lock(&file, RangeLock::Exclusive).is_err() {
+        return Ok(None);
+    }
+    let (found, named) = (file.metadata()?, fs::symlink_metadata(rt, real.as_str())?);
+    if found.dev() == named.dev() && found.ino() == named.ino() {
+        Ok(Some(file))
+    } else {
+        Ok(None)
+    }
+}
+
+/// Tests whether a database, whose file is open alone, holds nothing. One that cannot be copied and opened may hold something.
+pub fn holds_nothing(rt: &HostRuntime, real: &str, file: &fs::File) -> bool {
+    let Ok(Ok(files)) = copy_under_lock(rt, real, file) else {
+        return false;
+    };
+    match open_copied(rt.alloc(), files) {
+        Ok(conn) => is_blank(&conn),
+        Err(_) => false,
+    }
+}
+
+/// Tests whether a database has no tables and no views, nor tables that SQL here does not understand.
+pub fn is_blank<S: Alter>(conn: &Connection<S>) -> bool {
+    let schema = conn.schema();
+    schema.tables.as_slice().is_empty() && schema.views.as_slice().is_empty()
 }
 
 /// Returns a path as SQLite takes it for one: to it `:memory:`, or what begins with `file:`, is no path.

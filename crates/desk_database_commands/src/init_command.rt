@@ -15,9 +15,8 @@ ghost use Rattle.desk_database_commands.specs.ToldRefusal.{IsRefusedAs};
 ghost use Rattle.desk_core.specs.declared.edit.Refusal.TheVariants.{Fault as SiteRefusal};
 ghost use Rattle.desk_words.specs.Words.{given_init};
 
-use crate::database::{
-    Obstacle, find_obstacle_to_make, has_no_page, log_to_make, plain_path, remove_log,
-};
+use crate::database::{Obstacle, find_obstacle_to_make, is_blank};
+use crate::new_files::NewFiles;
 use crate::told_refusal::{
     not_opened_at, not_writable, obstructed, refused_by_store, refused_by_table, too_large_told,
 };
@@ -38,10 +37,8 @@ use desk_words::files::FileArgument;
 use sqlite::{Alter, Connection, Error, Wary};
 use std::alloc::{AllocError, Global};
 use std::collections::BTreeMap;
-use std::fs::OpenOptions;
+use std::io;
 use std::io::BufRead;
-use std::os::unix::fs::OpenOptionsExt;
-use std::{fs, io};
 
 /// The most bytes that the text of a revision may have.
 const LONGEST_REVISION: usize = 65_536;
@@ -276,27 +273,6 @@ fn push_warning(warning: &Warning, text: &mut String) -> Result<(), AllocError>
     write!(text, "warning {file} line {line} {name} {word}\n")
 }
 
-/// The files that are made for a new database.
-#[derive(Drop)]
-struct New {
-    /// The path of the database, as SQLite takes it.
-    path: String,
-    /// Whether the database file was made.
-    made: bool,
-    /// The path of the log, if it was not there before.
-    log: Option<String>,
-}
-
-impl New {
-    /// Makes the file of a database, if there is none. What takes memory comes before, so that no file is left behind.
-    fn make(rt: &HostRuntime, db: &str) -> io::Result<New> {
-        let path = plain_path(rt.alloc(), db)?;
-        let log = log_to_make(rt, db)?;
-        let made = make_file(rt, db)?;
-        Ok(New { path, made, log })
-    }
-}
-
 /// Why a site is not stored.
 #[derive(Drop)]
 pub enum NotMade {
@@ -319,14 +295,14 @@ fn make(rt: &HostRuntime, db: &str, site: &Site) -> Result<String, NotMade>
         Ok(Some(obstacle)) => return Err(NotMade::Obstacle(obstacle)),
         Err(error) => return Err(NotMade::File(error)),
     }
-    match New::make(rt, db) {
+    match NewFiles::make(rt, db) {
         Ok(new) => make_in(rt, site, &new),
         Err(error) => Err(NotMade::File(error)),
     }
 }
 
 /// Stores a site in the files of a new database, and gives what is printed of it.
-fn make_in(rt: &HostRuntime, site: &Site, new: &New) -> Result<String, NotMade>
+fn make_in(rt: &HostRuntime, site: &Site, new: &NewFiles) -> Result<String, NotMade>
     ensures { ComesTo (texts_of site.now) result }
 {
     match Connection::open_from(rt, new.path.as_str(), false, Wary) {
@@ -336,31 +312,10 @@ fn make_in(rt: &HostRuntime, site: &Site, new: &New) -> Result<String, NotMade>
             stored
         }
         Err((error, left)) => {
-            // Without the lock, the files may be those of another process.
-            if left.is_some() {
-                remove_unopened(rt, new);
-            }
             drop(left);
+            new.remove_unopened(rt);
             Err(NotMade::Unopened(error))
         }
-    }
-}
-
-/// Makes the file of a database, for its owner alone, if there is none. Tells whether it was made.
-fn make_file(rt: &HostRuntime, db: &str) -> io::Result<bool> {
-    match OpenOptions::new()
-        .read(true)
-        .write(true)
-        .create_new(true)
-        .mode(0o600)
-        .open(rt, db)
-    {
-        Ok(_) => Ok(true),
-        Err(error) if error.kind() == io::ErrorKind::AlreadyExists => {
-            OpenOptions::new().read(true).write(true).open(rt, db)?;
-            Ok(false)
-        }
-        Err(error) => Err(error),
     }
 }
 
@@ -370,16 +325,16 @@ fn store<S: Alter + Drop>(
     rt: &HostRuntime,
     conn: Connection<S>,
     site: &Site,
-    new: &New,
+    new: &NewFiles,
 ) -> (Result<String, NotMade>, Connection<S>)
     requires { (state S.Store conn).in_transaction ≡ false }
     ensures { Stores S.Store conn result.1 (texts_of site.now) result.0 }
 {
-    let is_blank = has_no_tables(&conn);
+    let was_blank = is_blank(&conn);
     let (stored, conn) = store_told(rt.alloc(), conn, site);
     if stored.is_err() {
         // Before the lock goes with the connection: behind that, another process may write the files.
-        remove_refused(rt, new, is_blank);
+        new.remove_refused(rt, was_blank);
     }
     (stored, conn)
 }
@@ -417,40 +372,6 @@ fn create<S: Alter + Drop>(
     match created {
         Ok(desk) => (Ok(()), desk.into_connection()),
         Err((error, conn)) => (Err(error), conn),
-    }
-}
-
-/// Tests whether a database has no tables.
-fn has_no_tables<S: Alter>(conn: &Connection<S>) -> bool {
-    conn.schema().tables.as_slice().is_empty()
-}
-
-/// Removes the files of a database that SQLite does not open. If its log has a page, another process may have stored a site.
-fn remove_unopened(rt: &HostRuntime, new: &New) {
-    if let Some(log) = &new.log
-        && has_no_page(rt, log.as_str())
-    {
-        remove(rt, new);
-    }
-}
-
-/// Removes the files that were made for a site that is not stored. A database that had tables keeps its file, and its log
-/// unless that has no page.
-fn remove_refused(rt: &HostRuntime, new: &New, is_blank: bool) {
-    if is_blank {
-        remove(rt, new);
-    } else {
-        remove_log(rt, &new.log);
-    }
-}
-
-/// Removes the files that were made for nothing.
-fn remove(rt: &HostRuntime, new: &New) {
-    if new.made {
-        let _ = fs::remove_file(rt, new.path.as_str());
-    }
-    if let Some(log) = &new.log {
-        let _ = fs::remove_file(rt, log.as_str());
     }
 }
 

@@ -12,6 +12,7 @@ pub mod ask_command;
 mod database;
 pub mod init_command;
 pub mod log_command;
+mod new_files;
 pub mod put_command;
 mod questions;
 pub mod show_command;

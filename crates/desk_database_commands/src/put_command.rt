@@ -83,7 +83,7 @@ fn put_files<I: BufRead>(
 {
     let text = read_if_given(rt, FileArgument::File, Some(words.file), input)?;
     match key {
-        KeySource::Word(key) => put_edit(rt, words.db, edit_of(words, base, key, text.as_str())),
+        KeySource::Word(key) => put_edit(rt, words, edit_of(words, base, key, text.as_str())),
         KeySource::InFile(file) => put_with_key_file(rt, words, base, text.as_str(), file, input),
     }
 }
@@ -101,7 +101,7 @@ fn put_with_key_file<I: BufRead>(
 {
     let key_text = read_if_given(rt, FileArgument::KeyFile, Some(file), input)?;
     let key = key_of(key_text.as_str());
-    put_edit(rt, words.db, edit_of(words, base, key, text))
+    put_edit(rt, words, edit_of(words, base, key, text))
 }
 
 /// Returns the first line of a key's file, without its line end.
@@ -128,13 +128,13 @@ fn edit_of<'a>(words: PutWords<'a>, base: u32, key: &'a str, text: &'a str) -> E
 }
 
 /// Puts an edit into the database, if that can be opened.
-fn put_edit(rt: &HostRuntime, db: &str, edit: Edit<'_>) -> Result<Output, Failure>
-    ensures { AnswersEdit db.now (asked edit.entry) result }
+fn put_edit(rt: &HostRuntime, words: PutWords<'_>, edit: Edit<'_>) -> Result<Output, Failure>
+    ensures { AnswersEdit words.entry.db.now (asked edit.entry) result }
 {
-    match leads_to_plain(rt, db) {
-        Ok(true) => put_in_plain(rt, db, &edit),
-        Ok(false) => not_opened_at(rt, db, CANNOT_OPEN),
-        Err(error) => Err(unread(rt.alloc(), db, error)),
+    match leads_to_plain(rt, words.db) {
+        Ok(true) => put_in_plain(rt, words, &edit),
+        Ok(false) => not_opened_at(rt, words.db, CANNOT_OPEN),
+        Err(error) => Err(unread(rt.alloc(), words.db, error)),
     }
 }
 
@@ -145,16 +145,16 @@ fn leads_to_plain(rt: &HostRuntime, path: &str) -> io::Result<bool> {
 }
 
 /// Puts an edit into a regular file, if that can be read and written, and has a database.
-fn put_in_plain(rt: &HostRuntime, db: &str, edit: &Edit<'_>) -> Result<Output, Failure>
-    ensures { AnswersEdit db.now (asked edit.now) result }
+fn put_in_plain(rt: &HostRuntime, words: PutWords<'_>, edit: &Edit<'_>) -> Result<Output, Failure>
+    ensures { AnswersEdit words.entry.db.now (asked edit.now) result }
 {
-    if let Err(error) = fs::open(rt, db) {
-        return Err(unread(rt.alloc(), db, error));
+    if let Err(error) = fs::open(rt, words.db) {
+        return Err(unread(rt.alloc(), words.db, error));
     }
-    match is_empty_file(rt, db) {
-        Ok(true) => refused_by_schema(rt.alloc(), db),
-        Ok(false) => put_in_files(rt, db, edit),
-        Err(error) => not_writable(rt.alloc(), db, &error),
+    match is_empty_file(rt, words.db) {
+        Ok(true) => refused_by_schema(rt.alloc(), words.db),
+        Ok(false) => put_in_files(rt, words, edit),
+        Err(error) => not_writable(rt.alloc(), words.db, &error),
     }
 }
 
@@ -166,12 +166,12 @@ fn is_empty_file(rt: &HostRuntime, path: &str) -> io::Result<bool> {
 }
 
 /// Puts an edit into a database, which is opened. Its log is removed if it was made for nothing.
-fn put_in_files(rt: &HostRuntime, db: &str, edit: &Edit<'_>) -> Result<Output, Failure>
-    ensures { AnswersEdit db.now (asked edit.now) result }
+fn put_in_files(rt: &HostRuntime, words: PutWords<'_>, edit: &Edit<'_>) -> Result<Output, Failure>
+    ensures { AnswersEdit words.entry.db.now (asked edit.now) result }
 {
-    let log = log_to_make(rt, db)?;
-    let path = plain_path(rt.alloc(), db)?;
-    let (answer, left) = put_from(rt, db, path.as_str(), edit, &log, Wary);
+    let log = log_to_make(rt, words.db)?;
+    let path = plain_path(rt.alloc(), words.db)?;
+    let (answer, left) = put_from(rt, words, path.as_str(), edit, &log, Wary);
     if left.is_some() {
         // Before the lock goes with the connection: behind that, another process may write the log.
         remove_log(rt, &log);
@@ -186,7 +186,7 @@ type FilesFrom<S> = Connection<FileStore<FileFrom<S>>>;
 /// Puts an edit into the database at a path, which is opened. Beside the answer is the connection, if there is one.
 fn put_from<S: Start>(
     rt: &HostRuntime,
-    db: &str,
+    words: PutWords<'_>,
     path: &str,
     edit: &Edit<'_>,
     log: &Option<String>,
@@ -196,7 +196,7 @@ fn put_from<S: Start>(
 {
     match Connection::open_from(rt, path, false, start) {
         Ok(conn) => {
-            let (answer, left) = put_over(rt.alloc(), db, conn, edit);
+            let (answer, left) = put_over(rt.alloc(), words, conn, edit);
             (answer, Some(left))
         }
         Err((error, left)) => {
@@ -204,7 +204,7 @@ fn put_from<S: Start>(
                 remove_log(rt, log);
             }
             drop(left);
-            (not_opened_at(rt, db, error), None)
+            (not_opened_at(rt, words.db, error), None)
         }
     }
 }
@@ -212,7 +212,7 @@ fn put_from<S: Start>(
 /// Puts an edit into the database of a connection, which is handed back.
 fn put_over<S: Alter + Drop>(
     alloc: Global,
-    db: &str,
+    words: PutWords<'_>,
     conn: Connection<S>,
     edit: &Edit<'_>,
 ) -> (Result<Output, Failure>, Connection<S>)
@@ -222,10 +222,10 @@ fn put_over<S: Alter + Drop>(
     let opened: Result<Desk<S, Plain>, _> = Desk::open(alloc, conn);
     match opened {
         Ok(mut desk) => {
-            let answer = put_by(alloc, db, &mut desk, edit);
+            let answer = put_by(alloc, words, &mut desk, edit);
             (answer, desk.into_connection())
         }
-        Err((error, conn)) => (refused_by_desk(alloc, db, error), conn),
+        Err((error, conn)) => (refused_by_desk(alloc, words.db, error), conn),
     }
 }
 
@@ -249,7 +249,7 @@ impl Replies {
 /// Puts an edit into a desk.
 fn put_by<S: Alter + Drop>(
     alloc: Global,
-    db: &str,
+    words: PutWords<'_>,
     desk: &mut Desk<S, Plain>,
     edit: &Edit<'_>,
 ) -> Result<Output, Failure>
@@ -262,8 +262,8 @@ fn put_by<S: Alter + Drop>(
         } else {
             replies.accepted
         })),
-        Err(DeskError::Refused(refusal)) => refused(alloc, desk, edit, refusal),
-        Err(error) => refused_by_desk(alloc, db, error),
+        Err(DeskError::Refused(refusal)) => refused(alloc, words.file, desk, edit, refusal),
+        Err(error) => refused_by_desk(alloc, words.db, error),
     }
 }
 
@@ -278,9 +278,10 @@ fn edited<S: Alter + Drop>(
     desk.edit(alloc, edit)
 }
 
-/// Answers by why an edit is refused.
+/// Answers by why an edit, whose text is that of the file of this path, is refused.
 fn refused<S: Alter + Drop>(
     alloc: Global,
+    path: &str,
     desk: &Desk<S, Plain>,
     edit: &Edit<'_>,
     refusal: Refusal,
@@ -291,7 +292,7 @@ fn refused<S: Alter + Drop>(
         Refusal::Fault(fault) => {
             tell_site_fault(alloc, sources_of(desk, edit, fault.file.as_str()), fault)?
         }
-        _ => refusal_told(alloc, edit, &refusal)?,
+        _ => refusal_told(alloc, path, edit, &refusal)?,
     };
     Ok(Output::Refused(Refused::Edit(refusal), told))
 }

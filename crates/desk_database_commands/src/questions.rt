@@ -11,7 +11,7 @@ ghost use Rattle.desk_store.specs.Desk.{HasGoodDisk, History, LeavesTables, Stan
 ghost use Rattle.desk_database_commands.specs.Questions.{AnswersByDatabase, AnswersByHistory, AnswersQuestion, Cat, Log, OnlyLooks, asked_question, log_text, revision_line};
 
 use crate::database::{Unopened, open_copy};
-use crate::told_refusal::{no_revision, not_opened_at, refused_by_desk};
+use crate::told_refusal::{no_revision, not_opened_at, refused_by_copy};
 use desk_check::try_text::decide_by;
 use desk_policy::{Plain, PolicyView, all_exports, listing, listing_text};
 use desk_store::Desk;
@@ -56,7 +56,8 @@ pub fn answer_question(
     }
 }
 
-/// Answers a question by the database of a connection, which is handed back.
+/// Answers a question by the database of a connection, which is handed back. It is a copy in memory: an error of its disk is
+/// told as want of memory.
 fn answer_over<S: Alter + Drop>(
     alloc: Global,
     db: &str,
@@ -74,7 +75,7 @@ fn answer_over<S: Alter + Drop>(
             let answer = answer_by(alloc, db, &mut desk, question);
             (answer, desk.into_connection())
         }
-        Err((error, conn)) => (refused_by_desk(alloc, db, error), conn),
+        Err((error, conn)) => (refused_by_copy(alloc, db, error), conn),
     }
 }
 
@@ -129,7 +130,7 @@ fn log<S: Alter + Drop>(
     match desk.revisions(alloc, name) {
         Ok(revisions) if revisions.is_empty() => no_revision(alloc, name, None),
         Ok(revisions) => Ok(Output::Done(log_text(alloc, revisions.as_slice())?)),
-        Err(error) => refused_by_desk(alloc, db, error),
+        Err(error) => refused_by_copy(alloc, db, error),
     }
 }
 
@@ -180,6 +181,6 @@ fn text_at<S: Alter + Drop>(
     match desk.revision(alloc, name, rev) {
         Ok(Some(revision)) => { Ok(Output::Done(String::from_str(alloc, revision.body.as_str())?)) }
         Ok(None) => no_revision(alloc, name, Some(rev)),
-        Err(error) => refused_by_desk(alloc, db, error),
+        Err(error) => refused_by_copy(alloc, db, error),
     }
 }

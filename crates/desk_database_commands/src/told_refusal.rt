@@ -1,9 +1,9 @@
 //! Outputs of commands on a database that are refused, with the sentence that standard error tells beside the fixed line.
 
 ghost use Rattle.desk_text_commands.specs.declared.refused.Refused.TheVariants as refused;
-ghost use Rattle.desk_database_commands.specs.ToldRefusal.{IsRefusedAs, TellsError};
+ghost use Rattle.desk_database_commands.specs.ToldRefusal.{IsRefusedAs, TellsCopyError, TellsCopyFault, TellsError};
 
-use crate::database::{Obstacle, find_obstacle};
+use crate::database::{Obstacle, find_obstacle, is_want_of_memory};
 use desk_core::{Edit, Refusal};
 use desk_store::{DeskError, StoreFault, Task};
 use desk_text_commands::output::Output;
@@ -124,6 +124,27 @@ pub fn refused_by_desk(alloc: Global, db: &str, error: DeskError) -> Result<Outp
     }
 }
 
+/// Answers by why a desk over a copy in memory has no answer: an error that is want of memory as such.
+pub fn refused_by_copy(alloc: Global, db: &str, error: DeskError) -> Result<Output, Failure>
+    ensures { TellsCopyError error result }
+{
+    match error {
+        DeskError::Store(fault) => refused_by_copy_store(alloc, db, fault),
+        error => refused_by_desk(alloc, db, error),
+    }
+}
+
+/// Answers that a statement was refused on a copy in memory.
+fn refused_by_copy_store(alloc: Global, db: &str, fault: StoreFault) -> Result<Output, Failure>
+    ensures { TellsCopyFault fault result }
+{
+    if is_want_of_memory(fault.error) {
+        Err(Failure::Memory)
+    } else {
+        refused_by_store(alloc, db, fault)
+    }
+}
+
 /// Says that the file of this path, which a word names, has more bytes than a revision may have.
 pub fn too_large_told(
     alloc: Global,
@@ -155,9 +176,10 @@ fn advice_text(task: Task) -> &'static str {
     }
 }
 
-/// Says why an edit, whose text is that of this file, is refused; of the fault of a site nothing.
+/// Says why an edit, whose text is that of the file of this path, is refused; of the fault of a site nothing.
 pub fn refusal_told(
     alloc: Global,
+    path: &str,
     edit: &Edit<'_>,
     refusal: &Refusal,
 ) -> Result<String, AllocError> {
@@ -178,7 +200,7 @@ pub fn refusal_told(
         Refusal::NotCustodian => {
             format!(in alloc; "exportdesk: NAME {name:?}: {caller:?} does not keep it\n")
         }
-        Refusal::TooLarge => format!(in alloc; "exportdesk: FILE: it is over 65536 bytes\n"),
+        Refusal::TooLarge => too_large_told(alloc, FileArgument::File, path),
         Refusal::Stale(newest) => stale_told(alloc, edit, *newest),
         Refusal::Full => {
             format!(in alloc;

@@ -6,4 +6,4 @@ use Rattle.desk_database_commands.proofs.PutAnswers.{answers}
 use Rattle.desk_database_commands.proofs.put_command.put_in_files.Goals as goal
 
 pub returns : goal.returns
-returns c = answers over_files (record { log = []; db = [] }) c.args.db.now (asked c.args.edit.now) c.put_from-answer.result.0 c.put_from-answer.result.1 c.put_from-answer.ensures
+returns c = answers over_files (record { log = []; db = [] }) c.args.words.db.now (asked c.args.edit.now) c.put_from-answer.result.0 c.put_from-answer.result.1 c.put_from-answer.ensures

@@ -1,7 +1,7 @@
 -- The desk that was opened answers, and is only looked at.
 use Rattle.sqlite.specs.Held.{state}
 use Rattle.desk_database_commands.specs.Questions.{asked_question}
-use Rattle.desk_database_commands.proofs.QuestionAnswers.{answered_over, looked_over, refuses}
+use Rattle.desk_database_commands.proofs.QuestionAnswers.{answered_over, looked_over, refuses_copy}
 use Rattle.desk_database_commands.proofs.questions.answer_over.Goals as goal
 
 pub returns-in-Ok-clause-answered : goal.returns-in-Ok-clause-answered
@@ -17,4 +17,4 @@ returns-in-Ok-clause-tables g c =
 
 pub returns-in-Err-clause-answered : goal.returns-in-Err-clause-answered
 returns-in-Err-clause-answered g c good =
-    refuses (state g.S.Store c.args.conn).committed (asked_question c.args.question) c.in-Err.error c.refused_by_desk.result c.in-Err.ensures.errors (c.in-Err.ensures.foreign good) c.refused_by_desk.ensures
+    refuses_copy (state g.S.Store c.args.conn).committed (asked_question c.args.question) c.in-Err.error c.refused_by_copy.result c.in-Err.ensures.errors (c.in-Err.ensures.foreign good) c.refused_by_copy.ensures

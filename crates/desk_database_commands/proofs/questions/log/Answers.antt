@@ -1,7 +1,7 @@
 -- The revisions that are listed are those of the history.
 use Rattle.std.proofs.Common.{◌≡◌, ◌∙◌, ap, sym}
 use Rattle.desk_database_commands.specs.Questions.{Log, log_text, numbered_authors}
-use Rattle.desk_database_commands.proofs.QuestionAnswers.{has_none, has_some, none_there}
+use Rattle.desk_database_commands.proofs.QuestionAnswers.{has_none, has_some, look_fails, none_there}
 use Rattle.desk_database_commands.proofs.questions.log.Goals as goal
 
 pub returns-in-Ok-clause-answered : goal.returns-in-Ok-clause-answered
@@ -17,3 +17,6 @@ returns-in_ok-log_text-in-Ok-2-clause-answered g c = λ good history stands.
       has_some history c.args.name.now c.in-Ok.revisions first (sym c.is_empty.ensures ∙ c.if-is_empty.false),
       c.in_ok-log_text-in-Ok-2.ensures ∙ ap log_text (c.as_slice.ensures ∙ first),
     )
+
+pub returns-in-Err-clause-answered : goal.returns-in-Err-clause-answered
+returns-in-Err-clause-answered g c = λ good history stands. look_fails history (Log c.args.name.now) c.in-Err.error c.refused_by_copy.result c.in-Err.ensures.errors c.refused_by_copy.ensures

@@ -2,7 +2,7 @@
 use Rattle.std.proofs.Common.{◌≡◌, ◌∙◌, None, Some, ap, sym}
 use Rattle.desk_store.specs.Desk.{revision_at, stored_of}
 use Rattle.desk_database_commands.specs.Questions.{Cat}
-use Rattle.desk_database_commands.proofs.QuestionAnswers.{none_there, stored_body, stored_none}
+use Rattle.desk_database_commands.proofs.QuestionAnswers.{look_fails, none_there, stored_body, stored_none}
 use Rattle.desk_database_commands.proofs.questions.text_at.Goals as goal
 
 pub returns-in_ok-from_str-in-Ok-Some-clause-answered : goal.returns-in_ok-from_str-in-Ok-Some-clause-answered
@@ -19,3 +19,6 @@ returns-in-Ok-None-clause-answered g c = λ good history stands.
     none_there history (Cat c.args.name.now (Some c.args.rev)) c.no_revision.result
     (λ told. stored_none (revision_at history c.args.name.now c.args.rev) found)
     c.no_revision.ensures
+
+pub returns-in-Err-clause-answered : goal.returns-in-Err-clause-answered
+returns-in-Err-clause-answered g c = λ good history stands. look_fails history (Cat c.args.name.now (Some c.args.rev)) c.in-Err.error c.refused_by_copy.result c.in-Err.ensures.errors c.refused_by_copy.ensures
