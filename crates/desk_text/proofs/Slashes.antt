@@ -50,10 +50,6 @@ joined_components (c ∷ d ∷ path) h =
     ∙ cond-true (not (eqb (length c) 0)) (c ∷ components (join_with_byte 47 (d ∷ path))) (components (join_with_byte 47 (d ∷ path))) h.0.0
     ∙ ap (λ cs. c ∷ cs) (joined_components (d ∷ path) h.1)
 
--- a printed path has just these components
-pub components-path_text : (text : List ℕ) → components (path_text (components text)) ≡ components text
-components-path_text text = joined_components (components text) (are_components text)
-
 -- each component behind a slash
 pub slashes : (c : List ℕ) (path : List (List ℕ)) → flat_map (λ part. 47 ∷ part) (c ∷ path) ≡ path_text (c ∷ path)
 slashes c [] = append-nil (47 ∷ c)

@@ -1,6 +1,6 @@
 //! Paths of directories. A path is the list of its components, however many slashes its text has between them.
 
-ghost use Rattle.std.specs.Prelude.{◌≡◌, ℕ, ◌++◌, ◌∷◌, ◌<◌, IfOk, IfErr, List, length};
+ghost use Rattle.std.specs.Prelude.{◌≡◌, ℕ, ◌++◌, ◌∷◌, [], ◌<◌, IfOk, IfErr, List, length};
 ghost use Rattle.std.specs.List.{list_any, slice_split};
 ghost use Rattle.std.specs.String.{string_bytes};
 ghost use Rattle.std.specs.Bool.{◌==◌};
@@ -129,6 +129,9 @@ impl Path {
     pub fn read(alloc: Global, text: &str) -> Result<Path, ReadError<PathFault>>
         ensures { Reads result (read_path text.now) }
     {
+        if text == "/" {
+            return Ok(Path::root(alloc));
+        }
         let bytes = text.as_bytes();
         if bytes.is_empty() || bytes[0] != b'/' {
             return Err(ReadError::Fault(PathFault::NotAbsolute));
@@ -149,6 +152,15 @@ impl Path {
             String::from_str(alloc, text)?
         };
         Ok(Path { text })
+    }
+
+    /// Makes the path `/`, which takes no memory.
+    fn root(alloc: Global) -> Path
+        ensures { result ≡ [] }
+    {
+        Path {
+            text: String::new(alloc),
+        }
     }
 
     /// Tests whether the path is the other one or lies below it: `/a/b` is under `/a`, and `/ab` is not.
