@@ -5,5 +5,5 @@ use Rattle.desk_exports.proofs.rules.first_broken_rule.Goals as goal
 
 pub returns-then-not-has_valued_option : goal.returns-then-not-has_valued_option
 returns-then-not-has_valued_option c =
-    c.first_broken_of.ensures
-    ∙ first_beside_values (table_rows c.args.tables.now) c.args.own_fs c.args.line.now (sym (c.has_valued_option.ensures ∙ ap has_valued c.settings.ensures) ∙ c.if-not-has_valued_option.true)
+    c.first_broken_of-then-not-has_valued_option.ensures
+    ∙ first_beside_values (table_rows c.args.tables.now) c.args.own_fs c.args.line.now (sym (c.has_valued_option.ensures ∙ ap has_valued c.settings-else-is_empty.ensures) ∙ c.if-not-has_valued_option.true)
