@@ -3,7 +3,7 @@ use Rattle.std.proofs.Common.{◌≡◌, ◌⊎◌, ℕ, List, Result, Ok, Err, 
 use Rattle.clap.specs.Words.{IsAmong, Kinds}
 use Rattle.clap.specs.declared.error.kind.ErrorKind.{ErrorKind}
 use Rattle.clap.specs.declared.error.kind.ErrorKind.TheVariants.{OutOfMemory}
-use Rattle.desk_words.specs.CommandLine.{faults_of}
+use Rattle.desk_command_line.specs.CommandLine.{faults_of}
 use Rattle.desk_words.specs.declared.failure.Failure.{Failure}
 use Rattle.desk_words.specs.declared.failure.Failure.TheVariants.{Memory, Usage}
 use Rattle.desk_text_commands.specs.declared.output.Output.{Output}

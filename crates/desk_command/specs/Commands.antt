@@ -3,7 +3,7 @@ use Rattle.std.specs.Prelude.{◌≡◌, ◌≢◌, ◌⊎◌, ℕ, List, [], �
 use Rattle.std.specs.Io.BufRead.{take_through}
 use Rattle.clap.specs.declared.error.ErrorKind.{ErrorKind}
 use Rattle.clap.specs.declared.error.ErrorKind.TheVariants.{DisplayHelp, DisplayVersion, OutOfMemory}
-use Rattle.desk_words.specs.CommandLine.{Ask, AskForHelp, Cat, Check, CommandWords, Exports, Init, Log, Put, Show, Split, Try, command_found, faults_of}
+use Rattle.desk_command_line.specs.CommandLine.{Ask, AskForHelp, Cat, Check, CommandWords, Exports, Init, Log, Put, Show, Split, Try, command_found, faults_of}
 use Rattle.desk_words.specs.Files.{IsUnreadLine}
 use Rattle.desk_words.specs.Input.{IsBadWord, first_line, words_of}
 use Rattle.desk_words.specs.Words.{IsMissing}

@@ -2,12 +2,13 @@
 
 ghost use Rattle.std.specs.Prelude.{map};
 ghost use Rattle.clap.specs.Words.{kind_of, subcommand_rows_of};
-ghost use Rattle.desk_words.specs.CommandLine.{command_of};
+ghost use Rattle.desk_command_line.specs.CommandLine.{command_of};
 ghost use Rattle.desk_words.specs.Input as spec;
 ghost use Rattle.desk_command.specs.Commands.{AnswersCommand, AnswersFirstLine, AnswersFound, AnswersLine, IsSaid};
 
 use clap::ArgMatches;
 use clap::error::ErrorKind;
+use desk_command_line::command;
 use desk_database_commands::ask_command::run_ask;
 use desk_database_commands::init_command::run_init;
 use desk_database_commands::log_command::{run_cat, run_log};
@@ -17,7 +18,6 @@ use desk_text_commands::check_command::run_check;
 use desk_text_commands::output::Output;
 use desk_text_commands::split_command::run_split;
 use desk_text_commands::try_command::run_try;
-use desk_words::command_line::command;
 use desk_words::failure::{Failure, ReadFailure};
 use desk_words::input::{command_words, first_line, read_line, words_of};
 use desk_words::words::{CommandWords, found_command};

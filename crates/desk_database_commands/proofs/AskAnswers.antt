@@ -5,7 +5,7 @@ use Rattle.desk_text.specs.declared.path.PathFault.{PathFault}
 use Rattle.desk_tables.specs.declared.credential_text.CredFault.{CredFault}
 use Rattle.desk_tables.specs.declared.credentials.Cred.{Cred}
 use Rattle.desk_words.specs.Arguments.{AnswersArgument, IsBadOwn}
-use Rattle.desk_words.specs.CommandLine.{AskWords}
+use Rattle.desk_command_line.specs.CommandLine.{AskWords}
 use Rattle.desk_words.specs.declared.arguments.Argument.TheVariants as name
 use Rattle.desk_words.specs.declared.arguments.ArgumentFault.TheVariants as fault
 use Rattle.desk_words.specs.declared.failure.Failure.{Failure}

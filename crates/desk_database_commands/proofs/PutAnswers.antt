@@ -16,7 +16,7 @@ use Rattle.desk_store.specs.Tables.{Adds}
 use Rattle.desk_store.specs.declared.desk.Done.{Done as Answered}
 use Rattle.desk_store.specs.declared.error.DeskError.{DeskError}
 use Rattle.desk_store.specs.declared.error.DeskError.TheVariants as error
-use Rattle.desk_words.specs.CommandLine.{PutWords}
+use Rattle.desk_command_line.specs.CommandLine.{PutWords}
 use Rattle.desk_words.specs.Files.{HasText, LacksText, Leaves, ReadsInTurn}
 use Rattle.desk_words.specs.declared.failure.Failure.{Failure}
 use Rattle.desk_words.specs.declared.failure.Failure.TheVariants.{Memory}

@@ -9,7 +9,7 @@ use Rattle.desk_tables.specs.Users.{read_users}
 use Rattle.desk_tables.specs.declared.credential_text.CredFault.{CredFault}
 use Rattle.desk_tables.specs.declared.credentials.Cred.{Cred}
 use Rattle.desk_words.specs.Arguments.{IsBadNumber, IsBadOwn, IsRefusal, good_own, own_answer, revision_number}
-use Rattle.desk_words.specs.CommandLine.{AskWords, CatWords, ExportsWords, LogWords, ShowWords}
+use Rattle.desk_command_line.specs.CommandLine.{AskWords, CatWords, ExportsWords, LogWords, ShowWords}
 use Rattle.desk_words.specs.declared.arguments.Argument.TheVariants as name
 use Rattle.desk_words.specs.declared.arguments.ArgumentFault.TheVariants as fault
 use Rattle.desk_words.specs.declared.failure.Failure.{Failure}

@@ -31,7 +31,7 @@ use Rattle.desk_store.specs.Desk.{IsSiteHistory}
 use Rattle.desk_store.specs.Tables.{LeavesCommit}
 use Rattle.desk_store.specs.declared.error.CreateError.{CreateError}
 use Rattle.desk_store.specs.declared.error.CreateError.TheVariants as create
-use Rattle.desk_words.specs.CommandLine.{InitWords}
+use Rattle.desk_command_line.specs.CommandLine.{InitWords}
 use Rattle.desk_words.specs.Files.{ReadsInTurn}
 use Rattle.desk_words.specs.declared.failure.Failure.{Failure}
 use Rattle.desk_words.specs.declared.failure.Failure.TheVariants.{Memory}

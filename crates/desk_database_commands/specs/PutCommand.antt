@@ -21,7 +21,7 @@ use Rattle.desk_store.specs.declared.desk.Done.{Done as Answered}
 use Rattle.desk_store.specs.declared.error.DeskError.{DeskError}
 use Rattle.desk_store.specs.declared.error.DeskError.TheVariants as error
 use Rattle.desk_words.specs.Arguments.{IsBadNumber, revision_number}
-use Rattle.desk_words.specs.CommandLine.{PutWords}
+use Rattle.desk_command_line.specs.CommandLine.{PutWords}
 use Rattle.desk_words.specs.Files.{IsUnread, ReadsInTurn, is_input}
 use Rattle.desk_words.specs.declared.arguments.Argument.TheVariants as name
 use Rattle.desk_words.specs.declared.failure.Failure.{Failure}

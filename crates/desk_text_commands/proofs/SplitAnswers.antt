@@ -3,7 +3,7 @@ use Rattle.std.proofs.Common.{◌≡◌, ◌≢◌, ℕ, false, true≢false, co
 use Rattle.std.proofs.lemmas.Slice.Eq.{bytes_eq-Decides}
 use Rattle.std.specs.String.{string_bytes}
 use Rattle.desk_check.specs.declared.check_faults.Source.{Source}
-use Rattle.desk_words.specs.CommandLine.{SplitWords}
+use Rattle.desk_command_line.specs.CommandLine.{SplitWords}
 use Rattle.desk_words.specs.Files.{IsContents, IsNoText, ReadsText}
 use Rattle.desk_words.specs.Input.{text_of}
 use Rattle.desk_words.specs.declared.failure.Failure.{Failure}

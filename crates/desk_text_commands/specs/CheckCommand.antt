@@ -10,7 +10,7 @@ use Rattle.desk_check.specs.declared.check_site.SiteSources.{SiteSources}
 use Rattle.desk_check.specs.declared.check_text.Gathered.{Gathered}
 use Rattle.desk_check.specs.declared.check_text.WholeSources.{WholeSources}
 use Rattle.desk_words.specs.Arguments.{IsNoTable, first_bad_path, paths_of}
-use Rattle.desk_words.specs.CommandLine.{CheckWords, TableWords}
+use Rattle.desk_command_line.specs.CommandLine.{CheckWords, TableWords}
 use Rattle.desk_words.specs.Files.{ReadsInTurn, name_input_twice}
 use Rattle.desk_words.specs.declared.failure.Failure.{Failure}
 use Rattle.desk_words.specs.declared.failure.Failure.TheVariants.{BesideSite, InputTwice, Memory, Missing}

@@ -4,7 +4,7 @@ use Rattle.std.specs.String.{string_bytes}
 use Rattle.desk_check.specs.SplitText.{split_answer}
 use Rattle.desk_check.specs.declared.check_faults.Source.{Source}
 use Rattle.desk_check.specs.declared.split_text.SplitFault.{SplitFault}
-use Rattle.desk_words.specs.CommandLine.{SplitWords}
+use Rattle.desk_command_line.specs.CommandLine.{SplitWords}
 use Rattle.desk_words.specs.Files.{IsContents, IsNoText, is_input}
 use Rattle.desk_words.specs.Input.{text_of}
 use Rattle.desk_words.specs.declared.failure.Failure.{Failure}

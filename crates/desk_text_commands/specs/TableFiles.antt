@@ -4,7 +4,7 @@ use Rattle.std.specs.String.{string_bytes}
 use Rattle.desk_policy.specs.Parsing.{read_tables}
 use Rattle.desk_policy.specs.declared.parsing.SiteTables.{SiteTables}
 use Rattle.desk_policy.specs.declared.site_fault.SiteFault.{SiteFault}
-use Rattle.desk_words.specs.CommandLine.{TableWords}
+use Rattle.desk_command_line.specs.CommandLine.{TableWords}
 use Rattle.desk_words.specs.declared.files.FileArgument.{FileArgument}
 use Rattle.desk_words.specs.declared.files.FileArgument.TheVariants.{File, Group, Hosts, Netgroup, Networks, Passwd}
 use Rattle.desk_text_commands.specs.declared.table_files.WholeTexts.{WholeTexts}

@@ -15,7 +15,7 @@ use Rattle.desk_policy.specs.declared.site_fault.SiteFault.{SiteFault}
 use Rattle.desk_check.specs.TryText.{IsAnswerBy, answer_of}
 use Rattle.desk_check.specs.declared.check_text.WholeSources.{WholeSources}
 use Rattle.desk_words.specs.Arguments.{IsBadArgument, IsBadOwn, IsRequest, good_own, own_answer}
-use Rattle.desk_words.specs.CommandLine.{TryWords}
+use Rattle.desk_command_line.specs.CommandLine.{TryWords}
 use Rattle.desk_words.specs.Files.{ReadsInTurn, name_input_twice}
 use Rattle.desk_words.specs.declared.arguments.Request.{Request}
 use Rattle.desk_words.specs.declared.failure.Failure.{Failure}

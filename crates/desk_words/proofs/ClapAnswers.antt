@@ -1,6 +1,6 @@
 -- What clap's answer is for the words of `try`, for `text_words`.
 use Rattle.std.proofs.Common.{◌≡◌, ℕ, List, Option, Some, None, refl, ap, ◌∙◌}
-use Rattle.desk_words.specs.CommandLine.{TableWords, try_words_from, words_of_try}
+use Rattle.desk_command_line.specs.CommandLine.{TableWords, try_words_from, words_of_try}
 
 -- the words of `try`, if clap found each
 pub all_found : (file host dir : Option (List ℕ)) (mounts : Option (List (List ℕ))) (tables : TableWords) (credential : Option (List ℕ)) (f h d : List ℕ) (ms : List (List ℕ)) → file ≡ Some f → host ≡ Some h → dir ≡ Some d → mounts ≡ Some ms → try_words_from file host dir mounts tables credential ≡ Some (words_of_try f h d ms tables credential)

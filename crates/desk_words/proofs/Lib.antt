@@ -1,5 +1,4 @@
 pub mod ClapAnswers
-pub mod Drafts
 pub mod FilesInTurn
 pub mod FirstBad
 pub mod KnownBytes

@@ -2,7 +2,7 @@
 use Rattle.std.specs.Prelude.{ℕ, List, Option, None, codes, if◌then◌else◌, option_map}
 use Rattle.std.specs.Str.{bytes_eq}
 use Rattle.clap.specs.Words.{Row}
-use Rattle.desk_words.specs.CommandLine.{Cat, CommandWords, Log, Put, cat_words_in, log_words_in, put_words_in}
+use Rattle.desk_command_line.specs.CommandLine.{Cat, CommandWords, Log, Put, cat_words_in, log_words_in, put_words_in}
 
 -- the command of this name on one file of a database, with its words among the arguments that clap finds, if none is missing
 abbrev pub file_command_in : List ℕ → List Row → Option CommandWords

@@ -1,8 +1,8 @@
 -- The command that `clap` finds, with its words. (this project's own)
 use Rattle.std.specs.Prelude.{◌≡◌, map, Option, Some, None, Result, Ok, Err}
 use Rattle.std.specs.Option.{option_map}
-use Rattle.desk_words.specs.CommandLine as line
-use Rattle.desk_words.specs.CommandLine.{CheckWords, CommandWords, SplitWords, TableWords, TryWords, Check as AsksCheck, Try as AsksTry, Split as AsksSplit, words_of_split, words_of_try}
+use Rattle.desk_command_line.specs.CommandLine as line
+use Rattle.desk_command_line.specs.CommandLine.{CheckWords, CommandWords, SplitWords, TableWords, TryWords, Check as AsksCheck, Try as AsksTry, Split as AsksSplit, words_of_split, words_of_try}
 use Rattle.desk_words.specs.declared.database_words.AskWords.{AskWords as LentAskWords}
 use Rattle.desk_words.specs.declared.database_words.CatWords.{CatWords as LentCatWords}
 use Rattle.desk_words.specs.declared.database_words.ExportsWords.{ExportsWords as LentExportsWords}

@@ -2,7 +2,7 @@
 
 ghost use Rattle.std.specs.Prelude.{◌≡◌};
 ghost use Rattle.clap.specs.Words.{found_of, rows_of};
-ghost use Rattle.desk_words.specs.CommandLine.{ask_words_in, cat_words_in, exports_words_in, init_words_in, log_words_in, put_words_in, show_words_in};
+ghost use Rattle.desk_command_line.specs.CommandLine.{ask_words_in, cat_words_in, exports_words_in, init_words_in, log_words_in, put_words_in, show_words_in};
 ghost use Rattle.desk_words.specs.Words.{Finds, given_ask, given_cat, given_exports, given_init, given_log, given_put, given_show};
 
 use crate::failure::Failure;

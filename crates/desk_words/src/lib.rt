@@ -1,4 +1,4 @@
-//! The words of a command, and what they name: how `clap` parses them, the arguments that are parsed further, and the texts
+//! The words of a command as `clap` found them, and what they name: the arguments that are parsed further, and the texts
 //! of files.
 //!
 //! Its promise: [`words::found_command`] gives the command that `clap` found with its words by value; [`arguments`] are what
@@ -7,15 +7,13 @@
 //! stand on.
 //!
 //! ```text
-//! let matches = command_line::command(alloc)?.try_get_matches_from(&["exportdesk", "split", "exports", "filesystems"]);
+//! let matches = desk_command_line::command(alloc)?.try_get_matches_from(&["exportdesk", "split", "exports", "filesystems"]);
 //! words::found_command(&matches?)? // CommandWords::Split(SplitWords { file: "exports", filesystems: "filesystems" })
 //! ```
 #![tactic(auto)]
 
 pub mod arguments;
-pub mod command_line;
 pub mod database_words;
-mod draft;
 pub mod failure;
 pub mod files;
 pub mod input;

@@ -2,7 +2,7 @@
 
 ghost use Rattle.std.specs.Prelude.{◌≡◌};
 ghost use Rattle.clap.specs.Words.{found_of, rows_of};
-ghost use Rattle.desk_words.specs.CommandLine.{check_words_in, split_words_in, table_words_in, try_words_in};
+ghost use Rattle.desk_command_line.specs.CommandLine.{check_words_in, split_words_in, table_words_in, try_words_in};
 ghost use Rattle.desk_words.specs.Words.{Finds, given_check, given_split, given_tables, given_try};
 
 use crate::failure::Failure;

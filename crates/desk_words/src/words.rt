@@ -3,7 +3,7 @@
 ghost use Rattle.std.specs.Prelude.{◌≡◌, Some, None, MatchResult};
 ghost use Rattle.std.specs.Option.{option_map};
 ghost use Rattle.clap.specs.Words.{first_of, found_of, rows_of, subcommand_rows_of};
-ghost use Rattle.desk_words.specs.CommandLine.{command_in, command_of, desk_command_in, is_set};
+ghost use Rattle.desk_command_line.specs.CommandLine.{command_in, command_of, desk_command_in, is_set};
 ghost use Rattle.desk_words.specs.PrivateWords.{file_command_in};
 ghost use Rattle.desk_words.specs.Words.{Finds, IsMissing, given};
 

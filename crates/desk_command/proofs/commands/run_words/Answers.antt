@@ -1,7 +1,7 @@
 -- What clap finds in the words is answered, and so is why it does not take them.
 use Rattle.std.proofs.Common.{◌≡◌, ◌∙◌, map, Option, ap, ap₂, inl, inr, subst}
 use Rattle.clap.specs.Words.{HasKind, Kinds, app_of, fault_of, is_simple, is_simple_and_free, kind_of, subcommand_of}
-use Rattle.desk_words.specs.CommandLine.{CommandWords, command_line, command_of, line_of}
+use Rattle.desk_command_line.specs.CommandLine.{CommandWords, command_line, command_of, line_of}
 use Rattle.desk_command.specs.Commands.{AnswersFound}
 use Rattle.desk_command.proofs.ClapAnswers.{said}
 use Rattle.desk_command.proofs.commands.run_words.Goals as goal

@@ -2,7 +2,7 @@
 use Rattle.std.proofs.Common.{◌≡◌, ◌∙◌, ap₂, map, Some, None, codes, sym}
 use Rattle.clap.proofs.WalkLemmas.{first_value-rows, raw_values-rows}
 use Rattle.clap.specs.Words.{all_of, first_of, found_of, rows_of}
-use Rattle.desk_words.specs.CommandLine.{TableWords, table_words_in, words_of_try}
+use Rattle.desk_command_line.specs.CommandLine.{TableWords, table_words_in, words_of_try}
 use Rattle.desk_words.proofs.ClapAnswers.{all_found, mounts_missing}
 use Rattle.desk_words.proofs.text_words.TryWords.find.Goals as goal
 

@@ -1,0 +1,15 @@
+//! The command line: the subcommands of the program, with their words, options and help, for `clap` to parse.
+//!
+//! Its promise: [`command`] makes a command of just the shape that `specs/CommandLine.antt` says, and that file also says
+//! which command, with which words, `clap` finds by it. What the help says of a command is not promised. It stands on
+//! `clap` alone, so it is proved beside all other crates.
+//!
+//! ```text
+//! command(alloc)?.try_get_matches_from(&["exportdesk", "split", "exports", "filesystems"])
+//! ```
+#![tactic(auto)]
+
+mod command_line;
+mod draft;
+
+pub use command_line::command;
