@@ -2,7 +2,7 @@
 
 ghost use Rattle.std.specs.Prelude.{◌≡◌, ◌≤◌, [], OnOk, length, true};
 ghost use Rattle.desk_check.specs.Finding.{HaveSlices};
-ghost use Rattle.desk_check.specs.ToldSite.{AreReadableTexts};
+ghost use Rattle.desk_check.specs.PrivateToldSite.{AreReadableTexts};
 
 use crate::check_faults::Source;
 use crate::check_odd::{Odd, push_in_order};

@@ -2,7 +2,7 @@
 //!
 //! Its promise: [`command`] makes a command of just the shape that `specs/CommandLine.antt` says, and that file also says
 //! which command, with which words, `clap` finds by it. What the help says of a command is not promised. It stands on
-//! `clap` alone, so it is proved beside all other crates.
+//! `clap` alone, and only the crates of the commands stand on it.
 //!
 //! ```text
 //! command(alloc)?.try_get_matches_from(&["exportdesk", "split", "exports", "filesystems"])

@@ -1,4 +1,4 @@
--- Files that are read in turn, for `files::read_if_given` and `table_files::read_whole_texts`.
+-- Files that are read in turn, for `files::read_if_given`.
 use Rattle.std.proofs.Common.{ℕ, List, Option, Ok, Err, String}
 use Rattle.std.specs.String.{string_bytes}
 use Rattle.desk_words.specs.Files.{HasText, LacksText, ReadsText}
