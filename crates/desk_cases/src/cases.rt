@@ -3,9 +3,9 @@
 //! lines and those that begin with `#` are skipped.
 
 use crate::report::Report;
-use desk_answers::answers::split;
-use desk_answers::escapes;
-use desk_store_answers::Subject;
+use desk_cases_store::Subject;
+use desk_cases_texts::answers::split;
+use desk_cases_texts::escapes;
 use std::alloc::{AllocError, Global};
 use std::str;
 
@@ -86,7 +86,7 @@ fn ask(
     let Ok(text) = str::from_utf8(trial.text.as_slice()) else {
         return Ok(Some("has a wrong escape"));
     };
-    if !desk_store_answers::answer(alloc, subject, &mut trial.found, question, text)? {
+    if !desk_cases_store::answer(alloc, subject, &mut trial.found, question, text)? {
         return Ok(Some("cannot be asked"));
     }
     Ok(None)

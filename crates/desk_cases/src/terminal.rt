@@ -3,8 +3,8 @@
 //! lines below. `printf 'TEXT' | ` before `exportdesk` gives a text as standard input. The words and that text may have
 //! the escapes of cases (`escapes`).
 
-use desk_answers::answers::Asked;
-use desk_answers::escapes;
+use desk_cases_texts::answers::Asked;
+use desk_cases_texts::escapes;
 use std::alloc::{AllocError, Global};
 use std::fs;
 
@@ -128,7 +128,7 @@ fn run_words(rt: &HostRuntime, shown: &mut String, words: &[&[u8]], input: &[u8]
     let mut input = input;
     let mut out = Vec::new(rt.alloc());
     let mut err = Vec::new(rt.alloc());
-    let status = desk_command::run(rt, words, &mut input, &mut out, &mut err);
+    let status = cli::run(rt, words, &mut input, &mut out, &mut err);
     show(rt.alloc(), shown, out.as_slice(), err.as_slice(), status)
 }
 

@@ -1,8 +1,8 @@
 //! The commands beside `exportdesk` that a file of commands may have: `rm FILE..`, `cp FROM TO`, `printf 'TEXT' > FILE` (with
 //! the escapes of cases) and `sqlite3 FILE "STATEMENTS"`. They print nothing, and end with the status 0, or 1 if they fail.
 
-use desk_answers::answers::Asked;
-use desk_answers::escapes;
+use desk_cases_texts::answers::Asked;
+use desk_cases_texts::escapes;
 use sqlite::{Connection, Error};
 use std::alloc::AllocError;
 use std::fs;

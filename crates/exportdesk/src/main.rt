@@ -2,7 +2,7 @@
 //! mount which directory, and on what terms. (exports(5), mountd(8))
 #![tactic(auto)]
 
-use desk_command::{print_memory, run};
+use cli::{print_memory, run};
 use std::alloc::AllocError;
 use std::env::{Env, FillError};
 use std::io::{IsTerminal, Lock, Write};

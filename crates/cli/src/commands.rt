@@ -1,0 +1,103 @@
+//! From words to what the program prints.
+
+ghost use Rattle.std.specs.Prelude.{map};
+ghost use Rattle.clap.specs.Words.{kind_of, subcommand_rows_of};
+ghost use Rattle.cli_line.specs.CommandLine.{command_of};
+ghost use Rattle.cli_words.specs.Input as spec;
+ghost use Rattle.cli.specs.Commands.{AnswersCommand, AnswersFirstLine, AnswersFound, AnswersLine, IsSaid};
+
+use clap::ArgMatches;
+use clap::error::ErrorKind;
+use cli_database::ask_command::run_ask;
+use cli_database::init_command::run_init;
+use cli_database::log_command::{run_cat, run_log};
+use cli_database::put_command::run_put;
+use cli_database::show_command::{run_exports, run_show};
+use cli_line::command;
+use cli_texts::check_command::run_check;
+use cli_texts::output::Output;
+use cli_texts::split_command::run_split;
+use cli_texts::try_command::run_try;
+use cli_words::failure::{Failure, ReadFailure};
+use cli_words::input::{command_words, first_line, read_line, words_of};
+use cli_words::words::{CommandWords, found_command};
+use std::alloc::Global;
+use std::convert::AsSlice;
+use std::io::BufRead;
+
+/// Runs the command on the first line of standard input.
+pub fn run_first_line<I: BufRead>(rt: &HostRuntime, input: &mut I) -> Result<Output, Failure>
+    ensures { AnswersFirstLine (I.remaining input.old) result }
+{
+    match read_line(rt.alloc(), input) {
+        Ok(bytes) => run_line(rt, bytes.as_slice(), input),
+        Err(error) => Err(Failure::of_first_line(error)),
+    }
+}
+
+/// Runs the command whose words a first line has.
+fn run_line<I: BufRead>(rt: &HostRuntime, bytes: &[u8], input: &mut I) -> Result<Output, Failure>
+    ensures { AnswersLine (spec.first_line bytes.now) (I.remaining input.old) result }
+{
+    let line = match first_line(bytes) {
+        Ok(line) => line,
+        Err(fault) => return Err(Failure::FirstLine(ReadFailure::Text(fault))),
+    };
+    match words_of(rt.alloc(), line) {
+        Ok(words) => run_words(rt, words.as_slice(), input),
+        Err(_) => Err(Failure::Memory),
+    }
+}
+
+/// Runs the command that these words are.
+pub fn run_words<S: AsSlice<u8>, I: BufRead>(
+    rt: &HostRuntime,
+    words: &[S],
+    input: &mut I,
+) -> Result<Output, Failure>
+    ensures { AnswersCommand (map S.items words.now) (I.remaining input.old) result }
+{
+    let alloc = rt.alloc();
+    let line = command_words(alloc, words)?;
+    match command(alloc)?.try_get_matches_from(line.as_slice()) {
+        Ok(matches) => run_found(rt, &matches, input),
+        Err(error) => clap_output(alloc, &error),
+    }
+}
+
+/// Runs the command that `clap` found.
+fn run_found<I: BufRead>(
+    rt: &HostRuntime,
+    matches: &ArgMatches<'_>,
+    input: &mut I,
+) -> Result<Output, Failure>
+    ensures { AnswersFound (command_of (subcommand_rows_of matches.now)) (I.remaining input.old) result }
+{
+    match found_command(matches)? {
+        CommandWords::Try(words) => run_try(rt, words, input),
+        CommandWords::Split(words) => run_split(rt, words, input),
+        CommandWords::Check(words) => run_check(rt, words, input),
+        CommandWords::Init(words) => run_init(rt, words, input),
+        CommandWords::Ask(words) => run_ask(rt, words),
+        CommandWords::Show(words) => run_show(rt, words),
+        CommandWords::Exports(words) => run_exports(rt, words),
+        CommandWords::Put(words) => run_put(rt, words, input),
+        CommandWords::Log(words) => run_log(rt, words),
+        CommandWords::Cat(words) => run_cat(rt, words),
+    }
+}
+
+/// Returns what `clap` says in place of a command: help or the version, or what is wrong with the words.
+fn clap_output(alloc: Global, error: &clap::Error) -> Result<Output, Failure>
+    ensures { IsSaid (kind_of error.now) result }
+{
+    if matches!(error.kind(), ErrorKind::OutOfMemory) {
+        return Err(Failure::Memory);
+    }
+    let text = error.to_string(alloc)?;
+    if error.use_stderr() {
+        Err(Failure::Usage(text))
+    } else {
+        Ok(Output::Help(text))
+    }
+}

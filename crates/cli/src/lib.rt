@@ -1,0 +1,47 @@
+//! The commands of the program: from words and input to what is printed and an exit status.
+//!
+//! Its promise: [`run`] returns the status of an answer to just its words, and prints just this answer. Help is printed
+//! only if the words ask for it, and a mount is granted only if the verdict over the bytes of its files grants it. What only
+//! the system decides, as the bytes of a file that is opened by name, is left open; and a run may end with the status 4,
+//! as if memory ran out.
+//!
+//! ```
+//! // `try FILE HOST DIR MOUNT...`, with FILE as the rest of the input:
+//! let mut input = b"/usr 10.0.0.5\n".as_slice();
+//! let words = ["try", "-", "10.0.0.5", "/usr", "/usr"];
+//! run(&rt, words.as_slice(), &mut input, &mut out, &mut err) // 0: the mount is granted
+//! ```
+#![tactic(auto)]
+
+mod commands;
+
+ghost use Rattle.std.specs.Prelude.{map};
+ghost use Rattle.std.specs.Io.KnownBytes.{Appends};
+ghost use Rattle.cli.specs.Commands.{Runs};
+
+use crate::commands::{run_first_line, run_words};
+pub use cli_texts::output::print_memory;
+use cli_texts::output::report;
+use cli_words::failure::Origin;
+use std::convert::AsSlice;
+use std::io::{BufRead, Write};
+
+/// Runs one command and returns the exit status. Without words, the first line of the input gives them,
+/// and the file `-` is the rest. What the command answers goes to `out`; what is wrong with the words,
+/// with a file that they name, or with a print, goes to `err`.
+pub fn run<S, I, O, E>(rt: &HostRuntime, words: &[S], input: &mut I, out: &mut O, err: &mut E) -> u8
+where
+    S: AsSlice<u8>,
+    I: BufRead,
+    O: Write,
+    E: Write,
+    ensures { Runs (map S.items words.now) (I.remaining input.old) result (Appends (O.contents out.old) (O.contents out.new)) }
+{
+    if words.is_empty() {
+        let answer = run_first_line(rt, input);
+        report(rt.alloc(), Origin::FirstLine, answer, out, err)
+    } else {
+        let answer = run_words(rt, words, input);
+        report(rt.alloc(), Origin::Arguments, answer, out, err)
+    }
+}

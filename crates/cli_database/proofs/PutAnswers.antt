@@ -1,0 +1,152 @@
+-- What a desk answers to an edit is told, for `put_command`.
+use Rattle.std.proofs.Common.{◌≡◌, ◌∙◌, ℕ, List, [], ◌∷◌, inl, inr, Option, Some, None, Result, Ok, Err, IsTrue, arith, refl, subst, sym}
+use Rattle.sqlite_wal.specs.Recovery.{Image}
+use Rattle.sqlite_trees.specs.declared.store.Store.{Ghosts}
+use Rattle.sqlite.specs.Effect.{Database}
+use Rattle.sqlite.specs.Held.{Held, state}
+use Rattle.sqlite.specs.State.{HasCleanDisk, State}
+use Rattle.sqlite.proofs.StateLemmas.{survives_then}
+use Rattle.desk_policy.specs.Policy.{Content}
+use Rattle.desk_core.specs.Edit.{Edit, revision_of}
+use Rattle.desk_core.specs.Head.{newest_in}
+use Rattle.desk_store.specs.Desk.{CommitsOne, IsEdited, LeavesTables, Shown, told}
+use Rattle.desk_store.specs.History.{row_of}
+use Rattle.desk_store.specs.Open.{IsOfOpening, OpensAt}
+use Rattle.desk_store.specs.Tables.{Adds}
+use Rattle.desk_store.specs.declared.desk.Done.{Done as Answered}
+use Rattle.desk_store.specs.declared.error.DeskError.{DeskError}
+use Rattle.desk_store.specs.declared.error.DeskError.TheVariants as error
+use Rattle.cli_line.specs.CommandLine.{PutWords}
+use Rattle.cli_words.specs.Files.{HasText, LacksText, Leaves, ReadsInTurn}
+use Rattle.cli_words.specs.declared.failure.Failure.{Failure}
+use Rattle.cli_words.specs.declared.failure.Failure.TheVariants.{Memory}
+use Rattle.cli_words.specs.declared.files.FileArgument.TheVariants.{File, KeyFile}
+use Rattle.cli_texts.specs.declared.output.Output.{Output}
+use Rattle.cli_texts.specs.declared.output.Output.TheVariants.{Refused}
+use Rattle.cli_texts.specs.declared.refused.Refused.{Refused as Why}
+use Rattle.cli_texts.specs.declared.refused.Refused.TheVariants as refused
+use Rattle.cli_database.specs.PutCommand.{AnswersEdit, AnswersPutFiles, AnswersPutKey, GivesKeyBy, IsNotPut, IsPut, PutsBy, PutsFrom, PutsOver, TellsAnswer, key_file_in, key_in, put_files, with_first}
+use Rattle.cli_database.specs.ToldRefusal.{IsRefusedAs, TellsError}
+use Rattle.cli_database.specs.declared.put_command.KeySource.{KeySource}
+use Rattle.cli_database.specs.declared.put_command.KeySource.TheVariants.{InFile, Word}
+
+-- An edit is put into a desk that was opened on the database of a connection.
+module _ {S : Type 0} (g : Ghosts S) (conn : Held S) (desk after : Shown S Content) (e : Edit) (opens : HasCleanDisk (state g desk.conn) → OpensAt g (state g conn).committed desk) (lives : HasCleanDisk (state g desk.conn) → IsTrue (state g desk.conn).is_open) (tables : LeavesTables (state g conn) (state g desk.conn)) where
+  abbrev first : State
+  first = state g conn
+
+  abbrev mid : State
+  mid = state g desk.conn
+
+  abbrev last : State
+  last = state g after.conn
+
+  no_memory : (result : Result Output Failure) → after ≡ desk → result ≡ Err Memory → IsNotPut first last result
+  no_memory result same is = record {
+    failed = error.Memory;
+    opening = inr (inl refl);
+    foreign = λ good schema ours. absurd (cc);
+    tables = subst (λ (d : Shown S Content). LeavesTables first (state g d.conn)) (sym same) tables;
+    told = is;
+  }
+
+  is_put : (answer : Result Answered DeskError) → IsEdited mid last desk.state after.state e answer → IsPut first last e answer
+  is_put answer edited =
+      let clean : HasCleanDisk last → HasCleanDisk mid = λ good. omega (arith, good, edited.crash.clean) in
+      let same : HasCleanDisk last → mid.committed ≡ first.committed = λ good. tables.same (clean good) (lives (clean good)) in
+      record {
+        before = desk.state;
+        after = after.state;
+        judged = edited.judged;
+        ours = λ good. (opens (clean good)).0;
+        heads = λ good history project. ((opens (clean good)).1 history project).heads;
+        step = λ good history project. edited.step good history [] ((opens (clean good)).1 history project);
+        unchanged = λ good live none. edited.tables good live none ∙ same good;
+        crash = survives_then first mid last (λ _. ⊥) (CommitsOne desk.state e (told answer) mid.committed) (CommitsOne desk.state e (told answer) first.committed) (λ good trees none. absurd none)
+            (λ good trees commits. subst (λ (db : Database). CommitsOne desk.state e (told answer) db trees) (same good) commits) tables.crash edited.crash;
+        stored = λ good some.
+            let it = edited.durable good some in
+            record { live = it.live; adds = subst (λ (db : Database). Adds (row_of (revision_of e)) db last.committed) (same good) it.adds; leaves = it.leaves };
+      }
+
+  pub puts_over : (result : Result Output Failure) → PutsBy g desk after e result → PutsOver first last e result
+  puts_over result (inl (same, is)) = inl (no_memory result same is)
+  puts_over result (inr (answer, edited, tells)) = inr (answer, is_put answer edited, tells)
+
+-- a database is not one of this project
+pub foreign : (path : List ℕ) (e : Edit) (result : Result Output Failure) → IsRefusedAs refused.Schema result → AnswersEdit path e result
+foreign path e (Ok (Refused why told)) is = subst (λ (w : Why). AnswersEdit path e (Ok (Refused w told))) (sym is) tt
+foreign path e (Ok output) is = absurd is
+foreign path e (Err Memory) is = tt
+foreign path e (Err failure) is = absurd is
+
+-- SQLite does not open a database, or refused a statement
+pub not_stored : (path : List ℕ) (e : Edit) (result : Result Output Failure) → IsRefusedAs refused.Store result → AnswersEdit path e result
+not_stored path e (Ok (Refused why told)) is = subst (λ (w : Why). AnswersEdit path e (Ok (Refused w told))) (sym is) tt
+not_stored path e (Ok output) is = absurd is
+not_stored path e (Err Memory) is = tt
+not_stored path e (Err failure) is = absurd is
+
+-- no desk is opened on a database
+not_put : (path : List ℕ) (e : Edit) (failed : DeskError) (result : Result Output Failure) → IsOfOpening failed → TellsError failed result → AnswersEdit path e result
+not_put path e error.Schema result look tells = foreign path e result tells
+not_put path e (error.Store fault) result look tells = not_stored path e result tells
+not_put path e error.Memory result look tells = subst (λ (r : Result Output Failure). AnswersEdit path e r) (sym tells) tt
+not_put path e (error.Refused refusal) result (inl schema) tells = absurd (cc)
+not_put path e (error.Refused refusal) result (inr (inl memory)) tells = absurd (cc)
+not_put path e (error.Refused refusal) result (inr (inr (fault, look, known, is))) tells = absurd (cc)
+
+-- of an edit that has no revision, only want of memory is a failure
+failed_so : (path : List ℕ) (e : Edit) (answer : Result Answered DeskError) (failure : Failure) → TellsAnswer answer (Err failure) → AnswersEdit path e (Err failure)
+failed_so path e (Ok done) failure tells = absurd tells
+failed_so path e (Err (error.Refused refusal)) Memory tells = tt
+failed_so path e (Err (error.Refused refusal)) failure tells = absurd tells
+failed_so path e (Err (error.Store fault)) Memory tells = tt
+failed_so path e (Err (error.Store fault)) failure tells = absurd tells
+failed_so path e (Err error.Schema) Memory tells = tt
+failed_so path e (Err error.Schema) failure tells = absurd tells
+failed_so path e (Err error.Memory) failure tells = subst (λ (r : Result Output Failure). AnswersEdit path e r) (sym tells) tt
+
+answered : (path : List ℕ) (old new : State) (e : Edit) (answer : Result Answered DeskError) (result : Result Output Failure) → IsPut old new e answer → TellsAnswer answer result → AnswersEdit path e result
+answered path old new e answer (Err failure) put tells = failed_so path e answer failure tells
+answered path old new e answer (Ok (Refused refused.Store told)) put tells = tt
+answered path old new e answer (Ok (Refused refused.Schema told)) put tells = tt
+answered path old new e answer (Ok output) put tells = record {
+  newest = newest_in put.before.heads;
+  consistent = put.judged.consistent;
+  answer = answer;
+  answers = put.judged.answers;
+  told = tells;
+}
+
+-- an edit is put into the files that a path leads to
+pub answers : {S : Type 0} (g : Ghosts S) (image : Image) (path : List ℕ) (e : Edit) (result : Result Output Failure) (left : Option (Held S)) → PutsFrom g image e result left → AnswersEdit path e result
+answers g image path e result None is = not_stored path e result is
+answers g image path e result (Some left) (conn, opened, inl none) =
+    not_put path e none.failed result none.opening none.told
+answers g image path e result (Some left) (conn, opened, inr (answer, put, tells)) = answered path (state g conn) (state g left) e answer result put tells
+
+-- FILE has no text
+pub no_file : (words : PutWords) (base : ℕ) (key : KeySource) (known : Option (List ℕ)) (failure : Failure) → LacksText File words.file known failure → AnswersPutFiles words base (key_in key) (key_file_in key) known (Err failure)
+no_file words base (Word key) known failure lacks = record { read = Err failure; reads = inl lacks; answers = refl }
+no_file words base (InFile file) known failure lacks = record { read = Err failure; reads = inl lacks; answers = refl }
+
+-- the key's file is read after FILE
+pub joined : (words : PutWords) (file text : List ℕ) (known left : Option (List ℕ)) (read : Result (List (List ℕ)) Failure) → HasText File words.file known text → Leaves (Some words.file) known left → ReadsInTurn ((KeyFile, Some file) ∷ []) left read → ReadsInTurn (put_files words (Some file)) known (with_first text read)
+joined words file text known left (Ok texts) has leaves reads = (has, (left, (leaves, reads)))
+joined words file text known left (Err failure) has leaves reads = inr (text, left, (has, (leaves, reads)))
+
+-- the files are those of where the key is
+pub by_key : (words : PutWords) (base : ℕ) (key file : Option (List ℕ)) (source : KeySource) (known : Option (List ℕ)) (result : Result Output Failure) → GivesKeyBy words key file (Ok source) → AnswersPutFiles words base (key_in source) (key_file_in source) known result → AnswersPutKey words base key file known result
+by_key words base (Some key) (Some file) source known result gives answers = absurd (let e = gives in cc)
+by_key words base None None source known result gives answers = absurd (let e = gives in cc)
+by_key words base (Some key) None source known result gives answers =
+    subst (λ (k : Option (List ℕ)). AnswersPutFiles words base k None known result) gives.0
+    (subst (λ (f : Option (List ℕ)). AnswersPutFiles words base (key_in source) f known result) gives.1 answers)
+by_key words base None (Some file) source known result (inl twice) answers = absurd (let e = twice.1 in cc)
+by_key words base None (Some file) source known result (inr once) answers =
+    inr (
+      once.0,
+      subst (λ (k : Option (List ℕ)). AnswersPutFiles words base k (Some file) known result) once.1.0
+          (subst (λ (f : Option (List ℕ)). AnswersPutFiles words base (key_in source) f known result) once.1.1 answers),
+    )

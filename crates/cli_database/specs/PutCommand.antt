@@ -1,0 +1,187 @@
+-- The output of `put` by its words and files. (this project's own)
+use Rattle.std.specs.Prelude.{◌≡◌, ◌≢◌, ◌⊎◌, ℕ, ◌++◌, ◌∷◌, ◌&&◌, true, false, List, [], Option, Some, None, Result, Ok, Err, IsErrAnd, IsOkAnd, IsTrue, codes, length, if◌then◌else◌}
+use Rattle.std.specs.Fmt.{decimal}
+use Rattle.std.specs.Str.Lines.{IsFirstLine}
+use Rattle.std.specs.String.{string_bytes}
+use Rattle.sqlite_wal.specs.Recovery.{Image}
+use Rattle.sqlite_trees.specs.declared.store.Store.{Ghosts}
+use Rattle.sqlite.specs.Held.{Held, state}
+use Rattle.sqlite.specs.Start.{FindsIn}
+use Rattle.sqlite.specs.State.{HasCleanDisk, Opens, State, Survives}
+use Rattle.desk_policy.specs.Policy.{Content}
+use Rattle.desk_core.specs.Edit.{Edit, revision_of}
+use Rattle.desk_core.specs.Head.{Newest, Revision, newest_in}
+use Rattle.desk_core.specs.Views.{Kept}
+use Rattle.desk_core.specs.History.{added_if, newest_of}
+use Rattle.desk_core.specs.Site.{IsConsistent, site_in}
+use Rattle.desk_store.specs.Desk.{AnswersBy, CommitsOne, HasStored, IsEdited, IsJudgedBy, LeavesTables, Shown, StepsOn, told as told_answer}
+use Rattle.desk_store.specs.History.{row_of}
+use Rattle.desk_store.specs.Open.{IsOfOpening, IsOurs, IsProject}
+use Rattle.desk_store.specs.declared.desk.Done.{Done as Answered}
+use Rattle.desk_store.specs.declared.error.DeskError.{DeskError}
+use Rattle.desk_store.specs.declared.error.DeskError.TheVariants as error
+use Rattle.cli_words.specs.Arguments.{IsBadNumber, revision_number}
+use Rattle.cli_line.specs.CommandLine.{PutWords}
+use Rattle.cli_words.specs.Files.{IsUnread, ReadsInTurn, is_input}
+use Rattle.cli_words.specs.declared.arguments.Argument.TheVariants as name
+use Rattle.cli_words.specs.declared.failure.Failure.{Failure}
+use Rattle.cli_words.specs.declared.failure.Failure.TheVariants.{InputTwice, KeyTwice, Memory, NoKey}
+use Rattle.cli_words.specs.declared.files.FileArgument.{FileArgument}
+use Rattle.cli_words.specs.declared.files.FileArgument.TheVariants.{Database as DatabaseFile, File, KeyFile}
+use Rattle.cli_texts.specs.declared.output.Output.{Output}
+use Rattle.cli_texts.specs.declared.output.Output.TheVariants.{Done, Refused}
+use Rattle.cli_texts.specs.declared.refused.Refused.TheVariants as refused
+use Rattle.cli_database.specs.ToldRefusal.{IsRefusedAs, TellsError}
+use Rattle.cli_database.specs.declared.put_command.KeySource.{KeySource}
+use Rattle.cli_database.specs.declared.put_command.KeySource.TheVariants.{InFile, Word}
+use Rattle.cli_database.specs.declared.put_command.Replies.{Replies}
+
+-- the key in the text of a key's file: its first line, without its line end; empty if the text is empty
+abbrev pub IsKeyIn : List ℕ → List ℕ → Type 0
+IsKeyIn text key = ((length text ≡ 0) × (key ≡ [])) ⊎ ((rest : List ℕ) × IsFirstLine text key rest)
+
+-- what is printed of an edit that is not refused, as `accepted rev 2`
+abbrev pub reply_line : Answered → List ℕ
+reply_line done = (if done.already then codes "already rev " else codes "accepted rev ") ++ decimal done.rev ++ 10 ∷ []
+
+-- the two lines that may be printed of an edit whose revision has this number
+pub record HasReplies (rev : ℕ) (replies : Replies) : Type 0 where
+  pub accepted : string_bytes replies.accepted ≡ codes "accepted rev " ++ decimal rev ++ 10 ∷ []
+  pub already : string_bytes replies.already ≡ codes "already rev " ++ decimal rev ++ 10 ∷ []
+
+-- The result tells the answer of a desk to an edit. That an edit is stored, or was, is always told, since its lines are made
+-- before; a refusal or a fault may be told as out of memory.
+abbrev pub TellsAnswer : Result Answered DeskError → Result Output Failure → Type 0
+TellsAnswer (Ok done) (Ok (Done text)) = string_bytes text ≡ reply_line done
+TellsAnswer (Ok done) result = ⊥
+TellsAnswer (Err failed) result = TellsError failed result
+
+-- What putting an edit into a desk did: its answer to the edit is told; or memory ran out before, and nothing was done.
+abbrev pub PutsBy : {S V : Type 0} → Ghosts S → Shown S V → Shown S V → Edit → Result Output Failure → Type 0
+PutsBy g old new e result =
+    ((new ≡ old) × (result ≡ Err Memory))
+    ⊎ ((answer : Result Answered DeskError) × IsEdited (state g old.conn) (state g new.conn) old.state new.state e answer × TellsAnswer answer result)
+
+-- No edit was put into the database of a connection: it is not one of this project, a statement that looks for that was refused,
+-- or memory ran out. Why is told; the tables are as before, and a crash leaves what it could before.
+pub record IsNotPut (old new : State) (result : Result Output Failure) : Type 0 where
+  pub failed : DeskError
+  pub opening : IsOfOpening failed
+  pub foreign : HasCleanDisk new → failed ≡ error.Schema → IsOurs old.committed → ⊥
+  pub tables : LeavesTables old new
+  pub told : TellsError failed result
+
+-- An edit was put into the database of a connection, and has this answer: by the newest revisions of the desk that was opened on
+-- it, whatever the disk did. The database is one of this project, and these are the newest of the history that it held; it then
+-- holds the history after the edit, and a crash at any moment leaves what it could before, or the edit's one commit. Once the edit
+-- is answered as stored, its revision is the one row more, and a crash leaves that.
+pub record IsPut (old new : State) (e : Edit) (answer : Result Answered DeskError) : Type 0 where
+  -- what the desk that was opened on it kept beside the tables
+  pub before : Kept Content
+  pub after : Kept Content
+  pub judged : IsJudgedBy before after e answer
+  pub ours : HasCleanDisk new → IsOurs old.committed
+  pub heads : HasCleanDisk new → (history : List Revision) → IsProject old.committed history → newest_in before.heads ≡ newest_of history
+  pub step : HasCleanDisk new → (history : List Revision) → IsProject old.committed history → StepsOn new after e (told_answer answer) history []
+  pub unchanged : HasCleanDisk new → IsTrue new.is_open → added_if e (told_answer answer) ≡ [] → new.committed ≡ old.committed
+  pub crash : Survives old new (CommitsOne before e (told_answer answer) old.committed)
+  pub stored : HasCleanDisk new → added_if e (told_answer answer) ≢ [] → HasStored (row_of (revision_of e)) old new
+
+-- what putting an edit into the database of a connection did, and told
+abbrev pub PutsOver : State → State → Edit → Result Output Failure → Type 0
+PutsOver old new e result = IsNotPut old new result ⊎ ((answer : Result Answered DeskError) × IsPut old new e answer × TellsAnswer answer result)
+
+-- A connection to files that held this image was opened, an edit was put into its database, and this is what is left of it; if
+-- none is left, it was not opened.
+abbrev pub PutsFrom : {S : Type 0} → Ghosts S → Image → Edit → Result Output Failure → Option (Held S) → Type 0
+PutsFrom {S} g image e result (Some left) =
+    (conn : Held S) × (HasCleanDisk (state g conn) → Opens (state g conn) × FindsIn image (state g conn)) × PutsOver (state g conn) (state g left) e result
+PutsFrom g image e result None = IsRefusedAs refused.Store result
+
+-- An edit is judged by the newest revisions of some desk, which write a consistent site, and its answer is told. Which desk that
+-- was, no clause can name, since the connection to its database is made and dropped inside.
+pub record PutsInto (e : Edit) (output : Output) : Type 0 where
+  pub newest : Newest
+  pub consistent : IsConsistent (site_in newest)
+  pub answer : Result Answered DeskError
+  pub answers : AnswersBy newest e answer
+  pub told : TellsAnswer answer (Ok output)
+
+-- The answer to an edit of the database at a path: that of a desk, or that the database cannot be read. That SQLite does not open
+-- it or refused a statement, that it is not one of this project, and out of memory say nothing.
+abbrev pub AnswersEdit : List ℕ → Edit → Result Output Failure → Type 0
+AnswersEdit path e (Err failure) = IsUnread DatabaseFile path failure
+AnswersEdit path e (Ok (Refused refused.Store told)) = Unit {0}
+AnswersEdit path e (Ok (Refused refused.Schema told)) = Unit {0}
+AnswersEdit path e (Ok output) = PutsInto e output
+
+-- the edit that the words ask for, with a key and a text
+abbrev pub edit_of : PutWords → ℕ → List ℕ → List ℕ → Edit
+edit_of words base key text = record { file = words.name; base = base; caller = words.caller; key = key; text = text }
+
+-- the files of an edit, in the order in which they are read: FILE, and that of the key
+abbrev pub put_files : PutWords → Option (List ℕ) → List (FileArgument × Option (List ℕ))
+put_files words None = (File, Some words.file) ∷ []
+put_files words (Some file) = (File, Some words.file) ∷ (KeyFile, Some file) ∷ []
+
+-- a text before others that were read
+abbrev pub with_first : List ℕ → Result (List (List ℕ)) Failure → Result (List (List ℕ)) Failure
+with_first text (Ok texts) = Ok (text ∷ texts)
+with_first text (Err failure) = Err failure
+
+-- the answer by the texts of the files, and the key, if that is a word; or why a file has no text
+abbrev pub AnswersPutTexts : PutWords → ℕ → Option (List ℕ) → Result (List (List ℕ)) Failure → Result Output Failure → Type 0
+AnswersPutTexts words base (Some key) (Ok (text ∷ [])) result = AnswersEdit words.db (edit_of words base key text) result
+AnswersPutTexts words base None (Ok (text ∷ lines ∷ [])) result = (key : List ℕ) × IsKeyIn lines key × AnswersEdit words.db (edit_of words base key text) result
+AnswersPutTexts words base key (Ok texts) result = ⊥
+AnswersPutTexts words base key (Err failure) result = result ≡ Err failure
+
+-- the answer by the text of FILE, and the key's file
+pub record AnswersKeyFile (words : PutWords) (base : ℕ) (text file : List ℕ) (known : Option (List ℕ)) (result : Result Output Failure) : Type 0 where
+  pub read : Result (List (List ℕ)) Failure
+  pub reads : ReadsInTurn ((KeyFile, Some file) ∷ []) known read
+  pub answers : AnswersPutTexts words base None (with_first text read) result
+
+-- the key that is a word, and the file that it is in
+abbrev pub key_in : KeySource → Option (List ℕ)
+key_in (Word key) = Some key.now
+key_in (InFile file) = None
+
+abbrev pub key_file_in : KeySource → Option (List ℕ)
+key_file_in (Word key) = None
+key_file_in (InFile file) = Some file.now
+
+-- the answer by the files
+pub record AnswersPutFiles (words : PutWords) (base : ℕ) (key key_file : Option (List ℕ)) (known : Option (List ℕ)) (result : Result Output Failure) : Type 0 where
+  pub read : Result (List (List ℕ)) Failure
+  pub reads : ReadsInTurn (put_files words key_file) known read
+  pub answers : AnswersPutTexts words base key read result
+
+-- the answer by where the key is: it has to be given just once, and only one file may be standard input
+abbrev pub AnswersPutKey : PutWords → ℕ → Option (List ℕ) → Option (List ℕ) → Option (List ℕ) → Result Output Failure → Type 0
+AnswersPutKey words base (Some key) (Some file) known result = result ≡ Err KeyTwice
+AnswersPutKey words base None None known result = result ≡ Err NoKey
+AnswersPutKey words base (Some key) None known result = AnswersPutFiles words base (Some key) None known result
+AnswersPutKey words base None (Some file) known result =
+    ((is_input words.file && is_input file ≡ true) × (result ≡ Err InputTwice))
+    ⊎ ((is_input words.file && is_input file ≡ false) × AnswersPutFiles words base None (Some file) known result)
+
+-- where the key is, or what is wrong with the words of it
+abbrev pub GivesKeyBy : PutWords → Option (List ℕ) → Option (List ℕ) → Result KeySource Failure → Type 0
+GivesKeyBy words (Some key) (Some file) result = result ≡ Err KeyTwice
+GivesKeyBy words None None result = result ≡ Err NoKey
+GivesKeyBy words (Some key) None result = IsOkAnd result (λ source. (key_in source ≡ Some key) × (key_file_in source ≡ None))
+GivesKeyBy words None (Some file) result =
+    ((is_input words.file && is_input file ≡ true) × (result ≡ Err InputTwice))
+    ⊎ ((is_input words.file && is_input file ≡ false) × IsOkAnd result (λ source. (key_in source ≡ None) × (key_file_in source ≡ Some file)))
+
+abbrev pub GivesKey : PutWords → Result KeySource Failure → Type 0
+GivesKey words result = GivesKeyBy words words.key words.key_file result
+
+abbrev pub AnswersPutBy : PutWords → Option ℕ → Option (List ℕ) → Result Output Failure → Type 0
+AnswersPutBy words None known result = IsErrAnd result (IsBadNumber name.Base words.base)
+AnswersPutBy words (Some base) known result = AnswersPutKey words base words.key words.key_file known result
+
+-- the answer of `put` to its words: to the edit, or what is wrong with N or the key
+abbrev pub AnswersPut : PutWords → Option (List ℕ) → Result Output Failure → Type 0
+AnswersPut words known result = AnswersPutBy words (revision_number words.base) known result

@@ -1,0 +1,463 @@
+//! The command `init`: a new database of a site's files.
+
+ghost use Rattle.std.specs.Prelude.{◌≡◌, ◌≤◌, ◌++◌, ℕ, [], Decides, Err, false, IfOk, List, Ok, OnOk, if◌then◌else◌, length, map, string_bytes, unwrap_or};
+ghost use Rattle.std.specs.BTreeMap.{IsOrdered, get_by_text, values};
+ghost use Rattle.std.specs.List.{flat_map, list_all};
+ghost use Rattle.std.specs.String.{string_cmp};
+ghost use Rattle.std.specs.Str.{bytes_eq};
+ghost use Rattle.sqlite.specs.Held.{state};
+ghost use Rattle.desk_tables.specs.FileSystemsText.{read_filesystems};
+ghost use Rattle.desk_policy.specs.Site.{texts_of};
+ghost use Rattle.cli_texts.specs.SiteFiles.{AreShortFiles, site_list};
+ghost use Rattle.cli_texts.specs.declared.refused.Refused.TheVariants as refused;
+ghost use Rattle.cli_database.specs.InitCommand.{AnswersInit, AnswersInitSite, AnswersInitTexts, AnswersInitWith, AreParts, ComesTo, Creates, HaveRevisionLengths, IsReadyText, IsRefusedFor, IsSiteWith, SplitsExports, Stores, are_files_short, is_short, ready_text, warning_line};
+ghost use Rattle.cli_database.specs.ToldRefusal.{IsRefusedAs};
+ghost use Rattle.desk_core.specs.declared.edit.Refusal.TheVariants.{Fault as SiteRefusal};
+ghost use Rattle.cli_words.specs.Words.{given_init};
+
+use crate::database::{Obstacle, find_obstacle_to_make, is_blank};
+use crate::new_files::NewFiles;
+use crate::told_refusal::{
+    not_opened_at, not_writable, obstructed, refused_by_store, refused_by_table, too_large_told,
+};
+use cli_texts::check_site_files::{SiteFiles, paths_of, read_texts, sources_of};
+use cli_texts::output::Output;
+use cli_texts::refused::Refused;
+use cli_words::database_words::InitWords;
+use cli_words::failure::Failure;
+use cli_words::files::FileArgument;
+use desk_check::split_text::SplitFault;
+use desk_check::{SiteSources, Source, WholeSources, tell_site_fault, tell_split_fault};
+use desk_core::Refusal;
+use desk_exports::{Rule, split};
+use desk_policy::{Plain, Site, SiteFault, Warning, parse};
+use desk_store::{CreateError, Desk};
+use desk_tables::{FileSystems, Mount};
+use desk_text::{LineFault, ReadError, Text};
+use sqlite::{Alter, Connection, Error, Wary};
+use std::alloc::{AllocError, Global};
+use std::collections::BTreeMap;
+use std::io;
+use std::io::BufRead;
+
+/// The most bytes that the text of a revision may have.
+const LONGEST_REVISION: usize = 65_536;
+
+/// Answers `init DB DIR`.
+pub fn run_init<I: BufRead>(
+    rt: &HostRuntime,
+    words: InitWords<'_>,
+    input: &mut I,
+) -> Result<Output, Failure>
+    ensures { AnswersInit (given_init words.entry) (I.remaining input.old) result }
+{
+    let paths = paths_of(rt.alloc(), words.dir)?;
+    let texts = read_texts(rt, FileArgument::Dir, &paths, input)?;
+    init_texts(rt, words.db, &paths, &texts)
+}
+
+/// Makes a database of these texts.
+fn init_texts(
+    rt: &HostRuntime,
+    db: &str,
+    paths: &SiteFiles,
+    texts: &SiteFiles,
+) -> Result<Output, Failure>
+    requires { AreShortFiles texts.now }
+    ensures { AnswersInitTexts (Ok (site_list texts.now)) result }
+{
+    match split_exports(rt.alloc(), texts) {
+        Ok(exports) => init_site(rt, db, paths, texts, exports),
+        Err(ReadError::Fault(fault)) => not_split(rt.alloc(), sources_of(paths, texts), fault),
+        Err(ReadError::Memory) => Err(Failure::Memory),
+    }
+}
+
+/// Answers by the fault for which the exports text is not split.
+fn not_split(
+    alloc: Global,
+    sources: SiteSources<'_>,
+    fault: LineFault<Rule>,
+) -> Result<Output, Failure>
+    requires filesystems { length sources.filesystems.text.now ≤ 4294967294 }
+    requires exports { length sources.whole.exports.text.now ≤ 4294967294 }
+    ensures { IsRefusedAs (refused.Split fault) result }
+{
+    let told = tell_split_fault(
+        alloc,
+        sources.whole.exports,
+        sources.filesystems,
+        SplitFault::Exports(fault),
+    )?;
+    Ok(Output::Refused(Refused::Split(fault), told))
+}
+
+/// Splits the exports text into that of each file system; into none, if the file systems have a fault.
+fn split_exports(
+    alloc: Global,
+    texts: &SiteFiles,
+) -> Result<BTreeMap<String, Text>, ReadError<LineFault<Rule>>>
+    requires { AreShortFiles texts.now }
+    ensures { SplitsExports (read_filesystems (string_bytes texts.now.filesystems)) (string_bytes texts.now.exports) result }
+{
+    match ReadError::split(FileSystems::read(alloc, texts.filesystems.as_str()))? {
+        Ok(table) => split_for(alloc, texts.exports.as_str(), &table),
+        Err(_) => Ok(BTreeMap::new(alloc)),
+    }
+}
+
+/// Splits the exports text among these file systems.
+fn split_for(
+    alloc: Global,
+    text: &str,
+    table: &FileSystems,
+) -> Result<BTreeMap<String, Text>, ReadError<LineFault<Rule>>>
+    requires { length text.now ≤ 16777216 }
+    ensures { SplitsExports (Ok table.now) text.now result }
+{
+    let parts = split(alloc, text, table)?;
+    let exports = by_mount(alloc, table.as_slice(), parts.as_slice())?;
+    Ok(exports)
+}
+
+/// Puts the text of each file system under its printed mount point, from the last one to the first.
+fn by_mount(
+    alloc: Global,
+    mounts: &[Mount],
+    parts: &[String],
+) -> Result<BTreeMap<String, Text>, AllocError>
+    requires { length parts.now ≡ length mounts.now }
+    ensures { IfOk result (AreParts mounts.now (map string_bytes parts.now)) }
+{
+    let mut exports = BTreeMap::new(alloc);
+    let mut left = mounts.len();
+    while left > 0 {
+        left -= 1;
+        let mount = mounts[left].path.text();
+        put_part(alloc, &mut exports, mount, parts[left].as_str())?;
+    }
+    Ok(exports)
+}
+
+/// Puts a text under a mount point.
+fn put_part(
+    alloc: Global,
+    exports: &mut BTreeMap<String, Text>,
+    mount: &str,
+    text: &str,
+) -> Result<(), AllocError>
+    ensures { OnOk result ((name : List ℕ) → unwrap_or (get_by_text exports.new name) []
+        ≡ (if bytes_eq mount.now name then text.now else unwrap_or (get_by_text exports.old name) [])) }
+{
+    let mount = String::from_str(alloc, mount)?;
+    let text = Text::copy(alloc, text)?;
+    exports.insert(mount, text)?;
+    Ok(())
+}
+
+/// Makes a database of the seven files and these exports texts.
+fn init_site(
+    rt: &HostRuntime,
+    db: &str,
+    paths: &SiteFiles,
+    texts: &SiteFiles,
+    exports: BTreeMap<String, Text>,
+) -> Result<Output, Failure>
+    ensures { AnswersInitWith (site_list texts.now) exports result }
+{
+    let site = site_of(rt.alloc(), texts, exports)?;
+    match make(rt, db, &site) {
+        Ok(ready) => Ok(Output::Done(ready)),
+        Err(refused) => refuse(rt, db, sources_of(paths, texts), &site, refused),
+    }
+}
+
+/// Makes the site of the seven files and these exports texts.
+fn site_of(
+    alloc: Global,
+    texts: &SiteFiles,
+    exports: BTreeMap<String, Text>,
+) -> Result<Site, AllocError>
+    ensures { IfOk result (λ site. IsSiteWith (site_list texts.now) exports (texts_of site)) }
+{
+    Ok(Site {
+        custodians: Text::copy(alloc, texts.custodians.as_str())?,
+        filesystems: Text::copy(alloc, texts.filesystems.as_str())?,
+        hosts: Text::copy(alloc, texts.hosts.as_str())?,
+        networks: Text::copy(alloc, texts.networks.as_str())?,
+        passwd: Text::copy(alloc, texts.passwd.as_str())?,
+        group: Text::copy(alloc, texts.group.as_str())?,
+        netgroup: Text::copy(alloc, texts.netgroup.as_str())?,
+        exports,
+    })
+}
+
+/// Writes the warnings of a site, each in a line, and `ready`. A site that is refused has none: one with a fault, or with a
+/// text that is too long, of which it is not asked what that text says, since that can take long.
+fn ready_text(alloc: Global, site: &Site) -> Result<String, AllocError>
+    ensures { IfOk result (λ text. IsReadyText (texts_of site.now) (string_bytes text)) }
+{
+    if !has_revision_lengths(site) {
+        return warned_text(alloc, &[]);
+    }
+    match parse(alloc, site) {
+        Ok(policy) => warned_text(alloc, policy.warnings()),
+        Err(ReadError::Fault(_)) => warned_text(alloc, &[]),
+        Err(ReadError::Memory) => Err(AllocError),
+    }
+}
+
+/// Tests whether no text of a site is too long for a revision.
+fn has_revision_lengths(site: &Site) -> bool
+    ensures { Decides result (HaveRevisionLengths (texts_of site.now)) }
+{
+    are_files_short(site) && are_exports_short(&site.exports)
+}
+
+/// Tests whether none of the seven files is too long for a revision.
+fn are_files_short(site: &Site) -> bool
+    ensures { result ≡ are_files_short site.now }
+{
+    is_short(&site.custodians)
+        && is_short(&site.filesystems)
+        && is_short(&site.hosts)
+        && is_short(&site.networks)
+        && is_short(&site.passwd)
+        && is_short(&site.group)
+        && is_short(&site.netgroup)
+}
+
+/// Tests whether no exports text is too long for a revision.
+fn are_exports_short(exports: &BTreeMap<String, Text>) -> bool
+    ensures each { result ≡ list_all is_short (values exports.now) }
+    ensures ordered { IsOrdered string_cmp exports.now }
+{
+    exports.values().all(is_short)
+}
+
+/// Tests whether a text is not too long for a revision.
+fn is_short(text: &Text) -> bool
+    ensures { result ≡ is_short text.now }
+{
+    text.as_str().len() <= LONGEST_REVISION
+}
+
+/// Writes a line for each warning, and `ready`.
+fn warned_text(alloc: Global, warnings: &[Warning]) -> Result<String, AllocError>
+    ensures { IfOk result (λ text. string_bytes text ≡ ready_text warnings.now) }
+{
+    let mut text = String::new(alloc);
+    push_warnings(warnings, &mut text)?;
+    text.push_str("ready\n")?;
+    Ok(text)
+}
+
+/// Writes a line for each warning.
+fn push_warnings(warnings: &[Warning], text: &mut String) -> Result<(), AllocError>
+    ensures { OnOk result (string_bytes text.new ≡ string_bytes text.old ++ flat_map warning_line warnings.now) }
+{
+    for warning in warnings {
+        push_warning(warning, text)?;
+    }
+    Ok(())
+}
+
+/// Writes the line of a warning.
+fn push_warning(warning: &Warning, text: &mut String) -> Result<(), AllocError>
+    ensures { OnOk result (string_bytes text.new ≡ string_bytes text.old ++ warning_line warning.now) }
+{
+    let file = warning.file.as_str();
+    let line = warning.line;
+    let name = warning.kind.name();
+    let word = warning.word.as_str();
+    write!(text, "warning {file} line {line} {name} {word}\n")
+}
+
+/// Why a site is not stored.
+#[derive(Drop)]
+pub enum NotMade {
+    /// The file cannot be made, or not be written.
+    File(io::Error),
+    /// Something stands in the way of the files.
+    Obstacle(Obstacle),
+    /// SQLite does not open it.
+    Unopened(Error),
+    Create(CreateError),
+    Memory,
+}
+
+/// Stores a site in a new database, and gives what is printed of it. A file is made only if nothing known stands in the way.
+fn make(rt: &HostRuntime, db: &str, site: &Site) -> Result<String, NotMade>
+    ensures { ComesTo (texts_of site.now) result }
+{
+    match find_obstacle_to_make(rt, db) {
+        Ok(None) => {}
+        Ok(Some(obstacle)) => return Err(NotMade::Obstacle(obstacle)),
+        Err(error) => return Err(NotMade::File(error)),
+    }
+    match NewFiles::make(rt, db) {
+        Ok(new) => make_in(rt, site, &new),
+        Err(error) => Err(NotMade::File(error)),
+    }
+}
+
+/// Stores a site in the files of a new database, and gives what is printed of it.
+fn make_in(rt: &HostRuntime, site: &Site, new: &NewFiles) -> Result<String, NotMade>
+    ensures { ComesTo (texts_of site.now) result }
+{
+    match Connection::open_from(rt, new.path.as_str(), false, Wary) {
+        Ok(conn) => {
+            let (stored, conn) = store(rt, conn, site, new);
+            drop(conn);
+            stored
+        }
+        Err((error, left)) => {
+            drop(left);
+            new.remove_unopened(rt);
+            Err(NotMade::Unopened(error))
+        }
+    }
+}
+
+/// Stores a site in the database of a connection, which is handed back, and gives what is printed of it. The files that were
+/// made for a site that is refused are removed.
+fn store<S: Alter + Drop>(
+    rt: &HostRuntime,
+    conn: Connection<S>,
+    site: &Site,
+    new: &NewFiles,
+) -> (Result<String, NotMade>, Connection<S>)
+    requires { (state S.Store conn).in_transaction ≡ false }
+    ensures { Stores S.Store conn result.1 (texts_of site.now) result.0 }
+{
+    let was_blank = is_blank(&conn);
+    let (stored, conn) = store_told(rt.alloc(), conn, site);
+    if stored.is_err() {
+        // Before the lock goes with the connection: behind that, another process may write the files.
+        new.remove_refused(rt, was_blank);
+    }
+    (stored, conn)
+}
+
+/// Stores a site in the database of a connection, which is handed back, and gives what is printed of it.
+fn store_told<S: Alter + Drop>(
+    alloc: Global,
+    conn: Connection<S>,
+    site: &Site,
+) -> (Result<String, NotMade>, Connection<S>)
+    requires { (state S.Store conn).in_transaction ≡ false }
+    ensures { Stores S.Store conn result.1 (texts_of site.now) result.0 }
+{
+    // What is printed takes memory, so it is made before.
+    let Ok(ready) = ready_text(alloc, site) else {
+        return (Err(NotMade::Memory), conn);
+    };
+    let (created, conn) = create(alloc, conn, site);
+    match created {
+        Ok(()) => (Ok(ready), conn),
+        Err(error) => (Err(NotMade::Create(error)), conn),
+    }
+}
+
+/// Makes a desk of a site in the database of a connection, which is handed back.
+fn create<S: Alter + Drop>(
+    alloc: Global,
+    conn: Connection<S>,
+    site: &Site,
+) -> (Result<(), CreateError>, Connection<S>)
+    requires { (state S.Store conn).in_transaction ≡ false }
+    ensures { Creates (state S.Store conn) (state S.Store result.1) (texts_of site.now) result.0 }
+{
+    let created: Result<Desk<S, Plain>, _> = Desk::create(alloc, conn, site);
+    match created {
+        Ok(desk) => (Ok(()), desk.into_connection()),
+        Err((error, conn)) => (Err(error), conn),
+    }
+}
+
+/// Answers by why a site is not stored.
+fn refuse(
+    rt: &HostRuntime,
+    db: &str,
+    sources: SiteSources<'_>,
+    site: &Site,
+    refused: NotMade,
+) -> Result<Output, Failure>
+    requires { IsRefusedFor (texts_of site.now) refused }
+    ensures { AnswersInitSite (texts_of site.now) result }
+{
+    let alloc = rt.alloc();
+    match refused {
+        NotMade::File(error) => not_writable(alloc, db, &error),
+        NotMade::Obstacle(obstacle) => obstructed(alloc, db, obstacle),
+        NotMade::Unopened(error) => not_opened_at(rt, db, error),
+        NotMade::Memory => Err(Failure::Memory),
+        NotMade::Create(CreateError::Store(fault)) => refused_by_store(alloc, db, fault),
+        NotMade::Create(CreateError::Schema) => refused_by_table(alloc, db),
+        NotMade::Create(CreateError::Memory) => Err(Failure::Memory),
+        NotMade::Create(CreateError::Fault(fault)) => faulty(alloc, sources, site, fault),
+        NotMade::Create(CreateError::TooLarge(file)) => too_large(alloc, sources, file),
+    }
+}
+
+/// Answers that the text of a file is too long for a new database.
+fn too_large(alloc: Global, sources: SiteSources<'_>, file: Text) -> Result<Output, Failure>
+    ensures { IsRefusedAs (refused.TooLarge file) result }
+{
+    let told = match file.as_str().strip_prefix("exports:") {
+        Some(mount) => lines_too_large_told(alloc, sources.whole.exports.path, mount)?,
+        None => too_large_told(alloc, FileArgument::Dir, path_of(sources, file.as_str()))?,
+    };
+    Ok(Output::Refused(Refused::TooLarge(file), told))
+}
+
+/// Says that the lines of a file system are too long for a revision.
+fn lines_too_large_told(alloc: Global, path: &str, mount: &str) -> Result<String, AllocError> {
+    format!(in alloc; "exportdesk: DIR {path:?}: the lines of {mount:?} are over 65536 bytes\n")
+}
+
+/// Lends the path of one of the seven files.
+fn path_of<'a>(sources: SiteSources<'a>, file: &str) -> &'a str {
+    match file {
+        "custodians" => sources.custodians.path,
+        "filesystems" => sources.filesystems.path,
+        "hosts" => sources.whole.tables.hosts.path,
+        "networks" => sources.whole.tables.networks.path,
+        "passwd" => sources.whole.tables.passwd.path,
+        "group" => sources.whole.tables.group.path,
+        _ => sources.whole.tables.netgroup.path,
+    }
+}
+
+/// Lends the sources with the exports file of this name, if there is one, in the place of the whole exports text.
+fn with_exports<'a>(sources: SiteSources<'a>, site: &'a Site, name: &'a str) -> SiteSources<'a> {
+    let text = match name.strip_prefix("exports:") {
+        Some(mount) => match site.exports.get(mount) {
+            Some(text) => text.as_str(),
+            None => "",
+        },
+        None => "",
+    };
+    SiteSources {
+        custodians: sources.custodians,
+        filesystems: sources.filesystems,
+        whole: WholeSources {
+            tables: sources.whole.tables,
+            exports: Source { path: name, text },
+        },
+    }
+}
+
+/// Answers by the fault of a site.
+fn faulty(
+    alloc: Global,
+    sources: SiteSources<'_>,
+    site: &Site,
+    fault: SiteFault,
+) -> Result<Output, Failure>
+    ensures { IsRefusedAs (refused.Edit (SiteRefusal fault)) result }
+{
+    let name = fault.file.as_str();
+    let told = tell_site_fault(alloc, with_exports(sources, site, name), &fault)?;
+    Ok(Output::Refused(Refused::Edit(Refusal::Fault(fault)), told))
+}

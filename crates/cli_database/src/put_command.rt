@@ -1,0 +1,337 @@
+//! The command `put`: an edit of a file.
+
+ghost use Rattle.std.specs.Prelude.{◌≡◌, false, IfOk};
+ghost use Rattle.sqlite_wal.specs.Files.{image_at};
+ghost use Rattle.sqlite.specs.Files.{over_files};
+ghost use Rattle.sqlite.specs.Held.{state};
+ghost use Rattle.desk_core.specs.Edit.{asked};
+ghost use Rattle.desk_store.specs.Desk.{IsEdited};
+ghost use Rattle.cli_words.specs.Words.{given_put};
+ghost use Rattle.cli_texts.specs.declared.refused.Refused.TheVariants as refused;
+ghost use Rattle.cli_database.specs.PutCommand.{AnswersEdit, AnswersKeyFile, AnswersPut, AnswersPutFiles, GivesKey, HasReplies, IsKeyIn, PutsBy, PutsFrom, PutsOver, edit_of, key_in, key_file_in};
+ghost use Rattle.cli_database.specs.ToldRefusal.{IsRefusedAs};
+
+use crate::database::{CANNOT_OPEN, is_plain, log_to_make, plain_path, remove_log, unread};
+use crate::told_refusal::{
+    not_opened_at, not_writable, refusal_told, refused_by_desk, refused_by_schema,
+};
+use cli_texts::output::Output;
+use cli_texts::refused::Refused;
+use cli_words::arguments::{Argument, read_number};
+use cli_words::database_words::PutWords;
+use cli_words::failure::Failure;
+use cli_words::files::{FileArgument, is_input, read_if_given};
+use desk_check::{SiteSources, Source, TableSources, WholeSources, tell_site_fault};
+use desk_core::{Edit, Refusal};
+use desk_policy::Plain;
+use desk_store::{Desk, DeskError, Done};
+use sqlite::{Alter, Connection, FileFrom, FileStore, Start, Wary};
+use std::alloc::{AllocError, Global};
+use std::fs::OpenOptions;
+use std::io::BufRead;
+use std::{fs, io};
+
+/// Where the key of an edit is.
+#[derive(Clone, Copy)]
+pub enum KeySource<'a> {
+    Word(&'a str),
+    /// The first line of this file.
+    InFile(&'a str),
+}
+
+/// Answers `put DB NAME FILE --base N --caller C --key K`, or with `--key-file FILE`. The words are looked at, then FILE and
+/// the key's file are read, and then the database is opened.
+pub fn run_put<I: BufRead>(
+    rt: &HostRuntime,
+    words: PutWords<'_>,
+    input: &mut I,
+) -> Result<Output, Failure>
+    ensures { AnswersPut (given_put words.entry) (I.remaining input.old) result }
+{
+    let base = read_number(rt.alloc(), Argument::Base, words.base)?;
+    let key = key_source(words)?;
+    put_files(rt, words, base, key, input)
+}
+
+/// Looks where the key is: in just one of the two options. Only one file may be standard input.
+fn key_source<'a>(words: PutWords<'a>) -> Result<KeySource<'a>, Failure>
+    ensures { GivesKey (given_put words.entry) result }
+{
+    match (words.key, words.key_file) {
+        (Some(_), Some(_)) => Err(Failure::KeyTwice),
+        (None, None) => Err(Failure::NoKey),
+        (Some(key), None) => Ok(KeySource::Word(key)),
+        (None, Some(file)) => {
+            if is_input(words.file) && is_input(file) {
+                Err(Failure::InputTwice)
+            } else {
+                Ok(KeySource::InFile(file))
+            }
+        }
+    }
+}
+
+/// Reads FILE, and then the key's file, if the key is in one, and answers by their texts.
+fn put_files<I: BufRead>(
+    rt: &HostRuntime,
+    words: PutWords<'_>,
+    base: u32,
+    key: KeySource<'_>,
+    input: &mut I,
+) -> Result<Output, Failure>
+    ensures { AnswersPutFiles (given_put words.entry) base (key_in key.entry) (key_file_in key.entry) (I.remaining input.old) result }
+{
+    let text = read_if_given(rt, FileArgument::File, Some(words.file), input)?;
+    match key {
+        KeySource::Word(key) => put_edit(rt, words, edit_of(words, base, key, text.as_str())),
+        KeySource::InFile(file) => put_with_key_file(rt, words, base, text.as_str(), file, input),
+    }
+}
+
+/// Reads the key's file, and answers by its text and that of FILE.
+fn put_with_key_file<I: BufRead>(
+    rt: &HostRuntime,
+    words: PutWords<'_>,
+    base: u32,
+    text: &str,
+    file: &str,
+    input: &mut I,
+) -> Result<Output, Failure>
+    ensures { AnswersKeyFile (given_put words.entry) base text.now file.now (I.remaining input.old) result }
+{
+    let key_text = read_if_given(rt, FileArgument::KeyFile, Some(file), input)?;
+    let key = key_of(key_text.as_str());
+    put_edit(rt, words, edit_of(words, base, key, text))
+}
+
+/// Returns the first line of a key's file, without its line end.
+fn key_of(text: &str) -> &str
+    ensures { IsKeyIn text.now result.now }
+{
+    match text.lines().next() {
+        Some(line) => line,
+        None => "",
+    }
+}
+
+/// Makes the edit of these words.
+fn edit_of<'a>(words: PutWords<'a>, base: u32, key: &'a str, text: &'a str) -> Edit<'a>
+    ensures { asked result ≡ edit_of (given_put words.entry) base key.entry.now text.entry.now }
+{
+    Edit {
+        file: words.name,
+        base,
+        caller: words.caller,
+        key,
+        text,
+    }
+}
+
+/// Puts an edit into the database, if that can be opened.
+fn put_edit(rt: &HostRuntime, words: PutWords<'_>, edit: Edit<'_>) -> Result<Output, Failure>
+    ensures { AnswersEdit words.entry.db.now (asked edit.entry) result }
+{
+    match leads_to_plain(rt, words.db) {
+        Ok(true) => put_in_plain(rt, words, &edit),
+        Ok(false) => not_opened_at(rt, words.db, CANNOT_OPEN),
+        Err(error) => Err(unread(rt.alloc(), words.db, error)),
+    }
+}
+
+/// Tests whether a path leads to a regular file with one name. Another, as a FIFO, may be waited for when it is opened.
+fn leads_to_plain(rt: &HostRuntime, path: &str) -> io::Result<bool> {
+    let real = fs::canonicalize(rt, path)?;
+    is_plain(rt, real.as_str())
+}
+
+/// Puts an edit into a regular file, if that can be read and written, and has a database.
+fn put_in_plain(rt: &HostRuntime, words: PutWords<'_>, edit: &Edit<'_>) -> Result<Output, Failure>
+    ensures { AnswersEdit words.entry.db.now (asked edit.now) result }
+{
+    if let Err(error) = fs::open(rt, words.db) {
+        return Err(unread(rt.alloc(), words.db, error));
+    }
+    match is_empty_file(rt, words.db) {
+        Ok(true) => refused_by_schema(rt.alloc(), words.db),
+        Ok(false) => put_in_files(rt, words, edit),
+        Err(error) => not_writable(rt.alloc(), words.db, &error),
+    }
+}
+
+/// Tests whether a file, which can be written, is empty or has one byte. SQLite would take it as an empty database, and write
+/// one.
+fn is_empty_file(rt: &HostRuntime, path: &str) -> io::Result<bool> {
+    let file = OpenOptions::new().read(true).write(true).open(rt, path)?;
+    Ok(file.metadata()?.len() <= 1)
+}
+
+/// Puts an edit into a database, which is opened. Its log is removed if it was made for nothing.
+fn put_in_files(rt: &HostRuntime, words: PutWords<'_>, edit: &Edit<'_>) -> Result<Output, Failure>
+    ensures { AnswersEdit words.entry.db.now (asked edit.now) result }
+{
+    let log = log_to_make(rt, words.db)?;
+    let path = plain_path(rt.alloc(), words.db)?;
+    let (answer, left) = put_from(rt, words, path.as_str(), edit, &log, Wary);
+    if left.is_some() {
+        // Before the lock goes with the connection: behind that, another process may write the log.
+        remove_log(rt, &log);
+    }
+    drop(left);
+    answer
+}
+
+/// A connection to files, where `S` stands for what they held.
+type FilesFrom<S> = Connection<FileStore<FileFrom<S>>>;
+
+/// Puts an edit into the database at a path, which is opened. Beside the answer is the connection, if there is one.
+fn put_from<S: Start>(
+    rt: &HostRuntime,
+    words: PutWords<'_>,
+    path: &str,
+    edit: &Edit<'_>,
+    log: &Option<String>,
+    start: S,
+) -> (Result<Output, Failure>, Option<FilesFrom<S>>)
+    ensures { PutsFrom over_files (image_at S.Start) (asked edit.now) result.0 result.1 }
+{
+    match Connection::open_from(rt, path, false, start) {
+        Ok(conn) => {
+            let (answer, left) = put_over(rt.alloc(), words, conn, edit);
+            (answer, Some(left))
+        }
+        Err((error, left)) => {
+            if left.is_some() {
+                remove_log(rt, log);
+            }
+            drop(left);
+            (not_opened_at(rt, words.db, error), None)
+        }
+    }
+}
+
+/// Puts an edit into the database of a connection, which is handed back.
+fn put_over<S: Alter + Drop>(
+    alloc: Global,
+    words: PutWords<'_>,
+    conn: Connection<S>,
+    edit: &Edit<'_>,
+) -> (Result<Output, Failure>, Connection<S>)
+    requires { (state S.Store conn).in_transaction ≡ false }
+    ensures { PutsOver (state S.Store conn) (state S.Store result.1) (asked edit.now) result.0 }
+{
+    let opened: Result<Desk<S, Plain>, _> = Desk::open(alloc, conn);
+    match opened {
+        Ok(mut desk) => {
+            let answer = put_by(alloc, words, &mut desk, edit);
+            (answer, desk.into_connection())
+        }
+        Err((error, conn)) => (refused_by_desk(alloc, words.db, error), conn),
+    }
+}
+
+/// What is printed of an edit that is not refused. It is made before the edit is stored.
+#[derive(Drop)]
+pub struct Replies {
+    pub accepted: String,
+    pub already: String,
+}
+
+impl Replies {
+    fn of(alloc: Global, rev: u64) -> Result<Replies, AllocError>
+        ensures { IfOk result (HasReplies rev) }
+    {
+        let accepted = format!(in alloc; "accepted rev {rev}\n")?;
+        let already = format!(in alloc; "already rev {rev}\n")?;
+        Ok(Replies { accepted, already })
+    }
+}
+
+/// Puts an edit into a desk.
+fn put_by<S: Alter + Drop>(
+    alloc: Global,
+    words: PutWords<'_>,
+    desk: &mut Desk<S, Plain>,
+    edit: &Edit<'_>,
+) -> Result<Output, Failure>
+    ensures { PutsBy S.Store desk.old desk.new (asked edit.now) result }
+{
+    let replies = Replies::of(alloc, u64::from(edit.base) + 1)?;
+    match edited(alloc, desk, edit) {
+        Ok(done) => Ok(Output::Done(if done.already {
+            replies.already
+        } else {
+            replies.accepted
+        })),
+        Err(DeskError::Refused(refusal)) => refused(alloc, words.file, desk, edit, refusal),
+        Err(error) => refused_by_desk(alloc, words.db, error),
+    }
+}
+
+/// Edits a desk. (Split off for its proof.)
+fn edited<S: Alter + Drop>(
+    alloc: Global,
+    desk: &mut Desk<S, Plain>,
+    edit: &Edit<'_>,
+) -> Result<Done, DeskError>
+    ensures { IsEdited (state S.Store desk.old.conn) (state S.Store desk.new.conn) desk.old.state desk.new.state (asked edit.now) result }
+{
+    desk.edit(alloc, edit)
+}
+
+/// Answers by why an edit, whose text is that of the file of this path, is refused.
+fn refused<S: Alter + Drop>(
+    alloc: Global,
+    path: &str,
+    desk: &Desk<S, Plain>,
+    edit: &Edit<'_>,
+    refusal: Refusal,
+) -> Result<Output, Failure>
+    ensures { IsRefusedAs (refused.Edit refusal) result }
+{
+    let told = match &refusal {
+        Refusal::Fault(fault) => {
+            tell_site_fault(alloc, sources_of(desk, edit, fault.file.as_str()), fault)?
+        }
+        _ => refusal_told(alloc, path, edit, &refusal)?,
+    };
+    Ok(Output::Refused(Refused::Edit(refusal), told))
+}
+
+/// Lends the texts of the site with an edit, and of the exports the file of this name.
+fn sources_of<'a, S: Alter + Drop>(
+    desk: &'a Desk<S, Plain>,
+    edit: &'a Edit<'a>,
+    file: &'a str,
+) -> SiteSources<'a> {
+    SiteSources {
+        custodians: source_of(desk, edit, "custodians"),
+        filesystems: source_of(desk, edit, "filesystems"),
+        whole: WholeSources {
+            tables: TableSources {
+                hosts: source_of(desk, edit, "hosts"),
+                networks: source_of(desk, edit, "networks"),
+                passwd: source_of(desk, edit, "passwd"),
+                group: source_of(desk, edit, "group"),
+                netgroup: source_of(desk, edit, "netgroup"),
+            },
+            exports: source_of(desk, edit, file),
+        },
+    }
+}
+
+/// Lends the text of a file with an edit.
+fn source_of<'a, S: Alter + Drop>(
+    desk: &'a Desk<S, Plain>,
+    edit: &'a Edit<'a>,
+    file: &'a str,
+) -> Source<'a> {
+    let text = if edit.file == file {
+        edit.text
+    } else {
+        match desk.newest(file) {
+            Some(head) => head.body.as_str(),
+            None => "",
+        }
+    };
+    Source { path: file, text }
+}

@@ -1,0 +1,64 @@
+-- The texts and words that come from outside: files, standard input, the command line. (this project's own)
+use Rattle.std.specs.Prelude.{◌≡◌, ℕ, ◌+◌, ◌==◌, ◌||◌, nat_le, nat_lt, Bool, not, List, length, take, filter, count_by, Option, Some, Result, Ok, Err, if◌then◌else◌}
+use Rattle.std.specs.Io.BufRead.{ends_with_byte, strip_last}
+use Rattle.std.specs.List.{after_last, position_from, slice_split}
+use Rattle.std.specs.Str.{is_utf8}
+use Rattle.std.specs.Str.Lossy.{utf8_valid_len}
+use Rattle.desk_text.specs.Bytes.{is_blank}
+use Rattle.cli_words.specs.declared.failure.Failure.{Failure}
+use Rattle.cli_words.specs.declared.failure.Failure.TheVariants.{Memory, Word}
+use Rattle.cli_words.specs.declared.input.TextFault.{TextFault}
+use Rattle.cli_words.specs.declared.input.TextFault.TheVariants.{TooLong, NotUtf8}
+
+-- the most bytes of a file, and of the first line of standard input without its line end
+abbrev pub longest_text : ℕ
+longest_text = 16777216
+
+-- a byte that is the first of a character in UTF-8, where the others are 0x80 to 0xBF
+abbrev pub begins_character : ℕ → Bool
+begins_character b = nat_lt b 128 || nat_le 192 b
+
+-- the line, from 1, of the byte behind these
+abbrev pub line_behind : List ℕ → ℕ
+line_behind front = 1 + count_by (λ b. b == 10) front
+
+-- its column, from 1: one more than the characters behind the last line end
+abbrev pub column_behind : List ℕ → ℕ
+column_behind front = 1 + count_by begins_character (after_last (λ b. b == 10) front)
+
+-- the first byte that breaks UTF-8 stands behind the longest front that is UTF-8
+abbrev pub not_utf8_behind : List ℕ → TextFault
+not_utf8_behind front = NotUtf8 (line_behind front) (column_behind front)
+
+-- the text of these bytes: just them, if they are at most as many as a text may have and UTF-8
+abbrev pub text_of : List ℕ → Result (List ℕ) TextFault
+text_of bytes =
+    if nat_lt longest_text (length bytes) then Err TooLong
+    else (if is_utf8 bytes then Ok bytes
+    else Err (not_utf8_behind (take (utf8_valid_len bytes) bytes)))
+
+-- a line without its line end: LF, or CR LF
+abbrev pub without_line_end : List ℕ → List ℕ
+without_line_end line = if ends_with_byte 10 line then strip_last 13 (strip_last 10 line) else line
+
+-- the words of the first line of standard input: the line without its line end, if it is not too long
+abbrev pub first_line : List ℕ → Result (List ℕ) TextFault
+first_line line = if nat_lt longest_text (length (without_line_end line)) then Err TooLong else Ok (without_line_end line)
+
+-- the words of a line: what is between its blanks, if it is not empty
+abbrev pub words_of : List ℕ → List (List ℕ)
+words_of line = filter (λ word. not (length word == 0)) (slice_split is_blank line)
+
+-- bytes that are not UTF-8
+abbrev pub is_not_utf8 : List ℕ → Bool
+is_not_utf8 word = not (is_utf8 word)
+
+-- the place, from 1, of the first word that is not UTF-8
+abbrev pub bad_word : List (List ℕ) → Option ℕ
+bad_word words = position_from is_not_utf8 1 words
+
+-- the failure names the first word that is not UTF-8; out of memory says nothing
+abbrev pub IsBadWord : List (List ℕ) → Failure → Type 0
+IsBadWord words (Word place) = bad_word words ≡ Some place
+IsBadWord words Memory = Unit {0}
+IsBadWord words failure = ⊥

@@ -1,0 +1,242 @@
+//! The arguments that are parsed: HOST, DIR, MOUNT, CRED and the numbers of revisions.
+
+ghost use Rattle.std.specs.Prelude.{◌≡◌, ◌≤◌, MatchResult, None, Ok, Some, length, map};
+ghost use Rattle.std.specs.Option.{option_map};
+ghost use Rattle.desk_text.specs.Address.{number_of, read_addr};
+ghost use Rattle.desk_text.specs.Path.{read_path};
+ghost use Rattle.desk_tables.specs.CredentialText.{read_credential as read_cred};
+ghost use Rattle.desk_tables.specs.FileSystems.{IsTableOf};
+ghost use Rattle.desk_tables.specs.Groups.{read_groups};
+ghost use Rattle.desk_tables.specs.Users.{read_users};
+ghost use Rattle.cli_words.specs.Arguments.{AnswersArgument, AnswersOwn, IsBadArgument, IsBadMount, IsBadNumber, IsNoTable, IsRefusal, IsRequest, first_bad_path, own_answer, paths_of, revision_number};
+ghost use Rattle.cli_words.specs.declared.arguments.Argument.TheVariants.{Host};
+ghost use Rattle.cli_words.specs.declared.arguments.ArgumentFault.TheVariants as fault;
+
+use crate::failure::Failure;
+use desk_tables::{Cred, CredFault, FileSystems, Groups, Users, credential};
+use desk_text::{Addr, AddrFault, Path, PathFault, ReadError, read_decimal};
+use std::alloc::Global;
+use std::fmt;
+
+/// An argument that is one word.
+#[derive(Clone, Copy)]
+pub enum Argument {
+    Host,
+    Dir,
+    Mount,
+    /// The client's own credential.
+    Credential,
+    /// The number of the revision that an edit follows.
+    Base,
+    /// The number of a revision.
+    Rev,
+}
+
+impl Argument {
+    /// Names the argument as the usage does.
+    fn name(self) -> &'static str {
+        match self {
+            Argument::Host => "HOST",
+            Argument::Dir => "DIR",
+            Argument::Mount => "MOUNT",
+            Argument::Credential => "--as",
+            Argument::Base => "--base",
+            Argument::Rev => "--rev",
+        }
+    }
+}
+
+/// Why an argument cannot be parsed.
+#[derive(Clone, Copy)]
+pub enum ArgumentFault {
+    Address(AddrFault),
+    Path(PathFault),
+    Credential(CredFault),
+    /// It is not a number of 0 to 2,147,483,647.
+    Number,
+}
+
+/// An argument that cannot be parsed.
+#[derive(Drop)]
+pub struct BadArgument {
+    pub argument: Argument,
+    pub word: String,
+    pub fault: ArgumentFault,
+}
+
+/// A mount request: who asks for which directory, and the file systems that there are.
+#[derive(Drop)]
+pub struct Request {
+    pub address: Addr,
+    pub path: Path,
+    pub filesystems: FileSystems,
+}
+
+/// Parses HOST, DIR and MOUNT, from left to right.
+pub fn read_request(
+    alloc: Global,
+    host: &str,
+    dir: &str,
+    mounts: &[&str],
+) -> Result<Request, Failure>
+    ensures { let given = map (λ word. word.now) mounts.now in
+        MatchResult result (IsRequest host.now dir.now given)
+        (IsBadArgument host.now (read_addr host.now) dir.now (read_path dir.now) given) }
+{
+    let address = read_host(alloc, host)?;
+    let path = read_path(alloc, Argument::Dir, dir)?;
+    let filesystems = read_mounts(alloc, mounts)?;
+    Ok(Request {
+        address,
+        path,
+        filesystems,
+    })
+}
+
+/// Parses HOST, the client's address.
+pub fn read_host(alloc: Global, word: &str) -> Result<Addr, Failure>
+    ensures { AnswersArgument number_of fault.Address Host word.now (read_addr word.now) result }
+{
+    match Addr::read(word) {
+        Ok(address) => Ok(address),
+        Err(fault) => Err(bad_argument(alloc, Argument::Host, word, ArgumentFault::Address(fault))),
+    }
+}
+
+/// Parses a path.
+pub fn read_path(alloc: Global, argument: Argument, word: &str) -> Result<Path, Failure>
+    ensures { AnswersArgument (λ path. path) fault.Path argument word.now (read_path word.now) result }
+{
+    match ReadError::split(Path::read(alloc, word))? {
+        Ok(path) => Ok(path),
+        Err(fault) => Err(bad_argument(alloc, argument, word, ArgumentFault::Path(fault))),
+    }
+}
+
+/// Parses the number of a revision; that which an edit follows may be 0.
+pub fn read_number(alloc: Global, argument: Argument, word: &str) -> Result<u32, Failure>
+    ensures { MatchResult result (λ number. revision_number word.now ≡ Some number)
+        (λ failure. (revision_number word.now ≡ None) × IsBadNumber argument word.now failure) }
+{
+    match read_decimal(word, 2_147_483_647) {
+        Some(number) => Ok(number),
+        None => Err(bad_argument(alloc, argument, word, ArgumentFault::Number)),
+    }
+}
+
+/// Parses each MOUNT, the mount points of the file systems.
+pub fn read_mounts(alloc: Global, words: &[&str]) -> Result<FileSystems, Failure>
+    ensures { let given = map (λ word. word.now) words.now in
+        MatchResult result (λ table. (first_bad_path given ≡ None) × IsTableOf (paths_of given) table) (IsNoTable given) }
+{
+    let mount_points = read_mount_points(alloc, words)?;
+    match FileSystems::from_mounts(alloc, mount_points)? {
+        Some(filesystems) => Ok(filesystems),
+        None => Err(Failure::TooManyMounts),
+    }
+}
+
+/// Parses each MOUNT, in order.
+fn read_mount_points(alloc: Global, words: &[&str]) -> Result<Vec<Path>, Failure>
+    ensures { let given = map (λ word. word.now) words.now in
+        MatchResult result (λ paths. (first_bad_path given ≡ None) × (paths.items ≡ paths_of given)) (IsBadMount given) }
+{
+    let mut mount_points = Vec::new(alloc);
+    for word in words {
+        let path = read_path(alloc, Argument::Mount, word)?;
+        mount_points.push(path)?;
+    }
+    Ok(mount_points)
+}
+
+/// Parses CRED, if it is given, with the users and groups that these texts list. If one of these texts has a fault, that is
+/// reported later, and CRED is not looked at.
+pub fn read_credential(
+    alloc: Global,
+    word: Option<&str>,
+    passwd: &str,
+    group: &str,
+) -> Result<Option<Cred>, Failure>
+    requires passwd { length passwd.now ≤ 4294967294 }
+    requires group { length group.now ≤ 4294967294 }
+    ensures { let given = option_map (λ word. word.now) word.entry in
+        AnswersOwn given (own_answer given (read_users passwd.now) (read_groups group.now)) result }
+{
+    let Some(word) = word else {
+        return Ok(None);
+    };
+    match ReadError::split(Users::read(alloc, passwd))? {
+        Ok(users) => read_with_users(alloc, word, &users, group),
+        Err(_) => Ok(None),
+    }
+}
+
+/// Parses CRED with these users and the groups that a text lists.
+fn read_with_users(
+    alloc: Global,
+    word: &str,
+    users: &Users,
+    group: &str,
+) -> Result<Option<Cred>, Failure>
+    requires { length group.now ≤ 4294967294 }
+    ensures { AnswersOwn (Some word.now) (own_answer (Some word.now) (Ok users.now) (read_groups group.now)) result }
+{
+    match ReadError::split(Groups::read(alloc, group))? {
+        Ok(groups) => parse_credential(alloc, word, users, &groups),
+        Err(_) => Ok(None),
+    }
+}
+
+/// Parses CRED with these users and groups.
+fn parse_credential(
+    alloc: Global,
+    word: &str,
+    users: &Users,
+    groups: &Groups,
+) -> Result<Option<Cred>, Failure>
+    ensures { AnswersOwn (Some word.now) (read_cred users.now groups.now word.now) result }
+{
+    match credential(users, groups, word) {
+        Ok(own) => Ok(Some(own)),
+        Err(fault) => Err(bad_argument(
+            alloc,
+            Argument::Credential,
+            word,
+            ArgumentFault::Credential(fault),
+        )),
+    }
+}
+
+/// Returns the failure of an argument that cannot be parsed.
+fn bad_argument(alloc: Global, argument: Argument, word: &str, fault: ArgumentFault) -> Failure
+    ensures { IsRefusal argument word.now fault result }
+{
+    match String::from_str(alloc, word) {
+        Ok(word) => Failure::Argument(BadArgument {
+            argument,
+            word,
+            fault,
+        }),
+        Err(_) => Failure::Memory,
+    }
+}
+
+impl fmt::Display for BadArgument {
+    fn fmt<W: fmt::Write>(&self, f: &mut fmt::Formatter<W>) -> fmt::Result {
+        let name = self.argument.name();
+        let word = self.word.as_str();
+        let fault = self.fault;
+        write!(f, "{name} {word:?}: {fault}")
+    }
+}
+
+impl fmt::Display for ArgumentFault {
+    fn fmt<W: fmt::Write>(&self, f: &mut fmt::Formatter<W>) -> fmt::Result {
+        match self {
+            ArgumentFault::Address(fault) => write!(f, "{fault:?}: {fault}"),
+            ArgumentFault::Path(fault) => write!(f, "{fault:?}: {fault}"),
+            ArgumentFault::Credential(fault) => write!(f, "{fault:?}: {fault}"),
+            ArgumentFault::Number => f.write_str("it is not a number from 0 to 2147483647"),
+        }
+    }
+}

@@ -1,0 +1,115 @@
+//! The words of the commands on texts.
+
+ghost use Rattle.std.specs.Prelude.{◌≡◌};
+ghost use Rattle.clap.specs.Words.{found_of, rows_of};
+ghost use Rattle.cli_line.specs.CommandLine.{check_words_in, split_words_in, table_words_in, try_words_in};
+ghost use Rattle.cli_words.specs.Words.{Finds, given_check, given_split, given_tables, given_try};
+
+use crate::failure::Failure;
+use crate::words::{is_set, required};
+use clap::ArgMatches;
+
+/// The words of the options that name the files of tables.
+#[derive(Clone, Copy)]
+pub struct TableWords<'a> {
+    pub hosts: Option<&'a str>,
+    pub networks: Option<&'a str>,
+    pub passwd: Option<&'a str>,
+    pub group: Option<&'a str>,
+    pub netgroup: Option<&'a str>,
+}
+
+impl<'a> TableWords<'a> {
+    /// Takes the words of the options that `clap` found.
+    pub fn find(found: &ArgMatches<'a>) -> TableWords<'a>
+        ensures { given_tables result ≡ table_words_in (rows_of (found_of found.now)) }
+    {
+        TableWords {
+            hosts: found.get_str("hosts"),
+            networks: found.get_str("networks"),
+            passwd: found.get_str("passwd"),
+            group: found.get_str("group"),
+            netgroup: found.get_str("netgroup"),
+        }
+    }
+}
+
+/// The words of `try`.
+#[derive(Clone, Copy)]
+pub struct TryWords<'m, 'a> {
+    pub file: &'a str,
+    pub host: &'a str,
+    pub dir: &'a str,
+    pub mounts: &'m [&'a str],
+    pub tables: TableWords<'a>,
+    pub credential: Option<&'a str>,
+}
+
+impl<'m, 'a> TryWords<'m, 'a> {
+    /// Takes the words of `try` from what `clap` found.
+    pub fn find(found: &'m ArgMatches<'a>) -> Result<TryWords<'m, 'a>, Failure>
+        ensures { Finds given_try (try_words_in (rows_of (found_of found.now))) result }
+    {
+        let file = required(found, "FILE")?;
+        let host = required(found, "HOST")?;
+        let dir = required(found, "DIR")?;
+        match found.get_strs("MOUNT") {
+            Some(mounts) => Ok(TryWords {
+                file,
+                host,
+                dir,
+                mounts,
+                tables: TableWords::find(found),
+                credential: found.get_str("as"),
+            }),
+            None => Err(Failure::Missing("MOUNT")),
+        }
+    }
+}
+
+/// The words of `split`.
+#[derive(Clone, Copy)]
+pub struct SplitWords<'a> {
+    pub file: &'a str,
+    pub filesystems: &'a str,
+}
+
+impl<'a> SplitWords<'a> {
+    /// Takes the words of `split` from what `clap` found.
+    pub fn find(found: &ArgMatches<'a>) -> Result<SplitWords<'a>, Failure>
+        ensures { Finds given_split (split_words_in (rows_of (found_of found.now))) result }
+    {
+        let file = required(found, "FILE")?;
+        let filesystems = required(found, "FILESYSTEMS")?;
+        Ok(SplitWords { file, filesystems })
+    }
+}
+
+/// The words of `check`.
+#[derive(Clone, Copy)]
+pub struct CheckWords<'m, 'a> {
+    pub file: Option<&'a str>,
+    pub mounts: Option<&'m [&'a str]>,
+    pub tables: TableWords<'a>,
+    pub site: Option<&'a str>,
+    pub brief: bool,
+    pub strict: bool,
+    pub json: bool,
+}
+
+impl<'m, 'a> CheckWords<'m, 'a> {
+    /// Takes the words of `check` from what `clap` found.
+    pub fn find(found: &'m ArgMatches<'a>) -> CheckWords<'m, 'a>
+        ensures { given_check result ≡ check_words_in (rows_of (found_of found.now)) }
+    {
+        CheckWords {
+            file: found.get_str("FILE"),
+            mounts: found.get_strs("MOUNT"),
+            tables: TableWords::find(found),
+            site: found.get_str("site"),
+            brief: is_set(found, "brief"),
+            strict: is_set(found, "strict"),
+            json: is_set(found, "json"),
+        }
+    }
+}

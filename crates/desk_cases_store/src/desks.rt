@@ -1,0 +1,277 @@
+//! Questions on a desk, which is open on the database.
+
+use crate::databases::Database;
+use crate::edits::{add_head, edit_of, in_force};
+use crate::subject::Subject;
+use desk_cases_texts::answers::{Asked, number, say, split};
+use desk_policy::{Plain, PolicyView};
+use desk_store::{CreateError, Desk, DeskError, Done, Revision, StoreFault, Task};
+use desk_text::Text;
+use sqlite::{Connection, MemStore};
+use std::alloc::{AllocError, Global};
+
+/// The files of each site, but for the exports files.
+const SEVEN: [&str; 7] = [
+    "custodians",
+    "filesystems",
+    "hosts",
+    "networks",
+    "passwd",
+    "group",
+    "netgroup",
+];
+
+/// Answers a question on a desk.
+pub fn answer(
+    alloc: Global,
+    subject: &mut Subject,
+    out: &mut String,
+    question: &str,
+    text: &str,
+) -> Asked {
+    match question {
+        "create" => create(alloc, &mut subject.database, out, &subject.site.texts),
+        "open" => open(alloc, &mut subject.database, out),
+        "close" => close(&mut subject.database, out),
+        _ => match &mut subject.database.desk {
+            Some(desk) => of_desk(alloc, desk, out, question, text),
+            None => Ok(false),
+        },
+    }
+}
+
+/// Answers a question on a desk that is open.
+fn of_desk(
+    alloc: Global,
+    desk: &mut Desk<MemStore, Plain>,
+    out: &mut String,
+    question: &str,
+    text: &str,
+) -> Asked {
+    match question {
+        "edit" => edit(alloc, desk, out, text),
+        "heads" => heads(alloc, desk, out),
+        "newest" => newest(desk, out, text),
+        "revisions" => revisions(alloc, desk, out, text),
+        "revision" => revision(alloc, desk, out, text),
+        "in_force" => in_force(alloc, desk.view(), out, text),
+        _ => Ok(false),
+    }
+}
+
+/// `create`: `made`, or the refusal. Makes the tables of a desk in the database, with the texts of the site, and opens the
+/// desk.
+fn create(
+    alloc: Global,
+    database: &mut Database,
+    out: &mut String,
+    texts: &desk_policy::Site,
+) -> Asked {
+    let Some(conn) = database.conn.take() else {
+        return Ok(false);
+    };
+    if !conn.is_autocommit() {
+        database.conn = Some(conn);
+        return Ok(false);
+    }
+    match Desk::create(alloc, conn, texts) {
+        Ok(desk) => keep_desk(database, desk, out, "made"),
+        Err((error, conn)) => {
+            database.conn = Some(conn);
+            say_not_made(out, error)
+        }
+    }
+}
+
+/// `open`: `opened`, or the refusal.
+fn open(alloc: Global, database: &mut Database, out: &mut String) -> Asked {
+    let Some(conn) = database.conn.take() else {
+        return Ok(false);
+    };
+    if !conn.is_autocommit() {
+        database.conn = Some(conn);
+        return Ok(false);
+    }
+    match Desk::open(alloc, conn) {
+        Ok(desk) => keep_desk(database, desk, out, "opened"),
+        Err((error, conn)) => {
+            database.conn = Some(conn);
+            say_refused(out, error)
+        }
+    }
+}
+
+fn keep_desk(
+    database: &mut Database,
+    desk: Desk<MemStore, Plain>,
+    out: &mut String,
+    said: &str,
+) -> Asked {
+    database.desk = Some(desk);
+    say(out, said)
+}
+
+/// `close`: `closed`. The connection can then be asked, and another desk opened on it.
+fn close(database: &mut Database, out: &mut String) -> Asked {
+    let Some(desk) = database.desk.take() else {
+        return Ok(false);
+    };
+    database.conn = Some(desk.into_connection());
+    say(out, "closed")
+}
+
+/// `edit FILE BASE CALLER KEY TEXT`: `stored 2`, and the edit is in force; `already 2`; or the refusal.
+fn edit(alloc: Global, desk: &mut Desk<MemStore, Plain>, out: &mut String, text: &str) -> Asked {
+    let Some(edit) = edit_of(text) else {
+        return Ok(false);
+    };
+    match desk.edit(alloc, &edit) {
+        Ok(done) => say_done(out, done),
+        Err(error) => say_refused(out, error),
+    }
+}
+
+fn say_done(out: &mut String, done: Done) -> Asked {
+    let answer = if done.already { "already" } else { "stored" };
+    let number = done.rev;
+    write!(out, "{answer} {number}")?;
+    Ok(true)
+}
+
+/// `heads`: the newest revision of each file, its file, its number and its author, with `; ` between them: those of the seven
+/// files, and those of the exports files of the file systems that are listed, by mount point.
+fn heads(alloc: Global, desk: &Desk<MemStore, Plain>, out: &mut String) -> Asked {
+    for file in SEVEN {
+        add_newest(desk, out, file)?;
+    }
+    exports_heads(alloc, desk, out)
+}
+
+fn exports_heads(alloc: Global, desk: &Desk<MemStore, Plain>, out: &mut String) -> Asked {
+    for mount in desk.view().policy().filesystems().as_slice() {
+        let mount = mount.path.text();
+        let file = format!(in alloc; "exports:{mount}")?;
+        add_newest(desk, out, file.as_str())?;
+    }
+    Ok(true)
+}
+
+fn add_newest(
+    desk: &Desk<MemStore, Plain>,
+    out: &mut String,
+    file: &str,
+) -> Result<(), AllocError> {
+    let Some(head) = desk.newest(file) else {
+        return Ok(());
+    };
+    if !out.is_empty() {
+        out.push_str("; ")?;
+    }
+    add_head(out, head)
+}
+
+/// `newest FILE`: the number, the author and the text of its newest revision, or `none`.
+fn newest(desk: &Desk<MemStore, Plain>, out: &mut String, file: &str) -> Asked {
+    if let Some(head) = desk.newest(file) {
+        let (number, author, body) = (head.rev, head.author.as_str(), head.body.as_str());
+        write!(out, "{number} {author} {body}")?;
+    }
+    Ok(true)
+}
+
+/// `revisions FILE`: the number and the author of each, with `; ` between them, or `none`.
+fn revisions(
+    alloc: Global,
+    desk: &mut Desk<MemStore, Plain>,
+    out: &mut String,
+    file: &str,
+) -> Asked {
+    match desk.revisions(alloc, file) {
+        Ok(revisions) => say_revisions(out, revisions.as_slice()),
+        Err(error) => say_refused(out, error),
+    }
+}
+
+fn say_revisions(out: &mut String, revisions: &[(u32, Text)]) -> Asked {
+    for (place, revision) in revisions.iter().enumerate() {
+        if place > 0 {
+            out.push_str("; ")?;
+        }
+        let (number, author) = (revision.0, revision.1.as_str());
+        write!(out, "{number} {author}")?;
+    }
+    Ok(true)
+}
+
+/// `revision FILE REV`: its author and its text, or `none`.
+fn revision(
+    alloc: Global,
+    desk: &mut Desk<MemStore, Plain>,
+    out: &mut String,
+    text: &str,
+) -> Asked {
+    let (file, rev) = split(text);
+    let Some(rev) = number(rev) else {
+        return Ok(false);
+    };
+    match desk.revision(alloc, file, rev) {
+        Ok(found) => say_revision(out, &found),
+        Err(error) => say_refused(out, error),
+    }
+}
+
+fn say_revision(out: &mut String, found: &Option<Revision>) -> Asked {
+    if let Some(revision) = found {
+        let (author, body) = (revision.author.as_str(), revision.body.as_str());
+        write!(out, "{author} {body}")?;
+    }
+    Ok(true)
+}
+
+/// Answers why no database was made, as it is printed; behind `refused 201 Store` stands which statement was refused, and what
+/// SQLite said.
+fn say_not_made(out: &mut String, error: CreateError) -> Asked {
+    match error {
+        CreateError::Store(fault) => say_store(out, fault),
+        CreateError::Schema => say(out, "refused 202 Schema"),
+        CreateError::Memory => Err(AllocError),
+        CreateError::Fault(fault) => {
+            write!(out, "{fault}")?;
+            Ok(true)
+        }
+        CreateError::TooLarge(file) => {
+            let file = file.as_str();
+            write!(out, "refused 5 TooLarge {file}")?;
+            Ok(true)
+        }
+    }
+}
+
+/// Answers why an edit or a look is not answered, in the same way.
+fn say_refused(out: &mut String, error: DeskError) -> Asked {
+    match error {
+        DeskError::Store(fault) => say_store(out, fault),
+        DeskError::Schema => say(out, "refused 202 Schema"),
+        DeskError::Memory => Err(AllocError),
+        DeskError::Refused(refusal) => {
+            write!(out, "{refusal}")?;
+            Ok(true)
+        }
+    }
+}
+
+fn say_store(out: &mut String, fault: StoreFault) -> Asked {
+    let (task, error) = (task_name(fault.task), fault.error);
+    write!(out, "refused 201 Store {task}: {error}")?;
+    Ok(true)
+}
+
+fn task_name(task: Task) -> &'static str {
+    match task {
+        Task::AddRevision => "AddRevision",
+        Task::ReadRevisions => "ReadRevisions",
+        Task::FindTables => "FindTables",
+        Task::ReadVersion => "ReadVersion",
+        Task::MakeTables => "MakeTables",
+    }
+}

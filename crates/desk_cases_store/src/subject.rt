@@ -1,0 +1,25 @@
+//! What the questions of a file are asked of.
+
+use crate::databases::Database;
+use crate::edits::Edits;
+use desk_cases_texts::site::Site;
+use std::alloc::Global;
+
+/// What the file read last, the edits that it made, and its database.
+#[derive(Drop)]
+pub struct Subject {
+    pub site: Site,
+    pub edits: Edits,
+    pub database: Database,
+}
+
+impl Subject {
+    /// Nothing read, no edits, and no database.
+    pub fn new(alloc: Global) -> Subject {
+        Subject {
+            site: Site::new(alloc),
+            edits: Edits::new(alloc),
+            database: Database::new(),
+        }
+    }
+}

@@ -1,0 +1,30 @@
+//! Answers to the questions of worked cases on texts, tables, exports and policies. `desk_cases` asks them, and those on the
+//! revisions of a site's files. (It is a library of its own so that it is proved beside what those stand on.)
+//!
+//! ```text
+//! let is_known = desk_cases_texts::answer(alloc, &mut site, &mut out, "path", "/usr//local")?;
+//! ```
+#![tactic(auto)]
+
+mod addresses;
+pub mod answers;
+mod credentials;
+mod custodians;
+mod entries;
+pub mod escapes;
+mod exports;
+mod faults;
+mod filesystems;
+mod hosts;
+mod lines;
+mod listings;
+mod netgroups;
+mod nets;
+mod networks;
+mod paths;
+pub mod policies;
+mod questions;
+pub mod site;
+pub mod sites;
+
+pub use questions::answer;

@@ -1,6 +1,0 @@
--- Each argument is added to those before it.
-use Rattle.desk_command_line.proofs.command_line.ask_command.Goals as goal
-
-pub returns : goal.returns
-returns c =
-    c.option.ensures _ (c.word-3.ensures _ (c.word-2.ensures _ (c.word.ensures _ (c.new.ensures))))

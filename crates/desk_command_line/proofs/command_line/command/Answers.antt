@@ -1,9 +1,0 @@
--- All the commands are added.
-use Rattle.std.proofs.lemmas.Result.{IfOk-weaker}
-use Rattle.desk_command_line.specs.PrivateDraft.{IsCommand}
-use Rattle.desk_command_line.specs.CommandLine as spec
-use Rattle.desk_command_line.proofs.command_line.command.Goals as goal
-
-pub returns : goal.returns
-returns c =
-    IfOk-weaker _ (IsCommand spec.command_line) _ (λ command is. is.is) (c.with_file_commands.ensures _ (c.with_desk_commands-draft.ensures _ c.text_commands.ensures))

@@ -1,6 +1,0 @@
--- The first line is taken.
-use Rattle.std.proofs.Common.{inr}
-use Rattle.desk_database_commands.proofs.put_command.key_of.Goals as goal
-
-pub returns-in-Some : goal.returns-in-Some
-returns-in-Some c = rw (← c.lines.ensures.rest) (inr (c.next.new.self.rest.now, c.in-Some.ensures.steps.0.2))
