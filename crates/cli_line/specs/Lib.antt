@@ -1,2 +1,2 @@
 pub mod CommandLine
-pub mod PrivateDraft
+pub mod PrivateArguments

@@ -3,49 +3,80 @@
 ghost use Rattle.std.specs.Prelude.{◌≡◌, IfOk};
 ghost use Rattle.clap.specs.Words.{App, app_of};
 ghost use Rattle.cli_line.specs.CommandLine as spec;
-ghost use Rattle.cli_line.specs.PrivateDraft.{IsCommand, IsMade};
+ghost use Rattle.cli_line.specs.PrivateArguments.{IsCommand, IsMade, app_for, with_commands};
 
-use crate::draft::Draft;
+use crate::arguments::{Argument, Kind, Title, titled, with_arguments};
 use clap::Command;
 use std::alloc::{AllocError, Global};
+
+/// A command of the program.
+#[derive(Clone, Copy)]
+pub enum Subcommand {
+    Try,
+    Split,
+    Check,
+    Init,
+    Ask,
+    Show,
+    Exports,
+    Put,
+    Log,
+    Cat,
+}
 
 /// Makes the program's command line: its subcommands.
 pub fn command<'a>(alloc: Global) -> Result<Command<'a>, AllocError>
     ensures { IfOk result (λ command. app_of command ≡ spec.command_line) }
 {
-    let draft = with_desk_commands(alloc, text_commands(alloc));
-    with_file_commands(alloc, draft).made
+    with_subcommands(
+        alloc,
+        program(alloc),
+        &[
+            Subcommand::Try,
+            Subcommand::Split,
+            Subcommand::Check,
+            Subcommand::Init,
+            Subcommand::Ask,
+            Subcommand::Show,
+            Subcommand::Exports,
+            Subcommand::Put,
+            Subcommand::Log,
+            Subcommand::Cat,
+        ],
+    )
 }
 
-/// Adds the commands that make a database, and that ask it for its policy.
-fn with_desk_commands<'a>(alloc: Global, draft: Draft<'a>) -> Draft<'a>
-    ensures { (app : App) → IsMade app draft.entry.made → IsMade (spec.with_desk_commands app) result.made }
+/// Adds commands to the program, in their order.
+fn with_subcommands<'a>(
+    alloc: Global,
+    program: Command<'a>,
+    subcommands: &[Subcommand],
+) -> Result<Command<'a>, AllocError>
+    ensures { (app : App) → IsCommand app program.entry → IsMade (with_commands app subcommands.entry.now) result }
 {
-    draft
-        .subcommand(init_command(alloc))
-        .subcommand(ask_command(alloc))
-        .subcommand(show_command(alloc))
-        .subcommand(exports_command(alloc))
+    let mut made = program;
+    for subcommand in subcommands {
+        made = made.subcommand(command_of(alloc, *subcommand)?)?;
+    }
+    Ok(made)
 }
 
-/// Adds the commands on one file of a database.
-fn with_file_commands<'a>(alloc: Global, draft: Draft<'a>) -> Draft<'a>
-    ensures { (app : App) → IsMade app draft.entry.made → IsMade (spec.with_file_commands app) result.made }
+/// Makes the command line of a command.
+fn command_of<'a>(alloc: Global, subcommand: Subcommand) -> Result<Command<'a>, AllocError>
+    ensures { IsMade (app_for subcommand) result }
 {
-    draft
-        .subcommand(put_command(alloc))
-        .subcommand(log_command(alloc))
-        .subcommand(cat_command(alloc))
-}
-
-/// Makes the program's command line with the commands on texts.
-fn text_commands<'a>(alloc: Global) -> Draft<'a>
-    ensures { IsMade spec.text_commands result.made }
-{
-    Draft::of(alloc, program(alloc))
-        .subcommand(try_command(alloc))
-        .subcommand(split_command(alloc))
-        .subcommand(check_command(alloc))
+    match subcommand {
+        Subcommand::Try => try_command(alloc),
+        Subcommand::Split => split_command(alloc),
+        Subcommand::Check => check_command(alloc),
+        Subcommand::Init => init_command(alloc),
+        Subcommand::Ask => ask_command(alloc),
+        Subcommand::Show => show_command(alloc),
+        Subcommand::Exports => exports_command(alloc),
+        Subcommand::Put => put_command(alloc),
+        Subcommand::Log => log_command(alloc),
+        Subcommand::Cat => cat_command(alloc),
+    }
 }
 
 /// Makes the program's command line without its subcommands.
@@ -67,230 +98,424 @@ fn program<'a>(alloc: Global) -> Command<'a>
 }
 
 /// Makes the command line of `try FILE HOST DIR MOUNT...`, with its options.
-fn try_command<'a>(alloc: Global) -> Draft<'a>
-    ensures { IsMade spec.try_command result.made }
+fn try_command<'a>(alloc: Global) -> Result<Command<'a>, AllocError>
+    ensures { IsMade spec.try_command result }
 {
-    with_tables(try_arguments(alloc)).option(
-        "as",
-        "CRED",
-        "The client's credential, as USER or USER:GROUP:...; a granted line says as whom it acts",
-    )
-}
-
-/// Adds the options that name the files of tables.
-fn with_tables<'a>(draft: Draft<'a>) -> Draft<'a>
-    ensures { (app : App) → IsMade app draft.entry.made → IsMade (spec.with_tables app) result.made }
-{
-    draft
-        .option("hosts", "FILE", "The addresses of names, as in hosts(5)")
-        .option(
-            "networks",
-            "FILE",
-            "The numbers of networks, as in networks(5)",
-        )
-        .option("passwd", "FILE", "The users, as in passwd(5)")
-        .option("group", "FILE", "The groups, as in group(5)")
-        .option("netgroup", "FILE", "The netgroups, as in netgroup(5)")
-}
-
-/// Makes the command line of `try FILE HOST DIR MOUNT...` without its options.
-fn try_arguments<'a>(alloc: Global) -> Draft<'a>
-    ensures { IsMade spec.try_arguments result.made }
-{
-    Draft::new(alloc, "try", "Decides one mount request by an exports file")
-        .after_help(
+    let title = Title {
+        name: "try",
+        about: "Decides one mount request by an exports file",
+        usage: None,
+        help: Some(
             "A table that is not given is empty: names of hosts then stand for nothing, credentials are\n\
              written in numbers with a colon (0:0), and names of networks are unknown. One file may be -,\n\
              standard input.",
-        )
-        .word("FILE", "The exports text; - is standard input")
-        .word("HOST", "The IPv4 address of the client")
-        .word("DIR", "The directory that it asks for")
-        .words("MOUNT", "The mount points of the file systems")
+        ),
+    };
+    with_arguments(
+        alloc,
+        titled(alloc, title),
+        &[
+            Argument {
+                name: "FILE",
+                kind: Kind::Word,
+                help: "The exports text; - is standard input",
+            },
+            Argument {
+                name: "HOST",
+                kind: Kind::Word,
+                help: "The IPv4 address of the client",
+            },
+            Argument {
+                name: "DIR",
+                kind: Kind::Word,
+                help: "The directory that it asks for",
+            },
+            Argument {
+                name: "MOUNT",
+                kind: Kind::Words,
+                help: "The mount points of the file systems",
+            },
+            Argument {
+                name: "hosts",
+                kind: Kind::Valued("FILE"),
+                help: "The addresses of names, as in hosts(5)",
+            },
+            Argument {
+                name: "networks",
+                kind: Kind::Valued("FILE"),
+                help: "The numbers of networks, as in networks(5)",
+            },
+            Argument {
+                name: "passwd",
+                kind: Kind::Valued("FILE"),
+                help: "The users, as in passwd(5)",
+            },
+            Argument {
+                name: "group",
+                kind: Kind::Valued("FILE"),
+                help: "The groups, as in group(5)",
+            },
+            Argument {
+                name: "netgroup",
+                kind: Kind::Valued("FILE"),
+                help: "The netgroups, as in netgroup(5)",
+            },
+            Argument {
+                name: "as",
+                kind: Kind::Valued("CRED"),
+                help: "The client's credential, as USER or USER:GROUP:...; a granted line says as whom it acts",
+            },
+        ],
+    )
 }
 
 /// Makes the command line of `split FILE FILESYSTEMS`.
-fn split_command<'a>(alloc: Global) -> Draft<'a>
-    ensures { IsMade spec.split_command result.made }
+fn split_command<'a>(alloc: Global) -> Result<Command<'a>, AllocError>
+    ensures { IsMade spec.split_command result }
 {
-    Draft::new(alloc, "split", "Splits an exports file among file systems")
-        .after_help(
+    let title = Title {
+        name: "split",
+        about: "Splits an exports file among file systems",
+        usage: None,
+        help: Some(
             "For each file system, in byte order of the mount points, it prints a line `== MOUNT` and the\n\
              lines of FILE that are for it, as they are written. A line is for the file system of its first\n\
              directory, a V4: line for the first file system. Comments are left out.",
-        )
-        .word("FILE", "The exports text; - is standard input")
-        .word(
-            "FILESYSTEMS",
-            "The file systems, each a line `MOUNT CUSTODIAN...`; - is standard input",
-        )
+        ),
+    };
+    with_arguments(
+        alloc,
+        titled(alloc, title),
+        &[
+            Argument {
+                name: "FILE",
+                kind: Kind::Word,
+                help: "The exports text; - is standard input",
+            },
+            Argument {
+                name: "FILESYSTEMS",
+                kind: Kind::Word,
+                help: "The file systems, each a line `MOUNT CUSTODIAN...`; - is standard input",
+            },
+        ],
+    )
 }
 
 /// Makes the command line of `check FILE MOUNT...` or `check --site DIR`, with its options.
-fn check_command<'a>(alloc: Global) -> Draft<'a>
-    ensures { IsMade spec.check_command result.made }
+fn check_command<'a>(alloc: Global) -> Result<Command<'a>, AllocError>
+    ensures { IsMade spec.check_command result }
 {
-    with_tables(check_arguments(alloc))
-        .option(
-            "site",
-            "DIR",
-            "The folder of a site's files: custodians, filesystems, hosts, networks, passwd, group, netgroup, exports",
-        )
-        .flag(
-            "brief",
-            "Leaves out the lines of the files and the marks below them",
-        )
-        .flag(
-            "strict",
-            "Ends with the status 3 where there is a warning, too",
-        )
-        .flag("json", "Prints the findings as one compact JSON list")
-}
-
-/// Makes the command line of `check` without its options.
-fn check_arguments<'a>(alloc: Global) -> Draft<'a>
-    ensures { IsMade spec.check_arguments result.made }
-{
-    Draft::new(
-        alloc,
-        "check",
-        "Reports every fault and warning of an exports file and its tables",
-    )
-    .usage(
-        "exportdesk check [OPTIONS] <FILE> <MOUNT>...\n       exportdesk check [OPTIONS] --site <DIR>",
-    )
-    .after_help(
-        "Each finding is a line `PATH:LINE:COLUMN: fault RULE NAME: ...` or `.. warning ..`, behind which\n\
+    let title = Title {
+        name: "check",
+        about: "Reports every fault and warning of an exports file and its tables",
+        usage: Some(
+            "exportdesk check [OPTIONS] <FILE> <MOUNT>...\n       exportdesk check [OPTIONS] --site <DIR>",
+        ),
+        help: Some(
+            "Each finding is a line `PATH:LINE:COLUMN: fault RULE NAME: ...` or `.. warning ..`, behind which\n\
              stands the line of the file with a mark below the words that it is about. Exports are looked at\n\
              only once the tables have no fault. A table that is not given is empty. One file may be -,\n\
              standard input.",
+        ),
+    };
+    with_arguments(
+        alloc,
+        titled(alloc, title),
+        &[
+            Argument {
+                name: "FILE",
+                kind: Kind::MaybeWord,
+                help: "The exports text; - is standard input",
+            },
+            Argument {
+                name: "MOUNT",
+                kind: Kind::MaybeWords,
+                help: "The mount points of the file systems",
+            },
+            Argument {
+                name: "hosts",
+                kind: Kind::Valued("FILE"),
+                help: "The addresses of names, as in hosts(5)",
+            },
+            Argument {
+                name: "networks",
+                kind: Kind::Valued("FILE"),
+                help: "The numbers of networks, as in networks(5)",
+            },
+            Argument {
+                name: "passwd",
+                kind: Kind::Valued("FILE"),
+                help: "The users, as in passwd(5)",
+            },
+            Argument {
+                name: "group",
+                kind: Kind::Valued("FILE"),
+                help: "The groups, as in group(5)",
+            },
+            Argument {
+                name: "netgroup",
+                kind: Kind::Valued("FILE"),
+                help: "The netgroups, as in netgroup(5)",
+            },
+            Argument {
+                name: "site",
+                kind: Kind::Valued("DIR"),
+                help: "The folder of a site's files: custodians, filesystems, hosts, networks, passwd, group, netgroup, exports",
+            },
+            Argument {
+                name: "brief",
+                kind: Kind::Flag,
+                help: "Leaves out the lines of the files and the marks below them",
+            },
+            Argument {
+                name: "strict",
+                kind: Kind::Flag,
+                help: "Ends with the status 3 where there is a warning, too",
+            },
+            Argument {
+                name: "json",
+                kind: Kind::Flag,
+                help: "Prints the findings as one compact JSON list",
+            },
+        ],
     )
-    .optional_word("FILE", "The exports text; - is standard input")
-    .optional_words("MOUNT", "The mount points of the file systems")
 }
 
 /// Makes the command line of `init DB DIR`.
-fn init_command<'a>(alloc: Global) -> Draft<'a>
-    ensures { IsMade spec.init_command result.made }
+fn init_command<'a>(alloc: Global) -> Result<Command<'a>, AllocError>
+    ensures { IsMade spec.init_command result }
 {
-    Draft::new(alloc, "init", "Makes a database of a site's files")
-        .after_help(
+    let title = Title {
+        name: "init",
+        about: "Makes a database of a site's files",
+        usage: None,
+        help: Some(
             "DIR has the files custodians, filesystems, hosts, networks, passwd, group, netgroup and exports;\n\
              exports is split among the file systems. Each file is stored as revision 1, by site. It prints the\n\
              warnings of the files, and `ready`. DB is made for its owner alone; a log DB-wal stands beside it.",
-        )
-        .word("DB", "The file of the database")
-        .word("DIR", "The folder of the site's files")
+        ),
+    };
+    with_arguments(
+        alloc,
+        titled(alloc, title),
+        &[
+            Argument {
+                name: "DB",
+                kind: Kind::Word,
+                help: "The file of the database",
+            },
+            Argument {
+                name: "DIR",
+                kind: Kind::Word,
+                help: "The folder of the site's files",
+            },
+        ],
+    )
 }
 
 /// Makes the command line of `ask DB HOST DIR`, with its option.
-fn ask_command<'a>(alloc: Global) -> Draft<'a>
-    ensures { IsMade spec.ask_command result.made }
+fn ask_command<'a>(alloc: Global) -> Result<Command<'a>, AllocError>
+    ensures { IsMade spec.ask_command result }
 {
-    Draft::new(
+    let title = Title {
+        name: "ask",
+        about: "Decides one mount request by the policy in force",
+        usage: None,
+        help: None,
+    };
+    with_arguments(
         alloc,
-        "ask",
-        "Decides one mount request by the policy in force",
-    )
-    .word("DB", "The file of the database")
-    .word("HOST", "The IPv4 address of the client")
-    .word("DIR", "The directory that it asks for")
-    .option(
-        "as",
-        "CRED",
-        "The client's credential in numbers, as 1001:100:5; a granted line says as whom it acts",
+        titled(alloc, title),
+        &[
+            Argument {
+                name: "DB",
+                kind: Kind::Word,
+                help: "The file of the database",
+            },
+            Argument {
+                name: "HOST",
+                kind: Kind::Word,
+                help: "The IPv4 address of the client",
+            },
+            Argument {
+                name: "DIR",
+                kind: Kind::Word,
+                help: "The directory that it asks for",
+            },
+            Argument {
+                name: "as",
+                kind: Kind::Valued("CRED"),
+                help: "The client's credential in numbers, as 1001:100:5; a granted line says as whom it acts",
+            },
+        ],
     )
 }
 
 /// Makes the command line of `show DB HOST`.
-fn show_command<'a>(alloc: Global) -> Draft<'a>
-    ensures { IsMade spec.show_command result.made }
+fn show_command<'a>(alloc: Global) -> Result<Command<'a>, AllocError>
+    ensures { IsMade spec.show_command result }
 {
-    Draft::new(alloc, "show", "Lists what a client may mount")
-        .word("DB", "The file of the database")
-        .word("HOST", "The IPv4 address of the client")
+    let title = Title {
+        name: "show",
+        about: "Lists what a client may mount",
+        usage: None,
+        help: None,
+    };
+    with_arguments(
+        alloc,
+        titled(alloc, title),
+        &[
+            Argument {
+                name: "DB",
+                kind: Kind::Word,
+                help: "The file of the database",
+            },
+            Argument {
+                name: "HOST",
+                kind: Kind::Word,
+                help: "The IPv4 address of the client",
+            },
+        ],
+    )
 }
 
 /// Makes the command line of `exports DB`.
-fn exports_command<'a>(alloc: Global) -> Draft<'a>
-    ensures { IsMade spec.exports_command result.made }
+fn exports_command<'a>(alloc: Global) -> Result<Command<'a>, AllocError>
+    ensures { IsMade spec.exports_command result }
 {
-    Draft::new(
+    let title = Title {
+        name: "exports",
+        about: "Lists the directories of all exports lines, and whom they are for",
+        usage: None,
+        help: None,
+    };
+    with_arguments(
         alloc,
-        "exports",
-        "Lists the directories of all exports lines, and whom they are for",
+        titled(alloc, title),
+        &[Argument {
+            name: "DB",
+            kind: Kind::Word,
+            help: "The file of the database",
+        }],
     )
-    .word("DB", "The file of the database")
 }
 
 /// Makes the command line of `put DB NAME FILE`, with its options.
-fn put_command<'a>(alloc: Global) -> Draft<'a>
-    ensures { IsMade spec.put_command result.made }
+fn put_command<'a>(alloc: Global) -> Result<Command<'a>, AllocError>
+    ensures { IsMade spec.put_command result }
 {
-    put_arguments(alloc)
-        .required_option(
-            "base",
-            "N",
-            "The number of the revision that the edit follows; 0 if there is none",
-        )
-        .required_option("caller", "CUSTODIAN", "Who edits the file")
-        .option(
-            "key",
-            "KEY",
-            "The caller's key; every user of the machine can see it",
-        )
-        .option(
-            "key-file",
-            "FILE",
-            "The file whose first line is the caller's key; - is standard input",
-        )
-}
-
-/// Makes the command line of `put DB NAME FILE` without its options.
-fn put_arguments<'a>(alloc: Global) -> Draft<'a>
-    ensures { IsMade spec.put_arguments result.made }
-{
-    Draft::new(
-        alloc,
-        "put",
-        "Puts a new text of a file in force, as its next revision",
-    )
-    .usage(
-        "exportdesk put <DB> <NAME> <FILE> --base <N> --caller <CUSTODIAN> --key-file <FILE>\n       exportdesk put <DB> <NAME> <FILE> --base <N> --caller <CUSTODIAN> --key <KEY>",
-    )
-    .after_help(
-        "NAME is custodians, filesystems, hosts, networks, passwd, group or netgroup, which site keeps, or\n\
+    let title = Title {
+        name: "put",
+        about: "Puts a new text of a file in force, as its next revision",
+        usage: Some(
+            "exportdesk put <DB> <NAME> <FILE> --base <N> --caller <CUSTODIAN> --key-file <FILE>\n       exportdesk put <DB> <NAME> <FILE> --base <N> --caller <CUSTODIAN> --key <KEY>",
+        ),
+        help: Some(
+            "NAME is custodians, filesystems, hosts, networks, passwd, group or netgroup, which site keeps, or\n\
              exports: and a mount point, as exports:/usr, which the custodians of that mount point keep. Nothing\n\
              is stored unless the site is consistent with the new text.",
+        ),
+    };
+    with_arguments(
+        alloc,
+        titled(alloc, title),
+        &[
+            Argument {
+                name: "DB",
+                kind: Kind::Word,
+                help: "The file of the database",
+            },
+            Argument {
+                name: "NAME",
+                kind: Kind::Word,
+                help: "The name of the file",
+            },
+            Argument {
+                name: "FILE",
+                kind: Kind::Word,
+                help: "The new text; - is standard input",
+            },
+            Argument {
+                name: "base",
+                kind: Kind::Needed("N"),
+                help: "The number of the revision that the edit follows; 0 if there is none",
+            },
+            Argument {
+                name: "caller",
+                kind: Kind::Needed("CUSTODIAN"),
+                help: "Who edits the file",
+            },
+            Argument {
+                name: "key",
+                kind: Kind::Valued("KEY"),
+                help: "The caller's key; every user of the machine can see it",
+            },
+            Argument {
+                name: "key-file",
+                kind: Kind::Valued("FILE"),
+                help: "The file whose first line is the caller's key; - is standard input",
+            },
+        ],
     )
-    .word("DB", "The file of the database")
-    .word("NAME", "The name of the file")
-    .word("FILE", "The new text; - is standard input")
 }
 
 /// Makes the command line of `log DB NAME`.
-fn log_command<'a>(alloc: Global) -> Draft<'a>
-    ensures { IsMade spec.log_command result.made }
+fn log_command<'a>(alloc: Global) -> Result<Command<'a>, AllocError>
+    ensures { IsMade spec.log_command result }
 {
-    Draft::new(
+    let title = Title {
+        name: "log",
+        about: "Lists the revisions of a file with their authors",
+        usage: None,
+        help: None,
+    };
+    with_arguments(
         alloc,
-        "log",
-        "Lists the revisions of a file with their authors",
+        titled(alloc, title),
+        &[
+            Argument {
+                name: "DB",
+                kind: Kind::Word,
+                help: "The file of the database",
+            },
+            Argument {
+                name: "NAME",
+                kind: Kind::Word,
+                help: "The name of the file",
+            },
+        ],
     )
-    .word("DB", "The file of the database")
-    .word("NAME", "The name of the file")
 }
 
 /// Makes the command line of `cat DB NAME`, with its option.
-fn cat_command<'a>(alloc: Global) -> Draft<'a>
-    ensures { IsMade spec.cat_command result.made }
+fn cat_command<'a>(alloc: Global) -> Result<Command<'a>, AllocError>
+    ensures { IsMade spec.cat_command result }
 {
-    Draft::new(alloc, "cat", "Prints the text of a file")
-        .word("DB", "The file of the database")
-        .word("NAME", "The name of the file")
-        .option(
-            "rev",
-            "N",
-            "The number of the revision; the newest without it",
-        )
+    let title = Title {
+        name: "cat",
+        about: "Prints the text of a file",
+        usage: None,
+        help: None,
+    };
+    with_arguments(
+        alloc,
+        titled(alloc, title),
+        &[
+            Argument {
+                name: "DB",
+                kind: Kind::Word,
+                help: "The file of the database",
+            },
+            Argument {
+                name: "NAME",
+                kind: Kind::Word,
+                help: "The name of the file",
+            },
+            Argument {
+                name: "rev",
+                kind: Kind::Valued("N"),
+                help: "The number of the revision; the newest without it",
+            },
+        ],
+    )
 }

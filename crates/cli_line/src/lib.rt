@@ -9,7 +9,7 @@
 //! ```
 #![tactic(auto)]
 
+mod arguments;
 mod command_line;
-mod draft;
 
 pub use command_line::command;

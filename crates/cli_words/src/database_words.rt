@@ -1,12 +1,12 @@
 //! The words of the commands on a database.
 
 ghost use Rattle.std.specs.Prelude.{◌≡◌};
+ghost use Rattle.std.specs.Option.{option_map};
 ghost use Rattle.clap.specs.Words.{found_of, rows_of};
 ghost use Rattle.cli_line.specs.CommandLine.{ask_words_in, cat_words_in, exports_words_in, init_words_in, log_words_in, put_words_in, show_words_in};
-ghost use Rattle.cli_words.specs.Words.{Finds, given_ask, given_cat, given_exports, given_init, given_log, given_put, given_show};
+ghost use Rattle.cli_words.specs.Words.{given_ask, given_cat, given_exports, given_init, given_log, given_put, given_show};
 
-use crate::failure::Failure;
-use crate::words::{optional, required};
+use crate::words::word;
 use clap::ArgMatches;
 
 /// The words of `init`.
@@ -17,13 +17,13 @@ pub struct InitWords<'a> {
 }
 
 impl<'a> InitWords<'a> {
-    /// Takes the words of `init` from what `clap` found.
-    pub fn find(found: &ArgMatches<'a>) -> Result<InitWords<'a>, Failure>
-        ensures { Finds given_init (init_words_in (rows_of (found_of found.now))) result }
+    /// Takes the words of `init` from what `clap` found, if it found each that it requires.
+    pub fn find(found: &ArgMatches<'a>) -> Option<InitWords<'a>>
+        ensures { option_map given_init result ≡ init_words_in (rows_of (found_of found.now)) }
     {
-        let db = required(found, "DB")?;
-        let dir = required(found, "DIR")?;
-        Ok(InitWords { db, dir })
+        let db = word(found, "DB")?;
+        let dir = word(found, "DIR")?;
+        Some(InitWords { db, dir })
     }
 }
 
@@ -37,18 +37,18 @@ pub struct AskWords<'a> {
 }
 
 impl<'a> AskWords<'a> {
-    /// Takes the words of `ask` from what `clap` found.
-    pub fn find(found: &ArgMatches<'a>) -> Result<AskWords<'a>, Failure>
-        ensures { Finds given_ask (ask_words_in (rows_of (found_of found.now))) result }
+    /// Takes the words of `ask` from what `clap` found, if it found each that it requires.
+    pub fn find(found: &ArgMatches<'a>) -> Option<AskWords<'a>>
+        ensures { option_map given_ask result ≡ ask_words_in (rows_of (found_of found.now)) }
     {
-        let db = required(found, "DB")?;
-        let host = required(found, "HOST")?;
-        let dir = required(found, "DIR")?;
-        Ok(AskWords {
+        let db = word(found, "DB")?;
+        let host = word(found, "HOST")?;
+        let dir = word(found, "DIR")?;
+        Some(AskWords {
             db,
             host,
             dir,
-            credential: optional(found, "as"),
+            credential: word(found, "as"),
         })
     }
 }
@@ -67,23 +67,23 @@ pub struct ExportsWords<'a> {
 }
 
 impl<'a> ShowWords<'a> {
-    /// Takes the words of `show` from what `clap` found.
-    pub fn find(found: &ArgMatches<'a>) -> Result<ShowWords<'a>, Failure>
-        ensures { Finds given_show (show_words_in (rows_of (found_of found.now))) result }
+    /// Takes the words of `show` from what `clap` found, if it found each that it requires.
+    pub fn find(found: &ArgMatches<'a>) -> Option<ShowWords<'a>>
+        ensures { option_map given_show result ≡ show_words_in (rows_of (found_of found.now)) }
     {
-        let db = required(found, "DB")?;
-        let host = required(found, "HOST")?;
-        Ok(ShowWords { db, host })
+        let db = word(found, "DB")?;
+        let host = word(found, "HOST")?;
+        Some(ShowWords { db, host })
     }
 }
 
 impl<'a> ExportsWords<'a> {
-    /// Takes the words of `exports` from what `clap` found.
-    pub fn find(found: &ArgMatches<'a>) -> Result<ExportsWords<'a>, Failure>
-        ensures { Finds given_exports (exports_words_in (rows_of (found_of found.now))) result }
+    /// Takes the words of `exports` from what `clap` found, if it found each that it requires.
+    pub fn find(found: &ArgMatches<'a>) -> Option<ExportsWords<'a>>
+        ensures { option_map given_exports result ≡ exports_words_in (rows_of (found_of found.now)) }
     {
-        let db = required(found, "DB")?;
-        Ok(ExportsWords { db })
+        let db = word(found, "DB")?;
+        Some(ExportsWords { db })
     }
 }
 
@@ -100,23 +100,23 @@ pub struct PutWords<'a> {
 }
 
 impl<'a> PutWords<'a> {
-    /// Takes the words of `put` from what `clap` found.
-    pub fn find(found: &ArgMatches<'a>) -> Result<PutWords<'a>, Failure>
-        ensures { Finds given_put (put_words_in (rows_of (found_of found.now))) result }
+    /// Takes the words of `put` from what `clap` found, if it found each that it requires.
+    pub fn find(found: &ArgMatches<'a>) -> Option<PutWords<'a>>
+        ensures { option_map given_put result ≡ put_words_in (rows_of (found_of found.now)) }
     {
-        let db = required(found, "DB")?;
-        let name = required(found, "NAME")?;
-        let file = required(found, "FILE")?;
-        let base = required(found, "base")?;
-        let caller = required(found, "caller")?;
-        Ok(PutWords {
+        let db = word(found, "DB")?;
+        let name = word(found, "NAME")?;
+        let file = word(found, "FILE")?;
+        let base = word(found, "base")?;
+        let caller = word(found, "caller")?;
+        Some(PutWords {
             db,
             name,
             file,
             base,
             caller,
-            key: optional(found, "key"),
-            key_file: optional(found, "key-file"),
+            key: word(found, "key"),
+            key_file: word(found, "key-file"),
         })
     }
 }
@@ -137,27 +137,27 @@ pub struct CatWords<'a> {
 }
 
 impl<'a> LogWords<'a> {
-    /// Takes the words of `log` from what `clap` found.
-    pub fn find(found: &ArgMatches<'a>) -> Result<LogWords<'a>, Failure>
-        ensures { Finds given_log (log_words_in (rows_of (found_of found.now))) result }
+    /// Takes the words of `log` from what `clap` found, if it found each that it requires.
+    pub fn find(found: &ArgMatches<'a>) -> Option<LogWords<'a>>
+        ensures { option_map given_log result ≡ log_words_in (rows_of (found_of found.now)) }
     {
-        let db = required(found, "DB")?;
-        let name = required(found, "NAME")?;
-        Ok(LogWords { db, name })
+        let db = word(found, "DB")?;
+        let name = word(found, "NAME")?;
+        Some(LogWords { db, name })
     }
 }
 
 impl<'a> CatWords<'a> {
-    /// Takes the words of `cat` from what `clap` found.
-    pub fn find(found: &ArgMatches<'a>) -> Result<CatWords<'a>, Failure>
-        ensures { Finds given_cat (cat_words_in (rows_of (found_of found.now))) result }
+    /// Takes the words of `cat` from what `clap` found, if it found each that it requires.
+    pub fn find(found: &ArgMatches<'a>) -> Option<CatWords<'a>>
+        ensures { option_map given_cat result ≡ cat_words_in (rows_of (found_of found.now)) }
     {
-        let db = required(found, "DB")?;
-        let name = required(found, "NAME")?;
-        Ok(CatWords {
+        let db = word(found, "DB")?;
+        let name = word(found, "NAME")?;
+        Some(CatWords {
             db,
             name,
-            rev: optional(found, "rev"),
+            rev: word(found, "rev"),
         })
     }
 }

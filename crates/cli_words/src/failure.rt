@@ -138,17 +138,17 @@ impl fmt::Display for Failure {
             Failure::Usage(text) => f.write_str(text.as_str()),
             Failure::Missing(name) => write!(f, "{name}: it is missing"),
             Failure::BesideSite(name) => write!(f, "{name}: it cannot be given with --site"),
-            Failure::Argument(bad) => write!(f, "{bad}"),
-            Failure::TooManyMounts => write!(f, "MOUNT: over 256 different mount points"),
-            Failure::FirstLine(failure) => write!(f, "{failure}"),
-            Failure::InputTwice => write!(f, "two files cannot both be standard input"),
-            Failure::KeyTwice => write!(f, "--key and --key-file: only one of them can be given"),
-            Failure::NoKey => write!(f, "--key or --key-file: it is missing"),
+            Failure::Argument(bad) => bad.fmt(f),
+            Failure::TooManyMounts => f.write_str("MOUNT: over 256 different mount points"),
+            Failure::FirstLine(failure) => failure.fmt(f),
+            Failure::InputTwice => f.write_str("two files cannot both be standard input"),
+            Failure::KeyTwice => f.write_str("--key and --key-file: only one of them can be given"),
+            Failure::NoKey => f.write_str("--key or --key-file: it is missing"),
             Failure::File(argument, word, failure) => {
                 let name = argument.name();
                 write!(f, "{name} {word:?}: {failure}")
             }
-            Failure::Memory => write!(f, "out of memory"),
+            Failure::Memory => f.write_str("out of memory"),
         }
     }
 }
@@ -156,8 +156,8 @@ impl fmt::Display for Failure {
 impl fmt::Display for ReadFailure {
     fn fmt<W: fmt::Write>(&self, f: &mut fmt::Formatter<W>) -> fmt::Result {
         match self {
-            ReadFailure::System(error) => write!(f, "{error}"),
-            ReadFailure::Text(TextFault::TooLong) => write!(f, "it is over 16777216 bytes"),
+            ReadFailure::System(error) => error.fmt(f),
+            ReadFailure::Text(TextFault::TooLong) => f.write_str("it is over 16777216 bytes"),
             ReadFailure::Text(TextFault::NotUtf8 { line, column }) => {
                 write!(f, "line {line}, column {column}: it is not UTF-8")
             }

@@ -1,12 +1,12 @@
 //! The words of the commands on texts.
 
 ghost use Rattle.std.specs.Prelude.{◌≡◌};
+ghost use Rattle.std.specs.Option.{option_map};
 ghost use Rattle.clap.specs.Words.{found_of, rows_of};
 ghost use Rattle.cli_line.specs.CommandLine.{check_words_in, split_words_in, table_words_in, try_words_in};
-ghost use Rattle.cli_words.specs.Words.{Finds, given_check, given_split, given_tables, given_try};
+ghost use Rattle.cli_words.specs.Words.{given_check, given_split, given_tables, given_try};
 
-use crate::failure::Failure;
-use crate::words::{is_set, required};
+use crate::words::{is_set, word};
 use clap::ArgMatches;
 
 /// The words of the options that name the files of tables.
@@ -46,23 +46,23 @@ pub struct TryWords<'m, 'a> {
 }
 
 impl<'m, 'a> TryWords<'m, 'a> {
-    /// Takes the words of `try` from what `clap` found.
-    pub fn find(found: &'m ArgMatches<'a>) -> Result<TryWords<'m, 'a>, Failure>
-        ensures { Finds given_try (try_words_in (rows_of (found_of found.now))) result }
+    /// Takes the words of `try` from what `clap` found, if it found each that it requires.
+    pub fn find(found: &'m ArgMatches<'a>) -> Option<TryWords<'m, 'a>>
+        ensures { option_map given_try result ≡ try_words_in (rows_of (found_of found.now)) }
     {
-        let file = required(found, "FILE")?;
-        let host = required(found, "HOST")?;
-        let dir = required(found, "DIR")?;
+        let file = word(found, "FILE")?;
+        let host = word(found, "HOST")?;
+        let dir = word(found, "DIR")?;
         match found.get_strs("MOUNT") {
-            Some(mounts) => Ok(TryWords {
+            Some(mounts) => Some(TryWords {
                 file,
                 host,
                 dir,
                 mounts,
                 tables: TableWords::find(found),
-                credential: found.get_str("as"),
+                credential: word(found, "as"),
             }),
-            None => Err(Failure::Missing("MOUNT")),
+            None => None,
         }
     }
 }
@@ -75,13 +75,13 @@ pub struct SplitWords<'a> {
 }
 
 impl<'a> SplitWords<'a> {
-    /// Takes the words of `split` from what `clap` found.
-    pub fn find(found: &ArgMatches<'a>) -> Result<SplitWords<'a>, Failure>
-        ensures { Finds given_split (split_words_in (rows_of (found_of found.now))) result }
+    /// Takes the words of `split` from what `clap` found, if it found each that it requires.
+    pub fn find(found: &ArgMatches<'a>) -> Option<SplitWords<'a>>
+        ensures { option_map given_split result ≡ split_words_in (rows_of (found_of found.now)) }
     {
-        let file = required(found, "FILE")?;
-        let filesystems = required(found, "FILESYSTEMS")?;
-        Ok(SplitWords { file, filesystems })
+        let file = word(found, "FILE")?;
+        let filesystems = word(found, "FILESYSTEMS")?;
+        Some(SplitWords { file, filesystems })
     }
 }
 

@@ -1,11 +1,11 @@
 //! The command that `clap` finds, with its words.
 
-ghost use Rattle.std.specs.Prelude.{◌≡◌, Some, None, MatchResult};
+ghost use Rattle.std.specs.Prelude.{◌≡◌};
 ghost use Rattle.std.specs.Option.{option_map};
 ghost use Rattle.clap.specs.Words.{first_of, found_of, rows_of, subcommand_rows_of};
 ghost use Rattle.cli_line.specs.CommandLine.{command_in, command_of, desk_command_in, is_set};
 ghost use Rattle.cli_words.specs.PrivateWords.{file_command_in};
-ghost use Rattle.cli_words.specs.Words.{Finds, IsMissing, given};
+ghost use Rattle.cli_words.specs.Words.{Finds, given};
 
 use crate::database_words::{
     AskWords, CatWords, ExportsWords, InitWords, LogWords, PutWords, ShowWords,
@@ -34,70 +34,53 @@ pub fn found_command<'m, 'a>(matches: &'m ArgMatches<'a>) -> Result<CommandWords
     ensures { Finds given (command_of (subcommand_rows_of matches.now)) result }
 {
     match matches.subcommand() {
-        Some((name, words)) => found_words(name, words),
+        Some((name, words)) => match found_words(name, words) {
+            Some(found) => Ok(found),
+            None => Err(Failure::Missing("a word of the command")),
+        },
         None => Err(Failure::Missing("the command")),
     }
 }
 
-/// Takes the words of the command of this name.
-fn found_words<'m, 'a>(
-    name: &str,
-    words: &'m ArgMatches<'a>,
-) -> Result<CommandWords<'m, 'a>, Failure>
-    ensures { Finds given (command_in name.now (rows_of (found_of words.now))) result }
+/// Takes the words of the command of this name, if there is one and none is missing.
+fn found_words<'m, 'a>(name: &str, words: &'m ArgMatches<'a>) -> Option<CommandWords<'m, 'a>>
+    ensures { option_map given result ≡ command_in name.now (rows_of (found_of words.now)) }
 {
     match name {
-        "try" => Ok(CommandWords::Try(TryWords::find(words)?)),
-        "split" => Ok(CommandWords::Split(SplitWords::find(words)?)),
-        "check" => Ok(CommandWords::Check(CheckWords::find(words))),
+        "try" => Some(CommandWords::Try(TryWords::find(words)?)),
+        "split" => Some(CommandWords::Split(SplitWords::find(words)?)),
+        "check" => Some(CommandWords::Check(CheckWords::find(words))),
         _ => found_desk_words(name, words),
     }
 }
 
-/// Takes the words of the command of this name that is on a database.
-fn found_desk_words<'m, 'a>(
-    name: &str,
-    words: &'m ArgMatches<'a>,
-) -> Result<CommandWords<'m, 'a>, Failure>
-    ensures { Finds given (desk_command_in name.now (rows_of (found_of words.now))) result }
+/// Takes the words of the command of this name that is on a database, if there is one and none is missing.
+fn found_desk_words<'m, 'a>(name: &str, words: &'m ArgMatches<'a>) -> Option<CommandWords<'m, 'a>>
+    ensures { option_map given result ≡ desk_command_in name.now (rows_of (found_of words.now)) }
 {
     match name {
-        "init" => Ok(CommandWords::Init(InitWords::find(words)?)),
-        "ask" => Ok(CommandWords::Ask(AskWords::find(words)?)),
-        "show" => Ok(CommandWords::Show(ShowWords::find(words)?)),
-        "exports" => Ok(CommandWords::Exports(ExportsWords::find(words)?)),
+        "init" => Some(CommandWords::Init(InitWords::find(words)?)),
+        "ask" => Some(CommandWords::Ask(AskWords::find(words)?)),
+        "show" => Some(CommandWords::Show(ShowWords::find(words)?)),
+        "exports" => Some(CommandWords::Exports(ExportsWords::find(words)?)),
         _ => found_file_words(name, words),
     }
 }
 
-/// Takes the words of the command of this name that is on one file of a database.
-fn found_file_words<'m, 'a>(
-    name: &str,
-    words: &'m ArgMatches<'a>,
-) -> Result<CommandWords<'m, 'a>, Failure>
-    ensures { Finds given (file_command_in name.now (rows_of (found_of words.now))) result }
+/// Takes the words of the command of this name that is on one file of a database, if there is one and none is missing.
+fn found_file_words<'m, 'a>(name: &str, words: &'m ArgMatches<'a>) -> Option<CommandWords<'m, 'a>>
+    ensures { option_map given result ≡ file_command_in name.now (rows_of (found_of words.now)) }
 {
     match name {
-        "put" => Ok(CommandWords::Put(PutWords::find(words)?)),
-        "log" => Ok(CommandWords::Log(LogWords::find(words)?)),
-        "cat" => Ok(CommandWords::Cat(CatWords::find(words)?)),
-        _ => Err(Failure::Missing("the command")),
+        "put" => Some(CommandWords::Put(PutWords::find(words)?)),
+        "log" => Some(CommandWords::Log(LogWords::find(words)?)),
+        "cat" => Some(CommandWords::Cat(CatWords::find(words)?)),
+        _ => None,
     }
 }
 
-/// Returns the word of an argument that `clap` requires.
-pub fn required<'a>(words: &ArgMatches<'a>, name: &'static str) -> Result<&'a str, Failure>
-    ensures { let found = first_of name.entry.now (rows_of (found_of words.now)) in
-        MatchResult result (λ word. found ≡ Some word.now) (λ failure. (found ≡ None) × IsMissing failure) }
-{
-    match words.get_str(name) {
-        Some(word) => Ok(word),
-        None => Err(Failure::Missing(name)),
-    }
-}
-
-/// Returns the word of an option, if it is given.
-pub fn optional<'a>(words: &ArgMatches<'a>, name: &str) -> Option<&'a str>
+/// Returns the word of an argument or an option, if it is given.
+pub fn word<'a>(words: &ArgMatches<'a>, name: &str) -> Option<&'a str>
     ensures { option_map (λ word. word.now) result ≡ first_of name.now (rows_of (found_of words.now)) }
 {
     words.get_str(name)

@@ -1,15 +1,18 @@
 -- What is made of an edit of which no case holds.
-use Rattle.std.proofs.Common.{◌≡◌, sym, subst, ℕ, ◌<◌, ◌≤◌, Bool, true, false, cond, List, [], ◌∷◌, Some, None, Ok, All, length, arith}
+use Rattle.std.proofs.Common.{◌≡◌, refl, sym, subst, ℕ, ◌<◌, ◌≤◌, Bool, true, false, cond, List, [], ◌∷◌, Some, None, Ok, Err, All, length, arith}
 use Rattle.std.specs.Prelude.{find}
 use Rattle.std.specs.List.{AllByRecursion}
 use Rattle.std.specs.Str.{bytes_eq}
 use Rattle.std.proofs.lemmas.List.Elements.{recursion_from_All}
+use Rattle.desk_text.specs.declared.reading.ReadError.{ReadError}
+use Rattle.desk_text.specs.declared.reading.ReadError.TheVariants.{Fault, Memory}
 use Rattle.desk_tables.specs.Custodians.{read_custodians}
 use Rattle.desk_policy.specs.Policy.{Content}
+use Rattle.desk_policy.specs.declared.site_fault.SiteFault.{SiteFault}
 use Rattle.desk_core.specs.Edit.{Edit, revision_of}
 use Rattle.desk_core.specs.Head.{CanBeKept, last_revision, newest_in, newest_number, put}
 use Rattle.desk_core.specs.Judging.{first_case, longest_edit}
-use Rattle.desk_core.specs.PrivateState.{Accepts}
+use Rattle.desk_core.specs.PrivateState.{Accepts, PutsInForce, refusal_of}
 use Rattle.desk_core.specs.Site.{IsConsistent, IsInForce, site_in}
 use Rattle.desk_core.specs.Views.{Kept, Ready}
 use Rattle.desk_core.specs.declared.head.Head.{Head}
@@ -38,3 +41,8 @@ accepted in_force state e ready kept none is room custodians view =
     let w = within state.heads e kept none in
     let new : CanBeKept (revision_of e) = record { from = omega arith; to = omega (arith, w.0); short = omega (arith, w.1) } in
     (subst P is view.consistent, is, record { room = room; can_be_kept = subst CanBeKept (sym is) new; view = view; custodians = custodians })
+
+-- the fault of the site with the edit's text
+pub not_accepted : {V : Type 0} (in_force : V → Content) (state : Kept V) (e : Edit) (error : ReadError SiteFault) → PutsInForce in_force (site_in (put (newest_in state.heads) (revision_of e))) (Err error) → Accepts in_force state e (Err (refusal_of error))
+not_accepted in_force state e (Fault fault) has = (fault, refl, has)
+not_accepted in_force state e Memory has = tt

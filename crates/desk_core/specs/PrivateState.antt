@@ -45,3 +45,8 @@ abbrev pub PutsInForce : {V : Type 0} → (V → Content) → SiteTexts → Resu
 PutsInForce in_force texts (Ok both) = (read_custodians texts.custodians ≡ Ok both.0) × IsInForce texts (in_force both.1)
 PutsInForce in_force texts (Err (Fault fault)) = HasFault texts fault
 PutsInForce in_force texts (Err Memory) = Unit {0}
+
+-- the fault of the site as why an edit is refused
+abbrev pub refusal_of : ReadError SiteFault → ReadError Refusal
+refusal_of (Fault fault) = Fault (refusal.Fault fault)
+refusal_of Memory = Memory

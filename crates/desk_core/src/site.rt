@@ -19,42 +19,43 @@ use std::collections::BTreeMap;
 pub(crate) fn site_with(alloc: Global, heads: &[Head], head: &Head) -> Result<Site, AllocError>
     ensures { IfOk result (λ site. texts_of site ≡ site_in (put (newest_in heads.now) head.now)) }
 {
-    let site = site_of(alloc, heads)?;
-    with_head(alloc, site, head)
+    let mut site = site_of(alloc, heads)?;
+    take_head(alloc, &mut site, head)?;
+    Ok(site)
 }
 
 /// Makes the site of the heads. They are taken from the last one to the first, so that the first of a file counts.
 pub(crate) fn site_of(alloc: Global, heads: &[Head]) -> Result<Site, AllocError>
     ensures { IfOk result (λ site. texts_of site ≡ site_in (newest_in heads.now)) }
 {
-    let mut site = empty_site(alloc)?;
+    let mut site = empty_site(alloc);
     let mut left = heads.len();
     while left > 0 {
         left -= 1;
-        site = with_head(alloc, site, &heads[left])?;
+        take_head(alloc, &mut site, &heads[left])?;
     }
     Ok(site)
 }
 
 /// Makes a site whose files are empty.
-fn empty_site(alloc: Global) -> Result<Site, AllocError>
-    ensures { IfOk result (λ site. texts_of site ≡ no_texts) }
+fn empty_site(alloc: Global) -> Site
+    ensures { texts_of result ≡ no_texts }
 {
-    Ok(Site {
-        custodians: Text::copy(alloc, "")?,
-        filesystems: Text::copy(alloc, "")?,
-        hosts: Text::copy(alloc, "")?,
-        networks: Text::copy(alloc, "")?,
-        passwd: Text::copy(alloc, "")?,
-        group: Text::copy(alloc, "")?,
-        netgroup: Text::copy(alloc, "")?,
+    Site {
+        custodians: Text::from_string(String::new(alloc)),
+        filesystems: Text::from_string(String::new(alloc)),
+        hosts: Text::from_string(String::new(alloc)),
+        networks: Text::from_string(String::new(alloc)),
+        passwd: Text::from_string(String::new(alloc)),
+        group: Text::from_string(String::new(alloc)),
+        netgroup: Text::from_string(String::new(alloc)),
         exports: BTreeMap::new(alloc),
-    })
+    }
 }
 
-/// Makes the site with the text of this head. A head of a file of another name changes nothing.
-fn with_head(alloc: Global, mut site: Site, head: &Head) -> Result<Site, AllocError>
-    ensures { IfOk result (λ new. texts_of new ≡ with_text (texts_of site) head.now.file head.now.body) }
+/// Puts the text of this head in the place of that of its file. A head of a file of another name changes nothing.
+fn take_head(alloc: Global, site: &mut Site, head: &Head) -> Result<(), AllocError>
+    ensures { OnOk result (texts_of site.new ≡ with_text (texts_of site.old) head.now.file head.now.body) }
 {
     let file = head.file.as_str();
     let body = head.body.as_str();
@@ -66,7 +67,7 @@ fn with_head(alloc: Global, mut site: Site, head: &Head) -> Result<Site, AllocEr
     put_text(alloc, &mut site.group, file, "group", body)?;
     put_text(alloc, &mut site.netgroup, file, "netgroup", body)?;
     put_exports(alloc, &mut site.exports, file, body)?;
-    Ok(site)
+    Ok(())
 }
 
 /// Puts a text in the place of that of the file of this name.

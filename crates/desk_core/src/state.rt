@@ -7,7 +7,7 @@ ghost use Rattle.desk_core.specs.Edit as spec;
 ghost use Rattle.desk_core.specs.Edit.{asked};
 ghost use Rattle.desk_core.specs.Head.{CanBeKept, StandOnce, last_revision, newest_in, put};
 ghost use Rattle.desk_core.specs.Judging.{answer_in, first_case};
-ghost use Rattle.desk_core.specs.PrivateState.{Accepts, AnswersCase, PutsInForce};
+ghost use Rattle.desk_core.specs.PrivateState.{Accepts, AnswersCase, PutsInForce, refusal_of};
 ghost use Rattle.desk_core.specs.Site.{IsInForce, site_in};
 ghost use Rattle.desk_core.specs.State.{IsJudged, Judges, Starts};
 
@@ -80,8 +80,7 @@ impl<V: PolicyView + Drop> State<V> {
         requires { All CanBeKept heads.items }
         ensures { Starts V.in_force heads.items result }
     {
-        let site = site_of(alloc, heads.as_slice())?;
-        let (custodians, view) = put_in_force(alloc, &site)?;
+        let (custodians, view) = put_heads_in_force(alloc, heads.as_slice())?;
         Ok(State {
             heads,
             custodians,
@@ -178,21 +177,57 @@ impl<V: PolicyView + Drop> State<V> {
         ensures { Accepts V.in_force self.now (asked edit.now) result }
     {
         let heads = self.heads.as_slice();
-        let head = revision_of(alloc, edit)?;
-        let site = site_with(alloc, heads, &head)?;
-        let (custodians, view) = match put_in_force(alloc, &site) {
-            Ok(both) => both,
-            Err(ReadError::Fault(fault)) => return Err(ReadError::Fault(Refusal::Fault(fault))),
-            Err(ReadError::Memory) => return Err(ReadError::Memory),
-        };
         let room = Vec::with_capacity(alloc, heads.len() + 1)?;
-        Ok(Accepted {
-            head,
-            room,
-            custodians,
-            view,
-        })
+        let head = revision_of(alloc, edit)?;
+        match put_head_in_force(alloc, heads, &head) {
+            Ok((custodians, view)) => Ok(Accepted {
+                head,
+                room,
+                custodians,
+                view,
+            }),
+            Err(error) => {
+                drop(head);
+                drop(room);
+                Err(refused(error))
+            }
+        }
     }
+}
+
+/// Gives the fault of the site as why an edit is refused.
+fn refused(error: ReadError<SiteFault>) -> ReadError<Refusal>
+    ensures { result ≡ refusal_of error }
+{
+    match error {
+        ReadError::Fault(fault) => ReadError::Fault(Refusal::Fault(fault)),
+        ReadError::Memory => ReadError::Memory,
+    }
+}
+
+/// Makes the custodians and the view of the site of these heads, or gives its fault.
+fn put_heads_in_force<V: PolicyView + Drop>(
+    alloc: Global,
+    heads: &[Head],
+) -> Result<(Custodians, V), ReadError<SiteFault>>
+    requires { HaveReadableLengths (site_in (newest_in heads.now)) }
+    ensures { PutsInForce V.in_force (site_in (newest_in heads.now)) result }
+{
+    let site = site_of(alloc, heads)?;
+    put_in_force(alloc, &site)
+}
+
+/// Makes the custodians and the view of the site of these heads, if this head is that of its file, or gives its fault.
+fn put_head_in_force<V: PolicyView + Drop>(
+    alloc: Global,
+    heads: &[Head],
+    head: &Head,
+) -> Result<(Custodians, V), ReadError<SiteFault>>
+    requires { HaveReadableLengths (site_in (put (newest_in heads.now) head.now)) }
+    ensures { PutsInForce V.in_force (site_in (put (newest_in heads.now) head.now)) result }
+{
+    let site = site_with(alloc, heads, head)?;
+    put_in_force(alloc, &site)
 }
 
 /// Makes the revision that an edit stores.

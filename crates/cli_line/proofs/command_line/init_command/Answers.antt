@@ -1,6 +1,5 @@
--- Each argument is added to those before it.
+-- The arguments are added to a command without any.
 use Rattle.cli_line.proofs.command_line.init_command.Goals as goal
 
 pub returns : goal.returns
-returns c =
-    c.word-2.ensures _ (c.word.ensures _ (c.after_help.ensures _ (c.new.ensures)))
+returns c = c.with_arguments.ensures _ c.titled.ensures

@@ -2,7 +2,7 @@
 use Rattle.std.proofs.Common.{ap, true}
 use Rattle.clap.specs.Words.{App}
 use Rattle.clap.specs.declared.builder.Command.TheViews.{out-Command}
-use Rattle.cli_line.proofs.Drafts.{by_fields}
+use Rattle.cli_line.proofs.Additions.{by_fields}
 use Rattle.cli_line.proofs.command_line.program.Goals as goal
 
 pub returns : goal.returns

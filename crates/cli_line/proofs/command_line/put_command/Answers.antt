@@ -1,6 +1,5 @@
--- The options are added to the arguments.
+-- The arguments are added to a command without any.
 use Rattle.cli_line.proofs.command_line.put_command.Goals as goal
 
 pub returns : goal.returns
-returns c =
-    c.option-2.ensures _ (c.option.ensures _ (c.required_option-2.ensures _ (c.required_option.ensures _ (c.put_arguments.ensures))))
+returns c = c.with_arguments.ensures _ c.titled.ensures

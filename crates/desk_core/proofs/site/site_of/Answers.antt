@@ -10,14 +10,14 @@ use Rattle.desk_core.proofs.site.site_of.Goals as goal
 pub loop-left-init : goal.loop-left-init
 loop-left-init c =
     let none : drop (length c.args.heads.now) c.args.heads.now ≡ [] = drop_all (length c.args.heads.now) c.args.heads.now (omega arith) in
-    (omega arith, c.in_ok-site.ensures ∙ site_none ∙ ap (λ (hs : List Head). site_in (newest_in hs)) (sym none))
+    (omega arith, c.empty_site-site.ensures ∙ site_none ∙ ap (λ (hs : List Head). site_in (newest_in hs)) (sym none))
 
 pub loop-left-preserved : goal.loop-left-preserved
 loop-left-preserved c =
     let h = c.index-heads-left.result in
     let back = drop_back c.args.heads.now c.loop-left.left h c.loop-left-test.true c.loop-left.invariant.0 c.index-heads-left.is in (
       omega (arith, c.loop-left.invariant.0),
-      c.in_ok-site-2.ensures ∙ ap (λ t. with_text t h.file h.body) c.loop-left.invariant.1
+      c.in_ok-take_head.ensures ∙ ap (λ t. with_text t h.file h.body) c.loop-left.invariant.1
           ∙ site_cons (drop c.loop-left.left c.args.heads.now) h ∙ ap (λ (hs : List Head). site_in (newest_in hs)) back,
     )
 

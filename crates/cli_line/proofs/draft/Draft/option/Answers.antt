@@ -1,6 +1,0 @@
--- Its argument is added.
-use Rattle.cli_line.proofs.draft.Draft.option.Goals as goal
-
-pub returns : goal.returns
-returns c =
-    λ app made. c.with.ensures _ _ made c.option-argument.ensures
