@@ -1,3 +1,4 @@
+pub mod ExportsNames
 pub mod FoundFaults
 pub mod FoundSlices
 pub mod HintLemmas

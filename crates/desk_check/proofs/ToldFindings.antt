@@ -12,13 +12,17 @@ use Rattle.desk_exports.specs.Files.{text_faults}
 use Rattle.desk_exports.specs.declared.faults.PlacedFault.{PlacedFault}
 use Rattle.desk_exports.specs.declared.files.Scope.TheVariants.{Whole}
 use Rattle.desk_exports.specs.declared.rules.Rule.{Rule}
-use Rattle.desk_policy.specs.Parsing.{no_tables, rows_with}
+use Rattle.desk_policy.specs.Parsing.{no_tables, read_tables, rows_with}
+use Rattle.desk_policy.specs.declared.parsing.SiteTables.{SiteTables}
+use Rattle.desk_policy.specs.declared.site_fault.SiteFault.{SiteFault}
 use Rattle.desk_check.specs.CheckFaults.{Adds, tell_line}
 use Rattle.desk_check.specs.CheckOdd.{OddLine, TellInOrder}
 use Rattle.desk_check.specs.Finding.{HaveSlices}
 use Rattle.desk_check.specs.Told.{Told, told}
 use Rattle.desk_check.specs.ToldFault.{TellIfSame, TellOne, TellOneOf, TellSplit, is_same, odd_of_fault}
+use Rattle.desk_check.specs.ToldSite.{TellLine, TellLineBy, TellLineIn, scope_of}
 use Rattle.desk_check.specs.declared.check_faults.Source.{Source}
+use Rattle.desk_check.specs.declared.check_site.SiteSources.{SiteSources}
 use Rattle.desk_check.specs.declared.finding.Finding.{Finding}
 use Rattle.desk_check.specs.declared.split_text.SplitFault.{SplitFault}
 use Rattle.desk_check.specs.declared.split_text.SplitFault.TheVariants.{FileSystems, Exports}
@@ -70,11 +74,21 @@ pub split_slices : (file filesystems : Source) (fault : SplitFault) (findings : 
 split_slices file filesystems fault findings adds =
     slices findings (subst (λ (ones : List Told). All Within ones) (sym adds.are) (split_within file filesystems fault adds.added adds.tell))
 
--- and so has what is told of one fault of an exports text, or of the lines that these are about
-pub one_of_slices : (source : Source) (fault : LineFault Rule) (faults : List (LineFault Rule)) (findings : List Finding) → Adds (TellOneOf source fault faults) [] findings → HaveSlices findings
-one_of_slices source fault faults findings adds =
-    slices findings (subst (λ (ones : List Told). All Within ones) (sym adds.are) (same_within source fault (find (is_same fault) faults) adds.added adds.tell))
+-- so has what is told of a line of a site
+line_in_within : (read : Result (List Mount) TableFault) (source : Source) (fault : LineFault Rule) (site_tables : SiteTables) (all : List Told) → TellLineIn read source fault site_tables all → All Within all
+line_in_within (Ok table) source fault site_tables all tells = same_within source fault (find (is_same fault) (text_faults (rows_with table site_tables) (scope_of source.path.now table) source.text.now)) all tells
+line_in_within (Err bad) source fault site_tables all none = subst (λ (ones : List Told). All Within ones) (sym none) (All-nil Within)
 
+line_by_within : (read : Result SiteTables SiteFault) (sources : SiteSources) (fault : LineFault Rule) (all : List Told) → TellLineBy read sources fault all → All Within all
+line_by_within (Ok site_tables) sources fault all tells = line_in_within (read_filesystems sources.filesystems.text.now) sources.whole.exports fault site_tables all tells
+line_by_within (Err bad) sources fault all none = subst (λ (ones : List Told). All Within ones) (sym none) (All-nil Within)
+
+pub line_slices : (sources : SiteSources) (fault : LineFault Rule) (findings : List Finding) → Adds (TellLine sources fault) [] findings → HaveSlices findings
+line_slices sources fault findings adds =
+    slices findings (subst (λ (ones : List Told). All Within ones) (sym adds.are)
+    (line_by_within (read_tables sources.whole.tables.hosts.text.now sources.whole.tables.networks.text.now sources.whole.tables.passwd.text.now sources.whole.tables.group.text.now sources.whole.tables.netgroup.text.now) sources fault adds.added adds.tell))
+
+-- and what is told of the lines that these are about
 pub odds_slices : (source : Source) (odds : List OddLine) (findings : List Finding) → Adds (TellInOrder source odds) [] findings → HaveSlices findings
 odds_slices source odds findings adds =
     slices findings (subst (λ (ones : List Told). All Within ones) (sym adds.are) (odds_within source odds adds.added adds.tell))

@@ -8,9 +8,10 @@ pub mod Finding
 pub mod FindingJson
 pub mod FindingPrints
 pub mod Hints
-pub mod PrivateToldSite
+pub mod PrivateFindingJson
 pub mod ShownText
 pub mod SplitText
 pub mod Told
 pub mod ToldFault
+pub mod ToldSite
 pub mod TryText

@@ -11,6 +11,7 @@ use Rattle.desk_tables.specs.declared.filesystems.Mount.{Mount}
 use Rattle.desk_exports.specs.Faults.{IsPlaced}
 use Rattle.desk_exports.specs.Files.{text_faults}
 use Rattle.desk_exports.specs.Rules as lines
+use Rattle.desk_exports.specs.declared.files.Scope.{Scope}
 use Rattle.desk_exports.specs.declared.files.Scope.TheVariants.{Whole}
 use Rattle.desk_exports.specs.declared.rules.Rule.{Rule}
 use Rattle.desk_policy.specs.Parsing.{no_tables, rows_with}
@@ -72,13 +73,13 @@ TellIfSame source fault None all = TellInOrder source (odd_of_fault fault ∷ []
 abbrev pub TellOneOf : Source → LineFault Rule → List (LineFault Rule) → List Told → Type 0
 TellOneOf source fault faults all = TellIfSame source fault (find (is_same fault) faults) all
 
--- those are the faults of the text with these file systems and tables
-abbrev pub TellOneWith : Source → LineFault Rule → List Mount → SiteTables → List Told → Type 0
-TellOneWith source fault table site_tables all = TellOneOf source fault (text_faults (rows_with table site_tables) Whole source.text.now) all
+-- those are the faults of the text, whose lines are read in this scope with these file systems and tables
+abbrev pub TellOneWith : Source → LineFault Rule → Scope → List Mount → SiteTables → List Told → Type 0
+TellOneWith source fault scope table site_tables all = TellOneOf source fault (text_faults (rows_with table site_tables) scope source.text.now) all
 
--- the same with the file systems that a text lists, and no other table
+-- the same of a whole text with the file systems that a text lists, and no other table
 abbrev pub TellOne : Source → LineFault Rule → Result (List Mount) TableFault → List Told → Type 0
-TellOne source fault (Ok table) all = TellOneWith source fault table no_tables all
+TellOne source fault (Ok table) all = TellOneWith source fault Whole table no_tables all
 TellOne source fault (Err bad) all = all ≡ []
 
 -- what is told of a fault of one of the two texts of `split`
@@ -86,8 +87,12 @@ abbrev pub TellSplit : Source → Source → SplitFault → List Told → Type 0
 TellSplit file filesystems (FileSystems fault) all = TellFileSystems filesystems all
 TellSplit file filesystems (Exports fault) all = TellOne file fault (read_filesystems filesystems.text.now) all
 
--- What is told of a fault of `split`: the first finding of what is so told.
-pub record TellsOfSplit (file filesystems : Source) (fault : SplitFault) (text : List ℕ) : Type 0 where
+-- The first of the findings that tell this, as `check` prints it; nothing if there is none.
+pub record TellsFirst (TellAll : List Told → Type 0) (text : List ℕ) : Type 0 where
   pub findings : List Finding
-  pub tell : TellSplit file filesystems fault (map told findings)
+  pub tell : TellAll (map told findings)
   pub are : text ≡ told_text (slice_get findings 0)
+
+-- What is told of a fault of `split`: the first finding of what is so told.
+abbrev pub TellsOfSplit : Source → Source → SplitFault → List ℕ → Type 0
+TellsOfSplit file filesystems fault text = TellsFirst (TellSplit file filesystems fault) text

@@ -4,6 +4,7 @@ ghost use Rattle.std.specs.Prelude.{◌≡◌, ◌≤◌, IfOk, IsErr, OnOk, len
 ghost use Rattle.desk_text.specs.Reading.{Reads};
 ghost use Rattle.desk_text.specs.declared.reading.ReadError.TheVariants.{Memory};
 ghost use Rattle.desk_exports.specs.Files.{EntriesAscend, whole_answer};
+ghost use Rattle.desk_exports.specs.Tables.{table_rows};
 ghost use Rattle.desk_policy.specs.Parsing.{rows_with};
 ghost use Rattle.desk_policy.specs.Policy.{content_of};
 ghost use Rattle.desk_check.specs.CheckFaults.{Adds, AreReadable};
@@ -136,13 +137,20 @@ fn read_entries(
     ensures read { Reads result (whole_answer (rows_with filesystems.now site_tables.now) text.now) }
     ensures ascending { IfOk result EntriesAscend }
 {
-    let tables = Tables {
+    let tables = tables_with(site_tables, filesystems);
+    read_whole(alloc, text, &tables)
+}
+
+/// Lends the tables with which an exports text is read.
+pub fn tables_with<'t>(site_tables: &'t SiteTables, filesystems: &'t FileSystems) -> Tables<'t>
+    ensures { table_rows result ≡ rows_with filesystems.now site_tables.now }
+{
+    Tables {
         networks: &site_tables.networks,
         users: &site_tables.users,
         groups: &site_tables.groups,
         filesystems,
-    };
-    read_whole(alloc, text, &tables)
+    }
 }
 
 /// Finds the faults of the exports text.
@@ -155,12 +163,7 @@ fn gather_line_faults<'a>(
     requires { length exports.text.now ≤ 4294967294 }
     ensures { IfOk result (GathersFaults exports.entry filesystems.now site_tables.now) }
 {
-    let tables = Tables {
-        networks: &site_tables.networks,
-        users: &site_tables.users,
-        groups: &site_tables.groups,
-        filesystems,
-    };
+    let tables = tables_with(site_tables, filesystems);
     let faults = find_faults(alloc, exports.text, &tables, Scope::Whole)?;
     let mut findings = Sequence::new(alloc);
     push_line_faults(alloc, exports, faults.as_slice(), &mut findings)?;

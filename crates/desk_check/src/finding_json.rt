@@ -2,19 +2,21 @@
 //! object, with the control characters that JSON leaves in strings as they are (from U+007F to U+009F) by their codes. That
 //! a reader gives the same values back is only tested.
 
-ghost use Rattle.std.specs.Prelude.{◌≡◌, ◌++◌, IfOk, None, OnOk, Some, codes};
+ghost use Rattle.std.specs.Prelude.{◌≡◌, ◌++◌, [], IfOk, OnOk, codes};
 ghost use Rattle.std.specs.List.{flat_map};
 ghost use Rattle.std.specs.Str.{chars};
 ghost use Rattle.std.specs.String.{string_bytes};
-ghost use Rattle.serde_json.specs.View.{view};
+ghost use Rattle.serde_json.specs.Data.{number, object, put as put_member, string, unsigned};
+ghost use Rattle.serde_json.specs.View.{members_view, view};
 ghost use Rattle.serde_json.specs.Written.{compact_text};
 ghost use Rattle.desk_check.specs.Finding.{HasSlice, HaveSlices};
 ghost use Rattle.desk_check.specs.FindingJson as spec;
+ghost use Rattle.desk_check.specs.FindingPrints.{message};
+ghost use Rattle.desk_check.specs.PrivateFindingJson.{put_address, put_other};
 
 use crate::finding::{Finding, Matter};
 use crate::finding_prints::push_message;
-use desk_text::Addr;
-use serde_json::{Value, json};
+use serde_json::{Map, Value, put};
 use std::alloc::{AllocError, Global};
 
 /// Prints findings in their order as one compact JSON list and a line end: `[]` if there are none. Each is an object with
@@ -70,81 +72,104 @@ fn value_of(alloc: Global, finding: &Finding) -> Result<Value, AllocError>
     requires { HasSlice finding.now }
     ensures { IfOk result (λ value. view value ≡ spec.value_of finding.now) }
 {
-    let mut message = String::new(alloc);
-    push_message(finding, &mut message)?;
-    match finding.matter {
-        Matter::Contradiction(other, address) => {
-            contradiction_value(alloc, finding, other, address, message.as_str())
+    let mut members = Map::new(alloc);
+    add_members(alloc, finding, &mut members)?;
+    Ok(Value::Object(members))
+}
+
+/// Adds the members of a finding to an object that has none. (The map is lent, so that its proof is cheap.)
+fn add_members(
+    alloc: Global,
+    finding: &Finding,
+    members: &mut Map<String, Value>,
+) -> Result<(), AllocError>
+    requires slice { HasSlice finding.now }
+    requires none { members.old.entries ≡ [] }
+    ensures { OnOk result (object (members_view members.new.entries) ≡ spec.value_of finding.now) }
+{
+    add_address(alloc, finding.matter, members)?;
+    add_number(alloc, "column", finding.column, members)?;
+    add_text(alloc, "kind", finding.matter.kind(), members)?;
+    add_number(alloc, "line", finding.line() as usize, members)?;
+    add_text(alloc, "name", finding.matter.name(), members)?;
+    add_other(alloc, finding.matter, members)?;
+    add_text(alloc, "path", finding.path, members)?;
+    add_number(alloc, "rule", finding.matter.number() as usize, members)?;
+    add_message(alloc, finding, members)?;
+    add_text(alloc, "word", finding.slice(), members)
+}
+
+/// Adds the address of a contradiction.
+fn add_address(
+    alloc: Global,
+    matter: Matter,
+    members: &mut Map<String, Value>,
+) -> Result<(), AllocError>
+    ensures { OnOk result (members_view members.new.entries ≡ put_address (spec.address_of matter) (members_view members.old.entries)) }
+{
+    match matter {
+        Matter::Contradiction(_, address) => {
+            let address = format!(in alloc; "{address}")?;
+            put(members, alloc, "address", Value::String(address))
         }
-        Matter::Fault(_, Some(other)) => duplicate_value(alloc, finding, other, message.as_str()),
-        _ => plain_value(alloc, finding, message.as_str()),
+        Matter::Fault(..) | Matter::Warning(_) => Ok(()),
     }
 }
 
-/// Makes the object of a finding with an earlier line and an address.
-fn contradiction_value(
+/// Adds the earlier line of a contradiction, or of a netgroup that is defined twice.
+fn add_other(
     alloc: Global,
-    finding: &Finding,
-    other: u32,
-    address: Addr,
-    message: &str,
-) -> Result<Value, AllocError>
-    requires slice { HasSlice finding.now }
-    ensures { IfOk result (λ value. view value ≡ spec.object_of (Some address) (Some other) finding.now message.now) }
+    matter: Matter,
+    members: &mut Map<String, Value>,
+) -> Result<(), AllocError>
+    ensures { OnOk result (members_view members.new.entries ≡ put_other (spec.other_of matter) (members_view members.old.entries)) }
 {
-    let address = format!(in alloc; "{address}")?;
-    json!(in alloc; {
-        "address": address,
-        "column": finding.column,
-        "kind": finding.matter.kind(),
-        "line": finding.line(),
-        "name": finding.matter.name(),
-        "other": other,
-        "path": finding.path,
-        "rule": finding.matter.number(),
-        "text": message,
-        "word": finding.slice(),
-    })
+    match matter {
+        Matter::Contradiction(other, _) | Matter::Fault(_, Some(other)) => {
+            add_number(alloc, "other", other as usize, members)
+        }
+        Matter::Fault(_, None) | Matter::Warning(_) => Ok(()),
+    }
 }
 
-/// Makes the object of a finding with an earlier line.
-fn duplicate_value(
+/// Adds what a finding says.
+fn add_message(
     alloc: Global,
     finding: &Finding,
-    other: u32,
-    message: &str,
-) -> Result<Value, AllocError>
-    requires slice { HasSlice finding.now }
-    ensures { IfOk result (λ value. view value ≡ spec.object_of None (Some other) finding.now message.now) }
+    members: &mut Map<String, Value>,
+) -> Result<(), AllocError>
+    requires { HasSlice finding.now }
+    ensures { OnOk result (members_view members.new.entries
+        ≡ put_member (codes "text") (string (message finding.now.source.now finding.now.place finding.now.matter)) (members_view members.old.entries)) }
 {
-    json!(in alloc; {
-        "column": finding.column,
-        "kind": finding.matter.kind(),
-        "line": finding.line(),
-        "name": finding.matter.name(),
-        "other": other,
-        "path": finding.path,
-        "rule": finding.matter.number(),
-        "text": message,
-        "word": finding.slice(),
-    })
+    let mut message = String::new(alloc);
+    push_message(finding, &mut message)?;
+    put(members, alloc, "text", Value::String(message))
 }
 
-/// Makes the object of a finding with neither.
-fn plain_value(alloc: Global, finding: &Finding, message: &str) -> Result<Value, AllocError>
-    requires slice { HasSlice finding.now }
-    ensures { IfOk result (λ value. view value ≡ spec.object_of None None finding.now message.now) }
+/// Adds a member that is a text.
+fn add_text(
+    alloc: Global,
+    key: &str,
+    text: &str,
+    members: &mut Map<String, Value>,
+) -> Result<(), AllocError>
+    ensures { OnOk result (members_view members.new.entries ≡ put_member key.now (string text.now) (members_view members.old.entries)) }
 {
-    json!(in alloc; {
-        "column": finding.column,
-        "kind": finding.matter.kind(),
-        "line": finding.line(),
-        "name": finding.matter.name(),
-        "path": finding.path,
-        "rule": finding.matter.number(),
-        "text": message,
-        "word": finding.slice(),
-    })
+    let text = Value::try_from_str(alloc, text)?;
+    put(members, alloc, key, text)
+}
+
+/// Adds a member that is a number.
+fn add_number(
+    alloc: Global,
+    key: &str,
+    value: usize,
+    members: &mut Map<String, Value>,
+) -> Result<(), AllocError>
+    ensures { OnOk result (members_view members.new.entries ≡ put_member key.now (number (unsigned value)) (members_view members.old.entries)) }
+{
+    put(members, alloc, key, Value::from(value))
 }
 
 /// Adds JSON, with each control character by its code.

@@ -1,6 +1,6 @@
 //! What is told of a fault of `try` or `split` beside its fixed line: the finding that `check` prints of it.
 
-ghost use Rattle.std.specs.Prelude.{◌≡◌, ◌≤◌, ◌∷◌, [], All, IfOk, IfSome, OnOk, length, map};
+ghost use Rattle.std.specs.Prelude.{◌≡◌, ◌≤◌, ◌∷◌, [], All, IfOk, IfSome, OnOk, length, map, slice_get};
 ghost use Rattle.std.specs.List.{find};
 ghost use Rattle.std.specs.Option.{option_copied};
 ghost use Rattle.std.specs.String.{string_bytes};
@@ -8,18 +8,18 @@ ghost use Rattle.desk_exports.specs.Faults.{IsPlaced};
 ghost use Rattle.desk_tables.specs.FileSystemsText.{read_filesystems};
 ghost use Rattle.desk_check.specs.CheckFaults.{Adds, AreReadable};
 ghost use Rattle.desk_check.specs.CheckOdd.{TellInOrder};
-ghost use Rattle.desk_check.specs.Finding.{HasSlice};
+ghost use Rattle.desk_check.specs.Finding.{HasSlice, HaveSlices};
 ghost use Rattle.desk_check.specs.ToldFault.{TellOne, TellOneOf, TellOneWith, TellSplit, TellsOf, TellsOfSplit, is_about, is_same, odd_of_fault, told_text};
 
 use crate::check_faults::{Source, push_line_faults};
 use crate::check_odd::{Odd, push_in_order};
 use crate::check_site::push_filesystems;
-use crate::check_text::{WholeSources, gather};
+use crate::check_text::{WholeSources, gather, tables_with};
 use crate::finding::{Finding, Matter};
 use crate::finding_prints::finding_text;
 use crate::split_text::SplitFault;
 use crate::word_places::Writing;
-use desk_exports::{PlacedFault, Rule, Scope, Tables, find_faults};
+use desk_exports::{PlacedFault, Rule, Scope, find_faults};
 use desk_policy::{SiteFault, SiteRule, SiteTables};
 use desk_tables::FileSystems;
 use desk_text::{LineFault, ReadError, Sequence};
@@ -66,7 +66,7 @@ fn is_about(fault: &SiteFault, matter: Matter) -> bool
 }
 
 /// Prints a finding with its line and carets, or nothing if there is none.
-pub fn told_text(alloc: Global, finding: Option<&Finding>) -> Result<String, AllocError>
+fn told_text(alloc: Global, finding: Option<&Finding>) -> Result<String, AllocError>
     requires { IfSome (option_copied finding) HasSlice }
     ensures { IfOk result (λ text. string_bytes text ≡ told_text (option_copied finding.entry)) }
 {
@@ -74,6 +74,14 @@ pub fn told_text(alloc: Global, finding: Option<&Finding>) -> Result<String, All
         Some(finding) => finding_text(alloc, finding, false),
         None => Ok(String::new(alloc)),
     }
+}
+
+/// Prints the first of these findings, or nothing if there is none.
+pub fn told_first(alloc: Global, findings: &[Finding]) -> Result<String, AllocError>
+    requires { HaveSlices findings.now }
+    ensures { IfOk result (λ text. string_bytes text ≡ told_text (slice_get findings.now 0)) }
+{
+    told_text(alloc, findings.first())
 }
 
 /// Prints the finding that `check` makes of a fault of `split` in one of these texts, in the same way.
@@ -89,7 +97,7 @@ pub fn tell_split_fault(
 {
     let mut findings = Sequence::new(alloc);
     push_split(alloc, file, filesystems, fault, &mut findings)?;
-    let told = told_text(alloc, findings.as_slice().first())?;
+    let told = told_first(alloc, findings.as_slice())?;
     drop(findings);
     Ok(told)
 }
@@ -127,37 +135,41 @@ fn push_one<'a>(
     match ReadError::split(FileSystems::read(alloc, filesystems))? {
         Ok(table) => {
             let site_tables = SiteTables::new(alloc);
-            push_one_with(alloc, source, &table, &site_tables, fault, found)
+            push_one_with(
+                alloc,
+                source,
+                &table,
+                &site_tables,
+                Scope::Whole,
+                fault,
+                found,
+            )
         }
         Err(_) => Ok(()),
     }
 }
 
-/// Adds the finding of this fault of an exports text with these file systems and tables.
-fn push_one_with<'a>(
+/// Adds the finding of this fault of an exports text, whose lines are read in this scope with these file systems and tables.
+pub fn push_one_with<'a>(
     alloc: Global,
     source: Source<'a>,
     filesystems: &FileSystems,
     site_tables: &SiteTables,
+    scope: Scope,
     fault: LineFault<Rule>,
     found: &mut Sequence<Finding<'a>>,
 ) -> Result<(), AllocError>
     requires { length source.text.now ≤ 4294967294 }
-    ensures { OnOk result (Adds (TellOneWith source.entry fault filesystems.now site_tables.now) found.old found.new) }
+    ensures { OnOk result (Adds (TellOneWith source.entry fault scope filesystems.now site_tables.now) found.old found.new) }
 {
-    let tables = Tables {
-        networks: &site_tables.networks,
-        users: &site_tables.users,
-        groups: &site_tables.groups,
-        filesystems,
-    };
-    let faults = find_faults(alloc, source.text, &tables, Scope::Whole)?;
+    let tables = tables_with(site_tables, filesystems);
+    let faults = find_faults(alloc, source.text, &tables, scope)?;
     push_one_of(alloc, source, faults.as_slice(), fault, found)
 }
 
 /// Adds the finding of the first of these faults that is this one; if none is, since a rule that comes before it is broken on
 /// its line too, it is told at the first word of the line.
-pub fn push_one_of<'a>(
+fn push_one_of<'a>(
     alloc: Global,
     source: Source<'a>,
     faults: &[PlacedFault],

@@ -1,70 +1,106 @@
 //! What standard error tells beside the fault of a site: the finding that `check` prints of it.
 
-ghost use Rattle.std.specs.Prelude.{◌≡◌, ◌≤◌, [], OnOk, length, true};
-ghost use Rattle.desk_check.specs.Finding.{HaveSlices};
-ghost use Rattle.desk_check.specs.PrivateToldSite.{AreReadableTexts};
+ghost use Rattle.std.specs.Prelude.{◌≡◌, ◌≤◌, ◌∷◌, [], Decides, IfOk, OnOk, length};
+ghost use Rattle.std.specs.Option.{option_map};
+ghost use Rattle.std.specs.String.{string_bytes};
+ghost use Rattle.desk_tables.specs.FileSystemsText.{read_filesystems};
+ghost use Rattle.desk_check.specs.CheckFaults.{Adds};
+ghost use Rattle.desk_check.specs.CheckOdd.{TellInOrder, odd_at};
+ghost use Rattle.desk_check.specs.ToldFault.{TellsFirst};
+ghost use Rattle.desk_check.specs.ToldSite as spec;
 
 use crate::check_faults::Source;
 use crate::check_odd::{Odd, push_in_order};
 use crate::check_site::{SiteSources, gather_site};
-use crate::check_text::WholeSources;
 use crate::finding::{Finding, Matter};
-use crate::told_fault::{push_one_of, told_text};
+use crate::told_fault::{push_one_with, told_first};
 use crate::word_places::Writing;
-use desk_exports::{Rule, Scope, Tables, find_faults};
+use desk_exports::{Rule, Scope};
 use desk_policy::{SiteFault, SiteRule, SiteTables};
-use desk_tables::FileSystems;
+use desk_tables::{FileSystems, FsId};
 use desk_text::{LineFault, ReadError, Sequence};
 use std::alloc::{AllocError, Global};
 
 /// The most bytes that a text may have to be read.
 const LONGEST_TEXT: usize = 4_294_967_294;
 
-/// Tells the finding of a fault of a site. Of the exports the sources have just the file that the fault is of.
+/// Prints the finding that `check` makes of a fault of a site, with its line and carets; nothing if a text is too long to be
+/// read. Of the exports the sources have just the file that the fault is of.
 pub fn tell_site_fault(
     alloc: Global,
     sources: SiteSources<'_>,
     fault: &SiteFault,
-) -> Result<String, AllocError> {
-    if !are_readable(sources) {
-        return Ok(String::new(alloc));
+) -> Result<String, AllocError>
+    ensures told { spec.AreReadableTexts sources.entry → IfOk result (λ text. spec.TellsOfSite sources.entry fault.now (string_bytes text)) }
+    ensures long { ¬ spec.AreReadableTexts sources.entry → IfOk result (λ text. string_bytes text ≡ []) }
+{
+    if are_readable(sources) {
+        told_by_rule(alloc, sources, fault)
+    } else {
+        Ok(String::new(alloc))
     }
+}
+
+/// Tests whether each text can be read.
+fn are_readable(sources: SiteSources<'_>) -> bool
+    ensures { Decides result (spec.AreReadableTexts sources.entry) }
+{
+    let tables = sources.whole.tables;
+    is_readable(sources.custodians)
+        && is_readable(sources.filesystems)
+        && is_readable(tables.hosts)
+        && is_readable(tables.networks)
+        && is_readable(tables.passwd)
+        && is_readable(tables.group)
+        && is_readable(tables.netgroup)
+        && is_readable(sources.whole.exports)
+}
+
+/// Tests whether a text can be read.
+fn is_readable(source: Source<'_>) -> bool
+    ensures { Decides result (length source.entry.text.now ≤ 4294967294) }
+{
+    source.text.len() <= LONGEST_TEXT
+}
+
+/// Prints the finding of a fault in texts that can be read.
+fn told_by_rule(
+    alloc: Global,
+    sources: SiteSources<'_>,
+    fault: &SiteFault,
+) -> Result<String, AllocError>
+    requires { spec.AreReadableTexts sources }
+    ensures { IfOk result (λ text. spec.TellsOfSite sources.entry fault.now (string_bytes text)) }
+{
     match fault.rule {
         SiteRule::Table(_) | SiteRule::Group(_) => told_of_tables(alloc, sources),
-        SiteRule::Line(rule) => told_of_line(
-            alloc,
-            sources,
-            LineFault {
-                line: fault.line,
-                rule,
-            },
-        ),
+        SiteRule::Line(rule) => {
+            let line = fault.line;
+            told_of_line(alloc, sources, LineFault { line, rule })
+        }
         SiteRule::Contradiction => told_of_contradiction(alloc, sources.whole.exports, fault),
     }
 }
 
-/// Tells the finding of a faulty line of an exports file.
-fn told_of_line(
-    alloc: Global,
-    sources: SiteSources<'_>,
-    fault: LineFault<Rule>,
-) -> Result<String, AllocError>
-    requires { AreReadableTexts sources }
+/// Prints the first finding of a site's files. The first faulty one is that of the fault, and its first finding the fault's.
+fn told_of_tables(alloc: Global, sources: SiteSources<'_>) -> Result<String, AllocError>
+    requires { spec.AreReadableTexts sources }
+    ensures { IfOk result (λ text. spec.TellsOfTables sources.entry (string_bytes text)) }
 {
-    let mut findings = Sequence::new(alloc);
-    push_of_line(alloc, sources, fault, &mut findings)?;
-    let told = told_text(alloc, findings.as_slice().first())?;
-    drop(findings);
+    let gathered = gather_site(alloc, sources)?;
+    let told = told_first(alloc, gathered.findings.as_slice())?;
+    drop(gathered);
     Ok(told)
 }
 
-/// Tells the finding of a contradiction.
+/// Prints the finding of a contradiction.
 fn told_of_contradiction(
     alloc: Global,
     source: Source<'_>,
     fault: &SiteFault,
 ) -> Result<String, AllocError>
     requires { length source.text.now ≤ 4294967294 }
+    ensures { IfOk result (λ text. spec.TellsOfClash source.entry fault.now.line fault.now.other fault.now.address (string_bytes text)) }
 {
     match (fault.other, fault.address) {
         (Some(other), Some(address)) => told_of_odd(
@@ -80,55 +116,33 @@ fn told_of_contradiction(
     }
 }
 
-/// Tells the finding of what is odd about a line.
+/// Prints the finding of what is odd about a line.
 fn told_of_odd(alloc: Global, source: Source<'_>, odd: Odd<'_>) -> Result<String, AllocError>
     requires { length source.text.now ≤ 4294967294 }
+    ensures { IfOk result (λ text. TellsFirst (TellInOrder source.entry (odd_at odd.entry ∷ [])) (string_bytes text)) }
 {
     let mut odds = Vec::new(alloc);
     odds.push(odd)?;
     let mut findings = Sequence::new(alloc);
     push_in_order(alloc, source, Writing::Exports, odds, &mut findings)?;
-    let told = told_text(alloc, findings.as_slice().first())?;
+    let told = told_first(alloc, findings.as_slice())?;
     drop(findings);
     Ok(told)
 }
 
-/// Tests whether each text can be read.
-fn are_readable(sources: SiteSources<'_>) -> bool
-    ensures { result ≡ true → AreReadableTexts sources.entry }
+/// Prints the finding of a faulty line of an exports file.
+fn told_of_line(
+    alloc: Global,
+    sources: SiteSources<'_>,
+    fault: LineFault<Rule>,
+) -> Result<String, AllocError>
+    requires { spec.AreReadableTexts sources }
+    ensures { IfOk result (λ text. TellsFirst (spec.TellLine sources.entry fault) (string_bytes text)) }
 {
-    let tables = sources.whole.tables;
-    is_readable(sources.custodians)
-        && is_readable(sources.filesystems)
-        && is_readable(tables.hosts)
-        && is_readable(tables.networks)
-        && is_readable(tables.passwd)
-        && is_readable(tables.group)
-        && is_readable(tables.netgroup)
-        && is_readable(sources.whole.exports)
-}
-
-fn is_readable(source: Source<'_>) -> bool
-    ensures { result ≡ true → length source.entry.text.now ≤ 4294967294 }
-{
-    source.text.len() <= LONGEST_TEXT
-}
-
-/// Tells the first finding of the seven files. The first faulty one is that of the fault, and its first finding the fault's.
-fn told_of_tables(alloc: Global, sources: SiteSources<'_>) -> Result<String, AllocError>
-    requires { AreReadableTexts sources }
-{
-    let seven = SiteSources {
-        custodians: sources.custodians,
-        filesystems: sources.filesystems,
-        whole: WholeSources {
-            tables: sources.whole.tables,
-            exports: Source { path: "", text: "" },
-        },
-    };
-    let gathered = gather_site(alloc, seven)?;
-    let told = told_text(alloc, gathered.findings.as_slice().first())?;
-    drop(gathered);
+    let mut findings = Sequence::new(alloc);
+    push_of_line(alloc, sources, fault, &mut findings)?;
+    let told = told_first(alloc, findings.as_slice())?;
+    drop(findings);
     Ok(told)
 }
 
@@ -139,8 +153,8 @@ fn push_of_line<'a>(
     fault: LineFault<Rule>,
     found: &mut Sequence<Finding<'a>>,
 ) -> Result<(), AllocError>
-    requires { AreReadableTexts sources }
-    ensures { OnOk result (found.old ≡ [] → HaveSlices found.new) }
+    requires { spec.AreReadableTexts sources }
+    ensures { OnOk result (Adds (spec.TellLine sources.entry fault) found.old found.new) }
 {
     let texts = sources.whole.tables;
     let tables = SiteTables::read(
@@ -166,19 +180,11 @@ fn push_with_tables<'a>(
     fault: LineFault<Rule>,
     found: &mut Sequence<Finding<'a>>,
 ) -> Result<(), AllocError>
-    requires { AreReadableTexts sources }
-    ensures { OnOk result (found.old ≡ [] → HaveSlices found.new) }
+    requires { spec.AreReadableTexts sources }
+    ensures { OnOk result (Adds (spec.TellLineIn (read_filesystems sources.entry.filesystems.text.now) sources.entry.whole.exports fault tables.now) found.old found.new) }
 {
     match ReadError::split(FileSystems::read(alloc, sources.filesystems.text))? {
-        Ok(filesystems) => {
-            let tables = Tables {
-                networks: &tables.networks,
-                users: &tables.users,
-                groups: &tables.groups,
-                filesystems: &filesystems,
-            };
-            push_of_file(alloc, sources.whole.exports, &tables, fault, found)
-        }
+        Ok(table) => push_of_file(alloc, sources.whole.exports, &table, tables, fault, found),
         Err(_) => Ok(()),
     }
 }
@@ -187,25 +193,34 @@ fn push_with_tables<'a>(
 fn push_of_file<'a>(
     alloc: Global,
     source: Source<'a>,
-    tables: &Tables,
+    filesystems: &FileSystems,
+    site_tables: &SiteTables,
     fault: LineFault<Rule>,
     found: &mut Sequence<Finding<'a>>,
 ) -> Result<(), AllocError>
     requires { length source.text.now ≤ 4294967294 }
-    ensures { OnOk result (found.old ≡ [] → HaveSlices found.new) }
+    ensures { OnOk result (Adds (spec.TellLineWith source.entry fault filesystems.now site_tables.now) found.old found.new) }
 {
-    let scope = scope_of(source.path, tables.filesystems);
-    let faults = find_faults(alloc, source.text, tables, scope)?;
-    push_one_of(alloc, source, faults.as_slice(), fault, found)
+    let scope = scope_of(source.path, filesystems);
+    push_one_with(alloc, source, filesystems, site_tables, scope, fault, found)
 }
 
 /// Returns the scope in which a file's lines are read: that of the file system whose exports file has this name, or else all.
-fn scope_of(name: &str, filesystems: &FileSystems) -> Scope {
-    match name.strip_prefix("exports:") {
-        Some(mount) => match filesystems.printed_as(mount) {
-            Some(fs) => Scope::File(fs),
-            None => Scope::Whole,
-        },
+fn scope_of(name: &str, filesystems: &FileSystems) -> Scope
+    ensures { result ≡ spec.scope_of name.now filesystems.now }
+{
+    match place_of(name, filesystems) {
+        Some(fs) => Scope::File(fs),
         None => Scope::Whole,
+    }
+}
+
+/// Finds the file system whose exports file has this name.
+fn place_of(name: &str, filesystems: &FileSystems) -> Option<FsId>
+    ensures { result ≡ option_map (λ at. record { 0 = at }) (spec.place_of name.now filesystems.now) }
+{
+    match name.strip_prefix("exports:") {
+        Some(mount) => filesystems.printed_as(mount),
+        None => None,
     }
 }
