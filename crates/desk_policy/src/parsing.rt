@@ -84,7 +84,10 @@ impl SiteTables {
         let hosts = Hosts::read(alloc, texts.hosts);
         put(in_table(alloc, SiteFile::Hosts, hosts), &mut self.hosts)?;
         let networks = Networks::read(alloc, texts.networks);
-        put(in_table(alloc, SiteFile::Networks, networks), &mut self.networks)?;
+        put(
+            in_table(alloc, SiteFile::Networks, networks),
+            &mut self.networks,
+        )?;
         let users = Users::read(alloc, texts.passwd);
         put(in_table(alloc, SiteFile::Passwd, users), &mut self.users)?;
         let groups = Groups::read(alloc, texts.group);

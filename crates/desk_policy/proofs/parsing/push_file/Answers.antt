@@ -22,9 +22,9 @@ returns c =
     let entries : List Entry = c.in_ok-entries.entries in
     let text = c.exports_text.result.now in
     let next : List Entry → Result ExportsFile SiteFault = λ es. Ok (file_with site_tables name es) in
-    let named = c.as_str.ensures.value ∙ c.in_ok-name.ensures ∙ ap exports_file_name c.text.ensures in
-    let again = c.as_str-2.ensures.value ∙ c.in_ok-name.ensures ∙ ap exports_file_name c.text.ensures in
-    let lent = c.exports_text.ensures ∙ ap (λ m. (texts_of c.args.site.now).exports m) c.text-2.ensures in
+    let named = c.as_str.ensures.value ∙ c.in_ok-name.ensures ∙ ap exports_file_name c.text.ensures.printed in
+    let again = c.as_str-2.ensures.value ∙ c.in_ok-name.ensures ∙ ap exports_file_name c.text.ensures.printed in
+    let lent = c.exports_text.ensures ∙ ap (λ m. (texts_of c.args.site.now).exports m) c.text-2.ensures.printed in
     let told = c.in_ok-entries.ensures.read (file_answer rows c.args.fs text) c.read_file-entries.ensures.read in
     let R : Result (List Entry) (ReadError (LineFault Rule)) → Type 0 = λ r. IfOk r FileAscends in
     record {
