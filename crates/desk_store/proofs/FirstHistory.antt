@@ -1,7 +1,6 @@
 -- The first revisions of a site are the history of a site.
-use Rattle.std.proofs.Common.{◌≡◌, ◌≢◌, ◌∙◌, sym, ap, subst, inl, inr, refl, ℕ, suc, ◌+◌, ◌-◌, ◌<◌, ◌≤◌, ◌++◌, Bool, true, false, cond, List, [], ◌∷◌, Option, Some, None, Ok, Result, Err, All, find, map, length, get_or, slice_get, take, codes, arith}
-use Rattle.std.specs.Prelude.{filter, nat_lt}
-use Rattle.std.specs.List.{AllByRecursion, AllPairs, range_with_len}
+use Rattle.std.proofs.Common.{◌≡◌, ◌≢◌, ◌∙◌, sym, ap, subst, inl, inr, refl, ℕ, suc, ◌+◌, ◌-◌, ◌<◌, ◌≤◌, ◌++◌, Bool, true, false, cond, List, [], ◌∷◌, Some, None, Ok, Result, Err, All, find, map, length, get_or, slice_get, take, codes, arith}
+use Rattle.std.specs.List.{AllByRecursion, range_with_len}
 use Rattle.std.specs.Ordering.{is_eq, is_lt, nat_cmp}
 use Rattle.std.specs.declared.cmp.Ordering.{Ordering}
 use Rattle.std.specs.declared.cmp.Ordering.TheVariants.{Less, Equal, Greater}
@@ -26,7 +25,7 @@ use Rattle.desk_core.specs.Head.{CanBeKept, Revision, newest_in}
 use Rattle.desk_core.specs.History.{IsHistory, newest_of, revisions_of}
 use Rattle.desk_core.specs.Judging.{IsFileName, longest_edit, seven}
 use Rattle.desk_core.specs.Site.{IsConsistent, site_in}
-use Rattle.desk_store.specs.Create.{IsUtf8Revision, first_history, first_long, first_long_mount, history_with, is_long, mounts_of, revision_of_mount, revision_of_seven, text_of_seven}
+use Rattle.desk_store.specs.Create.{IsUtf8Revision, first_long, first_long_mount, history_with, is_long, mounts_of, revision_of_mount, revision_of_seven, text_of_seven}
 use Rattle.desk_store.specs.Desk.{IsSiteHistory, IsStorable}
 
 -- no two of these revisions are of one file

@@ -15,15 +15,13 @@ ghost use Rattle.desk_core.specs.Site.{IsConsistent, site_in};
 ghost use Rattle.desk_store.specs.declared.error.CreateError.TheVariants as refused;
 
 use crate::error::CreateError;
+use crate::stored::LONGEST_BODY;
 use desk_core::{Head, State};
 use desk_policy::{PolicyView, Site, SiteFault};
 use desk_tables::laws::{mount_points_read_back, tables_are_in_order};
 use desk_tables::{FileSystems, Mount};
 use desk_text::{Path, ReadError, Text};
 use std::alloc::{AllocError, Global};
-
-/// The most bytes that the text of a revision may have.
-const LONGEST_BODY: usize = 65_536;
 
 /// Lends the exports text of a mount point, which is empty if the site has none.
 fn exports_text<'a>(site: &'a Site, mount: &Path) -> &'a str

@@ -21,7 +21,7 @@ use std::alloc::{AllocError, Global};
 const LAST_REVISION: u32 = 2_147_483_647;
 
 /// The most bytes that the text of a revision may have.
-const LONGEST_BODY: usize = 65_536;
+pub(crate) const LONGEST_BODY: usize = 65_536;
 
 /// Reads the revisions in rows; `Schema` if a row is not that of a revision that a database of this project may hold.
 pub(crate) fn revisions_in(alloc: Global, rows: &[Row]) -> Result<Vec<Head>, DeskError>
