@@ -31,4 +31,10 @@ pub record AreShort (texts : WholeTexts) : Type 0 where
 -- what the texts of the tables are read as
 abbrev pub tables_of : WholeTexts → Result SiteTables SiteFault
 tables_of texts =
-    read_tables (string_bytes texts.hosts) (string_bytes texts.networks) (string_bytes texts.passwd) (string_bytes texts.group) (string_bytes texts.netgroup)
+    read_tables (record {
+      hosts = string_bytes texts.hosts;
+      networks = string_bytes texts.networks;
+      passwd = string_bytes texts.passwd;
+      group = string_bytes texts.group;
+      netgroup = string_bytes texts.netgroup;
+    })

@@ -25,7 +25,7 @@ IsToldFaulty sources table fault output = ⊥
 -- what the tables beside an exports text are read as
 abbrev pub tables_in : WholeSources → Result SiteTables SiteFault
 tables_in sources =
-    read_tables sources.tables.hosts.text.now sources.tables.networks.text.now sources.tables.passwd.text.now sources.tables.group.text.now sources.tables.netgroup.text.now
+    read_tables (record { hosts = sources.tables.hosts.text.now; networks = sources.tables.networks.text.now; passwd = sources.tables.passwd.text.now; group = sources.tables.group.text.now; netgroup = sources.tables.netgroup.text.now })
 
 -- beside a fault of `split` that is told; another output says nothing more
 abbrev pub IsToldSplit : Source → Source → Output → Type 0

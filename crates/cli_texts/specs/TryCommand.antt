@@ -53,7 +53,7 @@ TellsAs word answer tables text request result = TellsWith tables text (good_own
 -- the answer to a request by the texts that were read, in the order of the files; or why a file has no text
 abbrev pub AnswersTexts : Option (List ℕ) → Request → Result (List (List ℕ)) Failure → Result Output Failure → Type 0
 AnswersTexts word request (Ok (hosts ∷ networks ∷ passwd ∷ group ∷ netgroup ∷ text ∷ [])) result =
-    TellsAs word (own_answer word (read_users passwd) (read_groups group)) (read_tables hosts networks passwd group netgroup) text request result
+    TellsAs word (own_answer word (read_users passwd) (read_groups group)) (read_tables (record { hosts = hosts; networks = networks; passwd = passwd; group = group; netgroup = netgroup })) text request result
 AnswersTexts word request (Ok other) result = ⊥
 AnswersTexts word request (Err failure) result = result ≡ Err failure
 

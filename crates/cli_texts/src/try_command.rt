@@ -19,7 +19,7 @@ use cli_words::failure::Failure;
 use cli_words::text_words::TryWords;
 use desk_check::WholeSources;
 use desk_check::try_text::try_text;
-use desk_policy::SiteTables;
+use desk_policy::{PerTable, SiteTables};
 use desk_tables::Cred;
 use desk_text::ReadError;
 use std::alloc::Global;
@@ -99,15 +99,14 @@ fn answer_as(
     ensures answers { TellsWith (tables_in sources.entry) sources.entry.exports.text.now own.now request result }
     ensures told { IfOk result (IsTold sources.entry request.filesystems) }
 {
-    let tables = SiteTables::read(
-        alloc,
-        sources.tables.hosts.text,
-        sources.tables.networks.text,
-        sources.tables.passwd.text,
-        sources.tables.group.text,
-        sources.tables.netgroup.text,
-    );
-    match tables {
+    let texts = PerTable {
+        hosts: sources.tables.hosts.text,
+        networks: sources.tables.networks.text,
+        passwd: sources.tables.passwd.text,
+        group: sources.tables.group.text,
+        netgroup: sources.tables.netgroup.text,
+    };
+    match SiteTables::read(alloc, texts) {
         Ok(tables) => answer_with(alloc, own, request, &tables, sources),
         Err(ReadError::Fault(fault)) => faulty(alloc, sources, request.filesystems, fault),
         Err(ReadError::Memory) => {

@@ -115,7 +115,7 @@ by_tables (Err fault) sources table gathered found = tables_slices sources.table
 
 found_slices : (sources : WholeSources) (table : List Mount) (gathered : Gathered) → Gathers sources table gathered → HaveSlices gathered.findings
 found_slices sources table gathered found =
-    by_tables (read_tables sources.tables.hosts.text.now sources.tables.networks.text.now sources.tables.passwd.text.now sources.tables.group.text.now sources.tables.netgroup.text.now) sources table gathered found
+    by_tables (read_tables (record { hosts = sources.tables.hosts.text.now; networks = sources.tables.networks.text.now; passwd = sources.tables.passwd.text.now; group = sources.tables.group.text.now; netgroup = sources.tables.netgroup.text.now })) sources table gathered found
 
 heads_within : (sources : SiteSources) (all : List Told) → site.TellHeads sources all → All Within all
 heads_within sources all tells =

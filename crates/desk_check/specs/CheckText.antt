@@ -80,5 +80,5 @@ GathersWith (Err fault) sources table gathered = GathersTables sources.tables ga
 -- What is found in an exports text and its tables: each faulty line of the tables, and else what is found in the exports text.
 abbrev pub Gathers : WholeSources → List Mount → Gathered → Type 0
 Gathers sources table gathered =
-    GathersWith (read_tables sources.tables.hosts.text.now sources.tables.networks.text.now sources.tables.passwd.text.now sources.tables.group.text.now sources.tables.netgroup.text.now)
+    GathersWith (read_tables (record { hosts = sources.tables.hosts.text.now; networks = sources.tables.networks.text.now; passwd = sources.tables.passwd.text.now; group = sources.tables.group.text.now; netgroup = sources.tables.netgroup.text.now }))
     sources table gathered

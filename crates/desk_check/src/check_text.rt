@@ -16,7 +16,7 @@ use crate::finding::Finding;
 use crate::word_places::Writing;
 use desk_exports::{Boxed, Entry, Rule, Scope, Tables, find_faults, read_whole};
 use desk_policy::{
-    Policy, SiteFault, SiteTables, Warning, ascending_entries_ascend_in_each_file,
+    PerTable, Policy, SiteFault, SiteTables, Warning, ascending_entries_ascend_in_each_file,
     netgroup_warnings, whole_warnings,
 };
 use desk_tables::{FileSystems, FsId};
@@ -51,15 +51,14 @@ pub fn gather<'a>(
     ensures slices { IfOk result (λ gathered. HaveSlices gathered.findings) }
 {
     let tables = sources.tables;
-    let site_tables = SiteTables::read(
-        alloc,
-        tables.hosts.text,
-        tables.networks.text,
-        tables.passwd.text,
-        tables.group.text,
-        tables.netgroup.text,
-    );
-    match site_tables {
+    let texts = PerTable {
+        hosts: tables.hosts.text,
+        networks: tables.networks.text,
+        passwd: tables.passwd.text,
+        group: tables.group.text,
+        netgroup: tables.netgroup.text,
+    };
+    match SiteTables::read(alloc, texts) {
         Ok(site_tables) => gather_exports(alloc, sources, filesystems, &site_tables),
         Err(error) => {
             drop(filesystems);

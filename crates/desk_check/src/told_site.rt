@@ -12,7 +12,7 @@ use crate::finding::{Finding, Matter};
 use crate::told_fault::{push_one_of, told_text};
 use crate::word_places::Writing;
 use desk_exports::{Rule, Scope, Tables, find_faults};
-use desk_policy::{SiteFault, SiteRule, SiteTables};
+use desk_policy::{PerTable, SiteFault, SiteRule, SiteTables};
 use desk_tables::FileSystems;
 use desk_text::{LineFault, ReadError, Sequence};
 use std::alloc::{AllocError, Global};
@@ -142,16 +142,15 @@ fn push_of_line<'a>(
     requires { AreReadableTexts sources }
     ensures { OnOk result (found.old ≡ [] → HaveSlices found.new) }
 {
-    let texts = sources.whole.tables;
-    let tables = SiteTables::read(
-        alloc,
-        texts.hosts.text,
-        texts.networks.text,
-        texts.passwd.text,
-        texts.group.text,
-        texts.netgroup.text,
-    );
-    match tables {
+    let tables = sources.whole.tables;
+    let texts = PerTable {
+        hosts: tables.hosts.text,
+        networks: tables.networks.text,
+        passwd: tables.passwd.text,
+        group: tables.group.text,
+        netgroup: tables.netgroup.text,
+    };
+    match SiteTables::read(alloc, texts) {
         Ok(tables) => push_with_tables(alloc, sources, &tables, fault, found),
         Err(ReadError::Fault(_)) => Ok(()),
         Err(ReadError::Memory) => Err(AllocError),
