@@ -12,9 +12,9 @@ use Rattle.sqlite.specs.Order.{Row}
 use Rattle.sqlite.specs.Tree.{Trees}
 use Rattle.desk_policy.specs.Policy.{Content}
 use Rattle.desk_core.specs.Edit.{Already, Answer, Edit, Refused, Stored, revision_of}
-use Rattle.desk_core.specs.Head.{Newest, Revision, last_revision, newest_in, put}
+use Rattle.desk_core.specs.Head.{Newest, Revision, last_revision, longest_revision, newest_in, put}
 use Rattle.desk_core.specs.History.{IsAnswered, IsHistory, added_if, newest_of, revisions_of}
-use Rattle.desk_core.specs.Judging.{Answers, IsFileName, first_case, longest_edit, seven}
+use Rattle.desk_core.specs.Judging.{Answers, IsFileName, first_case, seven}
 use Rattle.desk_core.specs.Site.{IsConsistent, site_in}
 use Rattle.desk_core.specs.State.{IsJudged}
 use Rattle.desk_core.specs.Views.{Kept, Ready, kept_code}
@@ -46,7 +46,7 @@ pub record IsStorable (r : Revision) : Type 0 where
   pub file : IsUtf8 r.file
   pub author : IsUtf8 r.author
   pub body : IsUtf8 r.body
-  pub short : length r.body ≤ longest_edit
+  pub short : length r.body ≤ longest_revision
 
 -- the history of a site, as a database of this project may hold it: each of the seven files has a revision, and the site is
 -- consistent
