@@ -32,10 +32,10 @@ use Rattle.desk_store.specs.Tables.{LeavesCommit}
 use Rattle.desk_store.specs.declared.error.CreateError.{CreateError}
 use Rattle.desk_store.specs.declared.error.CreateError.TheVariants as create
 use Rattle.cli_line.specs.CommandLine.{InitWords}
-use Rattle.cli_files.specs.Files.{ReadsInTurn}
-use Rattle.cli_files.specs.declared.failure.Failure.{Failure}
-use Rattle.cli_files.specs.declared.failure.Failure.TheVariants.{Memory}
-use Rattle.cli_files.specs.declared.files.FileArgument.TheVariants.{Dir}
+use Rattle.cli_words.specs.Files.{ReadsInTurn}
+use Rattle.cli_words.specs.declared.failure.Failure.{Failure}
+use Rattle.cli_words.specs.declared.failure.Failure.TheVariants.{Memory}
+use Rattle.cli_words.specs.declared.files.FileArgument.TheVariants.{Dir}
 use Rattle.cli_texts.specs.SiteFiles.{site_paths, site_words}
 use Rattle.cli_texts.specs.declared.output.Output.{Output}
 use Rattle.cli_texts.specs.declared.output.Output.TheVariants.{Done, Refused}

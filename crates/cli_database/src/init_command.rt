@@ -20,12 +20,12 @@ use crate::new_files::NewFiles;
 use crate::told_refusal::{
     not_opened_at, not_writable, obstructed, refused_by_store, refused_by_table, too_large_told,
 };
-use cli_files::failure::Failure;
-use cli_files::files::FileArgument;
 use cli_texts::check_site_files::{SiteFiles, paths_of, read_texts, sources_of};
 use cli_texts::output::Output;
 use cli_texts::refused::Refused;
 use cli_words::database_words::InitWords;
+use cli_words::failure::Failure;
+use cli_words::files::FileArgument;
 use desk_check::split_text::SplitFault;
 use desk_check::{SiteSources, Source, WholeSources, tell_site_fault, tell_split_fault};
 use desk_core::Refusal;

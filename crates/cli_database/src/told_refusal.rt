@@ -4,10 +4,10 @@ ghost use Rattle.cli_texts.specs.declared.refused.Refused.TheVariants as refused
 ghost use Rattle.cli_database.specs.ToldRefusal.{IsRefusedAs, TellsCopyError, TellsCopyFault, TellsError};
 
 use crate::database::{Obstacle, find_obstacle, is_want_of_memory};
-use cli_files::failure::Failure;
-use cli_files::files::FileArgument;
 use cli_texts::output::Output;
 use cli_texts::refused::Refused;
+use cli_words::failure::Failure;
+use cli_words::files::FileArgument;
 use desk_core::{Edit, Refusal};
 use desk_store::{DeskError, StoreFault, Task};
 use sqlite::{Error, ErrorCode};

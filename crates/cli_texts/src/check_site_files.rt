@@ -3,14 +3,14 @@
 ghost use Rattle.std.specs.Prelude.{◌≡◌, ◌≤◌, ◌++◌, IfOk, Ok, Some, codes, length};
 ghost use Rattle.std.specs.Result.{result_map_both};
 ghost use Rattle.std.specs.String.{string_bytes};
-ghost use Rattle.cli_files.specs.Files.{Leaves, ReadsIfGiven, ReadsInTurn};
+ghost use Rattle.cli_words.specs.Files.{Leaves, ReadsIfGiven, ReadsInTurn};
 ghost use Rattle.cli_texts.specs.CheckCommand.{AnswersSite, AnswersSiteTexts};
 ghost use Rattle.cli_texts.specs.SiteFiles.{AreShortFiles, needs_no_slash, path_in, site_list, site_paths, site_paths_in, site_texts_in, site_words};
 
 use crate::check_command::report;
 use crate::output::Output;
-use cli_files::failure::Failure;
-use cli_files::files::{FileArgument, read_if_given};
+use cli_words::failure::Failure;
+use cli_words::files::{FileArgument, read_if_given};
 use desk_check::{CheckForm, SiteSources, Source, TableSources, WholeSources, gather_site};
 use std::alloc::{AllocError, Global};
 use std::io::BufRead;
