@@ -12,11 +12,11 @@ use Rattle.cli_words.specs.declared.failure.Failure.TheVariants.{FirstLine, Memo
 use Rattle.cli_words.specs.declared.failure.ReadFailure.TheVariants.{Text}
 use Rattle.cli_words.specs.declared.input.TextFault.{TextFault}
 use Rattle.cli_texts.specs.CheckCommand.{AnswersCheck}
-use Rattle.cli_texts.specs.Output.{printed, status_of}
+use Rattle.cli_output.specs.Output.{printed, status_of}
 use Rattle.cli_texts.specs.SplitCommand.{AnswersSplit}
 use Rattle.cli_texts.specs.TryCommand.{AnswersTry}
-use Rattle.cli_texts.specs.declared.output.Output.{Output}
-use Rattle.cli_texts.specs.declared.output.Output.TheVariants.{Help}
+use Rattle.cli_output.specs.declared.output.Output.{Output}
+use Rattle.cli_output.specs.declared.output.Output.TheVariants.{Help}
 use Rattle.cli_database.specs.AskCommand.{AnswersAsk, AnswersCat, AnswersExports, AnswersLog, AnswersShow}
 use Rattle.cli_database.specs.InitCommand.{AnswersInit}
 use Rattle.cli_database.specs.PutCommand.{AnswersPut}

@@ -13,7 +13,7 @@ use Rattle.cli_line.specs.CommandLine.{AskWords, CatWords, ExportsWords, LogWord
 use Rattle.cli_words.specs.declared.arguments.Argument.TheVariants as name
 use Rattle.cli_words.specs.declared.arguments.ArgumentFault.TheVariants as fault
 use Rattle.cli_words.specs.declared.failure.Failure.{Failure}
-use Rattle.cli_texts.specs.declared.output.Output.{Output}
+use Rattle.cli_output.specs.declared.output.Output.{Output}
 use Rattle.cli_database.specs.Questions.{AnswersQuestion, Ask, Cat, Exports, Log, Show}
 
 -- what CRED stands for without users and groups, if it is given

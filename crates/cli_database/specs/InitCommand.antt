@@ -36,10 +36,10 @@ use Rattle.cli_words.specs.Files.{ReadsInTurn}
 use Rattle.cli_words.specs.declared.failure.Failure.{Failure}
 use Rattle.cli_words.specs.declared.failure.Failure.TheVariants.{Memory}
 use Rattle.cli_words.specs.declared.files.FileArgument.TheVariants.{Dir}
-use Rattle.cli_texts.specs.SiteFiles.{site_paths, site_words}
-use Rattle.cli_texts.specs.declared.output.Output.{Output}
-use Rattle.cli_texts.specs.declared.output.Output.TheVariants.{Done, Refused}
-use Rattle.cli_texts.specs.declared.refused.Refused.TheVariants as refused
+use Rattle.cli_output.specs.SiteFolder.{site_paths, site_words}
+use Rattle.cli_output.specs.declared.output.Output.{Output}
+use Rattle.cli_output.specs.declared.output.Output.TheVariants.{Done, Refused}
+use Rattle.cli_output.specs.declared.refused.Refused.TheVariants as refused
 use Rattle.cli_database.specs.declared.init_command.NotMade.{NotMade}
 use Rattle.cli_database.specs.declared.init_command.NotMade.TheVariants as not_made
 

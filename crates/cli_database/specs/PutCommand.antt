@@ -28,9 +28,9 @@ use Rattle.cli_words.specs.declared.failure.Failure.{Failure}
 use Rattle.cli_words.specs.declared.failure.Failure.TheVariants.{InputTwice, KeyTwice, Memory, NoKey}
 use Rattle.cli_words.specs.declared.files.FileArgument.{FileArgument}
 use Rattle.cli_words.specs.declared.files.FileArgument.TheVariants.{Database as DatabaseFile, File, KeyFile}
-use Rattle.cli_texts.specs.declared.output.Output.{Output}
-use Rattle.cli_texts.specs.declared.output.Output.TheVariants.{Done, Refused}
-use Rattle.cli_texts.specs.declared.refused.Refused.TheVariants as refused
+use Rattle.cli_output.specs.declared.output.Output.{Output}
+use Rattle.cli_output.specs.declared.output.Output.TheVariants.{Done, Refused}
+use Rattle.cli_output.specs.declared.refused.Refused.TheVariants as refused
 use Rattle.cli_database.specs.ToldRefusal.{IsRefusedAs, TellsError}
 use Rattle.cli_database.specs.declared.put_command.KeySource.{KeySource}
 use Rattle.cli_database.specs.declared.put_command.KeySource.TheVariants.{InFile, Word}

@@ -5,7 +5,7 @@ ghost use Rattle.cli_words.specs.Words.{given_ask};
 ghost use Rattle.cli_database.specs.AskCommand.{AnswersAsk};
 
 use crate::questions::{SiteQuestion, answer_question};
-use cli_texts::output::Output;
+use cli_output::output::Output;
 use cli_words::arguments::{Argument, read_credential, read_host, read_path};
 use cli_words::database_words::AskWords;
 use cli_words::failure::Failure;

@@ -5,7 +5,7 @@ ghost use Rattle.cli_words.specs.Words.{given_cat, given_log};
 ghost use Rattle.cli_database.specs.AskCommand.{AnswersCat, AnswersLog};
 
 use crate::questions::{SiteQuestion, answer_question};
-use cli_texts::output::Output;
+use cli_output::output::Output;
 use cli_words::arguments::{Argument, read_number};
 use cli_words::database_words::{CatWords, LogWords};
 use cli_words::failure::Failure;

@@ -11,7 +11,7 @@ use Rattle.cli_words.specs.declared.failure.Failure.TheVariants.{Memory}
 use Rattle.cli_words.specs.declared.files.FileArgument.TheVariants.{File, FileSystems}
 use Rattle.cli_words.specs.declared.input.TextFault.{TextFault}
 use Rattle.cli_texts.specs.SplitCommand.{AnswersSplitFiles, AnswersTexts, TellsSplit, names_input_twice}
-use Rattle.cli_texts.specs.declared.output.Output.{Output}
+use Rattle.cli_output.specs.declared.output.Output.{Output}
 
 -- if FILESYSTEMS is standard input, FILE is not
 pub file_is_not_input : (words : SplitWords) → names_input_twice words ≡ false → words.filesystems ≡ codes "-" → words.file ≢ codes "-"

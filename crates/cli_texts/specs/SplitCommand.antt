@@ -12,8 +12,8 @@ use Rattle.cli_words.specs.declared.failure.Failure.TheVariants.{InputTwice}
 use Rattle.cli_words.specs.declared.files.FileArgument.TheVariants.{File, FileSystems}
 use Rattle.cli_words.specs.declared.input.TextFault.{TextFault}
 use Rattle.cli_texts.specs.ToldFault.{IsToldSplit}
-use Rattle.cli_texts.specs.declared.output.Output.{Output}
-use Rattle.cli_texts.specs.declared.output.Output.TheVariants.{NotSplit, Split}
+use Rattle.cli_output.specs.declared.output.Output.{Output}
+use Rattle.cli_output.specs.declared.output.Output.TheVariants.{NotSplit, Split}
 
 -- the output has the texts of a split as they are printed, or its fault
 abbrev pub IsSplitBy : Result (List ℕ) SplitFault → Output → Type 0

@@ -9,8 +9,8 @@ use Rattle.desk_check.specs.ToldFault.{TellsOf, TellsOfSplit}
 use Rattle.desk_check.specs.declared.check_faults.Source.{Source}
 use Rattle.desk_check.specs.declared.check_text.WholeSources.{WholeSources}
 use Rattle.desk_check.specs.declared.split_text.SplitFault.{SplitFault}
-use Rattle.cli_texts.specs.declared.output.Output.{Output}
-use Rattle.cli_texts.specs.declared.output.Output.TheVariants.{Faulty, NotSplit}
+use Rattle.cli_output.specs.declared.output.Output.{Output}
+use Rattle.cli_output.specs.declared.output.Output.TheVariants.{Faulty, NotSplit}
 
 -- beside a fault of `try` that is told; another output says nothing more
 abbrev pub IsTold : WholeSources → List Mount → Output → Type 0

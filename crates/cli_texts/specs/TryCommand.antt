@@ -23,8 +23,8 @@ use Rattle.cli_words.specs.declared.failure.Failure.TheVariants.{InputTwice, Mem
 use Rattle.cli_texts.specs.CheckCommand.{given_path, paths_in, texts_in}
 use Rattle.cli_texts.specs.TableFiles.{whole_files}
 use Rattle.cli_texts.specs.ToldFault.{IsTold}
-use Rattle.cli_texts.specs.declared.output.Output.{Output}
-use Rattle.cli_texts.specs.declared.output.Output.TheVariants.{Faulty, Tried}
+use Rattle.cli_output.specs.declared.output.Output.{Output}
+use Rattle.cli_output.specs.declared.output.Output.TheVariants.{Faulty, Tried}
 
 -- the output tells the verdict for an address and a path by what a text is read as, or the text's fault; out of memory says
 -- nothing

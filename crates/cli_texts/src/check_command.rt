@@ -9,8 +9,8 @@ ghost use Rattle.cli_texts.specs.CheckCommand.{AnswersCheck, AnswersFilesIf, Ans
 ghost use Rattle.cli_texts.specs.TableFiles.{AreShort, texts_of, whole_files};
 
 use crate::check_site_files::check_site;
-use crate::output::Output;
 use crate::table_files::{WholeTexts, names_input_twice, read_whole_texts};
+use cli_output::output::Output;
 use cli_words::arguments::read_mounts;
 use cli_words::failure::Failure;
 use cli_words::text_words::{CheckWords, TableWords};

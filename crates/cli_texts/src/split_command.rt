@@ -5,8 +5,8 @@ ghost use Rattle.cli_words.specs.Words.{given_split};
 ghost use Rattle.cli_words.specs.declared.failure.Failure.TheVariants.{Memory};
 ghost use Rattle.cli_texts.specs.SplitCommand.{AnswersSplit, AnswersSplitFiles, TellsSplit, names_input_twice};
 
-use crate::output::Output;
 use crate::told_fault::not_split;
+use cli_output::output::Output;
 use cli_words::failure::Failure;
 use cli_words::files::{FileArgument, is_input, read_text};
 use cli_words::text_words::SplitWords;

@@ -11,9 +11,9 @@ ghost use Rattle.cli_texts.specs.ToldFault.{IsTold, tables_in};
 ghost use Rattle.cli_texts.specs.TryCommand.{AnswersFilesIf, AnswersTexts, AnswersTry, TellsWith};
 
 use crate::check_command::sources_of;
-use crate::output::Output;
 use crate::table_files::{names_input_twice, read_whole_texts};
 use crate::told_fault::faulty;
+use cli_output::output::Output;
 use cli_words::arguments::{Request, read_credential, read_request};
 use cli_words::failure::Failure;
 use cli_words::text_words::TryWords;
