@@ -16,8 +16,8 @@ use Rattle.desk_policy.specs.Site.{SiteTexts}
 use Rattle.desk_policy.specs.declared.site_fault.SiteFault.{SiteFault}
 use Rattle.desk_core.specs.declared.edit.Refusal.TheVariants.{Fault as SiteRefusal}
 use Rattle.desk_store.specs.declared.error.CreateError.TheVariants as create
-use Rattle.cli_words.specs.declared.failure.Failure.{Failure}
-use Rattle.cli_words.specs.declared.failure.Failure.TheVariants.{Memory}
+use Rattle.cli_files.specs.declared.failure.Failure.{Failure}
+use Rattle.cli_files.specs.declared.failure.Failure.TheVariants.{Memory}
 use Rattle.cli_output.specs.SiteFolder.{site_list}
 use Rattle.cli_output.specs.declared.site_folder.SiteFiles.{SiteFiles}
 use Rattle.cli_output.specs.declared.output.Output.{Output}

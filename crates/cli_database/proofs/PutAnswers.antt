@@ -17,10 +17,10 @@ use Rattle.desk_store.specs.declared.desk.Done.{Done as Answered}
 use Rattle.desk_store.specs.declared.error.DeskError.{DeskError}
 use Rattle.desk_store.specs.declared.error.DeskError.TheVariants as error
 use Rattle.cli_line.specs.CommandLine.{PutWords}
-use Rattle.cli_words.specs.Files.{HasText, LacksText, Leaves, ReadsInTurn}
-use Rattle.cli_words.specs.declared.failure.Failure.{Failure}
-use Rattle.cli_words.specs.declared.failure.Failure.TheVariants.{Memory}
-use Rattle.cli_words.specs.declared.files.FileArgument.TheVariants.{File, KeyFile}
+use Rattle.cli_files.specs.Files.{HasText, LacksText, Leaves, ReadsInTurn}
+use Rattle.cli_files.specs.declared.failure.Failure.{Failure}
+use Rattle.cli_files.specs.declared.failure.Failure.TheVariants.{Memory}
+use Rattle.cli_files.specs.declared.files.FileArgument.TheVariants.{File, KeyFile}
 use Rattle.cli_output.specs.declared.output.Output.{Output}
 use Rattle.cli_output.specs.declared.output.Output.TheVariants.{Refused}
 use Rattle.cli_output.specs.declared.refused.Refused.{Refused as Why}

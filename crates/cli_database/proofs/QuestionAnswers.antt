@@ -19,10 +19,10 @@ use Rattle.desk_store.specs.declared.error.DeskError.{DeskError}
 use Rattle.desk_store.specs.declared.error.DeskError.TheVariants as error
 use Rattle.desk_store.specs.declared.error.StoreFault.{StoreFault}
 use Rattle.desk_store.specs.declared.error.Task.TheVariants as task
-use Rattle.cli_words.specs.Files.{IsUnread}
-use Rattle.cli_words.specs.declared.failure.Failure.{Failure}
-use Rattle.cli_words.specs.declared.failure.Failure.TheVariants.{Memory}
-use Rattle.cli_words.specs.declared.files.FileArgument.TheVariants.{Database as DatabaseFile}
+use Rattle.cli_files.specs.Files.{IsUnread}
+use Rattle.cli_files.specs.declared.failure.Failure.{Failure}
+use Rattle.cli_files.specs.declared.failure.Failure.TheVariants.{Memory}
+use Rattle.cli_files.specs.declared.files.FileArgument.TheVariants.{Database as DatabaseFile}
 use Rattle.cli_output.specs.declared.output.Output.{Output}
 use Rattle.cli_output.specs.declared.output.Output.TheVariants.{Refused}
 use Rattle.cli_output.specs.declared.refused.Refused.{Refused as Why}

@@ -6,9 +6,9 @@ use Rattle.sqlite.specs.declared.error.ErrorCode.TheVariants.{OutOfMemory, Syste
 use Rattle.sqlite_disk.specs.Memory.{memory_is_usable}
 use Rattle.sqlite_disk.specs.declared.Files.{Files}
 use Rattle.sqlite_disk.specs.declared.memory.Memory.{Memory}
-use Rattle.cli_words.specs.Files.{IsUnread}
-use Rattle.cli_words.specs.declared.failure.Failure.TheVariants.{Memory as NoMemory}
-use Rattle.cli_words.specs.declared.files.FileArgument.TheVariants.{Database}
+use Rattle.cli_files.specs.Files.{IsUnread}
+use Rattle.cli_files.specs.declared.failure.Failure.TheVariants.{Memory as NoMemory}
+use Rattle.cli_files.specs.declared.files.FileArgument.TheVariants.{Database}
 use Rattle.cli_database.specs.declared.copy.Unopened.{Unopened}
 use Rattle.cli_database.specs.declared.copy.Unopened.TheVariants.{Refused, Unread}
 

@@ -3,14 +3,14 @@
 ghost use Rattle.std.specs.Prelude.{◌≡◌, ℕ, false, IfErr, IfOk, IfSome, IsTrue, List};
 ghost use Rattle.sqlite_disk.specs.Memory.{memory_is_usable};
 ghost use Rattle.sqlite.specs.Files.{file_state};
-ghost use Rattle.cli_words.specs.Files.{IsUnread};
-ghost use Rattle.cli_words.specs.declared.files.FileArgument.TheVariants.{Database};
+ghost use Rattle.cli_files.specs.Files.{IsUnread};
+ghost use Rattle.cli_files.specs.declared.files.FileArgument.TheVariants.{Database};
 ghost use Rattle.cli_database.specs.Copy.{AreUsable, IsUnopened, copy_unopened, is_out_of_memory};
 
 use crate::database_file::{CANNOT_OPEN, is_plain, lock};
 use crate::obstacles::is_settled;
-use cli_words::failure::{Failure, ReadFailure};
-use cli_words::files::FileArgument;
+use cli_files::failure::{Failure, ReadFailure};
+use cli_files::files::FileArgument;
 use os::RangeLock;
 use sqlite::{Connection, Error, ErrorCode, FileStore, Options};
 use sqlite_disk::{Disk, Files, Memory};

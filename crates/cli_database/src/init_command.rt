@@ -21,12 +21,12 @@ use crate::obstacles::{Obstacle, find_obstacle_to_make};
 use crate::told_refusal::{
     not_opened_at, not_writable, obstructed, refused_by_store, refused_by_table, too_large_told,
 };
+use cli_files::failure::Failure;
+use cli_files::files::FileArgument;
 use cli_output::output::Output;
 use cli_output::refused::Refused;
 use cli_output::site_folder::{SiteFiles, paths_of, read_texts, sources_of};
 use cli_words::database_words::InitWords;
-use cli_words::failure::Failure;
-use cli_words::files::FileArgument;
 use desk_check::split_text::SplitFault;
 use desk_check::{SiteSources, Source, WholeSources, tell_site_fault, tell_split_fault};
 use desk_core::Refusal;

@@ -22,12 +22,13 @@ use crate::log_file::{log_to_make, remove_log};
 use crate::told_refusal::{
     not_opened_at, not_writable, refusal_told, refused_by_desk, refused_by_schema,
 };
+use cli_files::bad_argument::Argument;
+use cli_files::failure::Failure;
+use cli_files::files::{FileArgument, is_input, read_if_given};
 use cli_output::output::Output;
 use cli_output::refused::Refused;
-use cli_words::arguments::{Argument, read_number};
+use cli_words::arguments::read_number;
 use cli_words::database_words::PutWords;
-use cli_words::failure::Failure;
-use cli_words::files::{FileArgument, is_input, read_if_given};
 use desk_check::{SiteSources, Source, TableSources, WholeSources, tell_site_fault};
 use desk_core::{Edit, Refusal};
 use desk_store::{Desk, DeskError, Done};

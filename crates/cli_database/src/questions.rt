@@ -13,8 +13,8 @@ ghost use Rattle.cli_database.specs.Questions.{AnswersByDatabase, AnswersByHisto
 use crate::View;
 use crate::copy::{Unopened, open_copy};
 use crate::told_refusal::{no_revision, not_opened_at, refused_by_copy};
+use cli_files::failure::Failure;
 use cli_output::output::Output;
-use cli_words::failure::Failure;
 use desk_check::try_text::decide_by;
 use desk_policy::{PolicyView, all_exports, listing, listing_text};
 use desk_store::Desk;

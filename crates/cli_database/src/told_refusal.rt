@@ -5,10 +5,10 @@ ghost use Rattle.cli_database.specs.ToldRefusal.{IsRefusedAs, TellsCopyError, Te
 
 use crate::copy::is_out_of_memory;
 use crate::obstacles::{Obstacle, find_obstacle};
+use cli_files::failure::Failure;
+use cli_files::files::FileArgument;
 use cli_output::output::Output;
 use cli_output::refused::Refused;
-use cli_words::failure::Failure;
-use cli_words::files::FileArgument;
 use desk_core::{Edit, Refusal};
 use desk_store::{DeskError, StoreFault, Task};
 use sqlite::{Error, ErrorCode};

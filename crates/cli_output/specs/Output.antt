@@ -3,8 +3,8 @@ use Rattle.std.specs.Prelude.{ℕ, ◌++◌, ◌∷◌, List, [], Result, Ok, Er
 use Rattle.std.specs.String.{string_bytes}
 use Rattle.desk_check.specs.Faults.{fault_line}
 use Rattle.desk_check.specs.SplitText.{split_fault_line}
-use Rattle.cli_words.specs.declared.failure.Failure.{Failure}
-use Rattle.cli_words.specs.declared.failure.Failure.TheVariants.{Memory}
+use Rattle.cli_files.specs.declared.failure.Failure.{Failure}
+use Rattle.cli_files.specs.declared.failure.Failure.TheVariants.{Memory}
 use Rattle.cli_output.specs.Refused.{refused_line, refused_status}
 use Rattle.cli_output.specs.declared.output.Output.{Output}
 use Rattle.cli_output.specs.declared.output.Output.TheVariants.{Checked, Done, Faulty, Help, NotSplit, Refused, Split, Tried}

@@ -3,7 +3,7 @@ use Rattle.std.specs.Prelude.{ℕ, ◌==◌, ◌-◌, ◌≤◌, ◌++◌, Bool,
 use Rattle.std.specs.Option.{option_map_or}
 use Rattle.std.specs.String.{string_bytes}
 use Rattle.desk_check.specs.declared.check_site.SiteSources.{SiteSources}
-use Rattle.cli_words.specs.declared.files.FileArgument.{FileArgument}
+use Rattle.cli_files.specs.declared.files.FileArgument.{FileArgument}
 use Rattle.cli_output.specs.declared.site_folder.SiteFiles.{SiteFiles}
 
 -- a name may follow the path of a folder as it is: that ends with a slash, or is empty

@@ -6,7 +6,7 @@ ghost use Rattle.std.specs.String.{string_bytes};
 ghost use Rattle.cli_output.specs.Output as spec;
 
 use crate::refused::Refused;
-use cli_words::failure::{Failure, Origin, message};
+use cli_files::failure::{Failure, Origin, message};
 use desk_check::split_text::SplitFault;
 use desk_check::try_text::Tried;
 use desk_check::{Checked, fault_text};

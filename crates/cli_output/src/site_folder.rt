@@ -3,11 +3,11 @@
 ghost use Rattle.std.specs.Prelude.{◌≡◌, ◌≤◌, ◌++◌, IfOk, Some, codes, length};
 ghost use Rattle.std.specs.Result.{result_map_both};
 ghost use Rattle.std.specs.String.{string_bytes};
-ghost use Rattle.cli_words.specs.Files.{Leaves, ReadsIfGiven, ReadsInTurn};
+ghost use Rattle.cli_files.specs.Files.{Leaves, ReadsIfGiven, ReadsInTurn};
 ghost use Rattle.cli_output.specs.SiteFolder.{AreShortFiles, needs_no_slash, path_in, site_list, site_paths, site_paths_in, site_texts_in, site_words};
 
-use cli_words::failure::Failure;
-use cli_words::files::{FileArgument, read_if_given};
+use cli_files::failure::Failure;
+use cli_files::files::{FileArgument, read_if_given};
 use desk_check::{SiteSources, Source, TableSources, WholeSources};
 use std::alloc::{AllocError, Global};
 use std::io::BufRead;

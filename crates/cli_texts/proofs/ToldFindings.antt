@@ -15,8 +15,8 @@ use Rattle.desk_check.specs.declared.check_text.WholeSources.{WholeSources}
 use Rattle.desk_check.specs.declared.split_text.SplitFault.{SplitFault}
 use Rattle.cli_words.specs.Arguments.{IsBadOwn, IsNotBad, good_own}
 use Rattle.cli_words.specs.declared.arguments.Request.{Request}
-use Rattle.cli_words.specs.declared.failure.Failure.{Failure}
-use Rattle.cli_words.specs.declared.failure.Failure.TheVariants.{Memory}
+use Rattle.cli_files.specs.declared.failure.Failure.{Failure}
+use Rattle.cli_files.specs.declared.failure.Failure.TheVariants.{Memory}
 use Rattle.cli_texts.specs.SplitCommand.{TellsSplit}
 use Rattle.cli_texts.specs.ToldFault.{IsTold, IsToldFaulty, IsToldNotSplit}
 use Rattle.cli_texts.specs.TryCommand.{Tells, TellsAs, TellsFault, TellsWith}

@@ -5,8 +5,8 @@ use Rattle.desk_policy.specs.Parsing.{read_tables}
 use Rattle.desk_policy.specs.declared.parsing.SiteTables.{SiteTables}
 use Rattle.desk_policy.specs.declared.site_fault.SiteFault.{SiteFault}
 use Rattle.cli_line.specs.CommandLine.{TableWords}
-use Rattle.cli_words.specs.declared.files.FileArgument.{FileArgument}
-use Rattle.cli_words.specs.declared.files.FileArgument.TheVariants.{File, Group, Hosts, Netgroup, Networks, Passwd}
+use Rattle.cli_files.specs.declared.files.FileArgument.{FileArgument}
+use Rattle.cli_files.specs.declared.files.FileArgument.TheVariants.{File, Group, Hosts, Netgroup, Networks, Passwd}
 use Rattle.cli_texts.specs.declared.table_files.WholeTexts.{WholeTexts}
 
 -- the files in the order in which they are read

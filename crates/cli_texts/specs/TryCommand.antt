@@ -16,10 +16,10 @@ use Rattle.desk_check.specs.TryText.{IsAnswerBy, answer_of}
 use Rattle.desk_check.specs.declared.check_text.WholeSources.{WholeSources}
 use Rattle.cli_words.specs.Arguments.{IsBadArgument, IsBadOwn, IsRequest, good_own, own_answer}
 use Rattle.cli_line.specs.CommandLine.{TryWords}
-use Rattle.cli_words.specs.Files.{ReadsInTurn, name_input_twice}
+use Rattle.cli_files.specs.Files.{ReadsInTurn, name_input_twice}
 use Rattle.cli_words.specs.declared.arguments.Request.{Request}
-use Rattle.cli_words.specs.declared.failure.Failure.{Failure}
-use Rattle.cli_words.specs.declared.failure.Failure.TheVariants.{InputTwice, Memory}
+use Rattle.cli_files.specs.declared.failure.Failure.{Failure}
+use Rattle.cli_files.specs.declared.failure.Failure.TheVariants.{InputTwice, Memory}
 use Rattle.cli_texts.specs.CheckCommand.{given_path, paths_in, texts_in}
 use Rattle.cli_texts.specs.TableFiles.{whole_files}
 use Rattle.cli_texts.specs.ToldFault.{IsTold}

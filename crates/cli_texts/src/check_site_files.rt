@@ -5,10 +5,10 @@ ghost use Rattle.cli_output.specs.SiteFolder.{AreShortFiles, site_list, site_pat
 ghost use Rattle.cli_texts.specs.CheckCommand.{AnswersSite, AnswersSiteTexts};
 
 use crate::check_command::report;
+use cli_files::failure::Failure;
+use cli_files::files::FileArgument;
 use cli_output::output::Output;
 use cli_output::site_folder::{SiteFiles, paths_of, read_texts, sources_of};
-use cli_words::failure::Failure;
-use cli_words::files::FileArgument;
 use desk_check::{CheckForm, gather_site};
 use std::alloc::Global;
 use std::io::BufRead;

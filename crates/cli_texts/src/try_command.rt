@@ -3,7 +3,7 @@
 ghost use Rattle.std.specs.Prelude.{◌≤◌, IfOk, Ok, length};
 ghost use Rattle.std.specs.Option.{option_map};
 ghost use Rattle.desk_check.specs.CheckFaults.{AreReadable};
-ghost use Rattle.cli_words.specs.Files.{name_input_twice};
+ghost use Rattle.cli_files.specs.Files.{name_input_twice};
 ghost use Rattle.cli_words.specs.Words.{given_try};
 ghost use Rattle.cli_texts.specs.CheckCommand.{texts_in};
 ghost use Rattle.cli_texts.specs.TableFiles.{whole_files};
@@ -13,9 +13,9 @@ ghost use Rattle.cli_texts.specs.TryCommand.{AnswersFilesIf, AnswersTexts, Answe
 use crate::check_command::sources_of;
 use crate::table_files::{names_input_twice, read_whole_texts};
 use crate::told_fault::faulty;
+use cli_files::failure::Failure;
 use cli_output::output::Output;
 use cli_words::arguments::{Request, read_credential, read_request};
-use cli_words::failure::Failure;
 use cli_words::text_words::TryWords;
 use desk_check::WholeSources;
 use desk_check::try_text::try_text;

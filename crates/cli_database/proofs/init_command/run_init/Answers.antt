@@ -1,8 +1,8 @@
 -- The files are read in turn.
 use Rattle.std.proofs.Common.{Err, List, Ok, inl, inr, refl, subst, ℕ}
 use Rattle.std.proofs.lemmas.Result.{err_from_is_err_and}
-use Rattle.cli_words.specs.Files.{ReadsInTurn}
-use Rattle.cli_words.specs.declared.files.FileArgument.TheVariants.{Dir}
+use Rattle.cli_files.specs.Files.{ReadsInTurn}
+use Rattle.cli_files.specs.declared.files.FileArgument.TheVariants.{Dir}
 use Rattle.cli_output.specs.SiteFolder.{site_list, site_words}
 use Rattle.cli_database.proofs.init_command.run_init.Goals as goal
 
