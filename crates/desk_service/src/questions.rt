@@ -107,8 +107,10 @@ pub fn answer_by_desk<S: Alter + Drop, V: PolicyView + Drop>(
 {
     leave(desk);
     match question {
-        FileQuestion::Text(name, None) => newest_text(alloc, desk, name),
-        FileQuestion::Text(name, Some(rev)) => text_at(alloc, desk, name, rev),
+        FileQuestion::Text(name, rev) => match rev {
+            Some(rev) => text_at(alloc, desk, name, rev),
+            None => newest_text(alloc, desk, name),
+        },
         FileQuestion::Revisions(name) => revisions(alloc, desk, name),
     }
 }
