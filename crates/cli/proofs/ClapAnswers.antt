@@ -4,10 +4,10 @@ use Rattle.clap.specs.Words.{IsAmong, Kinds}
 use Rattle.clap.specs.declared.error.kind.ErrorKind.{ErrorKind}
 use Rattle.clap.specs.declared.error.kind.ErrorKind.TheVariants.{OutOfMemory}
 use Rattle.cli_line.specs.CommandLine.{faults_of}
-use Rattle.cli_words.specs.declared.failure.Failure.{Failure}
-use Rattle.cli_words.specs.declared.failure.Failure.TheVariants.{Memory, Usage}
-use Rattle.cli_texts.specs.declared.output.Output.{Output}
-use Rattle.cli_texts.specs.declared.output.Output.TheVariants.{Help}
+use Rattle.cli_files.specs.declared.failure.Failure.{Failure}
+use Rattle.cli_files.specs.declared.failure.Failure.TheVariants.{Memory, Usage}
+use Rattle.cli_output.specs.declared.output.Output.{Output}
+use Rattle.cli_output.specs.declared.output.Output.TheVariants.{Help}
 use Rattle.cli.specs.Commands.{IsNoCommand, IsSaid}
 
 -- an error of clap is an answer to the words

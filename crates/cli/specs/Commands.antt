@@ -4,19 +4,20 @@ use Rattle.std.specs.Io.BufRead.{take_through}
 use Rattle.clap.specs.declared.error.ErrorKind.{ErrorKind}
 use Rattle.clap.specs.declared.error.ErrorKind.TheVariants.{DisplayHelp, DisplayVersion, OutOfMemory}
 use Rattle.cli_line.specs.CommandLine.{Ask, AskForHelp, Cat, Check, CommandWords, Exports, Init, Log, Put, Show, Split, Try, command_found, faults_of}
-use Rattle.cli_words.specs.Files.{IsUnreadLine}
-use Rattle.cli_words.specs.Input.{IsBadWord, first_line, words_of}
+use Rattle.cli_files.specs.Files.{IsUnreadLine}
+use Rattle.cli_files.specs.Input.{first_line}
+use Rattle.cli_words.specs.LineWords.{IsBadWord, words_of}
 use Rattle.cli_words.specs.Words.{IsMissing}
-use Rattle.cli_words.specs.declared.failure.Failure.{Failure}
-use Rattle.cli_words.specs.declared.failure.Failure.TheVariants.{FirstLine, Memory, Usage}
-use Rattle.cli_words.specs.declared.failure.ReadFailure.TheVariants.{Text}
-use Rattle.cli_words.specs.declared.input.TextFault.{TextFault}
+use Rattle.cli_files.specs.declared.failure.Failure.{Failure}
+use Rattle.cli_files.specs.declared.failure.Failure.TheVariants.{FirstLine, Memory, Usage}
+use Rattle.cli_files.specs.declared.failure.ReadFailure.TheVariants.{Text}
+use Rattle.cli_files.specs.declared.input.TextFault.{TextFault}
 use Rattle.cli_texts.specs.CheckCommand.{AnswersCheck}
-use Rattle.cli_texts.specs.Output.{printed, status_of}
+use Rattle.cli_output.specs.Output.{printed, status_of}
 use Rattle.cli_texts.specs.SplitCommand.{AnswersSplit}
 use Rattle.cli_texts.specs.TryCommand.{AnswersTry}
-use Rattle.cli_texts.specs.declared.output.Output.{Output}
-use Rattle.cli_texts.specs.declared.output.Output.TheVariants.{Help}
+use Rattle.cli_output.specs.declared.output.Output.{Output}
+use Rattle.cli_output.specs.declared.output.Output.TheVariants.{Help}
 use Rattle.cli_database.specs.AskCommand.{AnswersAsk, AnswersCat, AnswersExports, AnswersLog, AnswersShow}
 use Rattle.cli_database.specs.InitCommand.{AnswersInit}
 use Rattle.cli_database.specs.PutCommand.{AnswersPut}

@@ -3,7 +3,7 @@
 ghost use Rattle.std.specs.Prelude.{map};
 ghost use Rattle.clap.specs.Words.{kind_of, subcommand_rows_of};
 ghost use Rattle.cli_line.specs.CommandLine.{command_of};
-ghost use Rattle.cli_words.specs.Input as spec;
+ghost use Rattle.cli_files.specs.Input as spec;
 ghost use Rattle.cli.specs.Commands.{AnswersCommand, AnswersFirstLine, AnswersFound, AnswersLine, IsSaid};
 
 use clap::ArgMatches;
@@ -13,13 +13,14 @@ use cli_database::init_command::run_init;
 use cli_database::log_command::{run_cat, run_log};
 use cli_database::put_command::run_put;
 use cli_database::show_command::{run_exports, run_show};
+use cli_files::failure::{Failure, ReadFailure};
+use cli_files::input::{first_line, read_line};
 use cli_line::command;
+use cli_output::output::Output;
 use cli_texts::check_command::run_check;
-use cli_texts::output::Output;
 use cli_texts::split_command::run_split;
 use cli_texts::try_command::run_try;
-use cli_words::failure::{Failure, ReadFailure};
-use cli_words::input::{command_words, first_line, read_line, words_of};
+use cli_words::line_words::{command_words, words_of};
 use cli_words::words::{CommandWords, found_command};
 use std::alloc::Global;
 use std::convert::AsSlice;

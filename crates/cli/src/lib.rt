@@ -20,9 +20,9 @@ ghost use Rattle.std.specs.Io.KnownBytes.{Appends};
 ghost use Rattle.cli.specs.Commands.{Runs};
 
 use crate::commands::{run_first_line, run_words};
-pub use cli_texts::output::print_memory;
-use cli_texts::output::report;
-use cli_words::failure::Origin;
+use cli_files::failure::Origin;
+pub use cli_output::output::print_memory;
+use cli_output::output::report;
 use std::convert::AsSlice;
 use std::io::{BufRead, Write};
 

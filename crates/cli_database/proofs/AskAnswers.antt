@@ -6,10 +6,10 @@ use Rattle.desk_tables.specs.declared.credential_text.CredFault.{CredFault}
 use Rattle.desk_tables.specs.declared.credentials.Cred.{Cred}
 use Rattle.cli_words.specs.Arguments.{AnswersArgument, IsBadOwn}
 use Rattle.cli_line.specs.CommandLine.{AskWords}
-use Rattle.cli_words.specs.declared.arguments.Argument.TheVariants as name
-use Rattle.cli_words.specs.declared.arguments.ArgumentFault.TheVariants as fault
-use Rattle.cli_words.specs.declared.failure.Failure.{Failure}
-use Rattle.cli_words.specs.declared.failure.Failure.TheVariants.{Memory}
+use Rattle.cli_files.specs.declared.bad_argument.Argument.TheVariants as name
+use Rattle.cli_files.specs.declared.bad_argument.ArgumentFault.TheVariants as fault
+use Rattle.cli_files.specs.declared.failure.Failure.{Failure}
+use Rattle.cli_files.specs.declared.failure.Failure.TheVariants.{Memory}
 use Rattle.cli_database.specs.AskCommand.{AnswersAskBy}
 
 own_memory : (word : Option (List ℕ)) (bad : CredFault) → IsBadOwn word (Some (Err bad)) Memory

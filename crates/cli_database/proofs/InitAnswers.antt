@@ -16,14 +16,14 @@ use Rattle.desk_policy.specs.Site.{SiteTexts}
 use Rattle.desk_policy.specs.declared.site_fault.SiteFault.{SiteFault}
 use Rattle.desk_core.specs.declared.edit.Refusal.TheVariants.{Fault as SiteRefusal}
 use Rattle.desk_store.specs.declared.error.CreateError.TheVariants as create
-use Rattle.cli_words.specs.declared.failure.Failure.{Failure}
-use Rattle.cli_words.specs.declared.failure.Failure.TheVariants.{Memory}
-use Rattle.cli_texts.specs.SiteFiles.{site_list}
-use Rattle.cli_texts.specs.declared.check_site_files.SiteFiles.{SiteFiles}
-use Rattle.cli_texts.specs.declared.output.Output.{Output}
-use Rattle.cli_texts.specs.declared.output.Output.TheVariants.{Refused}
-use Rattle.cli_texts.specs.declared.refused.Refused.{Refused as Why}
-use Rattle.cli_texts.specs.declared.refused.Refused.TheVariants as refused
+use Rattle.cli_files.specs.declared.failure.Failure.{Failure}
+use Rattle.cli_files.specs.declared.failure.Failure.TheVariants.{Memory}
+use Rattle.cli_output.specs.SiteFolder.{site_list}
+use Rattle.cli_output.specs.declared.site_folder.SiteFiles.{SiteFiles}
+use Rattle.cli_output.specs.declared.output.Output.{Output}
+use Rattle.cli_output.specs.declared.output.Output.TheVariants.{Refused}
+use Rattle.cli_output.specs.declared.refused.Refused.{Refused as Why}
+use Rattle.cli_output.specs.declared.refused.Refused.TheVariants as refused
 use Rattle.cli_database.specs.InitCommand.{AnswersInitBy, AnswersInitOf, AnswersInitSite, AnswersInitSplit, AnswersInitTexts, AnswersInitWith, ComesTo, IsRefusedFor, SplitsExports, Stores, TellsSplitFault, part_of}
 use Rattle.cli_database.specs.ToldRefusal.{IsRefusedAs}
 use Rattle.cli_database.specs.declared.init_command.NotMade.{NotMade}

@@ -17,14 +17,14 @@ use Rattle.desk_store.specs.declared.desk.Done.{Done as Answered}
 use Rattle.desk_store.specs.declared.error.DeskError.{DeskError}
 use Rattle.desk_store.specs.declared.error.DeskError.TheVariants as error
 use Rattle.cli_line.specs.CommandLine.{PutWords}
-use Rattle.cli_words.specs.Files.{HasText, LacksText, Leaves, ReadsInTurn}
-use Rattle.cli_words.specs.declared.failure.Failure.{Failure}
-use Rattle.cli_words.specs.declared.failure.Failure.TheVariants.{Memory}
-use Rattle.cli_words.specs.declared.files.FileArgument.TheVariants.{File, KeyFile}
-use Rattle.cli_texts.specs.declared.output.Output.{Output}
-use Rattle.cli_texts.specs.declared.output.Output.TheVariants.{Refused}
-use Rattle.cli_texts.specs.declared.refused.Refused.{Refused as Why}
-use Rattle.cli_texts.specs.declared.refused.Refused.TheVariants as refused
+use Rattle.cli_files.specs.Files.{HasText, LacksText, Leaves, ReadsInTurn}
+use Rattle.cli_files.specs.declared.failure.Failure.{Failure}
+use Rattle.cli_files.specs.declared.failure.Failure.TheVariants.{Memory}
+use Rattle.cli_files.specs.declared.files.FileArgument.TheVariants.{File, KeyFile}
+use Rattle.cli_output.specs.declared.output.Output.{Output}
+use Rattle.cli_output.specs.declared.output.Output.TheVariants.{Refused}
+use Rattle.cli_output.specs.declared.refused.Refused.{Refused as Why}
+use Rattle.cli_output.specs.declared.refused.Refused.TheVariants as refused
 use Rattle.cli_database.specs.PutCommand.{AnswersEdit, AnswersPutFiles, AnswersPutKey, GivesKeyBy, IsNotPut, IsPut, PutsBy, PutsFrom, PutsOver, TellsAnswer, key_file_in, key_in, put_files, with_first}
 use Rattle.cli_database.specs.ToldRefusal.{IsRefusedAs, TellsError}
 use Rattle.cli_database.specs.declared.put_command.KeySource.{KeySource}
@@ -96,7 +96,7 @@ not_put path e (error.Refused refusal) result (inl schema) tells = absurd (cc)
 not_put path e (error.Refused refusal) result (inr (inl memory)) tells = absurd (cc)
 not_put path e (error.Refused refusal) result (inr (inr (fault, look, known, is))) tells = absurd (cc)
 
--- of an edit that has no revision, only want of memory is a failure
+-- of an edit that has no revision, only out of memory is a failure
 failed_so : (path : List ℕ) (e : Edit) (answer : Result Answered DeskError) (failure : Failure) → TellsAnswer answer (Err failure) → AnswersEdit path e (Err failure)
 failed_so path e (Ok done) failure tells = absurd tells
 failed_so path e (Err (error.Refused refusal)) Memory tells = tt

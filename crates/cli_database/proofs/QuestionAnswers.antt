@@ -19,16 +19,16 @@ use Rattle.desk_store.specs.declared.error.DeskError.{DeskError}
 use Rattle.desk_store.specs.declared.error.DeskError.TheVariants as error
 use Rattle.desk_store.specs.declared.error.StoreFault.{StoreFault}
 use Rattle.desk_store.specs.declared.error.Task.TheVariants as task
-use Rattle.cli_words.specs.Files.{IsUnread}
-use Rattle.cli_words.specs.declared.failure.Failure.{Failure}
-use Rattle.cli_words.specs.declared.failure.Failure.TheVariants.{Memory}
-use Rattle.cli_words.specs.declared.files.FileArgument.TheVariants.{Database as DatabaseFile}
-use Rattle.cli_texts.specs.declared.output.Output.{Output}
-use Rattle.cli_texts.specs.declared.output.Output.TheVariants.{Refused}
-use Rattle.cli_texts.specs.declared.refused.Refused.{Refused as Why}
-use Rattle.cli_texts.specs.declared.refused.Refused.TheVariants as refused
+use Rattle.cli_files.specs.Files.{IsUnread}
+use Rattle.cli_files.specs.declared.failure.Failure.{Failure}
+use Rattle.cli_files.specs.declared.failure.Failure.TheVariants.{Memory}
+use Rattle.cli_files.specs.declared.files.FileArgument.TheVariants.{Database as DatabaseFile}
+use Rattle.cli_output.specs.declared.output.Output.{Output}
+use Rattle.cli_output.specs.declared.output.Output.TheVariants.{Refused}
+use Rattle.cli_output.specs.declared.refused.Refused.{Refused as Why}
+use Rattle.cli_output.specs.declared.refused.Refused.TheVariants as refused
 use Rattle.cli_database.specs.Questions.{AnswersByDatabase, AnswersByHistory, AnswersQuestion, Ask, Cat, Exports, Log, OnlyLooks, OutputByHistory, Show, SiteQuestion, numbered_authors}
-use Rattle.cli_database.specs.Database.{is_want_of_memory}
+use Rattle.cli_database.specs.Copy.{is_out_of_memory}
 use Rattle.cli_database.specs.ToldRefusal.{IsRefusedAs, TellsCopyError, TellsCopyFault}
 
 -- a database at a path answers
@@ -45,14 +45,14 @@ told_so db q why (Err Memory) answers is = refl
 told_so db q why (Err failure) answers is = absurd is
 
 -- a statement was refused on a copy, or there was no memory
-fault_told : (db : Database) (q : SiteQuestion) (fault : StoreFault) (result : Result Output Failure) (want : Bool) → want ≡ is_want_of_memory fault.error → TellsCopyFault fault result → AnswersByDatabase db q result
+fault_told : (db : Database) (q : SiteQuestion) (fault : StoreFault) (result : Result Output Failure) (want : Bool) → want ≡ is_out_of_memory fault.error → TellsCopyFault fault result → AnswersByDatabase db q result
 fault_told db q fault result true is tells = subst (λ (r : Result Output Failure). AnswersByDatabase db q r) (sym (tells.memory (sym is))) refl
 fault_told db q fault result false is tells = told_so db q refused.Store result (λ told. tt) (tells.other (sym is))
 
 -- a desk is not opened on a copy of a database
 pub refuses_copy : (db : Database) (q : SiteQuestion) (e : DeskError) (result : Result Output Failure) → IsOfOpening e → (e ≡ error.Schema → IsOurs db → ⊥) → TellsCopyError e result → AnswersByDatabase db q result
 refuses_copy db q error.Schema result look none tells = told_so db q refused.Schema result (λ told. none refl) tells
-refuses_copy db q (error.Store fault) result look none tells = fault_told db q fault result (is_want_of_memory fault.error) refl tells
+refuses_copy db q (error.Store fault) result look none tells = fault_told db q fault result (is_out_of_memory fault.error) refl tells
 refuses_copy db q error.Memory result look none tells = subst (λ (r : Result Output Failure). AnswersByDatabase db q r) (sym tells) refl
 refuses_copy db q (error.Refused refusal) result (inl schema) none tells = absurd (cc)
 refuses_copy db q (error.Refused refusal) result (inr (inl memory)) none tells = absurd (cc)
@@ -65,13 +65,13 @@ store_by history q (Ok output) is = absurd is
 store_by history q (Err Memory) is = refl
 store_by history q (Err failure) is = absurd is
 
-fault_by : (history : List Revision) (q : SiteQuestion) (fault : StoreFault) (result : Result Output Failure) (want : Bool) → want ≡ is_want_of_memory fault.error → TellsCopyFault fault result → AnswersByHistory history q result
+fault_by : (history : List Revision) (q : SiteQuestion) (fault : StoreFault) (result : Result Output Failure) (want : Bool) → want ≡ is_out_of_memory fault.error → TellsCopyFault fault result → AnswersByHistory history q result
 fault_by history q fault result true is tells = subst (λ (r : Result Output Failure). AnswersByHistory history q r) (sym (tells.memory (sym is))) refl
 fault_by history q fault result false is tells = store_by history q result (tells.other (sym is))
 
 -- a look at a copy has no answer
 pub look_fails : (history : List Revision) (q : SiteQuestion) (e : DeskError) (result : Result Output Failure) → IsOfTask task.ReadRevisions e → TellsCopyError e result → AnswersByHistory history q result
-look_fails history q (error.Store fault) result look tells = fault_by history q fault result (is_want_of_memory fault.error) refl tells
+look_fails history q (error.Store fault) result look tells = fault_by history q fault result (is_out_of_memory fault.error) refl tells
 look_fails history q error.Memory result look tells = subst (λ (r : Result Output Failure). AnswersByHistory history q r) (sym tells) refl
 look_fails history q error.Schema result (inl memory) tells = absurd (cc)
 look_fails history q error.Schema result (inr (fault, known, is)) tells = absurd (cc)

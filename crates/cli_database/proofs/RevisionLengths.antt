@@ -9,18 +9,18 @@ use Rattle.std.proofs.lemmas.List.Folds.{list_all-map}
 use Rattle.std.proofs.lemmas.List.Sums.{AllPass-from_list_all, list_all-from_AllPass}
 use Rattle.std.proofs.lemmas.Map.Entries.{All-lookup, btree_map_get_place}
 use Rattle.std.proofs.lemmas.Option.{slice_get-get_or}
-use Rattle.desk_core.specs.Judging.{longest_edit}
+use Rattle.desk_core.specs.Head.{longest_revision}
 use Rattle.desk_policy.specs.Site.{texts_of}
 use Rattle.desk_policy.specs.declared.site.Site.{Site}
 use Rattle.cli_database.specs.InitCommand.{HaveRevisionLengths, are_files_short, is_short}
 
-found_fits : (found : Option (List ℕ)) → IfSome found (λ text. is_short text ≡ true) → length (unwrap_or found []) ≤ longest_edit
+found_fits : (found : Option (List ℕ)) → IfSome found (λ text. is_short text ≡ true) → length (unwrap_or found []) ≤ longest_revision
 found_fits None fits = omega arith
-found_fits (Some text) fits = leb-true (length text) longest_edit fits
+found_fits (Some text) fits = leb-true (length text) longest_revision fits
 
 module _ {Y : Type 0} (exports : BTreeMap (String Y) (List ℕ)) where
   abbrev EachFits : Type 0
-  EachFits = (mount : List ℕ) → length (unwrap_or (get_by_text exports mount) []) ≤ longest_edit
+  EachFits = (mount : List ℕ) → length (unwrap_or (get_by_text exports mount) []) ≤ longest_revision
 
   values_fit : list_all is_short (values exports) ≡ true → EachFits
   values_fit all mount =
@@ -32,7 +32,7 @@ module _ {Y : Type 0} (exports : BTreeMap (String Y) (List ℕ)) where
       list_all-map is_short (λ e. e.1) exports.entries ∙ list_all-from_AllPass (λ e. is_short e.1) exports.entries (λ i d below.
       let entry = get_or exports.entries i d in
       let found = btree_map_get_place string_cmp_total exports i entry.0 entry.1 ordered (slice_get-get_or exports.entries i d below) in
-      le-leb (length entry.1) longest_edit (subst (λ (o : Option (List ℕ)). length (unwrap_or o []) ≤ longest_edit) found (fits (string_bytes entry.0))))
+      le-leb (length entry.1) longest_revision (subst (λ (o : Option (List ℕ)). length (unwrap_or o []) ≤ longest_revision) found (fits (string_bytes entry.0))))
 
 module _ (site : Site) where
   files_fit : HaveRevisionLengths (texts_of site) → are_files_short site ≡ true

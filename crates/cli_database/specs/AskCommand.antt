@@ -8,12 +8,13 @@ use Rattle.desk_tables.specs.Groups.{read_groups}
 use Rattle.desk_tables.specs.Users.{read_users}
 use Rattle.desk_tables.specs.declared.credential_text.CredFault.{CredFault}
 use Rattle.desk_tables.specs.declared.credentials.Cred.{Cred}
-use Rattle.cli_words.specs.Arguments.{IsBadNumber, IsBadOwn, IsRefusal, good_own, own_answer, revision_number}
+use Rattle.cli_files.specs.BadArgument.{IsRefusal}
+use Rattle.cli_words.specs.Arguments.{IsBadNumber, IsBadOwn, good_own, own_answer, revision_number}
 use Rattle.cli_line.specs.CommandLine.{AskWords, CatWords, ExportsWords, LogWords, ShowWords}
-use Rattle.cli_words.specs.declared.arguments.Argument.TheVariants as name
-use Rattle.cli_words.specs.declared.arguments.ArgumentFault.TheVariants as fault
-use Rattle.cli_words.specs.declared.failure.Failure.{Failure}
-use Rattle.cli_texts.specs.declared.output.Output.{Output}
+use Rattle.cli_files.specs.declared.bad_argument.Argument.TheVariants as name
+use Rattle.cli_files.specs.declared.bad_argument.ArgumentFault.TheVariants as fault
+use Rattle.cli_files.specs.declared.failure.Failure.{Failure}
+use Rattle.cli_output.specs.declared.output.Output.{Output}
 use Rattle.cli_database.specs.Questions.{AnswersQuestion, Ask, Cat, Exports, Log, Show}
 
 -- what CRED stands for without users and groups, if it is given

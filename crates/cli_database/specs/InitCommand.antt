@@ -25,21 +25,21 @@ use Rattle.desk_policy.specs.declared.site.Site.{Site}
 use Rattle.desk_policy.specs.declared.site_fault.SiteFault.{SiteFault}
 use Rattle.desk_policy.specs.declared.warning.Warning.{Warning}
 use Rattle.desk_core.specs.declared.edit.Refusal.TheVariants.{Fault as SiteRefusal}
-use Rattle.desk_core.specs.Judging.{longest_edit}
+use Rattle.desk_core.specs.Head.{longest_revision}
 use Rattle.desk_store.specs.Create.{JudgesSite, Makes, MayMake, RefusesToCreate, first_history, has_one}
 use Rattle.desk_store.specs.Desk.{IsSiteHistory}
 use Rattle.desk_store.specs.Tables.{LeavesCommit}
 use Rattle.desk_store.specs.declared.error.CreateError.{CreateError}
 use Rattle.desk_store.specs.declared.error.CreateError.TheVariants as create
 use Rattle.cli_line.specs.CommandLine.{InitWords}
-use Rattle.cli_words.specs.Files.{ReadsInTurn}
-use Rattle.cli_words.specs.declared.failure.Failure.{Failure}
-use Rattle.cli_words.specs.declared.failure.Failure.TheVariants.{Memory}
-use Rattle.cli_words.specs.declared.files.FileArgument.TheVariants.{Dir}
-use Rattle.cli_texts.specs.SiteFiles.{site_paths, site_words}
-use Rattle.cli_texts.specs.declared.output.Output.{Output}
-use Rattle.cli_texts.specs.declared.output.Output.TheVariants.{Done, Refused}
-use Rattle.cli_texts.specs.declared.refused.Refused.TheVariants as refused
+use Rattle.cli_files.specs.Files.{ReadsInTurn}
+use Rattle.cli_files.specs.declared.failure.Failure.{Failure}
+use Rattle.cli_files.specs.declared.failure.Failure.TheVariants.{Memory}
+use Rattle.cli_files.specs.declared.files.FileArgument.TheVariants.{Dir}
+use Rattle.cli_output.specs.SiteFolder.{site_paths, site_words}
+use Rattle.cli_output.specs.declared.output.Output.{Output}
+use Rattle.cli_output.specs.declared.output.Output.TheVariants.{Done, Refused}
+use Rattle.cli_output.specs.declared.refused.Refused.TheVariants as refused
 use Rattle.cli_database.specs.declared.init_command.NotMade.{NotMade}
 use Rattle.cli_database.specs.declared.init_command.NotMade.TheVariants as not_made
 
@@ -58,7 +58,7 @@ warnings_in (Err fault) = []
 
 -- a text is not too long for a revision
 abbrev pub is_short : List ℕ → Bool
-is_short text = nat_le (length text) longest_edit
+is_short text = nat_le (length text) longest_revision
 
 -- none of the seven files is too long
 abbrev pub are_files_short : Site → Bool
@@ -67,14 +67,14 @@ are_files_short site =
 
 -- no text of a site is too long for a revision
 pub record HaveRevisionLengths (texts : SiteTexts) : Type 0 where
-  pub custodians : length texts.custodians ≤ longest_edit
-  pub filesystems : length texts.filesystems ≤ longest_edit
-  pub hosts : length texts.hosts ≤ longest_edit
-  pub networks : length texts.networks ≤ longest_edit
-  pub passwd : length texts.passwd ≤ longest_edit
-  pub group : length texts.group ≤ longest_edit
-  pub netgroup : length texts.netgroup ≤ longest_edit
-  pub exports : (mount : List ℕ) → length (texts.exports mount) ≤ longest_edit
+  pub custodians : length texts.custodians ≤ longest_revision
+  pub filesystems : length texts.filesystems ≤ longest_revision
+  pub hosts : length texts.hosts ≤ longest_revision
+  pub networks : length texts.networks ≤ longest_revision
+  pub passwd : length texts.passwd ≤ longest_revision
+  pub group : length texts.group ≤ longest_revision
+  pub netgroup : length texts.netgroup ≤ longest_revision
+  pub exports : (mount : List ℕ) → length (texts.exports mount) ≤ longest_revision
 
 -- The text is what is printed of a site once it is stored. One with a text that is too long is refused, and its warnings are not
 -- looked for.

@@ -1,5 +1,5 @@
 pub mod AskCommand
-pub mod Database
+pub mod Copy
 pub mod InitCommand
 pub mod PutCommand
 pub mod Questions

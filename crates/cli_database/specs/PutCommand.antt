@@ -22,15 +22,15 @@ use Rattle.desk_store.specs.declared.error.DeskError.{DeskError}
 use Rattle.desk_store.specs.declared.error.DeskError.TheVariants as error
 use Rattle.cli_words.specs.Arguments.{IsBadNumber, revision_number}
 use Rattle.cli_line.specs.CommandLine.{PutWords}
-use Rattle.cli_words.specs.Files.{IsUnread, ReadsInTurn, is_input}
-use Rattle.cli_words.specs.declared.arguments.Argument.TheVariants as name
-use Rattle.cli_words.specs.declared.failure.Failure.{Failure}
-use Rattle.cli_words.specs.declared.failure.Failure.TheVariants.{InputTwice, KeyTwice, Memory, NoKey}
-use Rattle.cli_words.specs.declared.files.FileArgument.{FileArgument}
-use Rattle.cli_words.specs.declared.files.FileArgument.TheVariants.{Database as DatabaseFile, File, KeyFile}
-use Rattle.cli_texts.specs.declared.output.Output.{Output}
-use Rattle.cli_texts.specs.declared.output.Output.TheVariants.{Done, Refused}
-use Rattle.cli_texts.specs.declared.refused.Refused.TheVariants as refused
+use Rattle.cli_files.specs.Files.{IsUnread, ReadsInTurn, is_input}
+use Rattle.cli_files.specs.declared.bad_argument.Argument.TheVariants as name
+use Rattle.cli_files.specs.declared.failure.Failure.{Failure}
+use Rattle.cli_files.specs.declared.failure.Failure.TheVariants.{InputTwice, KeyTwice, Memory, NoKey}
+use Rattle.cli_files.specs.declared.files.FileArgument.{FileArgument}
+use Rattle.cli_files.specs.declared.files.FileArgument.TheVariants.{Database as DatabaseFile, File, KeyFile}
+use Rattle.cli_output.specs.declared.output.Output.{Output}
+use Rattle.cli_output.specs.declared.output.Output.TheVariants.{Done, Refused}
+use Rattle.cli_output.specs.declared.refused.Refused.TheVariants as refused
 use Rattle.cli_database.specs.ToldRefusal.{IsRefusedAs, TellsError}
 use Rattle.cli_database.specs.declared.put_command.KeySource.{KeySource}
 use Rattle.cli_database.specs.declared.put_command.KeySource.TheVariants.{InFile, Word}

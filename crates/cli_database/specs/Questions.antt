@@ -18,13 +18,13 @@ use Rattle.desk_core.specs.Site.{IsInForce, site_in}
 use Rattle.desk_store.specs.Desk.{LeavesTables, Shown, StaysAsItWas, revision_at}
 use Rattle.desk_store.specs.Open.{IsOurs, IsProject}
 use Rattle.desk_check.specs.TryText.{answer_of, policy_answer}
-use Rattle.cli_words.specs.Files.{IsUnread}
-use Rattle.cli_words.specs.declared.failure.Failure.{Failure}
-use Rattle.cli_words.specs.declared.failure.Failure.TheVariants.{Memory}
-use Rattle.cli_words.specs.declared.files.FileArgument.TheVariants.{Database as DatabaseFile}
-use Rattle.cli_texts.specs.declared.output.Output.{Output}
-use Rattle.cli_texts.specs.declared.output.Output.TheVariants.{Done, Refused, Tried}
-use Rattle.cli_texts.specs.declared.refused.Refused.TheVariants as refused
+use Rattle.cli_files.specs.Files.{IsUnread}
+use Rattle.cli_files.specs.declared.failure.Failure.{Failure}
+use Rattle.cli_files.specs.declared.failure.Failure.TheVariants.{Memory}
+use Rattle.cli_files.specs.declared.files.FileArgument.TheVariants.{Database as DatabaseFile}
+use Rattle.cli_output.specs.declared.output.Output.{Output}
+use Rattle.cli_output.specs.declared.output.Output.TheVariants.{Done, Refused, Tried}
+use Rattle.cli_output.specs.declared.refused.Refused.TheVariants as refused
 use Rattle.cli_database.specs.declared.questions.SiteQuestion.{SiteQuestion as LentQuestion}
 use Rattle.cli_database.specs.declared.questions.SiteQuestion.TheVariants as lent
 

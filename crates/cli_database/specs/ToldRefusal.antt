@@ -3,13 +3,13 @@ use Rattle.std.specs.Prelude.{◌≡◌, Result, Ok, Err, IsTrue, false}
 use Rattle.desk_store.specs.declared.error.DeskError.{DeskError}
 use Rattle.desk_store.specs.declared.error.DeskError.TheVariants as error
 use Rattle.desk_store.specs.declared.error.StoreFault.{StoreFault}
-use Rattle.cli_words.specs.declared.failure.Failure.{Failure}
-use Rattle.cli_words.specs.declared.failure.Failure.TheVariants.{Memory}
-use Rattle.cli_texts.specs.declared.output.Output.{Output}
-use Rattle.cli_texts.specs.declared.output.Output.TheVariants.{Refused as Tells}
-use Rattle.cli_texts.specs.declared.refused.Refused.{Refused}
-use Rattle.cli_texts.specs.declared.refused.Refused.TheVariants as refused
-use Rattle.cli_database.specs.Database.{is_want_of_memory}
+use Rattle.cli_files.specs.declared.failure.Failure.{Failure}
+use Rattle.cli_files.specs.declared.failure.Failure.TheVariants.{Memory}
+use Rattle.cli_output.specs.declared.output.Output.{Output}
+use Rattle.cli_output.specs.declared.output.Output.TheVariants.{Refused as Tells}
+use Rattle.cli_output.specs.declared.refused.Refused.{Refused}
+use Rattle.cli_output.specs.declared.refused.Refused.TheVariants as refused
+use Rattle.cli_database.specs.Copy.{is_out_of_memory}
 
 -- the output tells that it is refused so; out of memory says nothing
 abbrev pub IsRefusedAs : Refused → Result Output Failure → Type 0
@@ -26,8 +26,8 @@ TellsError error.Memory result = result ≡ Err Memory
 
 -- the output tells that a statement was refused on a copy in memory, or that there was no memory, if that is why
 pub record TellsCopyFault (fault : StoreFault) (result : Result Output Failure) : Type 0 where
-  pub memory : IsTrue (is_want_of_memory fault.error) → result ≡ Err Memory
-  pub other : is_want_of_memory fault.error ≡ false → IsRefusedAs refused.Store result
+  pub memory : IsTrue (is_out_of_memory fault.error) → result ≡ Err Memory
+  pub other : is_out_of_memory fault.error ≡ false → IsRefusedAs refused.Store result
 
 -- the output tells why a desk over a copy in memory has no answer
 abbrev pub TellsCopyError : DeskError → Result Output Failure → Type 0

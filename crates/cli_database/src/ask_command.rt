@@ -5,10 +5,11 @@ ghost use Rattle.cli_words.specs.Words.{given_ask};
 ghost use Rattle.cli_database.specs.AskCommand.{AnswersAsk};
 
 use crate::questions::{SiteQuestion, answer_question};
-use cli_texts::output::Output;
-use cli_words::arguments::{Argument, read_credential, read_host, read_path};
+use cli_files::bad_argument::Argument;
+use cli_files::failure::Failure;
+use cli_output::output::Output;
+use cli_words::arguments::{read_credential, read_host, read_path};
 use cli_words::database_words::AskWords;
-use cli_words::failure::Failure;
 
 /// Answers `ask DB HOST DIR [--as CRED]`. The arguments are parsed from left to right, CRED without users and groups.
 pub fn run_ask(rt: &HostRuntime, words: AskWords<'_>) -> Result<Output, Failure>

@@ -8,29 +8,30 @@ ghost use Rattle.std.specs.Str.{bytes_eq};
 ghost use Rattle.sqlite.specs.Held.{state};
 ghost use Rattle.desk_tables.specs.FileSystemsText.{read_filesystems};
 ghost use Rattle.desk_policy.specs.Site.{texts_of};
-ghost use Rattle.cli_texts.specs.SiteFiles.{AreShortFiles, site_list};
-ghost use Rattle.cli_texts.specs.declared.refused.Refused.TheVariants as refused;
+ghost use Rattle.cli_output.specs.SiteFolder.{AreShortFiles, site_list};
+ghost use Rattle.cli_output.specs.declared.refused.Refused.TheVariants as refused;
 ghost use Rattle.cli_database.specs.InitCommand.{AnswersInit, AnswersInitSite, AnswersInitTexts, AnswersInitWith, AreParts, ComesTo, Creates, HaveRevisionLengths, IsReadyText, IsRefusedFor, IsSiteWith, SplitsExports, Stores, are_files_short, is_short, ready_text, warning_line};
 ghost use Rattle.cli_database.specs.ToldRefusal.{IsRefusedAs};
 ghost use Rattle.desk_core.specs.declared.edit.Refusal.TheVariants.{Fault as SiteRefusal};
 ghost use Rattle.cli_words.specs.Words.{given_init};
 
-use crate::database::{Obstacle, find_obstacle_to_make, is_blank};
-use crate::new_files::NewFiles;
+use crate::View;
+use crate::new_files::{NewFiles, is_blank};
+use crate::obstacles::{Obstacle, find_obstacle_to_make};
 use crate::told_refusal::{
     not_opened_at, not_writable, obstructed, refused_by_store, refused_by_table, too_large_told,
 };
-use cli_texts::check_site_files::{SiteFiles, paths_of, read_texts, sources_of};
-use cli_texts::output::Output;
-use cli_texts::refused::Refused;
+use cli_files::failure::Failure;
+use cli_files::files::FileArgument;
+use cli_output::output::Output;
+use cli_output::refused::Refused;
+use cli_output::site_folder::{SiteFiles, paths_of, read_texts, sources_of};
 use cli_words::database_words::InitWords;
-use cli_words::failure::Failure;
-use cli_words::files::FileArgument;
 use desk_check::split_text::SplitFault;
 use desk_check::{SiteSources, Source, WholeSources, tell_site_fault, tell_split_fault};
 use desk_core::Refusal;
 use desk_exports::{Rule, split};
-use desk_policy::{Plain, Site, SiteFault, Warning, parse};
+use desk_policy::{Site, SiteFault, Warning, parse};
 use desk_store::{CreateError, Desk};
 use desk_tables::{FileSystems, Mount};
 use desk_text::{LineFault, ReadError, Text};
@@ -53,11 +54,11 @@ pub fn run_init<I: BufRead>(
 {
     let paths = paths_of(rt.alloc(), words.dir)?;
     let texts = read_texts(rt, FileArgument::Dir, &paths, input)?;
-    init_texts(rt, words.db, &paths, &texts)
+    split_texts(rt, words.db, &paths, &texts)
 }
 
-/// Makes a database of these texts.
-fn init_texts(
+/// Splits the exports text, and makes a database of the texts; or answers by the fault for which it is not split.
+fn split_texts(
     rt: &HostRuntime,
     db: &str,
     paths: &SiteFiles,
@@ -67,7 +68,7 @@ fn init_texts(
     ensures { AnswersInitTexts (Ok (site_list texts.now)) result }
 {
     match split_exports(rt.alloc(), texts) {
-        Ok(exports) => init_site(rt, db, paths, texts, exports),
+        Ok(exports) => build_site(rt, db, paths, texts, exports),
         Err(ReadError::Fault(fault)) => not_split(rt.alloc(), sources_of(paths, texts), fault),
         Err(ReadError::Memory) => Err(Failure::Memory),
     }
@@ -155,8 +156,8 @@ fn put_part(
     Ok(())
 }
 
-/// Makes a database of the seven files and these exports texts.
-fn init_site(
+/// Builds the site of the seven files and these exports texts, and makes a database of it.
+fn build_site(
     rt: &HostRuntime,
     db: &str,
     paths: &SiteFiles,
@@ -166,13 +167,13 @@ fn init_site(
     ensures { AnswersInitWith (site_list texts.now) exports result }
 {
     let site = site_of(rt.alloc(), texts, exports)?;
-    match make(rt, db, &site) {
+    match make_files(rt, db, &site) {
         Ok(ready) => Ok(Output::Done(ready)),
         Err(refused) => refuse(rt, db, sources_of(paths, texts), &site, refused),
     }
 }
 
-/// Makes the site of the seven files and these exports texts.
+/// Returns the site of the seven files and these exports texts.
 fn site_of(
     alloc: Global,
     texts: &SiteFiles,
@@ -193,7 +194,7 @@ fn site_of(
 }
 
 /// Writes the warnings of a site, each in a line, and `ready`. A site that is refused has none: one with a fault, or with a
-/// text that is too long, of which it is not asked what that text says, since that can take long.
+/// text that is too long. A text that is too long is not parsed, since that could take long.
 fn ready_text(alloc: Global, site: &Site) -> Result<String, AllocError>
     ensures { IfOk result (λ text. IsReadyText (texts_of site.now) (string_bytes text)) }
 {
@@ -286,8 +287,8 @@ pub enum NotMade {
     Memory,
 }
 
-/// Stores a site in a new database, and gives what is printed of it. A file is made only if nothing known stands in the way.
-fn make(rt: &HostRuntime, db: &str, site: &Site) -> Result<String, NotMade>
+/// Makes the files of a new database, if nothing known stands in the way, and stores a site. Returns what is printed of it.
+fn make_files(rt: &HostRuntime, db: &str, site: &Site) -> Result<String, NotMade>
     ensures { ComesTo (texts_of site.now) result }
 {
     match find_obstacle_to_make(rt, db) {
@@ -296,18 +297,18 @@ fn make(rt: &HostRuntime, db: &str, site: &Site) -> Result<String, NotMade>
         Err(error) => return Err(NotMade::File(error)),
     }
     match NewFiles::make(rt, db) {
-        Ok(new) => make_in(rt, site, &new),
+        Ok(new) => open_made(rt, site, &new),
         Err(error) => Err(NotMade::File(error)),
     }
 }
 
-/// Stores a site in the files of a new database, and gives what is printed of it.
-fn make_in(rt: &HostRuntime, site: &Site, new: &NewFiles) -> Result<String, NotMade>
+/// Opens the files that were made, and stores a site. They are removed if SQLite does not open them.
+fn open_made(rt: &HostRuntime, site: &Site, new: &NewFiles) -> Result<String, NotMade>
     ensures { ComesTo (texts_of site.now) result }
 {
     match Connection::open_from(rt, new.path.as_str(), false, Wary) {
         Ok(conn) => {
-            let (stored, conn) = store(rt, conn, site, new);
+            let (stored, conn) = remove_if_refused(rt, conn, site, new);
             drop(conn);
             stored
         }
@@ -319,9 +320,9 @@ fn make_in(rt: &HostRuntime, site: &Site, new: &NewFiles) -> Result<String, NotM
     }
 }
 
-/// Stores a site in the database of a connection, which is handed back, and gives what is printed of it. The files that were
-/// made for a site that is refused are removed.
-fn store<S: Alter + Drop>(
+/// Stores a site in the database of a connection, which is handed back. The files that were made for a site that is refused
+/// are removed.
+fn remove_if_refused<S: Alter + Drop>(
     rt: &HostRuntime,
     conn: Connection<S>,
     site: &Site,
@@ -331,7 +332,7 @@ fn store<S: Alter + Drop>(
     ensures { Stores S.Store conn result.1 (texts_of site.now) result.0 }
 {
     let was_blank = is_blank(&conn);
-    let (stored, conn) = store_told(rt.alloc(), conn, site);
+    let (stored, conn) = with_ready_text(rt.alloc(), conn, site);
     if stored.is_err() {
         // Before the lock goes with the connection: behind that, another process may write the files.
         new.remove_refused(rt, was_blank);
@@ -339,8 +340,8 @@ fn store<S: Alter + Drop>(
     (stored, conn)
 }
 
-/// Stores a site in the database of a connection, which is handed back, and gives what is printed of it.
-fn store_told<S: Alter + Drop>(
+/// Writes what is printed of a site, and stores it in the database of a connection, which is handed back.
+fn with_ready_text<S: Alter + Drop>(
     alloc: Global,
     conn: Connection<S>,
     site: &Site,
@@ -348,11 +349,11 @@ fn store_told<S: Alter + Drop>(
     requires { (state S.Store conn).in_transaction ≡ false }
     ensures { Stores S.Store conn result.1 (texts_of site.now) result.0 }
 {
-    // What is printed takes memory, so it is made before.
+    // It takes memory, so it comes first.
     let Ok(ready) = ready_text(alloc, site) else {
         return (Err(NotMade::Memory), conn);
     };
-    let (created, conn) = create(alloc, conn, site);
+    let (created, conn) = create_desk(alloc, conn, site);
     match created {
         Ok(()) => (Ok(ready), conn),
         Err(error) => (Err(NotMade::Create(error)), conn),
@@ -360,7 +361,7 @@ fn store_told<S: Alter + Drop>(
 }
 
 /// Makes a desk of a site in the database of a connection, which is handed back.
-fn create<S: Alter + Drop>(
+fn create_desk<S: Alter + Drop>(
     alloc: Global,
     conn: Connection<S>,
     site: &Site,
@@ -368,7 +369,7 @@ fn create<S: Alter + Drop>(
     requires { (state S.Store conn).in_transaction ≡ false }
     ensures { Creates (state S.Store conn) (state S.Store result.1) (texts_of site.now) result.0 }
 {
-    let created: Result<Desk<S, Plain>, _> = Desk::create(alloc, conn, site);
+    let created: Result<Desk<S, View>, _> = Desk::create(alloc, conn, site);
     match created {
         Ok(desk) => (Ok(()), desk.into_connection()),
         Err((error, conn)) => (Err(error), conn),

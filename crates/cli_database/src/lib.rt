@@ -1,6 +1,6 @@
 //! The commands on a database: `init` makes one, `put` makes an edit, and `ask`, `show`, `exports`, `log` and `cat` ask.
 //!
-//! Its promise: each answers by what its database holds, a question over a copy, which changes nothing; and what is said to be
+//! Its promise: each answers by what its database holds, a question over a copy, which changes nothing; and what is reported as
 //! done is stored. What only the system decides, as whether a database can be opened, is left open.
 //!
 //! ```text
@@ -9,11 +9,19 @@
 #![tactic(auto)]
 
 pub mod ask_command;
-mod database;
+mod copy;
+mod database_file;
 pub mod init_command;
 pub mod log_command;
+mod log_file;
 mod new_files;
+mod obstacles;
 pub mod put_command;
 mod questions;
 pub mod show_command;
 mod told_refusal;
+
+use desk_policy::Plain;
+
+/// The view by which the program decides.
+pub type View = Plain;

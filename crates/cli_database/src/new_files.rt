@@ -1,6 +1,18 @@
 //! The files of a new database: they are made before it is opened, and removed if nothing is stored in them.
+//!
+//! Rules, which `put` keeps too for a log that it makes; whoever changes one changes the calls of the others:
+//! 1. What allocates comes before the first file is made, so that running out of memory leaves no file behind.
+//! 2. DB is made first, for its owner alone. SQLite makes the log when it opens DB, and locks DB then.
+//! 3. Nothing is removed but by the command that found it missing, with DB locked, and with nothing stored in it: since the
+//!    command looked, another process may have made the file, or stored something. DB goes only if it holds nothing; the log
+//!    goes if DB holds nothing, or else if the log has no page.
+//! 4. The log goes before DB: as long as DB stands it is locked, so no other process makes a database here, whose log it would be.
+//! 5. Both go before the connection is closed, since the lock goes with it.
 
-use crate::database::{holds_nothing, log_to_make, open_alone, plain_path, remove_log};
+use crate::copy::{copy_under_lock, open_copied};
+use crate::database_file::{open_alone, plain_path};
+use crate::log_file::{log_to_make, remove_log};
+use sqlite::{Alter, Connection};
 use std::fs::OpenOptions;
 use std::os::unix::fs::OpenOptionsExt;
 use std::{fs, io};
@@ -17,7 +29,7 @@ pub struct NewFiles {
 }
 
 impl NewFiles {
-    /// Makes the file of a database, if there is none. What takes memory comes before, so that no file is left behind.
+    /// Makes the file of a database, if there is none.
     pub fn make(rt: &HostRuntime, db: &str) -> io::Result<NewFiles> {
         let path = plain_path(rt.alloc(), db)?;
         let log = log_to_make(rt, db)?;
@@ -25,8 +37,7 @@ impl NewFiles {
         Ok(NewFiles { path, made, log })
     }
 
-    /// Removes the files that were made for a database which SQLite does not open, if they hold nothing. They are locked and
-    /// looked at first: since they were made, another process may have stored a site in them.
+    /// Removes the files that were made for a database which SQLite does not open, if they hold nothing.
     pub fn remove_unopened(&self, rt: &HostRuntime) {
         let path = self.path.as_str();
         if let Ok(Some(file)) = open_alone(rt, path) {
@@ -45,8 +56,7 @@ impl NewFiles {
         }
     }
 
-    /// Removes the files that were made for nothing. The log goes first: as long as the file stands, it is locked, and so no
-    /// other process makes a database here, whose log it would be.
+    /// Removes the files that were made for nothing.
     fn remove(&self, rt: &HostRuntime) {
         if let Some(log) = &self.log {
             let _ = fs::remove_file(rt, log.as_str());
@@ -57,7 +67,7 @@ impl NewFiles {
     }
 }
 
-/// Makes the file of a database, for its owner alone, if there is none. Tells whether it was made.
+/// Makes the file of a database, for its owner alone, if there is none. Returns whether it was made.
 fn make_file(rt: &HostRuntime, db: &str) -> io::Result<bool> {
     match OpenOptions::new()
         .read(true)
@@ -73,4 +83,21 @@ fn make_file(rt: &HostRuntime, db: &str) -> io::Result<bool> {
         }
         Err(error) => Err(error),
     }
+}
+
+/// Tests whether a database, whose file is open alone, holds nothing. One that cannot be copied and opened may hold something.
+fn holds_nothing(rt: &HostRuntime, real: &str, file: &fs::File) -> bool {
+    let Ok(Ok(files)) = copy_under_lock(rt, real, file) else {
+        return false;
+    };
+    match open_copied(rt.alloc(), files) {
+        Ok(conn) => is_blank(&conn),
+        Err(_) => false,
+    }
+}
+
+/// Tests whether a database has no tables and no views, nor tables that SQL here does not understand.
+pub fn is_blank<S: Alter>(conn: &Connection<S>) -> bool {
+    let schema = conn.schema();
+    schema.tables.as_slice().is_empty() && schema.views.as_slice().is_empty()
 }

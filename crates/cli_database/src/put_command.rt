@@ -1,4 +1,8 @@
 //! The command `put`: an edit of a file.
+//!
+//! DB is opened by its path three times: for reading, for writing, and by SQLite. SQLite reports a DB that it may not read, or
+//! not write, as CannotOpen alone, so the system is asked for each first, and then DB is closed at once. An empty DB is refused
+//! before SQLite opens it, which would write a database into it.
 
 ghost use Rattle.std.specs.Prelude.{◌≡◌, false, IfOk};
 ghost use Rattle.sqlite_wal.specs.Files.{image_at};
@@ -7,23 +11,26 @@ ghost use Rattle.sqlite.specs.Held.{state};
 ghost use Rattle.desk_core.specs.Edit.{asked};
 ghost use Rattle.desk_store.specs.Desk.{IsEdited};
 ghost use Rattle.cli_words.specs.Words.{given_put};
-ghost use Rattle.cli_texts.specs.declared.refused.Refused.TheVariants as refused;
+ghost use Rattle.cli_output.specs.declared.refused.Refused.TheVariants as refused;
 ghost use Rattle.cli_database.specs.PutCommand.{AnswersEdit, AnswersKeyFile, AnswersPut, AnswersPutFiles, GivesKey, HasReplies, IsKeyIn, PutsBy, PutsFrom, PutsOver, edit_of, key_in, key_file_in};
 ghost use Rattle.cli_database.specs.ToldRefusal.{IsRefusedAs};
 
-use crate::database::{CANNOT_OPEN, is_plain, log_to_make, plain_path, remove_log, unread};
+use crate::View;
+use crate::copy::unread;
+use crate::database_file::{CANNOT_OPEN, is_plain, plain_path};
+use crate::log_file::{log_to_make, remove_log};
 use crate::told_refusal::{
     not_opened_at, not_writable, refusal_told, refused_by_desk, refused_by_schema,
 };
-use cli_texts::output::Output;
-use cli_texts::refused::Refused;
-use cli_words::arguments::{Argument, read_number};
+use cli_files::bad_argument::Argument;
+use cli_files::failure::Failure;
+use cli_files::files::{FileArgument, is_input, read_if_given};
+use cli_output::output::Output;
+use cli_output::refused::Refused;
+use cli_words::arguments::read_number;
 use cli_words::database_words::PutWords;
-use cli_words::failure::Failure;
-use cli_words::files::{FileArgument, is_input, read_if_given};
 use desk_check::{SiteSources, Source, TableSources, WholeSources, tell_site_fault};
 use desk_core::{Edit, Refusal};
-use desk_policy::Plain;
 use desk_store::{Desk, DeskError, Done};
 use sqlite::{Alter, Connection, FileFrom, FileStore, Start, Wary};
 use std::alloc::{AllocError, Global};
@@ -50,10 +57,10 @@ pub fn run_put<I: BufRead>(
 {
     let base = read_number(rt.alloc(), Argument::Base, words.base)?;
     let key = key_source(words)?;
-    put_files(rt, words, base, key, input)
+    read_texts(rt, words, base, key, input)
 }
 
-/// Looks where the key is: in just one of the two options. Only one file may be standard input.
+/// Returns where the key is: in just one of the two options. Only one file may be standard input.
 fn key_source<'a>(words: PutWords<'a>) -> Result<KeySource<'a>, Failure>
     ensures { GivesKey (given_put words.entry) result }
 {
@@ -71,8 +78,8 @@ fn key_source<'a>(words: PutWords<'a>) -> Result<KeySource<'a>, Failure>
     }
 }
 
-/// Reads FILE, and then the key's file, if the key is in one, and answers by their texts.
-fn put_files<I: BufRead>(
+/// Reads FILE, and then the key's file, if the key is in one; answers by their texts.
+fn read_texts<I: BufRead>(
     rt: &HostRuntime,
     words: PutWords<'_>,
     base: u32,
@@ -83,13 +90,17 @@ fn put_files<I: BufRead>(
 {
     let text = read_if_given(rt, FileArgument::File, Some(words.file), input)?;
     match key {
-        KeySource::Word(key) => put_edit(rt, words, edit_of(words, base, key, text.as_str())),
-        KeySource::InFile(file) => put_with_key_file(rt, words, base, text.as_str(), file, input),
+        KeySource::Word(key) => refuse_odd_file(
+            rt,
+            words,
+            edit_of(words, base, key, text.as_str()),
+        ),
+        KeySource::InFile(file) => read_key_file(rt, words, base, text.as_str(), file, input),
     }
 }
 
-/// Reads the key's file, and answers by its text and that of FILE.
-fn put_with_key_file<I: BufRead>(
+/// Reads the key's file; answers by its text and that of FILE.
+fn read_key_file<I: BufRead>(
     rt: &HostRuntime,
     words: PutWords<'_>,
     base: u32,
@@ -101,7 +112,7 @@ fn put_with_key_file<I: BufRead>(
 {
     let key_text = read_if_given(rt, FileArgument::KeyFile, Some(file), input)?;
     let key = key_of(key_text.as_str());
-    put_edit(rt, words, edit_of(words, base, key, text))
+    refuse_odd_file(rt, words, edit_of(words, base, key, text))
 }
 
 /// Returns the first line of a key's file, without its line end.
@@ -127,25 +138,29 @@ fn edit_of<'a>(words: PutWords<'a>, base: u32, key: &'a str, text: &'a str) -> E
     }
 }
 
-/// Puts an edit into the database, if that can be opened.
-fn put_edit(rt: &HostRuntime, words: PutWords<'_>, edit: Edit<'_>) -> Result<Output, Failure>
+/// Refuses a DB that does not lead to a regular file with one name; else puts the edit into it.
+fn refuse_odd_file(rt: &HostRuntime, words: PutWords<'_>, edit: Edit<'_>) -> Result<Output, Failure>
     ensures { AnswersEdit words.entry.db.now (asked edit.entry) result }
 {
     match leads_to_plain(rt, words.db) {
-        Ok(true) => put_in_plain(rt, words, &edit),
+        Ok(true) => refuse_empty_file(rt, words, &edit),
         Ok(false) => not_opened_at(rt, words.db, CANNOT_OPEN),
         Err(error) => Err(unread(rt.alloc(), words.db, error)),
     }
 }
 
-/// Tests whether a path leads to a regular file with one name. Another, as a FIFO, may be waited for when it is opened.
+/// Tests whether a path leads to a regular file with one name. To open another, as a FIFO, may wait for ever.
 fn leads_to_plain(rt: &HostRuntime, path: &str) -> io::Result<bool> {
     let real = fs::canonicalize(rt, path)?;
     is_plain(rt, real.as_str())
 }
 
-/// Puts an edit into a regular file, if that can be read and written, and has a database.
-fn put_in_plain(rt: &HostRuntime, words: PutWords<'_>, edit: &Edit<'_>) -> Result<Output, Failure>
+/// Refuses a file that cannot be read, or not be written, or is empty; else puts the edit into it.
+fn refuse_empty_file(
+    rt: &HostRuntime,
+    words: PutWords<'_>,
+    edit: &Edit<'_>,
+) -> Result<Output, Failure>
     ensures { AnswersEdit words.entry.db.now (asked edit.now) result }
 {
     if let Err(error) = fs::open(rt, words.db) {
@@ -153,25 +168,25 @@ fn put_in_plain(rt: &HostRuntime, words: PutWords<'_>, edit: &Edit<'_>) -> Resul
     }
     match is_empty_file(rt, words.db) {
         Ok(true) => refused_by_schema(rt.alloc(), words.db),
-        Ok(false) => put_in_files(rt, words, edit),
+        Ok(false) => remove_new_log(rt, words, edit),
         Err(error) => not_writable(rt.alloc(), words.db, &error),
     }
 }
 
-/// Tests whether a file, which can be written, is empty or has one byte. SQLite would take it as an empty database, and write
-/// one.
+/// Tests whether a file that can be written is empty or has one byte. SQLite would take it for an empty database, and write
+/// one into it.
 fn is_empty_file(rt: &HostRuntime, path: &str) -> io::Result<bool> {
     let file = OpenOptions::new().read(true).write(true).open(rt, path)?;
     Ok(file.metadata()?.len() <= 1)
 }
 
-/// Puts an edit into a database, which is opened. Its log is removed if it was made for nothing.
-fn put_in_files(rt: &HostRuntime, words: PutWords<'_>, edit: &Edit<'_>) -> Result<Output, Failure>
+/// Puts an edit into a database, and then removes its log if that was made for nothing.
+fn remove_new_log(rt: &HostRuntime, words: PutWords<'_>, edit: &Edit<'_>) -> Result<Output, Failure>
     ensures { AnswersEdit words.entry.db.now (asked edit.now) result }
 {
     let log = log_to_make(rt, words.db)?;
     let path = plain_path(rt.alloc(), words.db)?;
-    let (answer, left) = put_from(rt, words, path.as_str(), edit, &log, Wary);
+    let (answer, left) = open_files(rt, words, path.as_str(), edit, &log, Wary);
     if left.is_some() {
         // Before the lock goes with the connection: behind that, another process may write the log.
         remove_log(rt, &log);
@@ -183,8 +198,8 @@ fn put_in_files(rt: &HostRuntime, words: PutWords<'_>, edit: &Edit<'_>) -> Resul
 /// A connection to files, where `S` stands for what they held.
 type FilesFrom<S> = Connection<FileStore<FileFrom<S>>>;
 
-/// Puts an edit into the database at a path, which is opened. Beside the answer is the connection, if there is one.
-fn put_from<S: Start>(
+/// Opens the database at a path, and puts an edit into it. Beside the answer is the connection, if there is one.
+fn open_files<S: Start>(
     rt: &HostRuntime,
     words: PutWords<'_>,
     path: &str,
@@ -196,7 +211,7 @@ fn put_from<S: Start>(
 {
     match Connection::open_from(rt, path, false, start) {
         Ok(conn) => {
-            let (answer, left) = put_over(rt.alloc(), words, conn, edit);
+            let (answer, left) = over_connection(rt.alloc(), words, conn, edit);
             (answer, Some(left))
         }
         Err((error, left)) => {
@@ -209,8 +224,8 @@ fn put_from<S: Start>(
     }
 }
 
-/// Puts an edit into the database of a connection, which is handed back.
-fn put_over<S: Alter + Drop>(
+/// Opens a desk over a connection, which is handed back, and puts an edit into it.
+fn over_connection<S: Alter + Drop>(
     alloc: Global,
     words: PutWords<'_>,
     conn: Connection<S>,
@@ -219,10 +234,10 @@ fn put_over<S: Alter + Drop>(
     requires { (state S.Store conn).in_transaction ≡ false }
     ensures { PutsOver (state S.Store conn) (state S.Store result.1) (asked edit.now) result.0 }
 {
-    let opened: Result<Desk<S, Plain>, _> = Desk::open(alloc, conn);
+    let opened: Result<Desk<S, View>, _> = Desk::open(alloc, conn);
     match opened {
         Ok(mut desk) => {
-            let answer = put_by(alloc, words, &mut desk, edit);
+            let answer = edit_desk(alloc, words, &mut desk, edit);
             (answer, desk.into_connection())
         }
         Err((error, conn)) => (refused_by_desk(alloc, words.db, error), conn),
@@ -246,11 +261,11 @@ impl Replies {
     }
 }
 
-/// Puts an edit into a desk.
-fn put_by<S: Alter + Drop>(
+/// Puts an edit into a desk; what is printed is made before.
+fn edit_desk<S: Alter + Drop>(
     alloc: Global,
     words: PutWords<'_>,
-    desk: &mut Desk<S, Plain>,
+    desk: &mut Desk<S, View>,
     edit: &Edit<'_>,
 ) -> Result<Output, Failure>
     ensures { PutsBy S.Store desk.old desk.new (asked edit.now) result }
@@ -270,7 +285,7 @@ fn put_by<S: Alter + Drop>(
 /// Edits a desk. (Split off for its proof.)
 fn edited<S: Alter + Drop>(
     alloc: Global,
-    desk: &mut Desk<S, Plain>,
+    desk: &mut Desk<S, View>,
     edit: &Edit<'_>,
 ) -> Result<Done, DeskError>
     ensures { IsEdited (state S.Store desk.old.conn) (state S.Store desk.new.conn) desk.old.state desk.new.state (asked edit.now) result }
@@ -282,7 +297,7 @@ fn edited<S: Alter + Drop>(
 fn refused<S: Alter + Drop>(
     alloc: Global,
     path: &str,
-    desk: &Desk<S, Plain>,
+    desk: &Desk<S, View>,
     edit: &Edit<'_>,
     refusal: Refusal,
 ) -> Result<Output, Failure>
@@ -299,7 +314,7 @@ fn refused<S: Alter + Drop>(
 
 /// Lends the texts of the site with an edit, and of the exports the file of this name.
 fn sources_of<'a, S: Alter + Drop>(
-    desk: &'a Desk<S, Plain>,
+    desk: &'a Desk<S, View>,
     edit: &'a Edit<'a>,
     file: &'a str,
 ) -> SiteSources<'a> {
@@ -321,7 +336,7 @@ fn sources_of<'a, S: Alter + Drop>(
 
 /// Lends the text of a file with an edit.
 fn source_of<'a, S: Alter + Drop>(
-    desk: &'a Desk<S, Plain>,
+    desk: &'a Desk<S, View>,
     edit: &'a Edit<'a>,
     file: &'a str,
 ) -> Source<'a> {

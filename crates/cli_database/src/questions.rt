@@ -10,12 +10,13 @@ ghost use Rattle.desk_policy.specs.Listings.{listing_of};
 ghost use Rattle.desk_store.specs.Desk.{HasGoodDisk, History, LeavesTables, StandsAt};
 ghost use Rattle.cli_database.specs.Questions.{AnswersByDatabase, AnswersByHistory, AnswersQuestion, Cat, Log, OnlyLooks, asked_question, log_text, revision_line};
 
-use crate::database::{Unopened, open_copy};
+use crate::View;
+use crate::copy::{Unopened, open_copy};
 use crate::told_refusal::{no_revision, not_opened_at, refused_by_copy};
-use cli_texts::output::Output;
-use cli_words::failure::Failure;
+use cli_files::failure::Failure;
+use cli_output::output::Output;
 use desk_check::try_text::decide_by;
-use desk_policy::{Plain, PolicyView, all_exports, listing, listing_text};
+use desk_policy::{PolicyView, all_exports, listing, listing_text};
 use desk_store::Desk;
 use desk_tables::Cred;
 use desk_text::{Addr, Path, Text};
@@ -57,7 +58,7 @@ pub fn answer_question(
 }
 
 /// Answers a question by the database of a connection, which is handed back. It is a copy in memory: an error of its disk is
-/// told as want of memory.
+/// reported as out of memory.
 fn answer_over<S: Alter + Drop>(
     alloc: Global,
     db: &str,
@@ -69,7 +70,7 @@ fn answer_over<S: Alter + Drop>(
     ensures tables { LeavesTables (state S.Store conn) (state S.Store result.1) }
     ensures mode { HasCleanDisk (state S.Store result.1) → (state S.Store result.1).in_transaction ≡ false }
 {
-    let opened: Result<Desk<S, Plain>, _> = Desk::open(alloc, conn);
+    let opened: Result<Desk<S, View>, _> = Desk::open(alloc, conn);
     match opened {
         Ok(mut desk) => {
             let answer = answer_by(alloc, db, &mut desk, question);
@@ -83,7 +84,7 @@ fn answer_over<S: Alter + Drop>(
 fn answer_by<S: Alter + Drop>(
     alloc: Global,
     db: &str,
-    desk: &mut Desk<S, Plain>,
+    desk: &mut Desk<S, View>,
     question: SiteQuestion<'_>,
 ) -> Result<Output, Failure>
     ensures answered { HasGoodDisk S.Store desk.new → (history : History) → StandsAt S.Store desk.old history []
@@ -104,12 +105,12 @@ fn answer_by<S: Alter + Drop>(
 }
 
 /// A desk that is left alone was only looked at.
-fn leave<S: Alter + Drop>(desk: &Desk<S, Plain>)
+fn leave<S: Alter + Drop>(desk: &Desk<S, View>)
     ensures { OnlyLooks S.Store desk.now desk.now }
 {}
 
 /// Writes what a client may mount.
-fn shown_text(alloc: Global, view: &Plain, address: Addr) -> Result<String, AllocError>
+fn shown_text(alloc: Global, view: &View, address: Addr) -> Result<String, AllocError>
     ensures { IfOk result (λ text. string_bytes text ≡ listing_text view.now (listing_of view.now (number_of address))) }
 {
     let shown = listing(alloc, view, address)?;
@@ -120,7 +121,7 @@ fn shown_text(alloc: Global, view: &Plain, address: Addr) -> Result<String, Allo
 fn log<S: Alter + Drop>(
     alloc: Global,
     db: &str,
-    desk: &mut Desk<S, Plain>,
+    desk: &mut Desk<S, View>,
     name: &str,
 ) -> Result<Output, Failure>
     ensures answered { HasGoodDisk S.Store desk.new → (history : History) → StandsAt S.Store desk.old history []
@@ -155,7 +156,7 @@ fn push_revision(rev: u32, author: &str, text: &mut String) -> Result<(), AllocE
 /// Gives the newest text of a file.
 fn newest_text<S: Alter + Drop>(
     alloc: Global,
-    desk: &Desk<S, Plain>,
+    desk: &Desk<S, View>,
     name: &str,
 ) -> Result<Output, Failure>
     ensures { (history : History) → StandsAt S.Store desk.now history [] → AnswersByHistory history (Cat name.now None) result }
@@ -170,7 +171,7 @@ fn newest_text<S: Alter + Drop>(
 fn text_at<S: Alter + Drop>(
     alloc: Global,
     db: &str,
-    desk: &mut Desk<S, Plain>,
+    desk: &mut Desk<S, View>,
     name: &str,
     rev: u32,
 ) -> Result<Output, Failure>

@@ -5,10 +5,10 @@ ghost use Rattle.cli_words.specs.Words.{given_exports, given_show};
 ghost use Rattle.cli_database.specs.AskCommand.{AnswersExports, AnswersShow};
 
 use crate::questions::{SiteQuestion, answer_question};
-use cli_texts::output::Output;
+use cli_files::failure::Failure;
+use cli_output::output::Output;
 use cli_words::arguments::read_host;
 use cli_words::database_words::{ExportsWords, ShowWords};
-use cli_words::failure::Failure;
 
 /// Answers `show DB HOST`.
 pub fn run_show(rt: &HostRuntime, words: ShowWords<'_>) -> Result<Output, Failure>

@@ -1,13 +1,14 @@
 //! Outputs of commands on a database that are refused, with the sentence that standard error tells beside the fixed line.
 
-ghost use Rattle.cli_texts.specs.declared.refused.Refused.TheVariants as refused;
+ghost use Rattle.cli_output.specs.declared.refused.Refused.TheVariants as refused;
 ghost use Rattle.cli_database.specs.ToldRefusal.{IsRefusedAs, TellsCopyError, TellsCopyFault, TellsError};
 
-use crate::database::{Obstacle, find_obstacle, is_want_of_memory};
-use cli_texts::output::Output;
-use cli_texts::refused::Refused;
-use cli_words::failure::Failure;
-use cli_words::files::FileArgument;
+use crate::copy::is_out_of_memory;
+use crate::obstacles::{Obstacle, find_obstacle};
+use cli_files::failure::Failure;
+use cli_files::files::FileArgument;
+use cli_output::output::Output;
+use cli_output::refused::Refused;
 use desk_core::{Edit, Refusal};
 use desk_store::{DeskError, StoreFault, Task};
 use sqlite::{Error, ErrorCode};
@@ -124,7 +125,7 @@ pub fn refused_by_desk(alloc: Global, db: &str, error: DeskError) -> Result<Outp
     }
 }
 
-/// Answers by why a desk over a copy in memory has no answer: an error that is want of memory as such.
+/// Reports an error of a desk over an in-memory copy; one that means out of memory is reported as `Memory`.
 pub fn refused_by_copy(alloc: Global, db: &str, error: DeskError) -> Result<Output, Failure>
     ensures { TellsCopyError error result }
 {
@@ -138,7 +139,7 @@ pub fn refused_by_copy(alloc: Global, db: &str, error: DeskError) -> Result<Outp
 fn refused_by_copy_store(alloc: Global, db: &str, fault: StoreFault) -> Result<Output, Failure>
     ensures { TellsCopyFault fault result }
 {
-    if is_want_of_memory(fault.error) {
+    if is_out_of_memory(fault.error) {
         Err(Failure::Memory)
     } else {
         refused_by_store(alloc, db, fault)

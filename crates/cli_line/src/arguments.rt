@@ -47,8 +47,19 @@ pub struct Title<'a> {
     pub help: Option<&'a str>,
 }
 
+/// Makes a command of this title with these arguments, in their order.
+pub fn made<'a>(
+    alloc: Global,
+    title: Title<'a>,
+    arguments: &[Argument<'a>],
+) -> Result<Command<'a>, AllocError>
+    ensures { IsMade (with_rules (new_app title.entry.name.now) arguments.entry.now) result }
+{
+    with_arguments(alloc, titled(alloc, title), arguments)
+}
+
 /// Makes a command that has neither arguments nor subcommands.
-pub fn titled<'a>(alloc: Global, title: Title<'a>) -> Command<'a>
+fn titled<'a>(alloc: Global, title: Title<'a>) -> Command<'a>
     ensures { IsCommand (new_app title.entry.name.now) result }
 {
     let command = Command::new(alloc, title.name).about(title.about);
@@ -76,7 +87,7 @@ fn with_help<'a>(command: Command<'a>, help: Option<&'a str>) -> Command<'a>
 }
 
 /// Adds arguments to a command, in their order.
-pub fn with_arguments<'a>(
+fn with_arguments<'a>(
     alloc: Global,
     command: Command<'a>,
     arguments: &[Argument<'a>],

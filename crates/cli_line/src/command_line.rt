@@ -5,7 +5,7 @@ ghost use Rattle.clap.specs.Words.{App, app_of};
 ghost use Rattle.cli_line.specs.CommandLine as spec;
 ghost use Rattle.cli_line.specs.PrivateArguments.{IsCommand, IsMade, app_for, with_commands};
 
-use crate::arguments::{Argument, Kind, Title, titled, with_arguments};
+use crate::arguments::{Argument, Kind, Title, made};
 use clap::Command;
 use std::alloc::{AllocError, Global};
 
@@ -111,9 +111,9 @@ fn try_command<'a>(alloc: Global) -> Result<Command<'a>, AllocError>
              standard input.",
         ),
     };
-    with_arguments(
+    made(
         alloc,
-        titled(alloc, title),
+        title,
         &[
             Argument {
                 name: "FILE",
@@ -183,9 +183,9 @@ fn split_command<'a>(alloc: Global) -> Result<Command<'a>, AllocError>
              directory, a V4: line for the first file system. Comments are left out.",
         ),
     };
-    with_arguments(
+    made(
         alloc,
-        titled(alloc, title),
+        title,
         &[
             Argument {
                 name: "FILE",
@@ -218,9 +218,9 @@ fn check_command<'a>(alloc: Global) -> Result<Command<'a>, AllocError>
              standard input.",
         ),
     };
-    with_arguments(
+    made(
         alloc,
-        titled(alloc, title),
+        title,
         &[
             Argument {
                 name: "FILE",
@@ -295,9 +295,9 @@ fn init_command<'a>(alloc: Global) -> Result<Command<'a>, AllocError>
              warnings of the files, and `ready`. DB is made for its owner alone; a log DB-wal stands beside it.",
         ),
     };
-    with_arguments(
+    made(
         alloc,
-        titled(alloc, title),
+        title,
         &[
             Argument {
                 name: "DB",
@@ -323,9 +323,9 @@ fn ask_command<'a>(alloc: Global) -> Result<Command<'a>, AllocError>
         usage: None,
         help: None,
     };
-    with_arguments(
+    made(
         alloc,
-        titled(alloc, title),
+        title,
         &[
             Argument {
                 name: "DB",
@@ -361,9 +361,9 @@ fn show_command<'a>(alloc: Global) -> Result<Command<'a>, AllocError>
         usage: None,
         help: None,
     };
-    with_arguments(
+    made(
         alloc,
-        titled(alloc, title),
+        title,
         &[
             Argument {
                 name: "DB",
@@ -389,9 +389,9 @@ fn exports_command<'a>(alloc: Global) -> Result<Command<'a>, AllocError>
         usage: None,
         help: None,
     };
-    with_arguments(
+    made(
         alloc,
-        titled(alloc, title),
+        title,
         &[Argument {
             name: "DB",
             kind: Kind::Word,
@@ -416,9 +416,9 @@ fn put_command<'a>(alloc: Global) -> Result<Command<'a>, AllocError>
              is stored unless the site is consistent with the new text.",
         ),
     };
-    with_arguments(
+    made(
         alloc,
-        titled(alloc, title),
+        title,
         &[
             Argument {
                 name: "DB",
@@ -469,9 +469,9 @@ fn log_command<'a>(alloc: Global) -> Result<Command<'a>, AllocError>
         usage: None,
         help: None,
     };
-    with_arguments(
+    made(
         alloc,
-        titled(alloc, title),
+        title,
         &[
             Argument {
                 name: "DB",
@@ -497,9 +497,9 @@ fn cat_command<'a>(alloc: Global) -> Result<Command<'a>, AllocError>
         usage: None,
         help: None,
     };
-    with_arguments(
+    made(
         alloc,
-        titled(alloc, title),
+        title,
         &[
             Argument {
                 name: "DB",

@@ -2,11 +2,11 @@
 use Rattle.std.proofs.Common.{Result, Ok, Err}
 use Rattle.desk_check.specs.declared.check_report.CheckForm.{CheckForm}
 use Rattle.desk_check.specs.declared.check_text.Gathered.{Gathered}
-use Rattle.cli_words.specs.declared.failure.Failure.{Failure}
-use Rattle.cli_words.specs.declared.failure.Failure.TheVariants.{Memory}
+use Rattle.cli_files.specs.declared.failure.Failure.{Failure}
+use Rattle.cli_files.specs.declared.failure.Failure.TheVariants.{Memory}
 use Rattle.cli_texts.specs.CheckCommand.{ReportsFound, ReportsThis}
-use Rattle.cli_texts.specs.declared.output.Output.{Output}
-use Rattle.cli_texts.specs.declared.output.Output.TheVariants.{Checked}
+use Rattle.cli_output.specs.declared.output.Output.{Output}
+use Rattle.cli_output.specs.declared.output.Output.TheVariants.{Checked}
 
 pub reports_found : (IsFound : Gathered → Type 0) (form : CheckForm) (gathered : Gathered) (result : Result Output Failure) → IsFound gathered → ReportsThis form gathered result → ReportsFound IsFound form result
 reports_found IsFound form gathered (Ok (Checked checked)) found reports = (gathered, (found, reports))

@@ -4,14 +4,14 @@ use Rattle.std.proofs.lemmas.Slice.Eq.{bytes_eq-Decides}
 use Rattle.std.specs.String.{string_bytes}
 use Rattle.desk_check.specs.declared.check_faults.Source.{Source}
 use Rattle.cli_line.specs.CommandLine.{SplitWords}
-use Rattle.cli_words.specs.Files.{IsContents, IsNoText, ReadsText}
-use Rattle.cli_words.specs.Input.{text_of}
-use Rattle.cli_words.specs.declared.failure.Failure.{Failure}
-use Rattle.cli_words.specs.declared.failure.Failure.TheVariants.{Memory}
-use Rattle.cli_words.specs.declared.files.FileArgument.TheVariants.{File, FileSystems}
-use Rattle.cli_words.specs.declared.input.TextFault.{TextFault}
+use Rattle.cli_files.specs.Files.{IsContents, IsNoText, ReadsText}
+use Rattle.cli_files.specs.Input.{text_of}
+use Rattle.cli_files.specs.declared.failure.Failure.{Failure}
+use Rattle.cli_files.specs.declared.failure.Failure.TheVariants.{Memory}
+use Rattle.cli_files.specs.declared.files.FileArgument.TheVariants.{File, FileSystems}
+use Rattle.cli_files.specs.declared.input.TextFault.{TextFault}
 use Rattle.cli_texts.specs.SplitCommand.{AnswersSplitFiles, AnswersTexts, TellsSplit, names_input_twice}
-use Rattle.cli_texts.specs.declared.output.Output.{Output}
+use Rattle.cli_output.specs.declared.output.Output.{Output}
 
 -- if FILESYSTEMS is standard input, FILE is not
 pub file_is_not_input : (words : SplitWords) → names_input_twice words ≡ false → words.filesystems ≡ codes "-" → words.file ≢ codes "-"

@@ -15,13 +15,13 @@ use Rattle.desk_check.specs.declared.check_text.WholeSources.{WholeSources}
 use Rattle.desk_check.specs.declared.split_text.SplitFault.{SplitFault}
 use Rattle.cli_words.specs.Arguments.{IsBadOwn, IsNotBad, good_own}
 use Rattle.cli_words.specs.declared.arguments.Request.{Request}
-use Rattle.cli_words.specs.declared.failure.Failure.{Failure}
-use Rattle.cli_words.specs.declared.failure.Failure.TheVariants.{Memory}
+use Rattle.cli_files.specs.declared.failure.Failure.{Failure}
+use Rattle.cli_files.specs.declared.failure.Failure.TheVariants.{Memory}
 use Rattle.cli_texts.specs.SplitCommand.{TellsSplit}
 use Rattle.cli_texts.specs.ToldFault.{IsTold, IsToldFaulty, IsToldNotSplit}
 use Rattle.cli_texts.specs.TryCommand.{Tells, TellsAs, TellsFault, TellsWith}
-use Rattle.cli_texts.specs.declared.output.Output.{Output}
-use Rattle.cli_texts.specs.declared.output.Output.TheVariants.{Faulty, NotSplit}
+use Rattle.cli_output.specs.declared.output.Output.{Output}
+use Rattle.cli_output.specs.declared.output.Output.TheVariants.{Faulty, NotSplit}
 
 -- a fault of `try` that is told is the fault
 pub told_fault : (sources : WholeSources) (table : List Mount) (fault : SiteFault) (result : Result Output Failure) → MatchResult result (IsToldFaulty sources table fault) (λ failure. failure ≡ Memory) → TellsFault fault result

@@ -11,15 +11,15 @@ use Rattle.desk_check.specs.declared.check_text.Gathered.{Gathered}
 use Rattle.desk_check.specs.declared.check_text.WholeSources.{WholeSources}
 use Rattle.cli_words.specs.Arguments.{IsNoTable, first_bad_path, paths_of}
 use Rattle.cli_line.specs.CommandLine.{CheckWords, TableWords}
-use Rattle.cli_words.specs.Files.{ReadsInTurn, name_input_twice}
-use Rattle.cli_words.specs.declared.failure.Failure.{Failure}
-use Rattle.cli_words.specs.declared.failure.Failure.TheVariants.{BesideSite, InputTwice, Memory, Missing}
-use Rattle.cli_words.specs.declared.files.FileArgument.{FileArgument}
-use Rattle.cli_words.specs.declared.files.FileArgument.TheVariants.{Site}
-use Rattle.cli_texts.specs.SiteFiles.{site_paths, site_paths_in, site_words, site_texts_in}
+use Rattle.cli_files.specs.Files.{ReadsInTurn, name_input_twice}
+use Rattle.cli_files.specs.declared.failure.Failure.{Failure}
+use Rattle.cli_files.specs.declared.failure.Failure.TheVariants.{BesideSite, InputTwice, Memory, Missing}
+use Rattle.cli_files.specs.declared.files.FileArgument.{FileArgument}
+use Rattle.cli_files.specs.declared.files.FileArgument.TheVariants.{Site}
+use Rattle.cli_output.specs.SiteFolder.{site_paths, site_paths_in, site_words, site_texts_in}
 use Rattle.cli_texts.specs.TableFiles.{whole_files}
-use Rattle.cli_texts.specs.declared.output.Output.{Output}
-use Rattle.cli_texts.specs.declared.output.Output.TheVariants.{Checked}
+use Rattle.cli_output.specs.declared.output.Output.{Output}
+use Rattle.cli_output.specs.declared.output.Output.TheVariants.{Checked}
 
 -- the form in which the words ask for the findings
 abbrev pub form_of : CheckWords → CheckForm

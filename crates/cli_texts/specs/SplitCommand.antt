@@ -5,15 +5,15 @@ use Rattle.desk_check.specs.SplitText.{split_answer}
 use Rattle.desk_check.specs.declared.check_faults.Source.{Source}
 use Rattle.desk_check.specs.declared.split_text.SplitFault.{SplitFault}
 use Rattle.cli_line.specs.CommandLine.{SplitWords}
-use Rattle.cli_words.specs.Files.{IsContents, IsNoText, is_input}
-use Rattle.cli_words.specs.Input.{text_of}
-use Rattle.cli_words.specs.declared.failure.Failure.{Failure}
-use Rattle.cli_words.specs.declared.failure.Failure.TheVariants.{InputTwice}
-use Rattle.cli_words.specs.declared.files.FileArgument.TheVariants.{File, FileSystems}
-use Rattle.cli_words.specs.declared.input.TextFault.{TextFault}
+use Rattle.cli_files.specs.Files.{IsContents, IsNoText, is_input}
+use Rattle.cli_files.specs.Input.{text_of}
+use Rattle.cli_files.specs.declared.failure.Failure.{Failure}
+use Rattle.cli_files.specs.declared.failure.Failure.TheVariants.{InputTwice}
+use Rattle.cli_files.specs.declared.files.FileArgument.TheVariants.{File, FileSystems}
+use Rattle.cli_files.specs.declared.input.TextFault.{TextFault}
 use Rattle.cli_texts.specs.ToldFault.{IsToldSplit}
-use Rattle.cli_texts.specs.declared.output.Output.{Output}
-use Rattle.cli_texts.specs.declared.output.Output.TheVariants.{NotSplit, Split}
+use Rattle.cli_output.specs.declared.output.Output.{Output}
+use Rattle.cli_output.specs.declared.output.Output.TheVariants.{NotSplit, Split}
 
 -- the output has the texts of a split as they are printed, or its fault
 abbrev pub IsSplitBy : Result (List ℕ) SplitFault → Output → Type 0

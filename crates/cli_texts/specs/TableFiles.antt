@@ -5,8 +5,8 @@ use Rattle.desk_policy.specs.Parsing.{read_tables}
 use Rattle.desk_policy.specs.declared.parsing.SiteTables.{SiteTables}
 use Rattle.desk_policy.specs.declared.site_fault.SiteFault.{SiteFault}
 use Rattle.cli_line.specs.CommandLine.{TableWords}
-use Rattle.cli_words.specs.declared.files.FileArgument.{FileArgument}
-use Rattle.cli_words.specs.declared.files.FileArgument.TheVariants.{File, Group, Hosts, Netgroup, Networks, Passwd}
+use Rattle.cli_files.specs.declared.files.FileArgument.{FileArgument}
+use Rattle.cli_files.specs.declared.files.FileArgument.TheVariants.{File, Group, Hosts, Netgroup, Networks, Passwd}
 use Rattle.cli_texts.specs.declared.table_files.WholeTexts.{WholeTexts}
 
 -- the files in the order in which they are read
@@ -31,4 +31,10 @@ pub record AreShort (texts : WholeTexts) : Type 0 where
 -- what the texts of the tables are read as
 abbrev pub tables_of : WholeTexts → Result SiteTables SiteFault
 tables_of texts =
-    read_tables (string_bytes texts.hosts) (string_bytes texts.networks) (string_bytes texts.passwd) (string_bytes texts.group) (string_bytes texts.netgroup)
+    read_tables (record {
+      hosts = string_bytes texts.hosts;
+      networks = string_bytes texts.networks;
+      passwd = string_bytes texts.passwd;
+      group = string_bytes texts.group;
+      netgroup = string_bytes texts.netgroup;
+    })

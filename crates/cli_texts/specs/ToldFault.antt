@@ -9,8 +9,8 @@ use Rattle.desk_check.specs.ToldFault.{TellsOf, TellsOfSplit}
 use Rattle.desk_check.specs.declared.check_faults.Source.{Source}
 use Rattle.desk_check.specs.declared.check_text.WholeSources.{WholeSources}
 use Rattle.desk_check.specs.declared.split_text.SplitFault.{SplitFault}
-use Rattle.cli_texts.specs.declared.output.Output.{Output}
-use Rattle.cli_texts.specs.declared.output.Output.TheVariants.{Faulty, NotSplit}
+use Rattle.cli_output.specs.declared.output.Output.{Output}
+use Rattle.cli_output.specs.declared.output.Output.TheVariants.{Faulty, NotSplit}
 
 -- beside a fault of `try` that is told; another output says nothing more
 abbrev pub IsTold : WholeSources → List Mount → Output → Type 0
@@ -25,7 +25,7 @@ IsToldFaulty sources table fault output = ⊥
 -- what the tables beside an exports text are read as
 abbrev pub tables_in : WholeSources → Result SiteTables SiteFault
 tables_in sources =
-    read_tables sources.tables.hosts.text.now sources.tables.networks.text.now sources.tables.passwd.text.now sources.tables.group.text.now sources.tables.netgroup.text.now
+    read_tables (record { hosts = sources.tables.hosts.text.now; networks = sources.tables.networks.text.now; passwd = sources.tables.passwd.text.now; group = sources.tables.group.text.now; netgroup = sources.tables.netgroup.text.now })
 
 -- beside a fault of `split` that is told; another output says nothing more
 abbrev pub IsToldSplit : Source → Source → Output → Type 0

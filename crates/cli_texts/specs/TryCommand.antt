@@ -16,15 +16,15 @@ use Rattle.desk_check.specs.TryText.{IsAnswerBy, answer_of}
 use Rattle.desk_check.specs.declared.check_text.WholeSources.{WholeSources}
 use Rattle.cli_words.specs.Arguments.{IsBadArgument, IsBadOwn, IsRequest, good_own, own_answer}
 use Rattle.cli_line.specs.CommandLine.{TryWords}
-use Rattle.cli_words.specs.Files.{ReadsInTurn, name_input_twice}
+use Rattle.cli_files.specs.Files.{ReadsInTurn, name_input_twice}
 use Rattle.cli_words.specs.declared.arguments.Request.{Request}
-use Rattle.cli_words.specs.declared.failure.Failure.{Failure}
-use Rattle.cli_words.specs.declared.failure.Failure.TheVariants.{InputTwice, Memory}
+use Rattle.cli_files.specs.declared.failure.Failure.{Failure}
+use Rattle.cli_files.specs.declared.failure.Failure.TheVariants.{InputTwice, Memory}
 use Rattle.cli_texts.specs.CheckCommand.{given_path, paths_in, texts_in}
 use Rattle.cli_texts.specs.TableFiles.{whole_files}
 use Rattle.cli_texts.specs.ToldFault.{IsTold}
-use Rattle.cli_texts.specs.declared.output.Output.{Output}
-use Rattle.cli_texts.specs.declared.output.Output.TheVariants.{Faulty, Tried}
+use Rattle.cli_output.specs.declared.output.Output.{Output}
+use Rattle.cli_output.specs.declared.output.Output.TheVariants.{Faulty, Tried}
 
 -- the output tells the verdict for an address and a path by what a text is read as, or the text's fault; out of memory says
 -- nothing
@@ -53,7 +53,7 @@ TellsAs word answer tables text request result = TellsWith tables text (good_own
 -- the answer to a request by the texts that were read, in the order of the files; or why a file has no text
 abbrev pub AnswersTexts : Option (List ℕ) → Request → Result (List (List ℕ)) Failure → Result Output Failure → Type 0
 AnswersTexts word request (Ok (hosts ∷ networks ∷ passwd ∷ group ∷ netgroup ∷ text ∷ [])) result =
-    TellsAs word (own_answer word (read_users passwd) (read_groups group)) (read_tables hosts networks passwd group netgroup) text request result
+    TellsAs word (own_answer word (read_users passwd) (read_groups group)) (read_tables (record { hosts = hosts; networks = networks; passwd = passwd; group = group; netgroup = netgroup })) text request result
 AnswersTexts word request (Ok other) result = ⊥
 AnswersTexts word request (Err failure) result = result ≡ Err failure
 

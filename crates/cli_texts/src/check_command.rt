@@ -3,16 +3,16 @@
 ghost use Rattle.std.specs.Prelude.{◌≡◌, [], Ok, map, unwrap_or};
 ghost use Rattle.std.specs.Option.{option_map};
 ghost use Rattle.desk_check.specs.Finding.{HaveSlices};
-ghost use Rattle.cli_words.specs.Files.{name_input_twice};
+ghost use Rattle.cli_files.specs.Files.{name_input_twice};
 ghost use Rattle.cli_words.specs.Words.{given_check, given_tables};
 ghost use Rattle.cli_texts.specs.CheckCommand.{AnswersCheck, AnswersFilesIf, AnswersByFiles, AnswersTexts, ReportsThis, beside_site, form_of, given_path, paths_in, texts_in};
 ghost use Rattle.cli_texts.specs.TableFiles.{AreShort, texts_of, whole_files};
 
 use crate::check_site_files::check_site;
-use crate::output::Output;
 use crate::table_files::{WholeTexts, names_input_twice, read_whole_texts};
+use cli_files::failure::Failure;
+use cli_output::output::Output;
 use cli_words::arguments::read_mounts;
-use cli_words::failure::Failure;
 use cli_words::text_words::{CheckWords, TableWords};
 use desk_check::{CheckForm, Gathered, Source, TableSources, WholeSources, gather, report_found};
 use desk_tables::FileSystems;

@@ -1,32 +1,17 @@
-//! The folder of a site's files, as `check --site DIR` reads it.
+//! The command `check --site DIR`: every fault and warning of the files in a site's folder.
 
-ghost use Rattle.std.specs.Prelude.{◌≡◌, ◌≤◌, ◌++◌, IfOk, Ok, Some, codes, length};
-ghost use Rattle.std.specs.Result.{result_map_both};
-ghost use Rattle.std.specs.String.{string_bytes};
-ghost use Rattle.cli_words.specs.Files.{Leaves, ReadsIfGiven, ReadsInTurn};
+ghost use Rattle.std.specs.Prelude.{◌≡◌, Ok};
+ghost use Rattle.cli_output.specs.SiteFolder.{AreShortFiles, site_list, site_paths};
 ghost use Rattle.cli_texts.specs.CheckCommand.{AnswersSite, AnswersSiteTexts};
-ghost use Rattle.cli_texts.specs.SiteFiles.{AreShortFiles, needs_no_slash, path_in, site_list, site_paths, site_paths_in, site_texts_in, site_words};
 
 use crate::check_command::report;
-use crate::output::Output;
-use cli_words::failure::Failure;
-use cli_words::files::{FileArgument, read_if_given};
-use desk_check::{CheckForm, SiteSources, Source, TableSources, WholeSources, gather_site};
-use std::alloc::{AllocError, Global};
+use cli_files::failure::Failure;
+use cli_files::files::FileArgument;
+use cli_output::output::Output;
+use cli_output::site_folder::{SiteFiles, paths_of, read_texts, sources_of};
+use desk_check::{CheckForm, gather_site};
+use std::alloc::Global;
 use std::io::BufRead;
-
-/// What stands for each of a site's files: its path, or its text.
-#[derive(Drop)]
-pub struct SiteFiles {
-    pub custodians: String,
-    pub filesystems: String,
-    pub hosts: String,
-    pub networks: String,
-    pub passwd: String,
-    pub group: String,
-    pub netgroup: String,
-    pub exports: String,
-}
 
 /// Answers by the files of a site's folder.
 pub fn check_site<I: BufRead>(
@@ -77,124 +62,4 @@ fn check_texts(
         Ok(gathered) => report(alloc, form, &gathered),
         Err(_) => Err(Failure::Memory),
     }
-}
-
-/// Lends the texts with their paths.
-pub fn sources_of<'a>(paths: &'a SiteFiles, texts: &'a SiteFiles) -> SiteSources<'a>
-    ensures paths { site_paths_in result ≡ site_list paths.now }
-    ensures texts { site_texts_in result ≡ site_list texts.now }
-{
-    SiteSources {
-        custodians: source_of(&paths.custodians, &texts.custodians),
-        filesystems: source_of(&paths.filesystems, &texts.filesystems),
-        whole: WholeSources {
-            tables: TableSources {
-                hosts: source_of(&paths.hosts, &texts.hosts),
-                networks: source_of(&paths.networks, &texts.networks),
-                passwd: source_of(&paths.passwd, &texts.passwd),
-                group: source_of(&paths.group, &texts.group),
-                netgroup: source_of(&paths.netgroup, &texts.netgroup),
-            },
-            exports: source_of(&paths.exports, &texts.exports),
-        },
-    }
-}
-
-/// Lends a text with its path.
-fn source_of<'a>(path: &'a String, text: &'a String) -> Source<'a>
-    ensures path { result.path.now ≡ string_bytes path.now }
-    ensures text { result.text.now ≡ string_bytes text.now }
-{
-    Source {
-        path: path.as_str(),
-        text: text.as_str(),
-    }
-}
-
-/// Makes the paths of the files in a folder.
-pub fn paths_of(alloc: Global, folder: &str) -> Result<SiteFiles, AllocError>
-    ensures { IfOk result (λ paths. site_list paths ≡ site_paths folder.now) }
-{
-    Ok(SiteFiles {
-        custodians: path_in(alloc, folder, "custodians")?,
-        filesystems: path_in(alloc, folder, "filesystems")?,
-        hosts: path_in(alloc, folder, "hosts")?,
-        networks: path_in(alloc, folder, "networks")?,
-        passwd: path_in(alloc, folder, "passwd")?,
-        group: path_in(alloc, folder, "group")?,
-        netgroup: path_in(alloc, folder, "netgroup")?,
-        exports: path_in(alloc, folder, "exports")?,
-    })
-}
-
-/// Makes the path of a file in a folder; the empty path is the current folder.
-fn path_in(alloc: Global, folder: &str, name: &str) -> Result<String, AllocError>
-    ensures { IfOk result (λ path. string_bytes path ≡ path_in folder.now name.now) }
-{
-    if needs_no_slash(folder) {
-        format!(in alloc; "{folder}{name}")
-    } else {
-        with_slash(alloc, folder, name)
-    }
-}
-
-/// Joins two texts by a slash. (Split off for its proof.)
-fn with_slash(alloc: Global, folder: &str, name: &str) -> Result<String, AllocError>
-    ensures { IfOk result (λ path. string_bytes path ≡ folder.now ++ codes "/" ++ name.now) }
-{
-    format!(in alloc; "{folder}/{name}")
-}
-
-/// Tests whether a name may follow the path of a folder as it is: if that ends with a slash or is empty.
-fn needs_no_slash(folder: &str) -> bool
-    ensures { result ≡ needs_no_slash folder.now }
-{
-    match folder.as_bytes().last() {
-        Some(byte) => *byte == b'/',
-        None => true,
-    }
-}
-
-/// Reads the files of these paths.
-pub fn read_texts<I: BufRead>(
-    rt: &HostRuntime,
-    argument: FileArgument,
-    paths: &SiteFiles,
-    input: &mut I,
-) -> Result<SiteFiles, Failure>
-    ensures texts { ReadsInTurn (site_words argument (site_list paths.now)) (I.remaining input.old) (result_map_both site_list (λ failure. failure) result) }
-    ensures short { IfOk result AreShortFiles }
-{
-    let custodians = read_file(rt, argument, &paths.custodians, input)?;
-    let filesystems = read_file(rt, argument, &paths.filesystems, input)?;
-    let hosts = read_file(rt, argument, &paths.hosts, input)?;
-    let networks = read_file(rt, argument, &paths.networks, input)?;
-    let passwd = read_file(rt, argument, &paths.passwd, input)?;
-    let group = read_file(rt, argument, &paths.group, input)?;
-    let netgroup = read_file(rt, argument, &paths.netgroup, input)?;
-    let exports = read_file(rt, argument, &paths.exports, input)?;
-    Ok(SiteFiles {
-        custodians,
-        filesystems,
-        hosts,
-        networks,
-        passwd,
-        group,
-        netgroup,
-        exports,
-    })
-}
-
-/// Reads the file of this path.
-fn read_file<I: BufRead>(
-    rt: &HostRuntime,
-    argument: FileArgument,
-    path: &String,
-    input: &mut I,
-) -> Result<String, Failure>
-    ensures text { ReadsIfGiven argument (Some (string_bytes path.now)) (I.remaining input.old) result }
-    ensures short { IfOk result (λ text. length (string_bytes text) ≤ 16777216) }
-    ensures left { Leaves (Some (string_bytes path.now)) (I.remaining input.old) (I.remaining input.new) }
-{
-    read_if_given(rt, argument, Some(path.as_str()), input)
 }

@@ -1,19 +1,16 @@
-//! The commands on texts, `try`, `split` and `check`, and what a command prints with its exit status.
+//! The commands on texts: `try`, `split` and `check`.
 //!
 //! Its promise: [`try_command::run_try`] grants a mount only if the verdict over the bytes of its files grants it;
 //! [`split_command::run_split`] and [`check_command::run_check`] answer likewise by the bytes of the files that their words
-//! name, or by why a file has no text. [`output::report`] prints just an answer and returns its status, or the status 4.
+//! name, or by why a file has no text.
 //!
 //! ```text
-//! let output = run_split(&rt, SplitWords { file: "-", filesystems: "filesystems" }, &mut input);
-//! report(rt.alloc(), Origin::Arguments, output, &mut out, &mut err) // 0: the text of each file system is printed
+//! run_split(&rt, SplitWords { file: "-", filesystems: "filesystems" }, &mut input) // Output::Split: each file system's text
 //! ```
 #![tactic(auto)]
 
 pub mod check_command;
-pub mod check_site_files;
-pub mod output;
-pub mod refused;
+mod check_site_files;
 pub mod split_command;
 mod table_files;
 mod told_fault;

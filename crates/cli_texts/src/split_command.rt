@@ -2,13 +2,13 @@
 
 ghost use Rattle.std.specs.Prelude.{◌≡◌, ◌≤◌, MatchResult, false, length};
 ghost use Rattle.cli_words.specs.Words.{given_split};
-ghost use Rattle.cli_words.specs.declared.failure.Failure.TheVariants.{Memory};
+ghost use Rattle.cli_files.specs.declared.failure.Failure.TheVariants.{Memory};
 ghost use Rattle.cli_texts.specs.SplitCommand.{AnswersSplit, AnswersSplitFiles, TellsSplit, names_input_twice};
 
-use crate::output::Output;
 use crate::told_fault::not_split;
-use cli_words::failure::Failure;
-use cli_words::files::{FileArgument, is_input, read_text};
+use cli_files::failure::Failure;
+use cli_files::files::{FileArgument, is_input, read_text};
+use cli_output::output::Output;
 use cli_words::text_words::SplitWords;
 use desk_check::Source;
 use desk_check::split_text::split_text;

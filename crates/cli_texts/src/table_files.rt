@@ -3,12 +3,12 @@
 ghost use Rattle.std.specs.Prelude.{◌≡◌, ◌≤◌, IfOk, if◌then◌else◌};
 ghost use Rattle.std.specs.Result.{result_map_both};
 ghost use Rattle.std.specs.Option.{option_map};
-ghost use Rattle.cli_words.specs.Files.{ReadsInTurn, is_input_if_given, name_input_twice};
+ghost use Rattle.cli_files.specs.Files.{ReadsInTurn, is_input_if_given, name_input_twice};
 ghost use Rattle.cli_words.specs.Words.{given_tables};
 ghost use Rattle.cli_texts.specs.TableFiles.{AreShort, texts_of, whole_files};
 
-use cli_words::failure::Failure;
-use cli_words::files::{FileArgument, is_input, read_if_given};
+use cli_files::failure::Failure;
+use cli_files::files::{FileArgument, is_input, read_if_given};
 use cli_words::text_words::TableWords;
 use std::io::BufRead;
 

@@ -2,11 +2,11 @@
 
 ghost use Rattle.std.specs.Prelude.{◌≡◌, ◌≤◌, MatchResult, length};
 ghost use Rattle.desk_check.specs.CheckFaults.{AreReadable};
-ghost use Rattle.cli_words.specs.declared.failure.Failure.TheVariants.{Memory};
+ghost use Rattle.cli_files.specs.declared.failure.Failure.TheVariants.{Memory};
 ghost use Rattle.cli_texts.specs.ToldFault.{IsToldFaulty, IsToldNotSplit};
 
-use crate::output::Output;
-use cli_words::failure::Failure;
+use cli_files::failure::Failure;
+use cli_output::output::Output;
 use desk_check::split_text::SplitFault;
 use desk_check::{Source, WholeSources, tell_fault, tell_split_fault};
 use desk_policy::SiteFault;

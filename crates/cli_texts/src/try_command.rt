@@ -3,7 +3,7 @@
 ghost use Rattle.std.specs.Prelude.{◌≤◌, IfOk, Ok, length};
 ghost use Rattle.std.specs.Option.{option_map};
 ghost use Rattle.desk_check.specs.CheckFaults.{AreReadable};
-ghost use Rattle.cli_words.specs.Files.{name_input_twice};
+ghost use Rattle.cli_files.specs.Files.{name_input_twice};
 ghost use Rattle.cli_words.specs.Words.{given_try};
 ghost use Rattle.cli_texts.specs.CheckCommand.{texts_in};
 ghost use Rattle.cli_texts.specs.TableFiles.{whole_files};
@@ -11,15 +11,15 @@ ghost use Rattle.cli_texts.specs.ToldFault.{IsTold, tables_in};
 ghost use Rattle.cli_texts.specs.TryCommand.{AnswersFilesIf, AnswersTexts, AnswersTry, TellsWith};
 
 use crate::check_command::sources_of;
-use crate::output::Output;
 use crate::table_files::{names_input_twice, read_whole_texts};
 use crate::told_fault::faulty;
+use cli_files::failure::Failure;
+use cli_output::output::Output;
 use cli_words::arguments::{Request, read_credential, read_request};
-use cli_words::failure::Failure;
 use cli_words::text_words::TryWords;
 use desk_check::WholeSources;
 use desk_check::try_text::try_text;
-use desk_policy::SiteTables;
+use desk_policy::{PerTable, SiteTables};
 use desk_tables::Cred;
 use desk_text::ReadError;
 use std::alloc::Global;
@@ -99,15 +99,14 @@ fn answer_as(
     ensures answers { TellsWith (tables_in sources.entry) sources.entry.exports.text.now own.now request result }
     ensures told { IfOk result (IsTold sources.entry request.filesystems) }
 {
-    let tables = SiteTables::read(
-        alloc,
-        sources.tables.hosts.text,
-        sources.tables.networks.text,
-        sources.tables.passwd.text,
-        sources.tables.group.text,
-        sources.tables.netgroup.text,
-    );
-    match tables {
+    let texts = PerTable {
+        hosts: sources.tables.hosts.text,
+        networks: sources.tables.networks.text,
+        passwd: sources.tables.passwd.text,
+        group: sources.tables.group.text,
+        netgroup: sources.tables.netgroup.text,
+    };
+    match SiteTables::read(alloc, texts) {
         Ok(tables) => answer_with(alloc, own, request, &tables, sources),
         Err(ReadError::Fault(fault)) => faulty(alloc, sources, request.filesystems, fault),
         Err(ReadError::Memory) => {

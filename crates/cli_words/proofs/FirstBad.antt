@@ -1,4 +1,4 @@
--- The first word that fails a test, for `input::command_words` and `arguments::read_mount_points`.
+-- The first word that fails a test, for `line_words::command_words` and `arguments::read_mount_points`.
 use Rattle.std.proofs.Common.{◌≡◌, ℕ, ◌+◌, ◌<◌, Bool, true, false, ◌||◌, List, [], ◌∷◌, ◌++◌, map, length, get_or, take, drop, Some, None, find, refl, sym, ap, ◌∙◌, arith, drop-cons, suc, Bor}
 use Rattle.std.proofs.lemmas.List.{length-map, length-take-le, map-append, map_more, take-append-drop}
 use Rattle.std.specs.List.{list_any, position_from}

@@ -1,7 +1,4 @@
 pub mod ClapAnswers
-pub mod FilesInTurn
 pub mod FirstBad
-pub mod KnownBytes
-pub mod KnownText
+pub mod LineTexts
 pub mod MountWords
-pub mod TextFaults

@@ -6,10 +6,10 @@ use Rattle.std.specs.Result.{result_ok}
 use Rattle.desk_text.specs.Path.{read_path}
 use Rattle.desk_text.specs.declared.path.PathFault.{PathFault}
 use Rattle.cli_words.specs.Arguments.{AnswersArgument, IsBadMount, is_no_path, paths_of}
-use Rattle.cli_words.specs.declared.arguments.Argument.TheVariants as name
-use Rattle.cli_words.specs.declared.arguments.ArgumentFault.TheVariants as fault
-use Rattle.cli_words.specs.declared.failure.Failure.{Failure}
-use Rattle.cli_words.specs.declared.failure.Failure.TheVariants as failure
+use Rattle.cli_files.specs.declared.bad_argument.Argument.TheVariants as name
+use Rattle.cli_files.specs.declared.bad_argument.ArgumentFault.TheVariants as fault
+use Rattle.cli_files.specs.declared.failure.Failure.{Failure}
+use Rattle.cli_files.specs.declared.failure.Failure.TheVariants as failure
 
 -- a refused word that is the first that is not a path
 pub bad_mount : (words : List (List ℕ)) (w : List ℕ) (r : Result (List (List ℕ)) PathFault) (other : Failure) → read_path w ≡ r → (is_no_path w ≡ true → find is_no_path words ≡ Some w) → AnswersArgument {T = List (List ℕ)} (λ path. path) fault.Path name.Mount w r (Err other) → IsBadMount words other

@@ -1,4 +1,5 @@
--- What the words of `try` stand for: an address, a path, the mount points of the file systems. (this project's own)
+-- What the words of a command stand for: an address, a path, the mount points of the file systems, a credential, a number.
+-- (this project's own)
 use Rattle.std.specs.Prelude.{◌≡◌, ℕ, Bool, not, List, Option, Some, None, Result, Ok, Err, find, is_ok}
 use Rattle.std.specs.List.{filter_map}
 use Rattle.std.specs.Result.{result_ok}
@@ -15,19 +16,14 @@ use Rattle.desk_tables.specs.declared.users.User.{User}
 use Rattle.desk_text.specs.declared.address.AddrFault.{AddrFault}
 use Rattle.desk_text.specs.declared.path.PathFault.{PathFault}
 use Rattle.desk_tables.specs.FileSystems.{IsTableOf, TooMany}
-use Rattle.cli_words.specs.declared.arguments.Argument.{Argument}
-use Rattle.cli_words.specs.declared.arguments.Argument.TheVariants as name
-use Rattle.cli_words.specs.declared.arguments.ArgumentFault.{ArgumentFault}
-use Rattle.cli_words.specs.declared.arguments.ArgumentFault.TheVariants as fault
-use Rattle.cli_words.specs.declared.failure.Failure.{Failure}
-use Rattle.cli_words.specs.declared.failure.Failure.TheVariants as failure
+use Rattle.cli_files.specs.BadArgument.{IsRefusal}
+use Rattle.cli_files.specs.declared.bad_argument.Argument.{Argument}
+use Rattle.cli_files.specs.declared.bad_argument.Argument.TheVariants as name
+use Rattle.cli_files.specs.declared.bad_argument.ArgumentFault.{ArgumentFault}
+use Rattle.cli_files.specs.declared.bad_argument.ArgumentFault.TheVariants as fault
+use Rattle.cli_files.specs.declared.failure.Failure.{Failure}
+use Rattle.cli_files.specs.declared.failure.Failure.TheVariants as failure
 use Rattle.cli_words.specs.declared.arguments.Request.{Request}
-
--- the failure names this argument with its word and the fault; out of memory says nothing
-abbrev pub IsRefusal : Argument → List ℕ → ArgumentFault → Failure → Type 0
-IsRefusal argument word found (failure.Argument bad) = (bad.argument ≡ argument) × (string_bytes bad.word ≡ word) × (bad.fault ≡ found)
-IsRefusal argument word found failure.Memory = Unit {0}
-IsRefusal argument word found other = ⊥
 
 module _ {T X F : Type 0} where
   -- the answer is what the word reads as, or names the word with its fault; out of memory says nothing

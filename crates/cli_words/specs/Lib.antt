@@ -1,5 +1,4 @@
 pub mod Arguments
-pub mod Files
-pub mod Input
+pub mod LineWords
 pub mod PrivateWords
 pub mod Words

@@ -10,8 +10,8 @@ use Rattle.cli_words.specs.declared.database_words.InitWords.{InitWords as LentI
 use Rattle.cli_words.specs.declared.database_words.LogWords.{LogWords as LentLogWords}
 use Rattle.cli_words.specs.declared.database_words.PutWords.{PutWords as LentPutWords}
 use Rattle.cli_words.specs.declared.database_words.ShowWords.{ShowWords as LentShowWords}
-use Rattle.cli_words.specs.declared.failure.Failure.{Failure}
-use Rattle.cli_words.specs.declared.failure.Failure.TheVariants.{Missing}
+use Rattle.cli_files.specs.declared.failure.Failure.{Failure}
+use Rattle.cli_files.specs.declared.failure.Failure.TheVariants.{Missing}
 use Rattle.cli_words.specs.declared.text_words.CheckWords.{CheckWords as LentCheckWords}
 use Rattle.cli_words.specs.declared.text_words.SplitWords.{SplitWords as LentSplitWords}
 use Rattle.cli_words.specs.declared.text_words.TableWords.{TableWords as LentTableWords}

@@ -1,4 +1,4 @@
-//! The arguments that are parsed: HOST, DIR, MOUNT, CRED and the numbers of revisions.
+//! Parses the words of a command that are more than texts: HOST, DIR, MOUNT, CRED and the numbers of revisions.
 
 ghost use Rattle.std.specs.Prelude.{◌≡◌, ◌≤◌, MatchResult, None, Ok, Some, length, map};
 ghost use Rattle.std.specs.Option.{option_map};
@@ -8,61 +8,15 @@ ghost use Rattle.desk_tables.specs.CredentialText.{read_credential as read_cred}
 ghost use Rattle.desk_tables.specs.FileSystems.{IsTableOf};
 ghost use Rattle.desk_tables.specs.Groups.{read_groups};
 ghost use Rattle.desk_tables.specs.Users.{read_users};
-ghost use Rattle.cli_words.specs.Arguments.{AnswersArgument, AnswersOwn, IsBadArgument, IsBadMount, IsBadNumber, IsNoTable, IsRefusal, IsRequest, first_bad_path, own_answer, paths_of, revision_number};
-ghost use Rattle.cli_words.specs.declared.arguments.Argument.TheVariants.{Host};
-ghost use Rattle.cli_words.specs.declared.arguments.ArgumentFault.TheVariants as fault;
+ghost use Rattle.cli_words.specs.Arguments.{AnswersArgument, AnswersOwn, IsBadArgument, IsBadMount, IsBadNumber, IsNoTable, IsRequest, first_bad_path, own_answer, paths_of, revision_number};
+ghost use Rattle.cli_files.specs.declared.bad_argument.Argument.TheVariants.{Host};
+ghost use Rattle.cli_files.specs.declared.bad_argument.ArgumentFault.TheVariants as fault;
 
-use crate::failure::Failure;
-use desk_tables::{Cred, CredFault, FileSystems, Groups, Users, credential};
-use desk_text::{Addr, AddrFault, Path, PathFault, ReadError, read_decimal};
+use cli_files::bad_argument::{Argument, ArgumentFault};
+use cli_files::failure::Failure;
+use desk_tables::{Cred, FileSystems, Groups, Users, credential};
+use desk_text::{Addr, Path, ReadError, read_decimal};
 use std::alloc::Global;
-use std::fmt;
-
-/// An argument that is one word.
-#[derive(Clone, Copy)]
-pub enum Argument {
-    Host,
-    Dir,
-    Mount,
-    /// The client's own credential.
-    Credential,
-    /// The number of the revision that an edit follows.
-    Base,
-    /// The number of a revision.
-    Rev,
-}
-
-impl Argument {
-    /// Names the argument as the usage does.
-    fn name(self) -> &'static str {
-        match self {
-            Argument::Host => "HOST",
-            Argument::Dir => "DIR",
-            Argument::Mount => "MOUNT",
-            Argument::Credential => "--as",
-            Argument::Base => "--base",
-            Argument::Rev => "--rev",
-        }
-    }
-}
-
-/// Why an argument cannot be parsed.
-#[derive(Clone, Copy)]
-pub enum ArgumentFault {
-    Address(AddrFault),
-    Path(PathFault),
-    Credential(CredFault),
-    /// It is not a number of 0 to 2,147,483,647.
-    Number,
-}
-
-/// An argument that cannot be parsed.
-#[derive(Drop)]
-pub struct BadArgument {
-    pub argument: Argument,
-    pub word: String,
-    pub fault: ArgumentFault,
-}
 
 /// A mount request: who asks for which directory, and the file systems that there are.
 #[derive(Drop)]
@@ -99,7 +53,12 @@ pub fn read_host(alloc: Global, word: &str) -> Result<Addr, Failure>
 {
     match Addr::read(word) {
         Ok(address) => Ok(address),
-        Err(fault) => Err(bad_argument(alloc, Argument::Host, word, ArgumentFault::Address(fault))),
+        Err(fault) => Err(Failure::of_argument(
+            alloc,
+            Argument::Host,
+            word,
+            ArgumentFault::Address(fault),
+        )),
     }
 }
 
@@ -109,7 +68,7 @@ pub fn read_path(alloc: Global, argument: Argument, word: &str) -> Result<Path, 
 {
     match ReadError::split(Path::read(alloc, word))? {
         Ok(path) => Ok(path),
-        Err(fault) => Err(bad_argument(alloc, argument, word, ArgumentFault::Path(fault))),
+        Err(fault) => Err(Failure::of_argument(alloc, argument, word, ArgumentFault::Path(fault))),
     }
 }
 
@@ -120,7 +79,7 @@ pub fn read_number(alloc: Global, argument: Argument, word: &str) -> Result<u32,
 {
     match read_decimal(word, 2_147_483_647) {
         Some(number) => Ok(number),
-        None => Err(bad_argument(alloc, argument, word, ArgumentFault::Number)),
+        None => Err(Failure::of_argument(alloc, argument, word, ArgumentFault::Number)),
     }
 }
 
@@ -198,45 +157,11 @@ fn parse_credential(
 {
     match credential(users, groups, word) {
         Ok(own) => Ok(Some(own)),
-        Err(fault) => Err(bad_argument(
+        Err(fault) => Err(Failure::of_argument(
             alloc,
             Argument::Credential,
             word,
             ArgumentFault::Credential(fault),
         )),
-    }
-}
-
-/// Returns the failure of an argument that cannot be parsed.
-fn bad_argument(alloc: Global, argument: Argument, word: &str, fault: ArgumentFault) -> Failure
-    ensures { IsRefusal argument word.now fault result }
-{
-    match String::from_str(alloc, word) {
-        Ok(word) => Failure::Argument(BadArgument {
-            argument,
-            word,
-            fault,
-        }),
-        Err(_) => Failure::Memory,
-    }
-}
-
-impl fmt::Display for BadArgument {
-    fn fmt<W: fmt::Write>(&self, f: &mut fmt::Formatter<W>) -> fmt::Result {
-        let name = self.argument.name();
-        let word = self.word.as_str();
-        let fault = self.fault;
-        write!(f, "{name} {word:?}: {fault}")
-    }
-}
-
-impl fmt::Display for ArgumentFault {
-    fn fmt<W: fmt::Write>(&self, f: &mut fmt::Formatter<W>) -> fmt::Result {
-        match self {
-            ArgumentFault::Address(fault) => write!(f, "{fault:?}: {fault}"),
-            ArgumentFault::Path(fault) => write!(f, "{fault:?}: {fault}"),
-            ArgumentFault::Credential(fault) => write!(f, "{fault:?}: {fault}"),
-            ArgumentFault::Number => f.write_str("it is not a number from 0 to 2147483647"),
-        }
     }
 }

@@ -1,10 +1,8 @@
-//! The words of a command as `clap` found them, and what they name: the arguments that are parsed further, and the texts
-//! of files.
+//! The words of a command as `clap` found them, and what those spell that are more than texts.
 //!
 //! Its promise: [`words::found_command`] gives the command that `clap` found with its words by value; [`arguments`] are what
-//! their words spell, or the first that cannot be parsed is named; [`files::read_text`] gives the text of the bytes that a file
-//! has, or why they are not one. It knows nothing of what the commands answer, so it is proved beside the crates that they
-//! stand on.
+//! their words spell, or the first that cannot be parsed is named. It knows nothing of what the commands answer, so it is
+//! proved beside the crates that they stand on.
 //!
 //! ```text
 //! let matches = cli_line::command(alloc)?.try_get_matches_from(&["exportdesk", "split", "exports", "filesystems"]);
@@ -14,8 +12,6 @@
 
 pub mod arguments;
 pub mod database_words;
-pub mod failure;
-pub mod files;
-pub mod input;
+pub mod line_words;
 pub mod text_words;
 pub mod words;

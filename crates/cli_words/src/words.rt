@@ -10,9 +10,9 @@ ghost use Rattle.cli_words.specs.Words.{Finds, given};
 use crate::database_words::{
     AskWords, CatWords, ExportsWords, InitWords, LogWords, PutWords, ShowWords,
 };
-use crate::failure::Failure;
 use crate::text_words::{CheckWords, SplitWords, TryWords};
 use clap::ArgMatches;
+use cli_files::failure::Failure;
 
 /// A command with its words.
 #[derive(Clone, Copy)]

@@ -118,7 +118,7 @@ fn verdict(alloc: Global, in_force: &InForce, out: &mut String, text: &str) -> A
 
 /// Answers with a verdict as it is printed.
 pub fn say_verdict(alloc: Global, policy: &Policy, out: &mut String, verdict: &Verdict) -> Asked {
-    say(out, verdict_text(alloc, policy, verdict)?.as_str())
+    say(out, verdict_text(alloc, policy, verdict, &None)?.as_str())
 }
 
 /// `not_listed FS LINE`: the denial that names this line of the file system with this number, as it is printed.

@@ -18,7 +18,7 @@ use Rattle.desk_exports.specs.declared.entry.Entry.{Entry}
 use Rattle.desk_exports.specs.declared.faults.PlacedFault.{PlacedFault as LinePlacedFault}
 use Rattle.desk_exports.specs.declared.rules.Rule.{Rule}
 use Rattle.desk_text.specs.declared.reading.LineFault.{LineFault}
-use Rattle.desk_policy.specs.Parsing.{read_tables, rows_with}
+use Rattle.desk_policy.specs.Parsing.{rows_with}
 use Rattle.desk_policy.specs.Unlisted.{unlisted_line}
 use Rattle.desk_policy.specs.declared.parsing.SiteTables.{SiteTables}
 use Rattle.desk_policy.specs.declared.site_fault.SiteFault.{SiteFault}
@@ -28,7 +28,7 @@ use Rattle.desk_tables.specs.FileSystemsText.{read_filesystems}
 use Rattle.desk_check.specs.CheckFaults.{TellTables, Tells, tell_group, tell_line, tell_table}
 use Rattle.desk_check.specs.CheckOdd.{IsOnNumbered, IsSpot, OddLine, TellInOrder, odd_of_spot, tell_spot}
 use Rattle.desk_check.specs.CheckSite as site
-use Rattle.desk_check.specs.CheckText.{Finds, Gathers, GathersBy, GathersExports, GathersTables, GathersWith, TellOddities}
+use Rattle.desk_check.specs.CheckText.{Finds, Gathers, GathersBy, GathersExports, GathersTables, GathersWith, TellOddities, tables_of}
 use Rattle.desk_check.specs.Finding.{HaveSlices}
 use Rattle.desk_check.specs.Told.{Told, tell, told}
 use Rattle.desk_check.specs.declared.check_faults.Source.{Source}
@@ -115,7 +115,7 @@ by_tables (Err fault) sources table gathered found = tables_slices sources.table
 
 found_slices : (sources : WholeSources) (table : List Mount) (gathered : Gathered) → Gathers sources table gathered → HaveSlices gathered.findings
 found_slices sources table gathered found =
-    by_tables (read_tables sources.tables.hosts.text.now sources.tables.networks.text.now sources.tables.passwd.text.now sources.tables.group.text.now sources.tables.netgroup.text.now) sources table gathered found
+    by_tables (tables_of sources.tables) sources table gathered found
 
 heads_within : (sources : SiteSources) (all : List Told) → site.TellHeads sources all → All Within all
 heads_within sources all tells =

@@ -12,11 +12,12 @@ use Rattle.desk_exports.specs.Files.{text_faults}
 use Rattle.desk_exports.specs.declared.faults.PlacedFault.{PlacedFault}
 use Rattle.desk_exports.specs.declared.files.Scope.TheVariants.{Whole}
 use Rattle.desk_exports.specs.declared.rules.Rule.{Rule}
-use Rattle.desk_policy.specs.Parsing.{no_tables, read_tables, rows_with}
+use Rattle.desk_policy.specs.Parsing.{no_tables, rows_with}
 use Rattle.desk_policy.specs.declared.parsing.SiteTables.{SiteTables}
 use Rattle.desk_policy.specs.declared.site_fault.SiteFault.{SiteFault}
 use Rattle.desk_check.specs.CheckFaults.{Adds, tell_line}
 use Rattle.desk_check.specs.CheckOdd.{OddLine, TellInOrder}
+use Rattle.desk_check.specs.CheckText.{tables_of}
 use Rattle.desk_check.specs.Finding.{HaveSlices}
 use Rattle.desk_check.specs.Told.{Told, told}
 use Rattle.desk_check.specs.ToldFault.{TellIfSame, TellOne, TellOneOf, TellSplit, is_same, odd_of_fault}
@@ -86,7 +87,7 @@ line_by_within (Err bad) sources fault all none = subst (λ (ones : List Told). 
 pub line_slices : (sources : SiteSources) (fault : LineFault Rule) (findings : List Finding) → Adds (TellLine sources fault) [] findings → HaveSlices findings
 line_slices sources fault findings adds =
     slices findings (subst (λ (ones : List Told). All Within ones) (sym adds.are)
-    (line_by_within (read_tables sources.whole.tables.hosts.text.now sources.whole.tables.networks.text.now sources.whole.tables.passwd.text.now sources.whole.tables.group.text.now sources.whole.tables.netgroup.text.now) sources fault adds.added adds.tell))
+    (line_by_within (tables_of sources.whole.tables) sources fault adds.added adds.tell))
 
 -- and what is told of the lines that these are about
 pub odds_slices : (source : Source) (odds : List OddLine) (findings : List Finding) → Adds (TellInOrder source odds) [] findings → HaveSlices findings

@@ -73,12 +73,14 @@ abbrev pub GathersExports : WholeSources → List Mount → SiteTables → Gathe
 GathersExports sources table site_tables gathered =
     GathersBy (whole_answer (rows_with table site_tables) sources.exports.text.now) sources table site_tables gathered
 
+-- what these texts of the five tables are read as
+abbrev pub tables_of : TableSources → Result SiteTables SiteFault
+tables_of sources = read_tables (record { hosts = sources.hosts.text.now; networks = sources.networks.text.now; passwd = sources.passwd.text.now; group = sources.group.text.now; netgroup = sources.netgroup.text.now })
+
 abbrev pub GathersWith : Result SiteTables SiteFault → WholeSources → List Mount → Gathered → Type 0
 GathersWith (Ok site_tables) sources table gathered = GathersExports sources table site_tables gathered
 GathersWith (Err fault) sources table gathered = GathersTables sources.tables gathered
 
 -- What is found in an exports text and its tables: each faulty line of the tables, and else what is found in the exports text.
 abbrev pub Gathers : WholeSources → List Mount → Gathered → Type 0
-Gathers sources table gathered =
-    GathersWith (read_tables sources.tables.hosts.text.now sources.tables.networks.text.now sources.tables.passwd.text.now sources.tables.group.text.now sources.tables.netgroup.text.now)
-    sources table gathered
+Gathers sources table gathered = GathersWith (tables_of sources.tables) sources table gathered

@@ -9,7 +9,6 @@ use Rattle.desk_tables.specs.declared.filesystems.Mount.{Mount}
 use Rattle.desk_exports.specs.declared.files.Scope.{Scope}
 use Rattle.desk_exports.specs.declared.files.Scope.TheVariants.{File, Whole}
 use Rattle.desk_exports.specs.declared.rules.Rule.{Rule}
-use Rattle.desk_policy.specs.Parsing.{read_tables}
 use Rattle.desk_policy.specs.SiteFault.{exports_name}
 use Rattle.desk_policy.specs.declared.parsing.SiteTables.{SiteTables}
 use Rattle.desk_policy.specs.declared.site_fault.SiteFault.{SiteFault}
@@ -18,6 +17,7 @@ use Rattle.desk_policy.specs.declared.site_fault.SiteRule.TheVariants as site_ru
 use Rattle.desk_check.specs.CheckFaults.{AreReadable}
 use Rattle.desk_check.specs.CheckOdd.{OddLine, TellInOrder}
 use Rattle.desk_check.specs.CheckSite.{GathersSite}
+use Rattle.desk_check.specs.CheckText.{tables_of}
 use Rattle.desk_check.specs.Told.{Told}
 use Rattle.desk_check.specs.ToldFault.{TellOneWith, TellsFirst, told_text}
 use Rattle.desk_check.specs.declared.check_faults.Source.{Source}
@@ -65,9 +65,7 @@ TellLineBy (Ok site_tables) sources fault all = TellLineIn (read_filesystems sou
 TellLineBy (Err bad) sources fault all = all ≡ []
 
 abbrev pub TellLine : SiteSources → LineFault Rule → List Told → Type 0
-TellLine sources fault all =
-    TellLineBy (read_tables sources.whole.tables.hosts.text.now sources.whole.tables.networks.text.now sources.whole.tables.passwd.text.now sources.whole.tables.group.text.now sources.whole.tables.netgroup.text.now)
-    sources fault all
+TellLine sources fault all = TellLineBy (tables_of sources.whole.tables) sources fault all
 
 -- a line that contradicts an earlier one
 abbrev pub odd_of_clash : ℕ → ℕ → Addr → OddLine

@@ -1,14 +1,12 @@
 -- What `try` answers over an exports text. (this project's own)
-use Rattle.std.specs.Prelude.{◌≡◌, ◌++◌, ℕ, Bool, List, [], Option, Some, Result, Ok, Err, codes, is_ok}
+use Rattle.std.specs.Prelude.{◌≡◌, ◌++◌, ℕ, Bool, List, Option, Result, Ok, Err, is_ok}
 use Rattle.std.specs.String.{string_bytes}
 use Rattle.desk_text.specs.declared.reading.ReadError.{ReadError}
 use Rattle.desk_text.specs.declared.reading.ReadError.TheVariants.{Fault, Memory}
-use Rattle.desk_tables.specs.Credentials.{cred_text}
 use Rattle.desk_tables.specs.declared.credentials.Cred.{Cred}
-use Rattle.desk_policy.specs.Acting.{act_as}
 use Rattle.desk_policy.specs.Contradiction.{HasNoContradiction}
 use Rattle.desk_policy.specs.Policy.{Content}
-use Rattle.desk_policy.specs.Prints.{verdict_line}
+use Rattle.desk_policy.specs.Prints.{acting_text, verdict_line}
 use Rattle.desk_policy.specs.Verdict.{Grant, verdict_of}
 use Rattle.desk_policy.specs.View.{IsFaultOf}
 use Rattle.desk_policy.specs.declared.site_fault.SiteFault.{SiteFault}
@@ -23,11 +21,6 @@ pub record Answer : Type 0 where
 -- an answer by value
 abbrev pub answer_of : Tried → Answer
 answer_of tried = record { granted = tried.granted; line = string_bytes tried.line }
-
--- as whom a client with this credential acts, behind a verdict that grants
-abbrev pub acting_text : Result Grant Denial → Option Cred → List ℕ
-acting_text (Ok grant) (Some own) = codes " as " ++ cred_text (act_as grant.terms own)
-acting_text verdict own = []
 
 -- the answer that tells a verdict: granted just where the verdict grants, and as whom the client acts if its credential is
 -- given

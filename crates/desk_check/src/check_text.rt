@@ -8,7 +8,7 @@ ghost use Rattle.desk_exports.specs.Tables.{table_rows};
 ghost use Rattle.desk_policy.specs.Parsing.{rows_with};
 ghost use Rattle.desk_policy.specs.Policy.{content_of};
 ghost use Rattle.desk_check.specs.CheckFaults.{Adds, AreReadable};
-ghost use Rattle.desk_check.specs.CheckText.{Gathers, GathersExports, GathersFaults, GathersOdd, GathersTables, TellInconsistencies, TellNetgroupWarnings};
+ghost use Rattle.desk_check.specs.CheckText.{Gathers, GathersExports, GathersFaults, GathersOdd, GathersTables, TellInconsistencies, TellNetgroupWarnings, tables_of};
 ghost use Rattle.desk_check.specs.Finding.{HaveSlices};
 
 use crate::check_faults::{Source, TableSources, push_line_faults, push_tables};
@@ -17,7 +17,7 @@ use crate::finding::Finding;
 use crate::word_places::Writing;
 use desk_exports::{Boxed, Entry, Rule, Scope, Tables, find_faults, read_whole};
 use desk_policy::{
-    Policy, SiteFault, SiteTables, Warning, ascending_entries_ascend_in_each_file,
+    PerTable, Policy, SiteFault, SiteTables, Warning, ascending_entries_ascend_in_each_file,
     netgroup_warnings, whole_warnings,
 };
 use desk_tables::{FileSystems, FsId};
@@ -51,22 +51,31 @@ pub fn gather<'a>(
     ensures found { IfOk result (Gathers sources.entry filesystems) }
     ensures slices { IfOk result (λ gathered. HaveSlices gathered.findings) }
 {
-    let tables = sources.tables;
-    let site_tables = SiteTables::read(
-        alloc,
-        tables.hosts.text,
-        tables.networks.text,
-        tables.passwd.text,
-        tables.group.text,
-        tables.netgroup.text,
-    );
-    match site_tables {
+    match read_sources(alloc, sources.tables) {
         Ok(site_tables) => gather_exports(alloc, sources, filesystems, &site_tables),
         Err(error) => {
             drop(filesystems);
-            gather_if_fault(alloc, tables, error)
+            gather_if_fault(alloc, sources.tables, error)
         }
     }
+}
+
+/// Reads the tables that these texts write, or the fault of the first faulty one.
+pub fn read_sources(
+    alloc: Global,
+    sources: TableSources<'_>,
+) -> Result<SiteTables, ReadError<SiteFault>>
+    requires { AreReadable sources }
+    ensures { Reads result (tables_of sources.entry) }
+{
+    let texts = PerTable {
+        hosts: sources.hosts.text,
+        networks: sources.networks.text,
+        passwd: sources.passwd.text,
+        group: sources.group.text,
+        netgroup: sources.netgroup.text,
+    };
+    SiteTables::read(alloc, texts)
 }
 
 /// Finds the faults of the tables, unless memory ran out.

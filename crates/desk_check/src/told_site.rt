@@ -12,17 +12,15 @@ ghost use Rattle.desk_check.specs.ToldSite as spec;
 use crate::check_faults::Source;
 use crate::check_odd::{Odd, push_in_order};
 use crate::check_site::{SiteSources, gather_site};
+use crate::check_text::read_sources;
 use crate::finding::{Finding, Matter};
 use crate::told_fault::{push_one_with, told_first};
 use crate::word_places::Writing;
 use desk_exports::{Rule, Scope};
-use desk_policy::{SiteFault, SiteRule, SiteTables};
+use desk_policy::{LONGEST_TEXT, SiteFault, SiteRule, SiteTables, mount_of};
 use desk_tables::{FileSystems, FsId};
 use desk_text::{LineFault, ReadError, Sequence};
 use std::alloc::{AllocError, Global};
-
-/// The most bytes that a text may have to be read.
-const LONGEST_TEXT: usize = 4_294_967_294;
 
 /// Prints the finding that `check` makes of a fault of a site, with its line and carets; nothing if a text is too long to be
 /// read. Of the exports the sources have just the file that the fault is of.
@@ -156,16 +154,7 @@ fn push_of_line<'a>(
     requires { spec.AreReadableTexts sources }
     ensures { OnOk result (Adds (spec.TellLine sources.entry fault) found.old found.new) }
 {
-    let texts = sources.whole.tables;
-    let tables = SiteTables::read(
-        alloc,
-        texts.hosts.text,
-        texts.networks.text,
-        texts.passwd.text,
-        texts.group.text,
-        texts.netgroup.text,
-    );
-    match tables {
+    match read_sources(alloc, sources.whole.tables) {
         Ok(tables) => push_with_tables(alloc, sources, &tables, fault, found),
         Err(ReadError::Fault(_)) => Ok(()),
         Err(ReadError::Memory) => Err(AllocError),
@@ -219,7 +208,7 @@ fn scope_of(name: &str, filesystems: &FileSystems) -> Scope
 fn place_of(name: &str, filesystems: &FileSystems) -> Option<FsId>
     ensures { result ≡ option_map (λ at. record { 0 = at }) (spec.place_of name.now filesystems.now) }
 {
-    match name.strip_prefix("exports:") {
+    match mount_of(name) {
         Some(mount) => filesystems.printed_as(mount),
         None => None,
     }

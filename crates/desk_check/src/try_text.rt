@@ -1,16 +1,14 @@
 //! The verdict on one mount over an exports text.
 
-ghost use Rattle.std.specs.Prelude.{◌≡◌, ◌≤◌, ◌++◌, IfOk, Ok, length};
-ghost use Rattle.std.specs.String.{string_bytes};
+ghost use Rattle.std.specs.Prelude.{◌≡◌, ◌≤◌, IfOk, Ok, length};
 ghost use Rattle.desk_text.specs.Address.{number_of};
 ghost use Rattle.desk_text.specs.Reading.{Reads};
 ghost use Rattle.desk_policy.specs.Parsing.{read_whole_with, without_warnings};
-ghost use Rattle.desk_policy.specs.Verdict.{verdict_result};
-ghost use Rattle.desk_check.specs.TryText.{Tries, acting_text, answer_of, policy_answer};
+ghost use Rattle.desk_check.specs.TryText.{Tries, answer_of, policy_answer};
 
 use desk_policy::{
-    Plain, Policy, PolicyView, SiteFault, SiteTables, Verdict, act_as,
-    parse_whole_without_warnings, verdict_text, warnings_change_no_answer,
+    Plain, Policy, PolicyView, SiteFault, SiteTables, Verdict, parse_whole_without_warnings,
+    verdict_text, warnings_change_no_answer,
 };
 use desk_tables::{Cred, FileSystems};
 use desk_text::{Addr, Path, ReadError};
@@ -73,28 +71,6 @@ pub fn decide_by(
 {
     let verdict = view.decide(address, path);
     let granted = matches!(verdict, Verdict::Granted { .. });
-    let line = verdict_text(alloc, view.policy(), &verdict)?;
-    let line = with_acting(alloc, line, &verdict, own)?;
+    let line = verdict_text(alloc, view.policy(), &verdict, own)?;
     Ok(Tried { granted, line })
-}
-
-/// Adds to the line of a mount that is granted as whom the client acts, if its own credential is given.
-fn with_acting(
-    alloc: Global,
-    line: String,
-    verdict: &Verdict<'_>,
-    own: &Option<Cred>,
-) -> Result<String, AllocError>
-    ensures { IfOk result (λ text. string_bytes text ≡ string_bytes line ++ acting_text (verdict_result verdict.now) own.now) }
-{
-    match own {
-        Some(own) => match verdict {
-            Verdict::Granted { terms, .. } => {
-                let acted = act_as(terms, own);
-                format!(in alloc; "{line} as {acted}")
-            }
-            Verdict::Denied(_) => Ok(line),
-        },
-        None => Ok(line),
-    }
 }

@@ -10,8 +10,8 @@ use Rattle.desk_tables.specs.Custodians.{read_custodians}
 use Rattle.desk_policy.specs.Policy.{Content}
 use Rattle.desk_policy.specs.declared.site_fault.SiteFault.{SiteFault}
 use Rattle.desk_core.specs.Edit.{Edit, revision_of}
-use Rattle.desk_core.specs.Head.{CanBeKept, last_revision, newest_in, newest_number, put}
-use Rattle.desk_core.specs.Judging.{first_case, longest_edit}
+use Rattle.desk_core.specs.Head.{CanBeKept, last_revision, longest_revision, newest_in, newest_number, put}
+use Rattle.desk_core.specs.Judging.{first_case}
 use Rattle.desk_core.specs.PrivateState.{Accepts, PutsInForce, refusal_of}
 use Rattle.desk_core.specs.Site.{IsConsistent, IsInForce, site_in}
 use Rattle.desk_core.specs.Views.{Kept, Ready}
@@ -28,7 +28,7 @@ rev_bound (h ∷ hs) file kept = step (bytes_eq h.file file) kept.0.to (rev_boun
     step false own rest = rest
 
 -- where no case holds the base is below the last number, and the text is short
-pub within : (heads : List Head) (e : Edit) → All CanBeKept heads → first_case (newest_in heads) e ≡ None → (e.base < last_revision) × (length e.text ≤ longest_edit)
+pub within : (heads : List Head) (e : Edit) → All CanBeKept heads → first_case (newest_in heads) e ≡ None → (e.base < last_revision) × (length e.text ≤ longest_revision)
 within heads e kept none =
     let free = without_case (newest_in heads) e none in
     let bound = rev_bound heads e.file (recursion_from_All CanBeKept heads kept) in

@@ -7,8 +7,8 @@ use Rattle.std.proofs.lemmas.Slice.Eq.{bytes_eq-Decides}
 use Rattle.sha2.specs.Sha256.{sha256}
 use Rattle.desk_tables.specs.Custodians.{digest_of}
 use Rattle.desk_core.specs.Edit.{Edit}
-use Rattle.desk_core.specs.Head.{Newest, Revision, last_revision, newest_number}
-use Rattle.desk_core.specs.Judging.{cases, first_case, holds, is_key, is_repeat, longest_edit}
+use Rattle.desk_core.specs.Head.{Newest, Revision, last_revision, longest_revision, newest_number}
+use Rattle.desk_core.specs.Judging.{cases, first_case, holds, is_key, is_repeat}
 use Rattle.desk_core.specs.Laws.{IsAllowed, IsRepeat}
 use Rattle.desk_core.specs.Site.{custodians_of, policy_of, site_in}
 use Rattle.desk_core.specs.declared.judging.Case.{Case}
@@ -123,7 +123,7 @@ module _ (newest : Newest) (e : Edit) where
     key = key_listed e.key _ clear.key;
     known = not-false _ clear.file;
     keeps = not-false _ clear.keeper;
-    short = ltb-false longest_edit (length e.text) clear.large;
+    short = ltb-false longest_revision (length e.text) clear.large;
   }
 
   pub allowed_clear : IsAllowed newest e → IsClear p
@@ -134,7 +134,7 @@ module _ (newest : Newest) (e : Edit) where
         key = listed.1;
         file = ap not allowed.known;
         keeper = ap not allowed.keeps;
-        large = le-ltb longest_edit (length e.text) allowed.short;
+        large = le-ltb longest_revision (length e.text) allowed.short;
       }
 
   pub no_case : IsAllowed newest e → newest_number (newest e.file) ≡ e.base → (e.base ≡ last_revision → ⊥) → first_case newest e ≡ None

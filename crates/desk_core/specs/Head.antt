@@ -34,6 +34,10 @@ StandOnce heads = AllPairs (λ head later. head.file ≢ later.file) heads
 abbrev pub last_revision : ℕ
 last_revision = 2147483647
 
+-- the most bytes that the text of a revision may have when it is stored
+abbrev pub longest_revision : ℕ
+longest_revision = 65536
+
 -- a revision that can be kept: it is numbered from 1 to the last number, and its text is not too long to be read
 pub record CanBeKept (revision : Revision) : Type 0 where
   pub from : 0 < revision.rev

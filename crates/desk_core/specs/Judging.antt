@@ -1,6 +1,5 @@
 -- What an edit is answered: by the first of eight cases that holds, or else by the site with its text. (this project's own)
-use Rattle.std.specs.Prelude.{◌≡◌, ◌⊎◌, ℕ, ◌+◌, ◌==◌, ◌&&◌, Bool, true, false, not, List, [], ◌∷◌, Option, Some, None, Ok, codes, find, is_none, is_some, length, nat_lt, position, if◌then◌else◌}
-use Rattle.std.specs.List.{list_any}
+use Rattle.std.specs.Prelude.{◌≡◌, ◌⊎◌, ℕ, ◌+◌, ◌==◌, ◌&&◌, Bool, true, false, not, List, [], ◌∷◌, Option, Some, None, Ok, codes, find, is_none, is_some, length, map, nat_lt, position, if◌then◌else◌}
 use Rattle.std.specs.Option.{option_map_or}
 use Rattle.std.specs.Str.{bytes_eq}
 use Rattle.sha2.specs.Sha256.{sha256}
@@ -11,22 +10,22 @@ use Rattle.desk_tables.specs.declared.custodians.Custodian.{Custodian}
 use Rattle.desk_tables.specs.declared.filesystems.Mount.{Mount}
 use Rattle.desk_policy.specs.Site.{SiteTexts}
 use Rattle.desk_policy.specs.SiteFault.{exports_name}
+use Rattle.desk_policy.specs.SiteFile.{all_files, file_name, file_of}
 use Rattle.desk_policy.specs.View.{HasFault}
 use Rattle.desk_core.specs.Edit.{Already, Answer, Edit, Refused, Stored, revision_of}
-use Rattle.desk_core.specs.Head.{Newest, Revision, last_revision, newest_number, put}
+use Rattle.desk_core.specs.Head.{Newest, Revision, last_revision, longest_revision, newest_number, put}
 use Rattle.desk_core.specs.Site.{IsConsistent, custodians_of, policy_of, site_in}
 use Rattle.desk_core.specs.declared.edit.Refusal.TheVariants as refusal
 use Rattle.desk_core.specs.declared.judging.Case.{Case}
 use Rattle.desk_core.specs.declared.judging.Case.TheVariants as case
 
--- the seven files that are not of one file system
+-- the names of the seven files that are not of one file system, in the order in which they are judged
 abbrev pub seven : List (List ℕ)
-seven =
-    codes "custodians" ∷ codes "filesystems" ∷ codes "hosts" ∷ codes "networks" ∷ codes "passwd" ∷ codes "group"
-    ∷ codes "netgroup" ∷ []
+seven = map file_name all_files
 
+-- a name is that of one of the seven files
 abbrev pub is_of_seven : List ℕ → Bool
-is_of_seven file = list_any (bytes_eq file) seven
+is_of_seven file = is_some (file_of file)
 
 -- the place of the mount point whose exports file has this name
 abbrev pub exports_place : List Mount → List ℕ → Option ℕ
@@ -56,9 +55,9 @@ abbrev pub is_repeat : Edit → Option Revision → Bool
 is_repeat e None = false
 is_repeat e (Some revision) = revision.rev == e.base + 1 && (bytes_eq revision.author e.caller && bytes_eq revision.body e.text)
 
--- the most bytes that the text of an edit may have
+-- the former name of this limit
 abbrev pub longest_edit : ℕ
-longest_edit = 65536
+longest_edit = longest_revision
 
 -- Whether a case holds, by the custodians and file systems in force and the file's newest revision: the caller is not
 -- listed; the key is not the caller's; there is no such file; the caller does not keep it; the text is too long; the
@@ -68,7 +67,7 @@ holds custodians table newest e case.UnknownCaller = is_none (digest_of custodia
 holds custodians table newest e case.BadKey = not (is_key e.key (digest_of custodians e.caller))
 holds custodians table newest e case.UnknownFile = not (is_known table e.file)
 holds custodians table newest e case.NotCustodian = not (keeps_file table e.caller e.file)
-holds custodians table newest e case.TooLarge = nat_lt longest_edit (length e.text)
+holds custodians table newest e case.TooLarge = nat_lt longest_revision (length e.text)
 holds custodians table newest e case.Already = is_repeat e newest
 holds custodians table newest e case.Stale = not (newest_number newest == e.base)
 holds custodians table newest e case.Full = e.base == last_revision

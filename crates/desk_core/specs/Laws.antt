@@ -6,9 +6,9 @@ use Rattle.desk_policy.specs.Site.{SiteTexts}
 use Rattle.desk_policy.specs.View.{HasFault}
 use Rattle.desk_policy.specs.declared.site_fault.SiteFault.{SiteFault}
 use Rattle.desk_core.specs.Edit.{Already, Answer, Edit, Refused, Stored, revision_of}
-use Rattle.desk_core.specs.Head.{Newest, Revision, last_revision, newest_number, put}
+use Rattle.desk_core.specs.Head.{Newest, Revision, last_revision, longest_revision, newest_number, put}
 use Rattle.desk_core.specs.History.{Exchange, IsHistory, Run, added, added_by, newest_of}
-use Rattle.desk_core.specs.Judging.{Answers, IsFileName, answer_in, first_case, is_known, keeps_file, longest_edit}
+use Rattle.desk_core.specs.Judging.{Answers, IsFileName, answer_in, first_case, is_known, keeps_file}
 use Rattle.desk_core.specs.Site.{IsConsistent, custodians_of, policy_of, site_in}
 use Rattle.desk_core.specs.declared.edit.Refusal.{Refusal}
 use Rattle.desk_core.specs.declared.edit.Refusal.TheVariants as refusal
@@ -20,7 +20,7 @@ pub record IsAllowed (newest : Newest) (e : Edit) : Type 0 where
   pub key : digest_of (custodians_of (site_in newest)) e.caller ≡ Some (sha256 e.key)
   pub known : is_known (policy_of (site_in newest)).table e.file ≡ true
   pub keeps : keeps_file (policy_of (site_in newest)).table e.caller e.file ≡ true
-  pub short : length e.text ≤ longest_edit
+  pub short : length e.text ≤ longest_revision
 
 -- An edit may take effect: it is allowed, it names the newest revision, there is a further number, and the site with its
 -- text is consistent.

@@ -7,13 +7,14 @@ ghost use Rattle.std.specs.Str.{bytes_eq};
 ghost use Rattle.desk_core.specs.Head.{CanBeKept, StandOnce, newest_in, newest_number, put};
 ghost use Rattle.desk_core.specs.PrivateHead.{is_within_limits};
 
+use desk_policy::LONGEST_TEXT;
 use desk_text::Text;
 
 /// The last number that a revision may have.
-pub(crate) const LAST_REVISION: u32 = 2_147_483_647;
+pub const LAST_REVISION: u32 = 2_147_483_647;
 
-/// The most bytes that a text may have to be read.
-const LONGEST_TEXT: usize = 4_294_967_294;
+/// The most bytes that the text of a revision may have when it is stored.
+pub const LONGEST_REVISION: usize = 65_536;
 
 /// A revision of a file, mostly its newest: its number from 1, who stored it, and the file's text.
 #[derive(Drop)]

@@ -7,15 +7,13 @@ ghost use Rattle.desk_text.specs.Path.{path_text, read_path};
 ghost use Rattle.desk_core.specs.Judging as spec;
 
 use crate::edit::Edit;
-use crate::head::{Head, LAST_REVISION, newest_number};
+use crate::head::{Head, LAST_REVISION, LONGEST_REVISION, newest_number};
+use desk_policy::{SiteFile, mount_of};
 use desk_tables::{Custodians, FileSystems, FsId};
 use desk_text::laws::written_paths_read_back;
 use desk_text::{Path, ReadError};
 use sha2::{Digest, Sha256};
 use std::alloc::{AllocError, Global};
-
-/// The most bytes that the text of an edit may have.
-const LONGEST_EDIT: usize = 65_536;
 
 /// What is checked of an edit, in this order, before the site with its text is.
 #[derive(Clone, Copy)]
@@ -80,7 +78,7 @@ fn holds(
         Case::BadKey => !is_key(edit.key, custodians.digest_of(edit.caller)),
         Case::UnknownFile => !is_known(table, edit.file),
         Case::NotCustodian => !keeps_file(table, edit.caller, edit.file),
-        Case::TooLarge => edit.text.len() > LONGEST_EDIT,
+        Case::TooLarge => edit.text.len() > LONGEST_REVISION,
         Case::Already => is_repeat(edit, newest),
         Case::Stale => newest_number(newest) != edit.base,
         Case::Full => edit.base == LAST_REVISION,
@@ -121,11 +119,7 @@ fn keeps_file(table: &FileSystems, caller: &str, file: &str) -> bool
 fn is_of_seven(file: &str) -> bool
     ensures { result ≡ spec.is_of_seven file.now }
 {
-    match file {
-        "custodians" | "filesystems" | "hosts" | "networks" | "passwd" | "group" | "netgroup" =>
-            true,
-        _ => false,
-    }
+    SiteFile::of(file).is_some()
 }
 
 /// Tests whether a file may have this name: that of one of the seven, or `exports:` and a path in printed form.
@@ -135,7 +129,7 @@ pub fn is_file_name(alloc: Global, file: &str) -> Result<bool, AllocError>
     if is_of_seven(file) {
         return Ok(true);
     }
-    match file.strip_prefix("exports:") {
+    match mount_of(file) {
         Some(mount) => is_printed_path(alloc, mount),
         None => Ok(false),
     }
@@ -161,7 +155,7 @@ fn is_printed_path(alloc: Global, text: &str) -> Result<bool, AllocError>
 fn exports_place(table: &FileSystems, file: &str) -> Option<FsId>
     ensures { result ≡ option_map (λ place. record { 0 = place }) (spec.exports_place table.now file.now) }
 {
-    match file.strip_prefix("exports:") {
+    match mount_of(file) {
         Some(mount) => table.printed_as(mount),
         None => None,
     }

@@ -21,7 +21,7 @@ mod site;
 pub mod state;
 
 pub use edit::{Edit, Refusal};
-pub use head::{Head, can_be_kept};
+pub use head::{Head, LAST_REVISION, LONGEST_REVISION, can_be_kept};
 pub use judging::{Case, is_file_name};
 pub use laws::{
     answers_are_right, consistent_sites_have_no_fault, edits_take_effect, histories_stay_numbered,

@@ -9,7 +9,7 @@ ghost use Rattle.desk_core.specs.PrivateSite.{no_texts, text_or, with_text};
 ghost use Rattle.desk_core.specs.Site.{site_in};
 
 use crate::head::Head;
-use desk_policy::Site;
+use desk_policy::{Site, mount_of};
 use desk_tables::Custodians;
 use desk_text::{ReadError, Text};
 use std::alloc::{AllocError, Global};
@@ -96,7 +96,7 @@ fn put_exports(
     ensures { OnOk result ((mount : List ℕ) → unwrap_or (get_by_text exports.new mount) []
         ≡ text_or file.now text.now (codes "exports:" ++ mount) (unwrap_or (get_by_text exports.old mount) [])) }
 {
-    if let Some(mount) = file.strip_prefix("exports:") {
+    if let Some(mount) = mount_of(file) {
         let mount = String::from_str(alloc, mount)?;
         let text = Text::copy(alloc, text)?;
         exports.insert(mount, text)?;

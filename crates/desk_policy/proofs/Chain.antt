@@ -1,7 +1,7 @@
 -- Files that are read one after the other.
 use Rattle.std.proofs.Common.{◌≡◌, IfOk, List, ap, subst, sym, ℕ}
 use Rattle.std.specs.Prelude.{Result, Ok, Err}
-use Rattle.desk_text.specs.Reading.{Reads}
+use Rattle.desk_text.specs.Reading.{Reads, ReadsAs}
 use Rattle.desk_text.specs.declared.reading.ReadError.{ReadError}
 use Rattle.desk_text.specs.declared.reading.ReadError.TheVariants.{Fault, Memory}
 use Rattle.desk_policy.specs.Parsing.{ExportsFile, then_read}
@@ -11,13 +11,15 @@ use Rattle.desk_policy.specs.declared.warning.Warning.{Warning}
 use Rattle.desk_policy.specs.declared.site_fault.SiteFault.{SiteFault}
 
 -- a file that is refused ends the reading
-pub refused : {X Y : Type 0} (error : ReadError SiteFault) (read : Result X SiteFault) (next : X → Result Y SiteFault) → Reads {X = X} (Err error) read → Reads {X = Y} (Err error) (then_read read next)
-refused (Fault fault) read next told = ap (λ r. then_read r next) told
-refused Memory read next told = tt
+pub refused : {T U X Y : Type 0} (view : T → X) (shown : U → Y) (error : ReadError SiteFault) (read : Result X SiteFault) (next : X → Result Y SiteFault)
+    → ReadsAs view (Err error) read → ReadsAs shown (Err error) (then_read read next)
+refused view shown (Fault fault) read next told = ap (λ r. then_read r next) told
+refused view shown Memory read next told = tt
 
 -- after a file that was read comes the next
-pub goes_on : {X Y : Type 0} (read : Result X SiteFault) (next : X → Result Y SiteFault) (value : X) (result : Result Y (ReadError SiteFault)) → read ≡ Ok value → Reads result (next value) → Reads result (then_read read next)
-goes_on read next value result is told = subst (λ r. Reads result (then_read r next)) (sym is) told
+pub goes_on : {T X Y : Type 0} (shown : T → Y) (read : Result X SiteFault) (next : X → Result Y SiteFault) (value : X) (result : Result T (ReadError SiteFault))
+    → read ≡ Ok value → ReadsAs shown result (next value) → ReadsAs shown result (then_read read next)
+goes_on shown read next value result is told = subst (λ r. ReadsAs shown result (then_read r next)) (sym is) told
 
 -- the files of all file systems, if one of them is refused
 pub files_refused : (error : ReadError SiteFault) (read : Result (List ExportsFile) SiteFault) (count : ℕ) (rows rows' : List (List Row)) (warnings warnings' : List Warning)

@@ -1,10 +1,11 @@
 -- The exports files that were read so far, and the ones after them.
-use Rattle.std.proofs.Common.{◌≡◌, ◌<◌, ◌+◌, ℕ, suc, List, [], ◌∷◌, ◌++◌, All, Result, Ok, Err, add-one, ap, append_assoc, arith, drop, get_or, length, length-append, map, refl, subst, sym, ◌∙◌}
+use Rattle.std.proofs.Common.{◌≡◌, ◌<◌, ◌+◌, ℕ, suc, List, [], ◌∷◌, ◌++◌, All, Result, Ok, Err, OnOk, add-one, ap, append_assoc, arith, drop, get_or, length, length-append, map, refl, subst, sym, ◌∙◌}
 use Rattle.std.specs.List.{flat_map}
 use Rattle.std.proofs.Math.Seq.{drop-cons}
 use Rattle.std.proofs.lemmas.Grind.{flat_map-append}
 use Rattle.std.proofs.lemmas.List.{append-nil, get_or-map, length-map, map-append}
 use Rattle.std.proofs.lemmas.List.Elements.{All-push}
+use Rattle.desk_text.specs.declared.reading.ReadError.{ReadError}
 use Rattle.desk_tables.specs.declared.filesystems.Mount.{Mount}
 use Rattle.desk_tables.specs.declared.hosts.HostRow.{HostRow}
 use Rattle.desk_netgroup.specs.declared.group_line.GroupLine.{GroupLine}
@@ -12,7 +13,7 @@ use Rattle.desk_exports.specs.Files.{FileAscends}
 use Rattle.desk_exports.specs.declared.entry.Entry.{Entry}
 use Rattle.desk_policy.specs.Parsing.{content_with, ExportsFile, read_exports, read_files, then_read}
 use Rattle.desk_policy.specs.Policy.{AreAscending, Content, IsContent}
-use Rattle.desk_policy.specs.PrivateParsing.{AddsFile, AddsFiles}
+use Rattle.desk_policy.specs.PrivateParsing.{AddsFile, AddsFiles, PushesFiles}
 use Rattle.desk_policy.specs.Row.{row_of}
 use Rattle.desk_policy.specs.Site.{SiteTexts}
 use Rattle.desk_policy.specs.Warning.{netgroup_warnings}
@@ -128,3 +129,9 @@ content_is table site_tables read rows rows' warnings warnings' empty of_groups 
     let P : List (List Row) → List Warning → Content = λ rs ws. record { table = table; rows = rs; warnings = ws } in
     ap (λ rs. P rs (content_with table site_tables adds.files).warnings) (sym (adds.lines ∙ ap (λ rs. rs ++ map (λ (f : ExportsFile). f.rows) adds.files) empty))
     ∙ ap (P rows') (sym (adds.warned ∙ ap (λ ws. ws ++ flat_map (λ (f : ExportsFile). f.warnings) adds.files) of_groups))
+
+-- the content after the exports files, if none of them is refused
+pub content_pushed : (table : List Mount) (read : Result (List ExportsFile) SiteFault) (result : Result (Unit {0}) (ReadError SiteFault)) (rows rows' : List (List Row)) (warnings warnings' : List Warning) → rows ≡ []
+    → PushesFiles result read (length table) rows rows' warnings warnings' → OnOk result (IsContent (record { table = table; rows = rows'; warnings = warnings' }))
+content_pushed table read (Ok done) rows rows' warnings warnings' empty adds = is_content table read rows rows' warnings warnings' empty adds
+content_pushed table read (Err error) rows rows' warnings warnings' empty pushes = tt

@@ -21,7 +21,7 @@ pub mod LeastOfAll
 pub mod SiteLaws
 pub mod OwnDirectories
 pub mod Compiling
-pub mod ReadableTexts
+pub mod SiteLengths
 pub mod SlotLemmas
 pub mod Commas
 pub mod InOrder

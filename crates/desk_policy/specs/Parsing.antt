@@ -24,6 +24,7 @@ use Rattle.desk_policy.specs.SiteFault.{exports_name, group_fault, line_fault, t
 use Rattle.desk_policy.specs.Unlisted.{unlisted_line}
 use Rattle.desk_policy.specs.Warning.{entry_warnings, netgroup_warnings, whole_warnings}
 use Rattle.desk_policy.specs.declared.parsing.SiteTables.{SiteTables}
+use Rattle.desk_policy.specs.declared.per_table.PerTable.{PerTable}
 use Rattle.desk_policy.specs.declared.row.Row.{Row}
 use Rattle.desk_policy.specs.declared.site_fault.SiteFault.{SiteFault}
 use Rattle.desk_policy.specs.declared.warning.Warning.{Warning}
@@ -53,18 +54,19 @@ no_tables = record { hosts = []; networks = []; users = []; groups = []; netgrou
 
 -- The tables that these five texts write, or the fault of the first faulty one, in the order in which they are read: hosts,
 -- networks, passwd, group, netgroup.
-abbrev pub read_tables : List ℕ → List ℕ → List ℕ → List ℕ → List ℕ → Result SiteTables SiteFault
-read_tables hosts_text networks_text passwd_text group_text netgroup_text =
-    then_read (in_file (table_fault (codes "hosts")) (read_hosts hosts_text)) (λ hosts.
-    then_read (in_file (table_fault (codes "networks")) (read_networks networks_text)) (λ networks.
-    then_read (in_file (table_fault (codes "passwd")) (read_users passwd_text)) (λ users.
-    then_read (in_file (table_fault (codes "group")) (read_groups group_text)) (λ groups.
-    then_read (in_file group_fault (read_netgroups netgroup_text)) (λ netgroups.
+abbrev pub read_tables : PerTable (List ℕ) → Result SiteTables SiteFault
+read_tables texts =
+    then_read (in_file (table_fault (codes "hosts")) (read_hosts texts.hosts)) (λ hosts.
+    then_read (in_file (table_fault (codes "networks")) (read_networks texts.networks)) (λ networks.
+    then_read (in_file (table_fault (codes "passwd")) (read_users texts.passwd)) (λ users.
+    then_read (in_file (table_fault (codes "group")) (read_groups texts.group)) (λ groups.
+    then_read (in_file group_fault (read_netgroups texts.netgroup)) (λ netgroups.
     Ok (record { hosts = hosts; networks = networks; users = users; groups = groups; netgroups = netgroups }))))))
 
 -- the tables of a site after its file systems
 abbrev pub read_site_tables : SiteTexts → Result SiteTables SiteFault
-read_site_tables texts = read_tables texts.hosts texts.networks texts.passwd texts.group texts.netgroup
+read_site_tables texts =
+    read_tables (record { hosts = texts.hosts; networks = texts.networks; passwd = texts.passwd; group = texts.group; netgroup = texts.netgroup })
 
 -- the tables with which an exports file is read
 abbrev pub rows_with : List Mount → SiteTables → TableRows

@@ -2,6 +2,8 @@
 use Rattle.std.specs.Prelude.{ℕ, ◌≤◌, List, [], length, unwrap_or}
 use Rattle.std.specs.BTreeMap.{get_by_text}
 use Rattle.desk_policy.specs.declared.site.Site.{Site}
+use Rattle.desk_policy.specs.declared.site_file.SiteFile.{SiteFile}
+use Rattle.desk_policy.specs.declared.site_file.SiteFile.TheVariants.{Custodians, Filesystems, Group, Hosts, Netgroup, Networks, Passwd}
 
 -- the texts of a site; those of the exports files under their printed mount points
 pub record SiteTexts : Type 0 where
@@ -27,17 +29,31 @@ texts_of site = record {
   exports = λ mount. unwrap_or (get_by_text site.exports mount) [];
 }
 
--- the most bytes that a text may have to be read
+-- the most bytes that a text may have to be read: its lines have numbers of 32 bits
 abbrev pub longest_text : ℕ
 longest_text = 4294967294
 
+-- no text has more bytes than the limit
+pub record HaveLengthsWithin (limit : ℕ) (texts : SiteTexts) : Type 0 where
+  pub custodians : length texts.custodians ≤ limit
+  pub filesystems : length texts.filesystems ≤ limit
+  pub hosts : length texts.hosts ≤ limit
+  pub networks : length texts.networks ≤ limit
+  pub passwd : length texts.passwd ≤ limit
+  pub group : length texts.group ≤ limit
+  pub netgroup : length texts.netgroup ≤ limit
+  pub exports : (mount : List ℕ) → length (texts.exports mount) ≤ limit
+
 -- no text is too long to be read
-pub record HaveReadableLengths (texts : SiteTexts) : Type 0 where
-  pub custodians : length texts.custodians ≤ longest_text
-  pub filesystems : length texts.filesystems ≤ longest_text
-  pub hosts : length texts.hosts ≤ longest_text
-  pub networks : length texts.networks ≤ longest_text
-  pub passwd : length texts.passwd ≤ longest_text
-  pub group : length texts.group ≤ longest_text
-  pub netgroup : length texts.netgroup ≤ longest_text
-  pub exports : (mount : List ℕ) → length (texts.exports mount) ≤ longest_text
+abbrev pub HaveReadableLengths : SiteTexts → Type 0
+HaveReadableLengths texts = HaveLengthsWithin longest_text texts
+
+-- the text of one of the seven files
+abbrev pub text_of : SiteTexts → SiteFile → List ℕ
+text_of texts Custodians = texts.custodians
+text_of texts Filesystems = texts.filesystems
+text_of texts Hosts = texts.hosts
+text_of texts Networks = texts.networks
+text_of texts Passwd = texts.passwd
+text_of texts Group = texts.group
+text_of texts Netgroup = texts.netgroup

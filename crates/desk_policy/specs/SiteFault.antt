@@ -11,6 +11,7 @@ use Rattle.desk_netgroup.specs.Faults as groups
 use Rattle.desk_netgroup.specs.declared.faults.GroupFault.{GroupFault}
 use Rattle.desk_exports.specs.Rules as lines
 use Rattle.desk_exports.specs.declared.rules.Rule.{Rule}
+use Rattle.desk_policy.specs.SiteFile.{exports_file_name}
 use Rattle.desk_policy.specs.declared.contradiction.Contradiction.{Contradiction}
 use Rattle.desk_policy.specs.declared.site_fault.SiteFault.{SiteFault}
 use Rattle.desk_policy.specs.declared.site_fault.SiteRule.{SiteRule}
@@ -39,7 +40,7 @@ rule_sentence rule.Contradiction = codes "has other terms than an earlier line"
 
 -- the name of the exports file of a mount point
 abbrev pub exports_name : List (List ℕ) → List ℕ
-exports_name mount = codes "exports:" ++ path_text mount
+exports_name mount = exports_file_name (path_text mount)
 
 -- the fault of a table's file, of the netgroup file, and of an exports file
 abbrev pub table_fault : List ℕ → TableFault → SiteFault

@@ -10,7 +10,7 @@
 //! ```text
 //! let view: Plain = compile(alloc, &site)?;    // if site.is_readable()
 //! let verdict = view.decide(address, &path);
-//! verdict_text(alloc, view.policy(), &verdict)?     // "granted line 2 ro sec=sys root=65534:65533"
+//! verdict_text(alloc, view.policy(), &verdict, &None)?     // "granted line 2 ro sec=sys root=65534:65533"
 //! ```
 #![tactic(auto)]
 
@@ -22,12 +22,14 @@ pub mod listing_prints;
 pub mod listings;
 pub mod names;
 pub mod parsing;
+pub mod per_table;
 pub mod policy;
 pub mod prints;
 pub mod row;
 pub mod row_addrs;
 pub mod site;
 pub mod site_fault;
+pub mod site_file;
 mod terms;
 pub mod unlisted;
 pub mod verdict;
@@ -47,12 +49,14 @@ pub use listing_prints::{all_exports, listing_text};
 pub use listings::{Shown, listing};
 pub use names::addresses_of;
 pub use parsing::{SiteTables, parse, parse_whole, parse_whole_with, parse_whole_without_warnings};
+pub use per_table::PerTable;
 pub use policy::Policy;
-pub use prints::verdict_text;
+pub use prints::{mount_text, verdict_text};
 pub use row::Row;
 pub use row_addrs::RowAddrs;
-pub use site::Site;
+pub use site::{LONGEST_TEXT, Site};
 pub use site_fault::{FaultPlace, SiteFault, SiteRule};
+pub use site_file::{SiteFile, exports_file_name, mount_of};
 pub use unlisted::unlisted_line;
 pub use verdict::{Denial, Verdict, decide};
 pub use view::{Plain, PolicyView, compile, least_contradiction};

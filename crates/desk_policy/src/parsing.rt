@@ -3,12 +3,9 @@
 //! The files are read in this order: custodians, filesystems, hosts, networks, passwd, group, netgroup, and then the
 //! exports files by mount point. The first faulty one is refused, with its first faulty line.
 
-ghost use Rattle.std.specs.Prelude.{◌≡◌, ◌≤◌, [], ◌++◌, IfOk, None, Ok, OnOk, Result, codes, length, map, unwrap_or};
-ghost use Rattle.std.specs.BTreeMap.{get_by_text};
+ghost use Rattle.std.specs.Prelude.{◌≡◌, ◌≤◌, [], ◌++◌, IfOk, None, Ok, OnOk, Result, codes, length, map};
 ghost use Rattle.std.specs.List.{flat_map};
-ghost use Rattle.std.specs.String.{string_bytes};
-ghost use Rattle.desk_text.specs.Path.{path_text};
-ghost use Rattle.desk_text.specs.Reading.{Reads};
+ghost use Rattle.desk_text.specs.Reading.{Reads, ReadsAs};
 ghost use Rattle.desk_tables.specs.FileSystemsText as filesystems;
 ghost use Rattle.desk_tables.specs.Rules as tables;
 ghost use Rattle.desk_netgroup.specs.declared.faults.GroupFault.{GroupFault};
@@ -18,14 +15,19 @@ ghost use Rattle.desk_text.specs.declared.reading.LineFault.{LineFault};
 ghost use Rattle.desk_policy.specs.Parsing as spec;
 ghost use Rattle.desk_policy.specs.PrivateParsing.{PushesFile, PushesFiles};
 ghost use Rattle.desk_policy.specs.Row.{row_of};
-ghost use Rattle.desk_policy.specs.Site.{HaveReadableLengths, texts_of};
-ghost use Rattle.desk_policy.specs.SiteFault.{exports_name, group_fault, line_fault, table_fault};
-ghost use Rattle.desk_policy.specs.Warning.{entry_warnings};
+ghost use Rattle.desk_policy.specs.PerTable.{EachTable, map_tables};
+ghost use Rattle.desk_policy.specs.Policy.{IsContent};
+ghost use Rattle.desk_policy.specs.Site.{HaveReadableLengths, longest_text, texts_of};
+ghost use Rattle.desk_policy.specs.SiteFault.{group_fault, line_fault, table_fault};
+ghost use Rattle.desk_policy.specs.SiteFile.{file_name};
+ghost use Rattle.desk_policy.specs.Warning.{entry_warnings, netgroup_warnings};
 
+use crate::per_table::PerTable;
 use crate::policy::Policy;
 use crate::row::Row;
 use crate::site::Site;
 use crate::site_fault::{SiteFault, SiteRule};
+use crate::site_file::{SiteFile, exports_file_name};
 use crate::unlisted::unlisted_line;
 use crate::warning::{Warning, push_entry, push_netgroup, whole_warnings};
 use desk_exports::{Boxed, Entry, Rule, Tables, read_file, read_whole};
@@ -60,35 +62,55 @@ impl SiteTables {
         }
     }
 
-    /// Reads the tables that these texts write, or the fault of the first faulty one, in the order of the arguments. Each
-    /// text has at most 4,294,967,294 bytes.
-    pub fn read(
-        alloc: Global,
-        hosts: &str,
-        networks: &str,
-        passwd: &str,
-        group: &str,
-        netgroup: &str,
-    ) -> Result<SiteTables, ReadError<SiteFault>>
-        requires hosts { length hosts.now ≤ 4294967294 }
-        requires networks { length networks.now ≤ 4294967294 }
-        requires passwd { length passwd.now ≤ 4294967294 }
-        requires group { length group.now ≤ 4294967294 }
-        requires netgroup { length netgroup.now ≤ 4294967294 }
-        ensures { Reads result (spec.read_tables hosts.now networks.now passwd.now group.now netgroup.now) }
+    /// Reads the tables that these texts write, or the fault of the first faulty one, in the order of the fields. Each text
+    /// has at most 4,294,967,294 bytes.
+    pub fn read(alloc: Global, texts: PerTable<&str>) -> Result<SiteTables, ReadError<SiteFault>>
+        requires { EachTable (λ text. length text.now ≤ longest_text) texts }
+        ensures { Reads result (spec.read_tables (map_tables (λ text. text.now) texts.entry)) }
     {
-        let hosts = in_table(alloc, "hosts", Hosts::read(alloc, hosts))?;
-        let networks = in_table(alloc, "networks", Networks::read(alloc, networks))?;
-        let users = in_table(alloc, "passwd", Users::read(alloc, passwd))?;
-        let groups = in_table(alloc, "group", Groups::read(alloc, group))?;
-        let netgroups = in_netgroup(alloc, Netgroups::read(alloc, netgroup))?;
-        Ok(SiteTables {
-            hosts,
-            networks,
-            users,
-            groups,
-            netgroups,
-        })
+        let mut tables = SiteTables::new(alloc);
+        match tables.fill(alloc, texts) {
+            Ok(()) => Ok(tables),
+            Err(error) => Err(error),
+        }
+    }
+
+    /// Puts the rows that these texts write in the place of those of the tables, which are lent, so that no table is owned
+    /// where a text may be faulty.
+    fn fill(&mut self, alloc: Global, texts: PerTable<&str>) -> Result<(), ReadError<SiteFault>>
+        requires { EachTable (λ text. length text.now ≤ longest_text) texts }
+        ensures { ReadsAs (λ done. self.new) result (spec.read_tables (map_tables (λ text. text.now) texts.entry)) }
+    {
+        let hosts = Hosts::read(alloc, texts.hosts);
+        put(in_table(alloc, SiteFile::Hosts, hosts), &mut self.hosts)?;
+        let networks = Networks::read(alloc, texts.networks);
+        put(
+            in_table(alloc, SiteFile::Networks, networks),
+            &mut self.networks,
+        )?;
+        let users = Users::read(alloc, texts.passwd);
+        put(in_table(alloc, SiteFile::Passwd, users), &mut self.users)?;
+        let groups = Groups::read(alloc, texts.group);
+        put(in_table(alloc, SiteFile::Group, groups), &mut self.groups)?;
+        let netgroups = Netgroups::read(alloc, texts.netgroup);
+        put(in_netgroup(alloc, netgroups), &mut self.netgroups)?;
+        Ok(())
+    }
+}
+
+/// Puts what was read in the place of a former value.
+fn put<T: Drop>(
+    answer: Result<T, ReadError<SiteFault>>,
+    slot: &mut T,
+) -> Result<(), ReadError<SiteFault>>
+    ensures { (read : Result T SiteFault) → Reads answer read → ReadsAs (λ done. slot.new) result read }
+{
+    match answer {
+        Ok(value) => {
+            *slot = value;
+            Ok(())
+        }
+        Err(error) => Err(error),
     }
 }
 
@@ -98,13 +120,10 @@ pub fn parse(alloc: Global, site: &Site) -> Result<Policy, ReadError<SiteFault>>
     requires { HaveReadableLengths (texts_of site.now) }
     ensures { Reads result (spec.read_site (texts_of site.now)) }
 {
-    let custodians = in_table(
-        alloc,
-        "custodians",
-        Custodians::read(alloc, site.custodians.as_str()),
-    )?;
+    let custodians = Custodians::read(alloc, site.custodians.as_str());
+    let custodians = in_table(alloc, SiteFile::Custodians, custodians)?;
     let filesystems = read_filesystems(alloc, site.filesystems.as_str(), &custodians);
-    let filesystems = in_table(alloc, "filesystems", filesystems)?;
+    let filesystems = in_table(alloc, SiteFile::Filesystems, filesystems)?;
     read_after_filesystems(alloc, site, filesystems)
 }
 
@@ -114,7 +133,7 @@ fn read_filesystems(
     text: &str,
     custodians: &Custodians,
 ) -> Result<FileSystems, ReadError<TableFault>>
-    requires { length text.now ≤ 4294967294 }
+    requires { length text.now ≤ longest_text }
     ensures read { Reads result (spec.if_listed custodians.now (filesystems.read_filesystems text.now)) }
     ensures few { IfOk result (λ table. length table ≤ 256) }
 {
@@ -138,24 +157,50 @@ fn read_after_filesystems(
     requires few { length filesystems ≤ 256 }
     ensures { Reads result (spec.read_after_filesystems (texts_of site.now) filesystems) }
 {
-    let site_tables = read_site_tables(alloc, site)?;
     let mut rows = Vec::new(alloc);
     let mut warnings = Sequence::new(alloc);
-    push_netgroup(
-        alloc,
-        &site_tables.netgroups,
-        &site_tables.hosts,
-        &mut warnings,
-    )?;
-    push_files(
-        alloc,
-        site,
-        &filesystems,
-        &site_tables,
-        &mut rows,
-        &mut warnings,
-    )?;
-    Ok(Policy::of_parts(filesystems, rows, warnings))
+    match push_site(alloc, site, &filesystems, &mut rows, &mut warnings) {
+        Ok(()) => Ok(Policy::of_parts(filesystems, rows, warnings)),
+        Err(error) => Err(error),
+    }
+}
+
+/// Reads the files after the file systems, and adds their lines and warnings to lists that are empty.
+fn push_site(
+    alloc: Global,
+    site: &Site,
+    filesystems: &FileSystems,
+    rows: &mut Vec<Sequence<Row>>,
+    warnings: &mut Sequence<Warning>,
+) -> Result<(), ReadError<SiteFault>>
+    requires lengths { HaveReadableLengths (texts_of site.now) }
+    requires few { length filesystems.now ≤ 256 }
+    requires rows { rows.old.items ≡ [] }
+    requires warnings { warnings.old ≡ [] }
+    ensures read { ReadsAs (λ done. record { table = filesystems.now; rows = rows.new.items; warnings = warnings.new }) result
+        (spec.read_after_filesystems (texts_of site.now) filesystems.now) }
+    ensures content { OnOk result (IsContent (record { table = filesystems.now; rows = rows.new.items; warnings = warnings.new })) }
+{
+    let site_tables = read_site_tables(alloc, site)?;
+    push_with_tables(alloc, site, filesystems, &site_tables, rows, warnings)
+}
+
+/// Adds the warnings of the netgroup file, and then the lines and the warnings of the exports files.
+fn push_with_tables(
+    alloc: Global,
+    site: &Site,
+    filesystems: &FileSystems,
+    site_tables: &SiteTables,
+    rows: &mut Vec<Sequence<Row>>,
+    warnings: &mut Sequence<Warning>,
+) -> Result<(), ReadError<SiteFault>>
+    requires lengths { HaveReadableLengths (texts_of site.now) }
+    requires few { length filesystems.now ≤ 256 }
+    ensures { PushesFiles result (spec.read_files (texts_of site.now) filesystems.now site_tables.now 0 filesystems.now) (length filesystems.now)
+        rows.old.items rows.new.items (warnings.old ++ netgroup_warnings site_tables.now.netgroups site_tables.now.hosts) warnings.new }
+{
+    push_netgroup(alloc, &site_tables.netgroups, &site_tables.hosts, warnings)?;
+    push_files(alloc, site, filesystems, site_tables, rows, warnings)
 }
 
 /// Reads the tables after the file systems.
@@ -163,14 +208,14 @@ fn read_site_tables(alloc: Global, site: &Site) -> Result<SiteTables, ReadError<
     requires { HaveReadableLengths (texts_of site.now) }
     ensures { Reads result (spec.read_site_tables (texts_of site.now)) }
 {
-    SiteTables::read(
-        alloc,
-        site.hosts.as_str(),
-        site.networks.as_str(),
-        site.passwd.as_str(),
-        site.group.as_str(),
-        site.netgroup.as_str(),
-    )
+    let texts = PerTable {
+        hosts: site.hosts.as_str(),
+        networks: site.networks.as_str(),
+        passwd: site.passwd.as_str(),
+        group: site.group.as_str(),
+        netgroup: site.netgroup.as_str(),
+    };
+    SiteTables::read(alloc, texts)
 }
 
 /// Reads the exports file of each file system, and adds its lines and its warnings.
@@ -217,35 +262,17 @@ fn push_file(
     ensures { PushesFile result (spec.read_exports (texts_of site.now) filesystems.now site_tables.now fs.0 mount.now)
         rows.old.items rows.new.items warnings.old warnings.new }
 {
-    let name = exports_name(alloc, mount)?;
+    let name = exports_file_name(alloc, mount.text())?;
     let tables = Tables {
         networks: &site_tables.networks,
         users: &site_tables.users,
         groups: &site_tables.groups,
         filesystems,
     };
-    let entries = read_file(alloc, exports_text(site, mount), &tables, fs);
+    let entries = read_file(alloc, site.exports_text(mount.text()), &tables, fs);
     let entries = in_exports(alloc, name.as_str(), entries)?;
     rows.push(lines_in_force(alloc, site_tables, name.as_str(), entries, warnings)?)?;
     Ok(())
-}
-
-/// Makes the name of the exports file of a mount point.
-pub(crate) fn exports_name(alloc: Global, mount: &Path) -> Result<String, AllocError>
-    ensures { IfOk result (λ name. string_bytes name ≡ exports_name mount.now) }
-{
-    let mount = mount.text();
-    format!(in alloc; "exports:{mount}")
-}
-
-/// Lends the exports file of a mount point.
-fn exports_text<'a>(site: &'a Site, mount: &Path) -> &'a str
-    ensures { result.now ≡ unwrap_or (get_by_text site.now.exports (path_text mount.now)) [] }
-{
-    match site.exports.get(mount.text()) {
-        Some(text) => text.as_str(),
-        None => "",
-    }
 }
 
 /// Makes the lines in force of the entries of the exports file of this name, and adds its warnings.
@@ -278,17 +305,17 @@ fn lines_in_force(
 /// Names the file of a table's fault.
 fn in_table<T>(
     alloc: Global,
-    file: &str,
+    file: SiteFile,
     answer: Result<T, ReadError<TableFault>>,
 ) -> Result<T, ReadError<SiteFault>>
-    ensures read { (read : Result T tables.TableFault) → Reads answer read → Reads result (spec.in_file (table_fault file.now) read) }
+    ensures read { (read : Result T tables.TableFault) → Reads answer read → Reads result (spec.in_file (table_fault (file_name file)) read) }
     ensures kept { IfOk result (λ value. answer ≡ Ok value) }
 {
     match ReadError::split(answer)? {
         Ok(value) => Ok(value),
         Err(fault) => Err(ReadError::Fault(fault_in(
             alloc,
-            file,
+            file.name(),
             fault.line,
             SiteRule::Table(fault.rule),
             None,
@@ -307,7 +334,7 @@ fn in_netgroup<T>(
         Ok(value) => Ok(value),
         Err(fault) => Err(ReadError::Fault(fault_in(
             alloc,
-            "netgroup",
+            SiteFile::Netgroup.name(),
             fault.line,
             SiteRule::Group(fault.rule),
             fault.other,
@@ -362,7 +389,7 @@ pub fn parse_whole(
     text: &str,
     filesystems: FileSystems,
 ) -> Result<Policy, ReadError<SiteFault>>
-    requires { length text.now ≤ 4294967294 }
+    requires { length text.now ≤ longest_text }
     ensures { Reads result (spec.read_whole_policy filesystems text.now) }
 {
     let site_tables = SiteTables::new(alloc);
@@ -377,7 +404,7 @@ pub fn parse_whole_with(
     filesystems: FileSystems,
     site_tables: &SiteTables,
 ) -> Result<Policy, ReadError<SiteFault>>
-    requires { length text.now ≤ 4294967294 }
+    requires { length text.now ≤ longest_text }
     ensures { Reads result (spec.read_whole_with site_tables.now filesystems text.now) }
 {
     let entries = whole_entries(alloc, text, &filesystems, site_tables)?;
@@ -405,7 +432,7 @@ pub fn parse_whole_without_warnings(
     filesystems: FileSystems,
     site_tables: &SiteTables,
 ) -> Result<Policy, ReadError<SiteFault>>
-    requires { length text.now ≤ 4294967294 }
+    requires { length text.now ≤ longest_text }
     ensures { Reads result (spec.without_warnings (spec.read_whole_with site_tables.now filesystems text.now)) }
 {
     let entries = whole_entries(alloc, text, &filesystems, site_tables)?;
@@ -426,7 +453,7 @@ fn whole_entries(
     filesystems: &FileSystems,
     site_tables: &SiteTables,
 ) -> Result<Sequence<(FsId, Boxed<Entry>)>, ReadError<SiteFault>>
-    requires { length text.now ≤ 4294967294 }
+    requires { length text.now ≤ longest_text }
     ensures read { Reads result (spec.in_file (line_fault (codes "exports")) (whole_answer (spec.rows_with filesystems.now site_tables.now) text.now)) }
     ensures ascending { IfOk result EntriesAscend }
 {

@@ -4,14 +4,15 @@ ghost use Rattle.std.specs.Prelude.{◌≡◌, Decides};
 ghost use Rattle.std.specs.BTreeMap.{IsOrdered, values};
 ghost use Rattle.std.specs.List.{list_all};
 ghost use Rattle.std.specs.String.{string_cmp};
-ghost use Rattle.desk_policy.specs.Site.{HaveReadableLengths, texts_of};
-ghost use Rattle.desk_policy.specs.PrivateSite.{are_files_short_enough, is_short_enough};
+ghost use Rattle.desk_policy.specs.Site.{HaveLengthsWithin, HaveReadableLengths, text_of, texts_of};
+ghost use Rattle.desk_policy.specs.PrivateSite.{are_files_within, is_within};
 
+use crate::site_file::SiteFile;
 use desk_text::Text;
 use std::collections::BTreeMap;
 
-/// The most bytes that a text may have to be read.
-const LONGEST_TEXT: usize = 4_294_967_294;
+/// The most bytes that a text may have to be read: its lines have numbers of 32 bits.
+pub const LONGEST_TEXT: usize = 4_294_967_294;
 
 /// The texts of a site: seven files, and the exports file of each file system under its printed mount point, as `/usr`. A
 /// file system without an exports file has an empty one, and one of a mount point that is not listed is not read.
@@ -32,34 +33,66 @@ impl Site {
     pub fn is_readable(&self) -> bool
         ensures { Decides result (HaveReadableLengths (texts_of self.now)) }
     {
-        are_files_short_enough(self) && are_exports_short_enough(&self.exports)
+        self.has_lengths_within(LONGEST_TEXT)
+    }
+
+    /// Tests whether each text has at most so many bytes.
+    pub fn has_lengths_within(&self, limit: usize) -> bool
+        ensures { Decides result (HaveLengthsWithin limit (texts_of self.now)) }
+    {
+        are_files_within(self, limit) && are_exports_within(&self.exports, limit)
+    }
+
+    /// Returns the text of one of the seven files.
+    pub fn text(&self, file: SiteFile) -> &str
+        ensures { result.now ≡ text_of (texts_of self.now) file }
+    {
+        match file {
+            SiteFile::Custodians => self.custodians.as_str(),
+            SiteFile::Filesystems => self.filesystems.as_str(),
+            SiteFile::Hosts => self.hosts.as_str(),
+            SiteFile::Networks => self.networks.as_str(),
+            SiteFile::Passwd => self.passwd.as_str(),
+            SiteFile::Group => self.group.as_str(),
+            SiteFile::Netgroup => self.netgroup.as_str(),
+        }
+    }
+
+    /// Returns the text of the exports file of a printed mount point, which is empty if the site has none.
+    pub fn exports_text(&self, mount: &str) -> &str
+        ensures { result.now ≡ (texts_of self.now).exports mount.now }
+    {
+        match self.exports.get(mount) {
+            Some(text) => text.as_str(),
+            None => "",
+        }
     }
 }
 
-/// Tests whether none of the seven files is too long to be read.
-fn are_files_short_enough(site: &Site) -> bool
-    ensures { result ≡ are_files_short_enough site.now }
+/// Tests whether each of the seven files has at most so many bytes.
+fn are_files_within(site: &Site, limit: usize) -> bool
+    ensures { result ≡ are_files_within limit site.now }
 {
-    is_short_enough(&site.custodians)
-        && is_short_enough(&site.filesystems)
-        && is_short_enough(&site.hosts)
-        && is_short_enough(&site.networks)
-        && is_short_enough(&site.passwd)
-        && is_short_enough(&site.group)
-        && is_short_enough(&site.netgroup)
+    is_within(&site.custodians, limit)
+        && is_within(&site.filesystems, limit)
+        && is_within(&site.hosts, limit)
+        && is_within(&site.networks, limit)
+        && is_within(&site.passwd, limit)
+        && is_within(&site.group, limit)
+        && is_within(&site.netgroup, limit)
 }
 
-/// Tests whether no exports file is too long to be read.
-fn are_exports_short_enough(exports: &BTreeMap<String, Text>) -> bool
-    ensures each { result ≡ list_all is_short_enough (values exports.now) }
+/// Tests whether each exports file has at most so many bytes.
+fn are_exports_within(exports: &BTreeMap<String, Text>, limit: usize) -> bool
+    ensures each { result ≡ list_all (is_within limit) (values exports.now) }
     ensures ordered { IsOrdered string_cmp exports.now }
 {
-    exports.values().all(is_short_enough)
+    exports.values().all(|text| is_within(text, limit))
 }
 
-/// Tests whether a text is not too long to be read.
-fn is_short_enough(text: &Text) -> bool
-    ensures { result ≡ is_short_enough text.now }
+/// Tests whether a text has at most so many bytes.
+fn is_within(text: &Text, limit: usize) -> bool
+    ensures { result ≡ is_within limit text.now }
 {
-    text.as_str().len() <= LONGEST_TEXT
+    text.as_str().len() <= limit
 }

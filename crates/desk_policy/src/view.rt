@@ -9,10 +9,11 @@ ghost use Rattle.desk_policy.specs.Verdict.{verdict_of, verdict_result};
 ghost use Rattle.desk_policy.specs.View.{Builds, Compiles, IsLeastOrNone};
 
 use crate::contradiction::{Contradiction, contradiction_in};
-use crate::parsing::{exports_name, parse};
+use crate::parsing::parse;
 use crate::policy::Policy;
 use crate::site::Site;
 use crate::site_fault::{SiteFault, SiteRule};
+use crate::site_file::exports_file_name;
 use crate::verdict::{Verdict, decide};
 use desk_text::{Addr, Path, ReadError, Text};
 use std::alloc::{AllocError, Global};
@@ -97,7 +98,7 @@ pub fn least_contradiction(alloc: Global, policy: &Policy) -> Result<Option<Site
 fn fault_of(alloc: Global, mount: &Path, found: Contradiction) -> Result<SiteFault, AllocError>
     ensures { IfOk result (λ fault. fault ≡ contradiction_fault (exports_name mount.now) found) }
 {
-    let name = exports_name(alloc, mount)?;
+    let name = exports_file_name(alloc, mount.text())?;
     Ok(SiteFault {
         file: Text::from_string(name),
         line: found.line,

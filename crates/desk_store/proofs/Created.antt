@@ -1,15 +1,14 @@
 -- A schema to which the two tables are added.
-use Rattle.std.proofs.Common.{◌≡◌, ◌≢◌, ◌∙◌, sym, ap, subst, inl, inr, refl, ℕ, zero, suc, ◌+◌, ◌<◌, ◌≤◌, ◌==◌, ◌++◌, Bool, true, false, cond, List, [], ◌∷◌, Option, Some, None, find, length, slice_get, codes, arith, append-nil, append_assoc}
+use Rattle.std.proofs.Common.{◌≡◌, ◌∙◌, sym, ap, subst, inl, inr, refl, ℕ, ◌+◌, ◌<◌, ◌≤◌, ◌==◌, ◌++◌, Bool, true, false, cond, List, [], ◌∷◌, Option, Some, None, find, length, slice_get, codes, arith, append-nil, append_assoc}
 use Rattle.std.specs.Prelude.{fold, max, option_and_then}
 use Rattle.std.specs.List.{AllByRecursion, AllZip, position_from}
 use Rattle.std.proofs.Math.Nat.{le-max_left, le-max_right}
 use Rattle.std.proofs.lemmas.Bool.{cases_Bool, eq-eqb, ne_eqb}
-use Rattle.std.proofs.lemmas.List.{length-append}
 use Rattle.sqlite.specs.Schema.{Schema}
 use Rattle.sqlite.specs.Table.{Table}
-use Rattle.sqlite.specs.Change.{created, next_tree, past_views}
+use Rattle.sqlite.specs.Change.{next_tree, past_views}
 use Rattle.sqlite_schema.specs.declared.schema.Index.{Index}
-use Rattle.sqlite_schema.specs.Names.{same_name, table_named, index_named, view_named}
+use Rattle.sqlite_schema.specs.Names.{same_name, table_named}
 use Rattle.sqlite.specs.Order.{Row}
 use Rattle.sqlite_catalog.specs.Listing.{IsSound, IsTableRow}
 use Rattle.sqlite.specs.Tree.{Trees}

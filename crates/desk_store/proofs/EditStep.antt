@@ -20,7 +20,7 @@ use Rattle.desk_core.specs.declared.edit.Refusal.{Refusal}
 use Rattle.desk_store.specs.Tables.{Adds, AddsWhileOpen, IsAtRest, LeavesCommit, revision_row}
 use Rattle.sqlite.specs.Order.{Row}
 use Rattle.desk_store.specs.History.{Holds, row_of}
-use Rattle.desk_store.specs.Desk.{AnswersBy, CommitsOne, HasStored, IsAccepted, IsDesk, IsEdited, IsInUtf8, IsJudgedBy, IsSiteHistory, Stands, StepsOn, newest_after, told}
+use Rattle.desk_store.specs.Desk.{AnswersBy, CommitsAtMost, CommitsOne, HasStored, IsAccepted, IsDesk, IsEdited, IsInUtf8, IsSiteHistory, Stands, StepsOn, newest_after, told}
 use Rattle.desk_store.specs.declared.error.DeskError.{DeskError}
 use Rattle.desk_store.specs.declared.error.DeskError.TheVariants as error
 use Rattle.desk_store.specs.Laws.{StoredEditsKeepSiteHistories}
@@ -249,27 +249,26 @@ module _ {V : Type 0} (newest_more : NewestOfALongerHistory) (keeps : StoredEdit
   abbrev row : Row
   row = revision_row e.file (e.base + 1) e.caller body
 
-  pub edit_failed : IsAccepted in_force before e ready → IsUtf8 e.file × IsUtf8 e.caller → IsUtf8 body → body ≡ e.text → (failure : DeskError) → IsOfTask task.AddRevision failure
-      → (HasCleanDisk new → IsTrue new.is_open → IsTrue old.is_open) → (HasCleanDisk new → IsTrue new.is_open → new.committed ≡ old.committed) → Survives old new (AddsWhileOpen row old)
-      → IsEdited old new before before e (Err failure)
-  edit_failed accepted names utf8 same failure which opened kept crash =
+  pub edit_failed : {T E : Type 0} {said : E} → IsAccepted in_force before e ready → IsUtf8 e.file × IsUtf8 e.caller → IsUtf8 body → body ≡ e.text → (failure : DeskError) → IsOfTask task.AddRevision failure
+      → CommitsAtMost {T = T} (Adds row) old new (Err said) → IsEdited old new before before e (Err failure)
+  edit_failed accepted names utf8 same failure which may =
       let P : List ℕ → Type 0 = λ b. Survives old new (AddsWhileOpen (revision_row e.file (e.base + 1) e.caller b) old) in
-      edited_not newest_more keeps in_force old new before before e ready sound accepted (in_utf8 names (subst IsUtf8 same utf8)) failure which opened kept (subst P same crash)
+      edited_not newest_more keeps in_force old new before after e ready sound accepted (in_utf8 names (subst IsUtf8 same utf8)) failure which may.opened may.unchanged (subst P same may.crash)
 
-  pub edit_stored : IsAccepted in_force before e ready → IsUtf8 e.file × IsUtf8 e.caller → IsUtf8 body → body ≡ e.text
-      → (HasCleanDisk new → IsTrue new.is_open → IsTrue old.is_open) → (HasCleanDisk new → IsTrue new.is_open) → (HasCleanDisk new → Adds row old.committed new.committed) → (HasCleanDisk new → LeavesCommit new)
-      → newest_in after.heads ≡ put (newest_in before.heads) ready.head → Survives old new (AddsWhileOpen row old)
+  pub edit_stored : {T E : Type 0} {x : T} → IsAccepted in_force before e ready → IsUtf8 e.file × IsUtf8 e.caller → IsUtf8 body → body ≡ e.text
+      → CommitsAtMost {E = E} (Adds row) old new (Ok x) → newest_in after.heads ≡ put (newest_in before.heads) ready.head
       → IsEdited old new before after e (Ok (record { rev = e.base + 1; already = false }))
-  edit_stored accepted names utf8 same opened live adds durable heads crash =
+  edit_stored accepted names utf8 same may heads =
       let P : List ℕ → Type 0 = λ b. Survives old new (AddsWhileOpen (revision_row e.file (e.base + 1) e.caller b) old) in
       let Q : List ℕ → Type 0 = λ b. Adds (revision_row e.file (e.base + 1) e.caller b) old.committed new.committed in
-      edited_stored newest_more keeps in_force old new before after e ready sound accepted (in_utf8 names (subst IsUtf8 same utf8)) (λ clean. (opened clean (live clean), record { live = live clean; adds = subst Q same (adds clean); leaves = durable clean })) heads (subst P same crash)
+      edited_stored newest_more keeps in_force old new before after e ready sound accepted (in_utf8 names (subst IsUtf8 same utf8))
+      (λ clean. (may.opened clean (may.live clean), record { live = may.live clean; adds = subst Q same (may.made clean); leaves = may.durable clean })) heads (subst P same may.crash)
 
 -- ---- a desk that was edited is a desk
 pub desk_after : {V : Type 0} (old new : State) (before after : Kept V) (e : Edit) (result : Result Done DeskError) → IsEdited old new before after e result
-    → (HasCleanDisk old → IsDesk old before) → (HasCleanDisk new → IsAtRest new) → HasCleanDisk new → IsDesk new after
+    → (HasCleanDisk old → IsDesk old before) → (HasCleanDisk new → IsAtRest old → IsAtRest new) → HasCleanDisk new → IsDesk new after
 desk_after old new before after e result edited desk rest clean =
     let start : HasCleanDisk old = omega (arith, clean, edited.crash.clean) in
     let d = desk start in
     let on = edited.step clean d.history d.pending d.stands in
-    record { rest = rest clean; history = _; pending = _; stands = on.stands }
+    record { rest = rest clean d.rest; history = _; pending = _; stands = on.stands }

@@ -1,25 +1,24 @@
 -- A history that is added to new tables, and what steps within a transaction come to.
-use Rattle.std.proofs.Common.{◌≡◌, ◌≢◌, ◌∙◌, sym, ap, subst, subst₂, inl, inr, refl, ℕ, ◌+◌, ◌<◌, ◌++◌, false, true, List, [], ◌∷◌, Some, Result, Ok, Err, OnOk, length, map, take, get_or, codes, arith, append-nil, append_assoc}
+use Rattle.std.proofs.Common.{◌≡◌, ◌≢◌, ◌∙◌, sym, ap, subst, inl, inr, refl, ℕ, ◌+◌, ◌<◌, ◌++◌, false, true, List, [], ◌∷◌, Some, Result, Ok, Err, OnOk, length, map, take, get_or, codes, arith, append-nil, append_assoc}
 use Rattle.std.specs.Prelude.{IsErr, IsPermutation, IsTrue}
 use Rattle.std.specs.List.{AllByRecursion}
 use Rattle.std.proofs.lemmas.Bool.{cases_Bool}
 use Rattle.std.proofs.lemmas.List.{map_push, take_more}
-use Rattle.std.proofs.lemmas.List.Sorted.{IsPermutation-refl, IsPermutation-cons, IsPermutation-trans, IsPermutation-middle, IsPermutation-sym}
+use Rattle.std.proofs.lemmas.List.Sorted.{IsPermutation-refl, IsPermutation-cons, IsPermutation-trans, IsPermutation-middle}
 use Rattle.sqlite.specs.Effect.{Database, IsDatabase, SparesFrozen}
 use Rattle.sqlite.specs.Order.{Row}
 use Rattle.sqlite.specs.Schema.{Schema}
 use Rattle.sqlite.specs.State.{Executes, ExecutesInside, HasCleanDisk, KeepsCommit, Shows, State, Survives}
 use Rattle.sqlite.specs.Table.{Table}
-use Rattle.sqlite.specs.Tree.{Trees}
 use Rattle.sqlite.specs.declared.error.Error.{Error}
 use Rattle.sqlite.proofs.InsideLemmas.{inside_keeps, keeps_then}
 use Rattle.sqlite.proofs.StateLemmas.{survives_then}
 use Rattle.desk_core.specs.Head.{Revision}
 use Rattle.desk_core.specs.History.{IsHistory}
-use Rattle.desk_store.specs.Create.{AddsAll, AddsRow, AddsRows, Fills, HasRoom, IsGrown, IsInside, Makes, MakesEmpty, MakesRoom, Ran, RunsInside, SpareFrozen, insert_version, with_both, with_meta}
-use Rattle.desk_store.specs.History.{Holds, row_of}
+use Rattle.desk_store.specs.Create.{AddsAll, AddsRow, AddsRows, Fills, HasRoom, IsGrown, IsInside, Makes, MakesEmpty, MakesRoom, Ran, RunsInside, SpareFrozen, insert_version, with_meta}
+use Rattle.desk_store.specs.History.{row_of}
 use Rattle.desk_store.specs.Tables.{Adds, HasTables, create_file_rev, create_meta, file_rev_table, insert_revision, rows_of, table_in}
-use Rattle.desk_store.proofs.Created.{below_next, each_both, file_in, first_part, first_tree, rises, second_tree}
+use Rattle.desk_store.proofs.Created.{below_next, each_both, file_in, first_part, rises, second_tree}
 use Rattle.desk_store.proofs.InsertEffect.{given}
 use Rattle.desk_store.proofs.Inserting.{writes}
 use Rattle.desk_store.proofs.Making.{makes_empty}

@@ -1,7 +1,6 @@
 -- The first revisions of a site are the history of a site.
-use Rattle.std.proofs.Common.{◌≡◌, ◌≢◌, ◌∙◌, sym, ap, subst, inl, inr, refl, ℕ, suc, ◌+◌, ◌-◌, ◌<◌, ◌≤◌, ◌++◌, Bool, true, false, cond, List, [], ◌∷◌, Option, Some, None, Ok, Result, Err, All, find, map, length, get_or, slice_get, take, codes, arith}
-use Rattle.std.specs.Prelude.{filter, nat_lt}
-use Rattle.std.specs.List.{AllByRecursion, AllPairs, range_with_len}
+use Rattle.std.proofs.Common.{◌≡◌, ◌≢◌, ◌∙◌, sym, ap, subst, inl, inr, refl, ℕ, suc, ◌+◌, ◌-◌, ◌<◌, ◌≤◌, ◌++◌, Bool, true, false, cond, List, [], ◌∷◌, Some, None, Ok, Result, Err, All, find, map, length, get_or, slice_get, take, codes, arith}
+use Rattle.std.specs.List.{AllByRecursion, range_with_len}
 use Rattle.std.specs.Ordering.{is_eq, is_lt, nat_cmp}
 use Rattle.std.specs.declared.cmp.Ordering.{Ordering}
 use Rattle.std.specs.declared.cmp.Ordering.TheVariants.{Less, Equal, Greater}
@@ -22,11 +21,11 @@ use Rattle.desk_tables.specs.Rules.{TableFault}
 use Rattle.desk_tables.specs.declared.filesystems.Mount.{Mount}
 use Rattle.desk_policy.specs.Site.{SiteTexts}
 use Rattle.desk_policy.specs.SiteFault.{exports_name}
-use Rattle.desk_core.specs.Head.{CanBeKept, Revision, newest_in}
+use Rattle.desk_core.specs.Head.{CanBeKept, Revision, newest_in, longest_revision}
 use Rattle.desk_core.specs.History.{IsHistory, newest_of, revisions_of}
-use Rattle.desk_core.specs.Judging.{IsFileName, longest_edit, seven}
+use Rattle.desk_core.specs.Judging.{IsFileName, seven}
 use Rattle.desk_core.specs.Site.{IsConsistent, site_in}
-use Rattle.desk_store.specs.Create.{IsUtf8Revision, first_history, first_long, first_long_mount, history_with, is_long, mounts_of, revision_of_mount, revision_of_seven, text_of_seven}
+use Rattle.desk_store.specs.Create.{IsUtf8Revision, first_long, first_long_mount, history_with, is_long, mounts_of, revision_of_mount, revision_of_seven, text_of_seven}
 use Rattle.desk_store.specs.Desk.{IsSiteHistory, IsStorable}
 
 -- no two of these revisions are of one file
@@ -140,16 +139,16 @@ all_false p (x ∷ xs) h = elim (cases_Bool (p x)) [
   | inr other ↦ (other, all_false p xs (subst (λ b. cond b (Some x) (find p xs) ≡ None) other h))
 ]
 
-short : (text : List ℕ) → is_long text ≡ false → length text ≤ longest_edit
-short text h = ltb-false longest_edit (length text) h
+short : (text : List ℕ) → is_long text ≡ false → length text ≤ longest_revision
+short text h = ltb-false longest_revision (length text) h
 
 mounts_short : (texts : SiteTexts) (ms : List Mount) → AllByRecursion (λ (m : Mount). is_long (texts.exports (path_text m.path)) ≡ false) ms
-    → AllByRecursion (λ (r : Revision). length r.body ≤ longest_edit) (map (revision_of_mount texts) ms)
+    → AllByRecursion (λ (r : Revision). length r.body ≤ longest_revision) (map (revision_of_mount texts) ms)
 mounts_short texts [] h = tt
 mounts_short texts (m ∷ ms) h = (short (texts.exports (path_text m.path)) h.0, mounts_short texts ms h.1)
 
 abbrev AreShort : List Revision → Type 0
-AreShort rs = AllByRecursion (λ (r : Revision). length r.body ≤ longest_edit) rs
+AreShort rs = AllByRecursion (λ (r : Revision). length r.body ≤ longest_revision) rs
 
 seven_short : (texts : SiteTexts) (more : List Revision) → first_long texts ≡ None → AreShort more → AreShort (map (revision_of_seven texts) seven ++ more)
 seven_short texts more none rest =
@@ -171,7 +170,7 @@ kept : (rs : List Revision) → AreFirst rs → AreShort rs → AllByRecursion C
 kept [] first few = tt
 kept (r ∷ rs) first few =
     let one : r.rev ≡ 1 = first.0 in
-    let low : length r.body ≤ longest_edit = few.0 in
+    let low : length r.body ≤ longest_revision = few.0 in
     (record { from = omega arith; to = omega arith; short = omega arith }, kept rs first.1 few.1)
 
 pub can_be_kept : (texts : SiteTexts) (ms : List Mount) → first_long texts ≡ None → first_long_mount texts ms ≡ None → All CanBeKept (history_with texts ms)

@@ -1,5 +1,5 @@
 -- The state of the first revisions of a site, or what the site is refused for.
-use Rattle.std.proofs.Common.{◌≡◌, ◌∙◌, sym, ap, subst, inl, inr, refl, ℕ, Bool, true, false, List, [], Some, None, Result, Ok, Err, IfOk, IfErr, OnOk, All}
+use Rattle.std.proofs.Common.{◌≡◌, ◌∙◌, sym, ap, subst, inr, true, false, List, [], None, Result, Ok, Err, IfOk, IfErr, OnOk, All}
 use Rattle.std.specs.Prelude.{option_map}
 use Rattle.desk_tables.specs.Laws.{MountPointsReadBack, TablesAreInOrder}
 use Rattle.desk_tables.specs.declared.filesystems.Mount.{Mount}

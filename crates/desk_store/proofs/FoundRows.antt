@@ -1,5 +1,5 @@
 -- What the rows say of a revision is what the history says, and a look leaves a desk as it was.
-use Rattle.std.proofs.Common.{Bool, Err, IsTrue, List, None, Ok, Option, Result, Some, [], ap, arith, codes, cond, false, find, get_or, inl, inr, map, pos, refl, subst, suc, sym, true, zero, ℕ, ◌+◌, ◌==◌, ◌&&◌, ◌∙◌, ◌∷◌, ◌≡◌, filter}
+use Rattle.std.proofs.Common.{Bool, Err, List, None, Ok, Option, Result, Some, [], ap, arith, codes, cond, false, find, get_or, inl, inr, map, pos, refl, subst, suc, sym, true, zero, ℕ, ◌+◌, ◌==◌, ◌&&◌, ◌∙◌, ◌∷◌, ◌≡◌, filter}
 use Rattle.std.specs.Prelude.{Contains, IfOk, IsPermutation}
 use Rattle.std.specs.Cmp.{Equal-is, int_cmp_is}
 use Rattle.std.specs.Ordering.{int_cmp, is_eq}
@@ -13,7 +13,7 @@ use Rattle.std.proofs.lemmas.List.Sorted.{Contains-permutation, IsPermutation-sy
 use Rattle.std.proofs.lemmas.Slice.Eq.{bytes_eq-Decides}
 use Rattle.sqlite.specs.Order.{Row, column}
 use Rattle.sqlite.specs.Effect.{Database}
-use Rattle.sqlite.specs.State.{HasCleanDisk, State, Survives}
+use Rattle.sqlite.specs.State.{HasCleanDisk, State}
 use Rattle.sqlite.specs.declared.types.Value.TheVariants.{Int, Text as Words, Blob as Bytes}
 use Rattle.desk_core.specs.Head.{Revision}
 use Rattle.desk_core.specs.History.{revisions_of}
@@ -21,8 +21,8 @@ use Rattle.desk_core.specs.Views.{Kept}
 use Rattle.desk_store.specs.Desk.{IsDesk, Stands, Stays, revision_at, stored_of}
 use Rattle.desk_store.specs.History.{Holds, row_of}
 use Rattle.desk_store.specs.Rows.{Finds, Says}
-use Rattle.desk_store.specs.Looks.{are_equal, author_and_text, is_at, is_of, revision_in}
-use Rattle.desk_store.specs.Tables.{IsAtRest, rows_of}
+use Rattle.desk_store.specs.Looks.{ChangesNothing, are_equal, author_and_text, is_at, is_of, revision_in}
+use Rattle.desk_store.specs.Tables.{rows_of}
 use Rattle.desk_store.specs.declared.error.DeskError.{DeskError}
 use Rattle.desk_store.specs.declared.desk.Revision.{Revision as Found}
 use Rattle.desk_store.proofs.OneHistory.{AreNumbered, default, from_filter, from_map, in_filter, in_map, rev_at, shift}
@@ -138,21 +138,21 @@ module _ (db : Database) (history : List Revision) (rows : List Row) (holds : Ho
   found_if (Ok found) h = found_is found h
   found_if (Err e) h = tt
 
--- a look that commits nothing leaves a desk as it was
-module _ {V : Type 0} (old new : State) (kept : Kept V) (opened : HasCleanDisk new → IsTrue new.is_open → IsTrue old.is_open) (same : HasCleanDisk new → IsTrue new.is_open → new.committed ≡ old.committed) (crash : Survives old new (λ _. ⊥)) where
+-- a look leaves a desk as it was
+module _ {V : Type 0} (old new : State) (kept : Kept V) (look : ChangesNothing old new) where
   pub stands_still : HasCleanDisk new → (history pending : List Revision) → Stands old kept history pending → Stands new kept history pending
   stands_still clean history pending stands = record {
     stored = stands.stored;
     heads = stands.heads;
-    tables = λ live. subst (λ (db : Database). Holds db history) (sym (same clean live)) (stands.tables (opened clean live));
-    leaves = λ trees may. elim (crash.crash clean trees may) [ inl as_before ↦ stands.leaves trees as_before | inr never ↦ absurd never ];
+    tables = λ live. subst (λ (db : Database). Holds db history) (sym (look.leaves.same clean live)) (stands.tables (look.opened clean live));
+    leaves = λ trees may. elim (look.leaves.crash.crash clean trees may) [ inl as_before ↦ stands.leaves trees as_before | inr never ↦ absurd never ];
   }
 
   pub stays_still : Stays old new kept kept
-  stays_still = record { state = refl; disk = crash.clean; stands = stands_still }
+  stays_still = record { state = refl; disk = look.leaves.crash.clean; stands = stands_still }
 
-  pub desk_still : (HasCleanDisk old → IsDesk old kept) → (HasCleanDisk new → IsAtRest new) → HasCleanDisk new → IsDesk new kept
-  desk_still desk rest clean =
-      let start : HasCleanDisk old = omega (arith, clean, crash.clean) in
+  pub desk_still : (HasCleanDisk old → IsDesk old kept) → HasCleanDisk new → IsDesk new kept
+  desk_still desk clean =
+      let start : HasCleanDisk old = omega (arith, clean, look.leaves.crash.clean) in
       let d = desk start in
-      record { rest = rest clean; history = d.history; pending = d.pending; stands = stands_still clean d.history d.pending d.stands }
+      record { rest = look.rest clean d.rest; history = d.history; pending = d.pending; stands = stands_still clean d.history d.pending d.stands }

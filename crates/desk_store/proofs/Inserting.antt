@@ -1,5 +1,6 @@
 -- What the INSERT of one revision does to a connection.
-use Rattle.std.proofs.Common.{◌≡◌, ◌⊎◌, inl, inr, ℕ, List, [], ◌∷◌, map, codes, slice_get, false, Some, None, Option, Ok, Result, IsTrue, refl, sym, ap, subst, subst₂, ◌∙◌, arith, ◌≢◌}
+use Rattle.std.proofs.Common.{◌≡◌, ◌⊎◌, inl, inr, ℕ, List, [], ◌∷◌, map, codes, slice_get, false, Some, None, Option, Ok, Err, Result, IsTrue, refl, sym, ap, subst, subst₂, ◌∙◌, arith, ◌≢◌, ℤ, pos, ◌<◌, ◌^◌, w64, to_z, of_z}
+use Rattle.std.proofs.lemmas.Int.{to_z_pos}
 use Rattle.std.specs.Prelude.{IsPermutation, option_and_then, option_map, unwrap_or}
 use Rattle.std.proofs.lemmas.List.Sorted.{IsPermutation-map}
 use Rattle.sqlite_trees.proofs.ListLemmas.{all-slice_get}
@@ -13,7 +14,7 @@ use Rattle.sqlite.specs.Does.{Tally, Does}
 use Rattle.sqlite.specs.Command.TheVariants.{Insert, Commit, Release}
 use Rattle.sqlite.specs.Source.TheVariants.{Values}
 use Rattle.sqlite.specs.Listing.{understood}
-use Rattle.sqlite.specs.State.{State, Writes, Executes, ExecutesIn, IsNotRun, CommitsBy, IsUnchanged, IsRolledBack, Survives, HasCleanDisk, mode_of, MayCommit, text_of, IsNewestNamed, names_in, begins_at}
+use Rattle.sqlite.specs.State.{State, Writes, Executes, CommitsBy, IsUnchanged, IsRolledBack, Survives, HasCleanDisk, mode_of, MayCommit, text_of, IsNewestNamed, names_in, begins_at}
 use Rattle.sqlite.specs.Clock.{timed}
 use Rattle.sqlite_resolve.specs.declared.compiled.Compiled.{Compiled}
 use Rattle.sqlite.specs.declared.error.Error.{Error}
@@ -21,9 +22,11 @@ use Rattle.sqlite_schema.specs.Names.{table_named}
 use Rattle.sqlite.proofs.Callers.{IsPlain, command_of, statement_of, runs_as}
 use Rattle.sqlite.proofs.InsideLemmas.{fails_whole}
 use Rattle.sqlite.proofs.StateLemmas.{survives_then}
+use Rattle.desk_store.proofs.ChangesNothing.{kept_commit, rest_after_error}
 use Rattle.desk_store.proofs.InsertText.{terms, insert_understood, insert_compiled}
 use Rattle.desk_store.proofs.InsertEffect.{given, Puts, does_insert, put_permutes}
-use Rattle.desk_store.specs.Tables.{cells, insert_revision, table_in, rows_of, file_rev_table, meta_table, HasTables, revision_row, Adds, AddsTo, AddsWhileOpen, IsAtRest}
+use Rattle.desk_store.specs.Desk.{CommitsAtMost}
+use Rattle.desk_store.specs.Tables.{LeavesCommit, cells, insert_revision, table_in, rows_of, file_rev_table, meta_table, HasTables, revision_row, Adds, AddsTo, AddsWhileOpen, IsAtRest}
 
 -- the place of a table that is found by its name
 pub placed : (schema : Schema) (name : List ℕ) (table : Table) → table_in schema name ≡ Some table
@@ -96,33 +99,6 @@ module _ (old new : State) (file : List ℕ) (rev : ℕ) (author body : List ℕ
         | inr it ↦ (it.2, does_add old.step_limit old file rev author body it.2 it.1 place.0 has place.2 it.3 it.6 it.4, it.5)
       ]
 
--- after a refusal or a failure
-pub rest_after_error : (old new : State) → IsAtRest old → IsUnchanged old new ⊎ IsRolledBack old new → IsAtRest new × (IsTrue new.is_open → new.committed ≡ old.committed)
-rest_after_error old new rest (inl same) = (
-  record {
-    autocommit = same.0.mode ∙ rest.autocommit;
-    settled = λ _. same.0.now_is ∙ rest.settled same.0.was_open ∙ sym same.0.committed_is;
-    tables = λ _. subst (λ (d : Database). HasTables d.schema) (sym same.0.committed_is) (rest.tables same.0.was_open);
-  },
-  λ _. same.0.committed_is,
-)
-rest_after_error old new rest (inr back) = (
-  record {
-    autocommit = back.autocommit;
-    settled = λ live. (back.undone live).0 ∙ sym (back.undone live).1;
-    tables = λ live. subst (λ (d : Database). HasTables d.schema) (sym (back.undone live).1) (rest.tables (back.was_open live));
-  },
-  λ live. (back.undone live).1,
-)
-
-pub was_open : (old new : State) → IsUnchanged old new ⊎ IsRolledBack old new → IsTrue new.is_open → IsTrue old.is_open
-was_open old new (inl same) live = same.0.was_open
-was_open old new (inr back) live = back.was_open live
-
-pub kept_commit : (old new : State) → IsUnchanged old new ⊎ IsRolledBack old new → IsTrue new.is_open → new.committed ≡ old.committed
-kept_commit old new (inl same) live = same.0.committed_is
-kept_commit old new (inr back) live = (back.undone live).1
-
 -- after the row was written
 pub rest_after_insert : (old new : State) (file : List ℕ) (rev : ℕ) (author body : List ℕ) (count : ℕ) → IsAtRest old → IsTrue old.is_open → Executes insert_revision (given file rev author body) old new (Ok count)
     → IsAtRest new × Adds (revision_row file rev author body) old.committed new.committed × IsTrue new.is_open
@@ -144,23 +120,59 @@ adds_only old new file rev author body rest live trees h =
     let has = subst (λ (d : Database). HasTables d.schema) (sym settled) (rest.tables live) in
     subst (λ (d : Database). AddsTo (revision_row file rev author body) d trees) settled (commits old new file rev author body has trees h)
 
-pub not_run : (old new : State) (sql : List ℕ) (params : Row) (e : Error) → IsNotRun old new sql params e → IsUnchanged old new ⊎ IsRolledBack old new
-unfolding ExecutesIn
-not_run old new sql params e h = fails_whole old new false sql params e (inl h)
+pub signed : (x : ℤ) (n : ℕ) → x ≡ pos n → n < 2 ^ 32 → to_z w64 (of_z w64 x) ≡ pos n
+signed x n e low = ap (λ z. to_z w64 (of_z w64 z)) e ∙ to_z_pos w64 n (omega arith)
 
--- what a crash leaves, where the statement was prepared first and so the connection was open
-pub crash_after : (old mid new : State) (file : List ℕ) (rev : ℕ) (author body sql : List ℕ) (params : Row) → (HasCleanDisk old → IsAtRest old)
-    → (HasCleanDisk mid → (sql ≡ insert_revision) × IsUnchanged old mid) → params ≡ given file rev author body
-    → Survives old mid (λ _. ⊥) → Survives mid new (CommitsBy sql params mid) → Survives old new (AddsWhileOpen (revision_row file rev author body) old)
-crash_after old mid new file rev author body sql params rest prepared bound first then =
-    survives_then old mid new (λ _. ⊥) (CommitsBy sql params mid) (AddsWhileOpen (revision_row file rev author body) old) (λ clean trees none. absurd none)
-    (λ clean trees h.
-    let early : HasCleanDisk mid = omega (arith, then.clean) in
-    let start : HasCleanDisk old = omega (arith, first.clean) in
-    let same = prepared early in
-    let ready = rest_after_error old mid (rest start) (inl same.1) in (
-      same.1.0.was_open,
-      subst (λ (d : Database). AddsTo (revision_row file rev author body) d trees) same.1.0.committed_is
-          (adds_only mid new file rev author body ready.0 same.1.0.is_open trees (rw (same.0, bound) at h)),
-    ))
-    first then
+-- what adding a revision leaves, once its statement was prepared
+module _ (old mid new : State) (file : List ℕ) (rev : ℕ) (author body sql : List ℕ) (params : Row) (rest : HasCleanDisk old → IsAtRest old)
+    (prepared : HasCleanDisk mid → (sql ≡ insert_revision) × IsUnchanged old mid) (bound : params ≡ given file rev author body)
+    (first : Survives old mid (λ _. ⊥)) (then : Survives mid new (CommitsBy sql params mid)) where
+  abbrev Change : Database → Database → Type 0
+  Change = Adds (revision_row file rev author body)
+
+  early : HasCleanDisk new → HasCleanDisk mid
+  early clean = omega (arith, clean, then.clean)
+
+  ready : HasCleanDisk mid → IsAtRest mid
+  ready clean = (rest_after_error old mid (rest (omega (arith, clean, first.clean))) (inl (prepared clean).1)).0
+
+  crash : Survives old new (AddsWhileOpen (revision_row file rev author body) old)
+  crash =
+      survives_then old mid new (λ _. ⊥) (CommitsBy sql params mid) (AddsWhileOpen (revision_row file rev author body) old) (λ clean trees none. absurd none)
+      (λ clean trees h.
+      let same = prepared (early clean) in (
+        same.1.0.was_open,
+        subst (λ (d : Database). AddsTo (revision_row file rev author body) d trees) same.1.0.committed_is
+            (adds_only mid new file rev author body (ready (early clean)) same.1.0.is_open trees (rw (same.0, bound) at h)),
+      ))
+      first then
+
+  inserted : (count : ℕ) → Executes sql params mid new (Ok count) → HasCleanDisk new → IsAtRest new × Change old.committed new.committed × IsTrue new.is_open
+  inserted count h clean =
+      let same = prepared (early clean) in
+      let it = rest_after_insert mid new file rev author body count (ready (early clean)) same.1.0.is_open (rw (same.0, bound) at h) in
+      (it.0, subst (λ (d : Database). Change d new.committed) same.1.0.committed_is it.1, it.2)
+
+  pub added : {T E : Type 0} (x : T) (count : ℕ) → (HasCleanDisk new → Executes sql params mid new (Ok count)) → (IsTrue new.is_open → LeavesCommit new) → CommitsAtMost {T = T} {E = E} Change old new (Ok x)
+  added x count ran settled = record {
+    rest = λ clean _. (inserted count (ran clean) clean).0;
+    opened = λ clean live. (prepared (early clean)).1.0.was_open;
+    made = λ clean. (inserted count (ran clean) clean).1;
+    live = λ clean. (inserted count (ran clean) clean).2;
+    durable = λ clean. settled (inserted count (ran clean) clean).2;
+    unchanged = λ clean live. tt;
+    crash = crash;
+  }
+
+  pub not_added : {T E : Type 0} (e : E) (said : Error) → (HasCleanDisk new → Executes sql params mid new (Err said)) → CommitsAtMost {T = T} {E = E} Change old new (Err e)
+  not_added e said ran =
+      let failed : HasCleanDisk new → IsUnchanged mid new ⊎ IsRolledBack mid new = λ clean. fails_whole mid new false sql params said (ran clean) in
+      record {
+        rest = λ clean _. (rest_after_error mid new (ready (early clean)) (failed clean)).0;
+        opened = λ clean live. (prepared (early clean)).1.0.was_open;
+        made = λ clean. tt;
+        live = λ clean. tt;
+        durable = λ clean. tt;
+        unchanged = λ clean live. kept_commit mid new (failed clean) live ∙ (prepared (early clean)).1.0.committed_is;
+        crash = crash;
+      }

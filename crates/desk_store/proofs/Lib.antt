@@ -1,5 +1,6 @@
 pub mod InsertText
 pub mod InsertEffect
+pub mod ChangesNothing
 pub mod Inserting
 pub mod SelectText
 pub mod Reading

@@ -1,16 +1,13 @@
 -- What making a database comes to, from the look for room to the commit.
-use Rattle.std.proofs.Common.{◌≡◌, ◌⊎◌, ◌∙◌, sym, ap, subst, inl, inr, refl, IsTrue, Ok, Err, Result, List, [], Some, true, false, arith, OnOk, IfOk, IfErr}
-use Rattle.std.specs.Prelude.{OnErr}
+use Rattle.std.proofs.Common.{◌≡◌, ◌∙◌, sym, subst, inl, inr, IsTrue, Ok, Err, Result, false, arith}
 use Rattle.sqlite.specs.Effect.{Database}
 use Rattle.sqlite.specs.State.{HasCleanDisk, State, Survives}
-use Rattle.sqlite.specs.Tree.{Trees}
 use Rattle.sqlite.specs.declared.error.Error.{Error}
 use Rattle.sqlite.proofs.StateLemmas.{survives_then}
 use Rattle.desk_policy.specs.Site.{SiteTexts}
-use Rattle.desk_core.specs.Head.{Revision, newest_in}
 use Rattle.desk_core.specs.Views.{Kept}
-use Rattle.desk_store.specs.Create.{HasRoom, HasSeenRoom, IsCreated, IsFirstState, IsMade, IsOfMaking, IsOfRoom, JudgesSite, LooksForRoom, Makes, MakesFirst, MakesTables, MayMake, RefusesRoom, RefusesSite, RefusesToCreate, StoresAll, first_history, has_one}
-use Rattle.desk_store.specs.Desk.{IsSiteHistory, LeavesTables}
+use Rattle.desk_store.specs.Create.{HasRoom, IsCreated, IsFirstState, IsOfMaking, IsOfRoom, JudgesSite, LooksForRoom, Makes, MakesFirst, MakesTables, MayMake, RefusesRoom, RefusesSite, RefusesToCreate, StoresAll, first_history, has_one}
+use Rattle.desk_store.specs.Desk.{IsSiteHistory}
 use Rattle.desk_store.specs.Tables.{LeavesCommit}
 use Rattle.desk_store.specs.declared.error.CreateError.{CreateError}
 use Rattle.desk_store.specs.declared.error.CreateError.TheVariants as refused

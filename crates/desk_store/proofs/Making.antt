@@ -1,40 +1,31 @@
 -- What the statements that make a desk's tables do, one after another, within a transaction.
-use Rattle.std.proofs.Common.{◌≡◌, ◌≢◌, ◌∙◌, ◌||◌, sym, ap, subst, subst₂, inl, inr, refl, ℕ, zero, suc, pos, ◌+◌, ◌-◌, ◌<◌, ◌≤◌, ◌++◌, ◌&&◌, Bool, true, false, not, cond, List, [], ◌∷◌, Option, Some, None, Result, Ok, Err, OnOk, IsTrue, length, map, take, drop, get_or, slice_get, codes, arith, append-nil, append_assoc}
-use Rattle.std.specs.Prelude.{IsPermutation, is_some, option_and_then, slice_range}
+use Rattle.std.proofs.Common.{◌≡◌, ◌≢◌, ◌∙◌, ◌||◌, sym, ap, subst, inl, inr, refl, ℕ, zero, suc, ◌+◌, ◌-◌, ◌++◌, ◌&&◌, Bool, true, false, not, cond, List, [], ◌∷◌, Option, Some, None, Ok, length, map, slice_get, codes, arith}
+use Rattle.std.specs.Prelude.{is_some, option_and_then, slice_range}
 use Rattle.std.specs.List.{AllByRecursion, list_any, position_from}
-use Rattle.std.proofs.lemmas.Bool.{cases_Bool, both_ways}
-use Rattle.std.proofs.lemmas.List.{map_push, take_all, take_more}
+use Rattle.std.proofs.lemmas.Bool.{cases_Bool}
+use Rattle.std.proofs.lemmas.List.{take_all}
 use Rattle.std.proofs.lemmas.List.Folds.{list_any-append}
-use Rattle.std.proofs.lemmas.List.Sorted.{IsPermutation-refl, IsPermutation-cons, IsPermutation-trans, IsPermutation-middle}
 use Rattle.sqlite.specs.Change.{created, next_tree}
 use Rattle.sqlite.specs.Command.TheVariants.{CreateTable, Insert}
-use Rattle.sqlite.specs.Does.{Does, Tally, lacks_sequence}
+use Rattle.sqlite.specs.Does.{lacks_sequence}
 use Rattle.sqlite.specs.Effect.{Database, IsDatabase, SparesFrozen}
 use Rattle.sqlite.specs.Listing.{understood}
-use Rattle.sqlite.specs.Order.{Row}
 use Rattle.sqlite.specs.Rows.{sequence}
 use Rattle.sqlite.specs.Schema.{Schema}
 use Rattle.sqlite.specs.Source.TheVariants.{Values}
-use Rattle.sqlite.specs.State.{Executes, HasCleanDisk, IsRolledBack, IsUnchanged, KeepsCommit, Shows, State, Survives, Writes, mode_of}
+use Rattle.sqlite.specs.State.{State, Writes, mode_of}
 use Rattle.sqlite.specs.Table.{Table}
-use Rattle.sqlite.specs.Tree.{Trees, put_row}
-use Rattle.sqlite.specs.declared.error.Error.{Error}
-use Rattle.sqlite.specs.declared.types.Value.TheVariants.{Int}
+use Rattle.sqlite.specs.Tree.{put_row}
 use Rattle.sqlite.proofs.Callers.{IsPlain, command_of, runs_as, statement_of}
-use Rattle.sqlite.proofs.InsideLemmas.{keeps_then}
-use Rattle.sqlite.proofs.StateLemmas.{survives_then}
 use Rattle.sqlite_catalog.specs.Calls.{CreatesTable}
 use Rattle.sqlite_catalog.specs.Listing.{IsSound}
-use Rattle.desk_core.specs.Head.{Revision}
-use Rattle.desk_core.specs.History.{IsHistory}
-use Rattle.desk_store.specs.Create.{AddsAll, AddsRows, Fills, HasRoom, Makes, MakesEmpty, MakesRoom, Ran, RunsInside, SpareFrozen, insert_version, with_both, with_meta}
-use Rattle.desk_store.specs.History.{Holds, row_of}
-use Rattle.desk_store.specs.Tables.{Adds, HasTables, IsFree, cells, create_file_rev, create_meta, file_rev_table, meta_table, rows_of, table_in}
+use Rattle.desk_store.specs.Create.{HasRoom, MakesEmpty, Ran, insert_version, with_both, with_meta}
+use Rattle.desk_store.specs.Tables.{HasTables, IsFree, cells, create_file_rev, create_meta, file_rev_table, meta_table, table_in}
 use Rattle.desk_store.proofs.CreateEffect.{does_create}
 use Rattle.desk_store.proofs.CreateText.{Reads, create_compiled, create_understood, file_rev_reads, meta_reads, table_read}
-use Rattle.desk_store.proofs.Created.{below_next, each_both, each_so, file_in, first_part, first_tree, free_yet, has_both, last_part, meta_in, rises, second_tree}
+use Rattle.desk_store.proofs.Created.{below_next, each_both, file_in, first_part, first_tree, free_yet, has_both, last_part, meta_in, rises, second_tree}
 use Rattle.desk_store.proofs.Inserting.{placed, rows_are}
-use Rattle.desk_store.proofs.VersionInsert.{PutsVersion, does_version, version_compiled, version_row, version_terms, version_understood}
+use Rattle.desk_store.proofs.VersionInsert.{PutsVersion, does_version, version_row, version_terms, version_understood}
 
 -- what a CREATE did
 pub record CreatesOne (table : Table) (text : List ℕ) (old new : Database) : Type 0 where

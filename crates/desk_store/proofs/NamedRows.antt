@@ -1,10 +1,9 @@
 -- The rows that a query with WHERE answers: of those that pass what it shows, in some order.
-use Rattle.std.proofs.Common.{nat_le, ◌^◌, ◌≡◌, pos, negsuc, refl, None, ℕ, Bool, true, false, cond, codes, List, [], ◌∷◌, ◌==◌, ◌&&◌, ◌++◌, filter, map, ap, sym, subst₂, ◌∙◌}
+use Rattle.std.proofs.Common.{nat_le, ◌^◌, ◌≡◌, pos, negsuc, refl, None, ℕ, Bool, true, false, cond, List, [], ◌∷◌, ◌&&◌, ◌++◌, filter, map, ap, sym, subst₂, ◌∙◌}
 use Rattle.std.specs.List.{flat_map, list_all}
-use Rattle.std.specs.Ordering.{is_eq}
 use Rattle.std.specs.Prelude.{IsPermutation}
 use Rattle.std.proofs.lemmas.List.Sorted.{IsPermutation-map}
-use Rattle.sqlite_sql.specs.declared.ops.BinaryOp.TheVariants.{And, Compare}
+use Rattle.sqlite_sql.specs.declared.ops.BinaryOp.TheVariants.{Compare}
 use Rattle.sqlite_sql.specs.declared.ops.CompareOp.TheVariants.{Eq}
 use Rattle.sqlite.specs.Collation.TheVariants.{Binary}
 use Rattle.sqlite.specs.Ops.{binary, from_truth, is_true}

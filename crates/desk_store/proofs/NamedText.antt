@@ -1,11 +1,12 @@
 -- What the queries for the revisions of one file mean, whatever other tables the schema has.
-use Rattle.std.proofs.Common.{nat_le, nat_lt, ◌^◌, ◌≡◌, ◌-◌, pos, negsuc, refl, Some, None, Ok, ℕ, Option, ap, subst, sym, suc, ◌∙◌, ◌+◌, ◌++◌, option_map, option_and_then, Bool, true, false, slice_get, codes, List, [], ◌∷◌, ◌==◌}
+use Rattle.std.proofs.Common.{nat_le, nat_lt, ◌^◌, ◌≡◌, ◌-◌, pos, negsuc, refl, Some, None, Ok, ℕ, Option, ap, subst, sym, suc, ◌∙◌, ◌++◌, option_map, option_and_then, Bool, true, false, slice_get, codes, List, [], ◌∷◌, ◌==◌}
 use Rattle.std.specs.List.{find}
 use Rattle.sqlite_value.specs.declared.keys.Collation.TheVariants.{Binary}
 use Rattle.sqlite_sql.specs.declared.ops.BinaryOp.TheVariants.{And, Compare}
 use Rattle.sqlite_sql.specs.declared.ops.CompareOp.TheVariants.{Eq}
 use Rattle.sqlite.specs.Schema.{Schema}
 use Rattle.sqlite.specs.Table.{Table}
+use Rattle.sqlite.specs.Query.{Query}
 use Rattle.sqlite.specs.Term.{Term, lit, col, op2}
 use Rattle.sqlite_schema.specs.declared.schema.Column.{Column as Declared}
 use Rattle.sqlite_schema.specs.Names.{same_name, table_named}
@@ -51,6 +52,7 @@ use Rattle.sqlite_resolve.specs.Select as selecting
 use Rattle.sqlite_resolve.specs.Select.{outermost}
 use Rattle.sqlite.specs.declared.types.Value.TheVariants.{Int}
 use Rattle.sqlite_value.specs.declared.keys.Collation.{Collation}
+use Rattle.desk_store.proofs.SelectText.{Means, MeansAnywhere}
 use Rattle.desk_store.proofs.NamedRows.{file_test, number_columns, query, rev_test, text_columns}
 use Rattle.desk_store.specs.Looks.{select_numbers, select_revision}
 use Rattle.desk_store.specs.Tables.{file_rev_table}
@@ -100,6 +102,19 @@ numbers_first = refl
 revision_first : first select_revision ≡ Ok revision_parsed
 unfolding everything
 revision_first = refl
+
+-- what they mean
+abbrev pub numbers_query : ℕ → Query
+numbers_query = query (file_test ∷ []) number_columns
+
+abbrev pub revision_query : ℕ → Query
+revision_query = query (file_test ∷ rev_test ∷ []) text_columns
+
+abbrev pub numbers_names : List (List ℕ)
+numbers_names = codes "rev" ∷ codes "author" ∷ []
+
+abbrev pub revision_names : List (List ℕ)
+revision_names = codes "author" ∷ codes "body" ∷ []
 
 -- what is written, opened
 source_open : out-Source file_rev_source ≡ record { is_left = false; origin = origin.Table (codes "file_rev"); alias = None; on = None; using = [] }
@@ -352,15 +367,17 @@ module _ (schema : Schema) (place tree : ℕ) (found : table_named schema (codes
     unfolding program.program
     revision_accepted = rw (low, alone)
 
-    numbers_read : read schema (select numbers_shown of_file) ≡ Ok (Select (record { lets = []; body = query (file_test ∷ []) number_columns tree }) (codes "rev" ∷ codes "author" ∷ []))
-    numbers_read =
-        read_is schema (select numbers_shown of_file) (core numbers_shown of_file) file_rev_source (codes "file_rev") (select_open numbers_shown of_file) (ap (λ c. c.from) numbers_core) (ap (λ x. x.origin) source_open)
-        _ _ _ numbers_named _ numbers_accepted
+    -- a query, once what it shows and its test are read
+    one_read : (shown : List written_shown.Shown) (test : Expr) (d : Draft) (names : List (List ℕ)) (p : Program) → (out-Core (core shown test)).from ≡ from_file_rev → selecting.named schema (core shown test) [] (lit (Int (negsuc 0)), lit (Int (pos 0))) ≡ Ok (d, names, carried_by)
+        → program.program schema [] d ≡ Ok p → read schema (select shown test) ≡ Ok (Select p names)
+    one_read shown test d names p from_is named_is accepted =
+        read_is schema (select shown test) (core shown test) file_rev_source (codes "file_rev") (select_open shown test) from_is (ap (λ x. x.origin) source_open) d names carried_by named_is p accepted
 
-    revision_read : read schema (select revision_shown at_rev) ≡ Ok (Select (record { lets = []; body = query (file_test ∷ rev_test ∷ []) text_columns tree }) (codes "author" ∷ codes "body" ∷ []))
-    revision_read =
-        read_is schema (select revision_shown at_rev) (core revision_shown at_rev) file_rev_source (codes "file_rev") (select_open revision_shown at_rev) (ap (λ c. c.from) revision_core) (ap (λ x. x.origin) source_open)
-        _ _ _ revision_named _ revision_accepted
+    pub numbers_read : read schema (select numbers_shown of_file) ≡ Ok (Select (record { lets = []; body = numbers_query tree }) numbers_names)
+    numbers_read = one_read numbers_shown of_file _ numbers_names _ (ap (λ c. c.from) numbers_core) numbers_named numbers_accepted
+
+    pub revision_read : read schema (select revision_shown at_rev) ≡ Ok (Select (record { lets = []; body = revision_query tree }) revision_names)
+    revision_read = one_read revision_shown at_rev _ revision_names _ (ap (λ c. c.from) revision_core) revision_named revision_accepted
 
 -- a text that reads so means this command
 module _ (sql : List ℕ) (parsed : Parsed) (written_as : written_select.Select) (is : first sql ≡ Ok parsed) (selects : parsed.statement ≡ statement.Select written_as) (untimed : parsed.formats ≡ []) where
@@ -368,43 +385,25 @@ module _ (sql : List ℕ) (parsed : Parsed) (written_as : written_select.Select)
   unfolding planned timed meaning returning compile.command
   planned_as schema command reads = rw (selects, untimed, reads)
 
-  pub understood_as : (schema : Schema) (command : Command) → read schema written_as ≡ Ok command → understood schema sql ≡ Ok (with_command parsed ([], (command, None)))
+  understood_as : (schema : Schema) (command : Command) → read schema written_as ≡ Ok command → understood schema sql ≡ Ok (with_command parsed ([], (command, None)))
   unfolding understood compiled
   understood_as schema command reads = rw (is, planned_as schema command reads)
 
-  pub listed_as : (schema : Schema) (command : Command) → read schema written_as ≡ Ok command → reads_listing schema sql ≡ false
+  listed_as : (schema : Schema) (command : Command) → read schema written_as ≡ Ok command → reads_listing schema sql ≡ false
   unfolding compiled
   listed_as schema command reads = rw (is, planned_as schema command reads)
 
--- what the two texts mean, under a schema that has the table
-module _ (schema : Schema) (place tree : ℕ) (found : table_named schema (codes "file_rev") ≡ Some place) (there : slice_get schema.tables place ≡ Some (file_rev_table tree))
-    (alone : find (λ (t : Table). t.tree == tree) schema.tables ≡ Some (file_rev_table tree)) (low : nat_le (2 ^ 31) tree ≡ false) where
-  abbrev pub numbers_command : Command
-  numbers_command = Select (record { lets = []; body = query (file_test ∷ []) number_columns tree }) (codes "rev" ∷ codes "author" ∷ [])
+  pub means_so : (schema : Schema) (tree : ℕ) (shape : ℕ → Query) (names : List (List ℕ)) → read schema written_as ≡ Ok (Select (record { lets = []; body = shape tree }) names) → Means sql shape names schema tree
+  means_so schema tree shape names reads =
+      let command = Select (record { lets = []; body = shape tree }) names in
+      let known = understood_as schema command reads in
+      record { is = ap command_of known; plain = subst IsPlain (sym known) (refl, refl); unlisted = listed_as schema command reads }
 
-  abbrev pub revision_command : Command
-  revision_command = Select (record { lets = []; body = query (file_test ∷ rev_test ∷ []) text_columns tree }) (codes "author" ∷ codes "body" ∷ [])
+-- what the two texts mean
+pub numbers_mean : MeansAnywhere select_numbers (codes "file_rev") file_rev_table numbers_query numbers_names
+numbers_mean schema place tree found there alone low =
+    means_so select_numbers numbers_parsed (select numbers_shown of_file) numbers_first refl refl schema tree numbers_query numbers_names (numbers_read schema place tree found there alone low)
 
-  numbers_understood : understood schema select_numbers ≡ Ok (with_command numbers_parsed ([], (numbers_command, None)))
-  numbers_understood = understood_as select_numbers numbers_parsed (select numbers_shown of_file) numbers_first refl refl schema numbers_command (numbers_read schema place tree found there alone low)
-
-  revision_understood : understood schema select_revision ≡ Ok (with_command revision_parsed ([], (revision_command, None)))
-  revision_understood = understood_as select_revision revision_parsed (select revision_shown at_rev) revision_first refl refl schema revision_command (revision_read schema place tree found there alone low)
-
-  pub numbers_are : command_of (understood schema select_numbers) ≡ numbers_command
-  numbers_are = ap command_of numbers_understood
-
-  pub numbers_plain : IsPlain (understood schema select_numbers)
-  numbers_plain = subst IsPlain (sym numbers_understood) (refl, refl)
-
-  pub numbers_unlisted : reads_listing schema select_numbers ≡ false
-  numbers_unlisted = listed_as select_numbers numbers_parsed (select numbers_shown of_file) numbers_first refl refl schema numbers_command (numbers_read schema place tree found there alone low)
-
-  pub revision_is : command_of (understood schema select_revision) ≡ revision_command
-  revision_is = ap command_of revision_understood
-
-  pub revision_plain : IsPlain (understood schema select_revision)
-  revision_plain = subst IsPlain (sym revision_understood) (refl, refl)
-
-  pub revision_unlisted : reads_listing schema select_revision ≡ false
-  revision_unlisted = listed_as select_revision revision_parsed (select revision_shown at_rev) revision_first refl refl schema revision_command (revision_read schema place tree found there alone low)
+pub revision_means : MeansAnywhere select_revision (codes "file_rev") file_rev_table revision_query revision_names
+revision_means schema place tree found there alone low =
+    means_so select_revision revision_parsed (select revision_shown at_rev) revision_first refl refl schema tree revision_query revision_names (revision_read schema place tree found there alone low)

@@ -1,56 +1,18 @@
 -- What the queries answer on a connection at rest.
-use Rattle.std.proofs.Common.{◌≡◌, ◌⊎◌, inl, inr, ℕ, List, [], codes, false, nat_le, ◌^◌, ◌<◌, Some, None, Option, Ok, Err, Result, IsTrue, IfOk, IfErr, OnOk, refl, sym, subst, ◌∙◌, arith}
-use Rattle.std.specs.Prelude.{IsPermutation}
+use Rattle.std.proofs.Common.{◌≡◌, ◌⊎◌, inl, inr, ℕ, List, false, Some, None, Option, Ok, Err, Result, IsTrue, IfOk, IfErr, OnOk, refl, sym, ap, subst, ◌∙◌, arith}
+use Rattle.std.specs.Prelude.{Vec}
 use Rattle.sqlite.specs.Order.{Row}
-use Rattle.sqlite.specs.Schema.{Schema}
 use Rattle.sqlite.specs.Effect.{Database}
 use Rattle.sqlite.specs.Listing.{understood}
 use Rattle.sqlite.specs.State.{State, HasCleanDisk, Survives, IsUnchanged, IsRolledBack, Shown, ShowsRows, CommitsShowing, FailsToQuery, FailsToShow}
 use Rattle.sqlite_resolve.specs.declared.compiled.Compiled.{Compiled}
 use Rattle.sqlite_schema.specs.declared.command.Returning.{Returning}
-use Rattle.std.proofs.lemmas.Bool.{lt-leb}
+use Rattle.std.specs.Prelude.{IsPermutation}
 use Rattle.sqlite.specs.declared.error.Error.{Error}
-use Rattle.sqlite.proofs.Callers.{IsPlain, reads_as, never_commits}
-use Rattle.sqlite.proofs.StateLemmas.{survives_then}
-use Rattle.desk_store.proofs.Inserting.{placed, rows_are, rest_after_error, not_run}
-use Rattle.desk_store.proofs.SelectText.{select_is, select_plain, select_unlisted, revision_answers, version_is, version_plain, version_unlisted, version_answers}
-use Rattle.desk_store.specs.Tables.{select_revisions, select_version, rows_of, file_rev_table, meta_table, HasTables, IsAtRest}
-
-pub low_of : (tree : ℕ) → tree < 65536 → nat_le (2 ^ 31) tree ≡ false
-low_of tree low = lt-leb (2 ^ 31) tree (omega arith)
-
--- a query that shows these rows of a database, as the schema has the tables
-pub record IsLook (sql : List ℕ) (params : Row) (of : Database → List Row) : Type 1 where
-  pub plain : (schema : Schema) → HasTables schema → IsPlain (understood schema sql)
-  pub rows : (old new : State) (rows : List Row) → HasTables old.now.schema → Shown sql params old new rows → IsPermutation (of old.now) rows
-
-pub revisions_whole : IsLook select_revisions [] (λ db. rows_of db (codes "file_rev"))
-revisions_whole = record {
-  plain = λ schema has.
-      let at = placed schema (codes "file_rev") (file_rev_table has.tree) has.file_rev in
-      select_plain schema at.0 has.tree at.1 at.2 has.alone (low_of has.tree has.low);
-  rows = λ old new rows has h.
-      let at = placed old.now.schema (codes "file_rev") (file_rev_table has.tree) has.file_rev in
-      let low = low_of has.tree has.low in
-      let plain = select_plain old.now.schema at.0 has.tree at.1 at.2 has.alone low in
-      let reads = reads_as select_revisions [] old new old.now.schema refl _ (select_is old.now.schema at.0 has.tree at.1 at.2 has.alone low) plain
-      (select_unlisted old.now.schema at.0 has.tree at.1 at.2 has.alone low) rows h in
-      subst (λ before. IsPermutation before rows) (sym (rows_are old.now (codes "file_rev") (file_rev_table has.tree) has.file_rev)) (revision_answers has.tree low old.now.trees rows reads.answer);
-}
-
-pub versions_whole : IsLook select_version [] (λ db. rows_of db (codes "meta"))
-versions_whole = record {
-  plain = λ schema has.
-      let at = placed schema (codes "meta") (meta_table has.meta_tree) has.meta in
-      version_plain schema at.0 has.meta_tree at.1 at.2 has.meta_alone (low_of has.meta_tree has.meta_low);
-  rows = λ old new rows has h.
-      let at = placed old.now.schema (codes "meta") (meta_table has.meta_tree) has.meta in
-      let low = low_of has.meta_tree has.meta_low in
-      let plain = version_plain old.now.schema at.0 has.meta_tree at.1 at.2 has.meta_alone low in
-      let reads = reads_as select_version [] old new old.now.schema refl _ (version_is old.now.schema at.0 has.meta_tree at.1 at.2 has.meta_alone low) plain
-      (version_unlisted old.now.schema at.0 has.meta_tree at.1 at.2 has.meta_alone low) rows h in
-      subst (λ before. IsPermutation before rows) (sym (rows_are old.now (codes "meta") (meta_table has.meta_tree) has.meta)) (version_answers has.meta_tree low old.now.trees rows reads.answer);
-}
+use Rattle.sqlite.proofs.Callers.{IsPlain, command_of, reads_as, never_commits}
+use Rattle.desk_store.proofs.ChangesNothing.{changes_nothing, look_then, not_run, rest_after_error}
+use Rattle.desk_store.specs.Looks.{ChangesNothing, IsLook, ReadsRows}
+use Rattle.desk_store.specs.Tables.{HasTables, IsAtRest}
 
 shown_by : (old new : State) (sql : List ℕ) (c : Compiled) (params : Row) (rows : List Row) (returning : Option Returning) → returning ≡ None → ShowsRows old new sql c params rows returning → IsUnchanged old new
 shown_by old new sql c params rows None none h = h.3
@@ -71,44 +33,69 @@ unfolding FailsToQuery
 query_failed old new sql params e (inl h) = not_run old new sql params e h
 query_failed old new sql params e (inr h) = failed_by old new sql h.0 _ e h.0.returning h.2
 
-pub record IsRead {X : Type 0} (of : Database → List Row) (items : X → List Row) (old new : State) (result : Result X Error) : Type 0 where
-  pub rest : IsAtRest new
-  pub rows : IfOk result (λ rows. IsPermutation (of old.committed) (items rows))
-  pub live : OnOk result (IsTrue new.is_open)
-  pub unchanged : IsTrue new.is_open → new.committed ≡ old.committed
-
-tables_now : (s : State) → IsAtRest s → IsTrue s.is_open → HasTables s.now.schema
-tables_now s rest live = subst (λ (d : Database). HasTables d.schema) (sym (rest.settled live)) (rest.tables live)
+-- the statement that showed the rows, as it was compiled
+compiled_in : (old new : State) (sql : List ℕ) (params : Row) (rows : List Row) → Shown sql params old new rows → (c : Compiled) × (understood old.now.schema sql ≡ Ok c)
+unfolding Shown
+compiled_in old new sql params rows h = (h.0, h.1.is)
 
 -- a query that was prepared first reads the rows, or fails and changes nothing
-pub reads : {X : Type 0} (query : List ℕ) (params : Row) (of : Database → List Row) (look : IsLook query params of) (items : X → List Row) (old mid new : State) (sql : List ℕ) (result : Result X Error) → IsAtRest old
-    → (sql ≡ query) × IsUnchanged old mid → IfOk result (λ rows. Shown sql params mid new (items rows)) → IfErr result (FailsToQuery sql params mid new) → IsRead of items old new result
-reads query params of look items old mid new sql (Ok rows) rest prepared ok err =
-    let before = rest_after_error old mid rest (inl prepared.1) in
-    let live = prepared.1.0.is_open in
-    let has = tables_now mid before.0 live in
-    let shown : Shown query params mid new (items rows) = rw (prepared.0) at ok in
-    let same = shown_unchanged mid new query params (items rows) (look.plain mid.now.schema has) shown in
-    let after = rest_after_error mid new before.0 (inl same) in
-    record {
-      rest = after.0;
-      rows = subst (λ (d : Database). IsPermutation (of d) (items rows)) (before.0.settled live ∙ before.1 live) (look.rows mid new (items rows) has shown);
-      live = same.0.is_open;
-      unchanged = λ later. after.1 later ∙ before.1 live;
-    }
-reads query params of look items old mid new sql (Err e) rest prepared ok err =
-    let before = rest_after_error old mid rest (inl prepared.1) in
-    let after = rest_after_error mid new before.0 (query_failed mid new sql params e err) in
-    record { rest = after.0; rows = tt; live = tt; unchanged = λ live. after.1 live ∙ before.1 prepared.1.0.is_open }
+module _ {Y : Type 0} (query : List ℕ) (params : Row) (of : Database → List Row) (look : IsLook query params of) (old mid new : State) (sql : List ℕ) (result : Result (Vec Row Y) Error)
+    (rest : HasCleanDisk old → IsAtRest old) (prepared : HasCleanDisk mid → (sql ≡ query) × IsUnchanged old mid)
+    (first : Survives old mid (λ _. ⊥)) (then : Survives mid new (CommitsShowing sql params mid))
+    (ok : HasCleanDisk new → IfOk result (λ rows. Shown sql params mid new rows.items)) (err : HasCleanDisk new → IfErr result (FailsToQuery sql params mid new)) where
+  early : HasCleanDisk new → HasCleanDisk mid
+  early clean = omega (arith, clean, then.clean)
 
-pub read_crash : (query : List ℕ) (params : Row) (of : Database → List Row) (look : IsLook query params of) (old mid new : State) (sql : List ℕ) → (HasCleanDisk old → IsAtRest old) → (HasCleanDisk mid → (sql ≡ query) × IsUnchanged old mid)
-    → Survives old mid (λ _. ⊥) → Survives mid new (CommitsShowing sql params mid) → Survives old new (λ _. ⊥)
-read_crash query params of look old mid new sql rest prepared first then =
-    survives_then old mid new (λ _. ⊥) (CommitsShowing sql params mid) (λ _. ⊥) (λ clean trees none. none)
-    (λ clean trees h.
-    let early : HasCleanDisk mid = omega (arith, then.clean) in
-    let start : HasCleanDisk old = omega (arith, first.clean) in
-    let same = prepared early in
-    let before = rest_after_error old mid (rest start) (inl same.1) in
-    never_commits query params mid trees (look.plain mid.now.schema (tables_now mid before.0 same.1.0.is_open)) (rw (same.0) at h))
-    first then
+  ready : HasCleanDisk mid → IsAtRest mid
+  ready clean = (rest_after_error old mid (rest (omega (arith, clean, first.clean))) (inl (prepared clean).1)).0
+
+  settled : (clean : HasCleanDisk mid) → mid.now ≡ mid.committed
+  settled clean = (ready clean).settled (prepared clean).1.0.is_open
+
+  tables : HasCleanDisk mid → HasTables mid.now.schema
+  tables clean = subst (λ (d : Database). HasTables d.schema) (sym (settled clean)) ((ready clean).tables (prepared clean).1.0.is_open)
+
+  shown : (rows : Vec Row Y) → HasCleanDisk new → Shown sql params mid new rows.items → Shown query params mid new rows.items × IsUnchanged mid new
+  shown rows clean h =
+      let same = (prepared (early clean)).0 in
+      let it : Shown query params mid new rows.items = rw same at h in
+      (it, shown_unchanged mid new query params rows.items (look.plain mid.now.schema (tables (early clean))) it)
+
+  kept : (r : Result (Vec Row Y) Error) → HasCleanDisk new → IfOk r (λ rows. Shown sql params mid new rows.items) → IfErr r (FailsToQuery sql params mid new) → IsUnchanged mid new ⊎ IsRolledBack mid new
+  kept (Ok rows) clean h none = inl (shown rows clean h).1
+  kept (Err e) clean none h = query_failed mid new sql params e h
+
+  quiet : Survives mid new (λ _. ⊥)
+  quiet = record {
+    clean = then.clean;
+    shield = then.shield;
+    counts = then.counts;
+    limit = then.limit;
+    closes = then.closes;
+    crash = λ clean trees may. elim (then.crash clean trees may) [
+      | inl as_before ↦ inl as_before
+      | inr commits ↦
+          let same = (prepared (early clean)).0 in
+          inr (never_commits query params mid trees (look.plain mid.now.schema (tables (early clean))) (rw same at commits))
+    ];
+  }
+
+  open_and_read : (r : Result (Vec Row Y) Error) → HasCleanDisk new → IfOk r (λ rows. Shown sql params mid new rows.items) → OnOk r (IsTrue new.is_open) × IfOk r (λ rows. IsPermutation (of old.committed) rows.items)
+  open_and_read (Ok rows) clean h =
+      let it = shown rows clean h in
+      let has = tables (early clean) in
+      let c = compiled_in mid new query params rows.items it.0 in
+      let plain = look.plain mid.now.schema has in
+      let read = reads_as query params mid new mid.now.schema refl c.0.command (ap command_of c.1) plain (look.unlisted mid.now.schema has) rows.items it.0 in
+      (it.1.0.is_open, subst (λ (d : Database). IsPermutation (of d) rows.items) (settled (early clean) ∙ (prepared (early clean)).1.0.committed_is) (look.rows mid.now rows.items c.0 has c.1 read))
+  open_and_read (Err e) clean h = (tt, tt)
+
+  pub reads : (old.in_transaction ≡ false → mid.in_transaction ≡ false) → (mid.in_transaction ≡ false → new.in_transaction ≡ false) → ReadsRows of old new result
+  reads before after = record {
+    look = look_then old mid new (changes_nothing old mid before (λ clean. inl (prepared clean).1) first) (changes_nothing mid new after (λ clean. kept result clean (ok clean) (err clean)) quiet);
+    live = λ clean. (open_and_read result clean (ok clean)).0;
+    rows = λ clean. (open_and_read result clean (ok clean)).1;
+  }
+
+pub not_read : {Y : Type 0} (of : Database → List Row) (old new : State) (e : Error) → ChangesNothing old new → ReadsRows {Y = Y} of old new (Err e)
+not_read of old new e look = record { look = look; live = λ clean. tt; rows = λ clean. tt }

@@ -1,13 +1,13 @@
 -- What a look for room comes to.
-use Rattle.std.proofs.Common.{◌≡◌, ◌⊎◌, ◌∙◌, sym, ap, subst, inl, inr, refl, IsTrue, Ok, Err, Result, true, false}
+use Rattle.std.proofs.Common.{◌≡◌, ◌⊎◌, ◌∙◌, sym, ap, subst, inl, inr, IsTrue, Ok, Err, true, false}
 use Rattle.sqlite.specs.Effect.{Database}
 use Rattle.sqlite.specs.Schema.{Schema}
 use Rattle.sqlite.specs.State.{HasCleanDisk, IsRolledBack, IsUnchanged, State, Survives}
-use Rattle.desk_store.specs.Create.{HasRoom, HasSeenRoom, IsOfMaking, IsOfRoom, LooksForRoom, RefusesRoom, has_one}
+use Rattle.desk_store.specs.Create.{HasRoom, IsOfMaking, IsOfRoom, LooksForRoom, RefusesRoom, has_one}
 use Rattle.desk_store.specs.Desk.{LeavesTables}
 use Rattle.desk_store.specs.declared.error.CreateError.{CreateError}
 use Rattle.desk_store.specs.declared.error.CreateError.TheVariants as refused
-use Rattle.desk_store.proofs.Inserting.{kept_commit}
+use Rattle.desk_store.proofs.ChangesNothing.{kept_commit}
 
 making : (schema : Schema) (e : CreateError) → IsOfMaking e → RefusesRoom schema e
 making schema e (inl memory) = subst (RefusesRoom schema) (sym memory) tt

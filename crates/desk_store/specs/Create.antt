@@ -22,9 +22,9 @@ use Rattle.desk_policy.specs.Site.{SiteTexts}
 use Rattle.desk_policy.specs.SiteFault.{exports_name}
 use Rattle.desk_policy.specs.View.{HasFault}
 use Rattle.desk_policy.specs.declared.site_fault.SiteFault.{SiteFault}
-use Rattle.desk_core.specs.Head.{Revision, newest_in}
+use Rattle.desk_core.specs.Head.{Revision, longest_revision, newest_in}
 use Rattle.desk_core.specs.History.{IsHistory, newest_of}
-use Rattle.desk_core.specs.Judging.{is_of_seven, longest_edit, seven}
+use Rattle.desk_core.specs.Judging.{is_of_seven, seven}
 use Rattle.desk_core.specs.Site.{IsConsistent}
 use Rattle.desk_store.specs.Desk.{IsSiteHistory, LeavesTables, Shown, Stands}
 use Rattle.desk_store.specs.History.{Holds}
@@ -63,7 +63,7 @@ text_of_seven texts file =
 
 -- a text is longer than a revision's may be
 abbrev pub is_long : List ℕ → Bool
-is_long text = nat_lt longest_edit (length text)
+is_long text = nat_lt longest_revision (length text)
 
 -- the first of the seven files whose text is too long, in the order in which they are read
 abbrev pub first_long : SiteTexts → Option (List ℕ)

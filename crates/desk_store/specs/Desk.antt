@@ -1,5 +1,5 @@
 -- What a desk shows, how it stands to a history, and what its calls promise. (this project's own)
-use Rattle.std.specs.Prelude.{◌≡◌, ◌≢◌, ◌⊎◌, ℕ, ◌+◌, ◌<◌, ◌≤◌, ◌++◌, ◌==◌, List, [], ◌∷◌, Option, Some, None, Result, Ok, Err, All, Contains, IfOk, IsTrue, find, length, if◌then◌else◌, refl}
+use Rattle.std.specs.Prelude.{◌≡◌, ◌≢◌, ◌⊎◌, ℕ, ◌+◌, ◌<◌, ◌≤◌, ◌++◌, ◌==◌, List, [], ◌∷◌, Option, Some, None, Result, Ok, Err, All, Contains, IfOk, IsTrue, OnErr, OnOk, find, length, if◌then◌else◌, refl}
 use Rattle.std.specs.Option.{option_map}
 use Rattle.std.specs.Str.{IsUtf8}
 use Rattle.std.specs.Coded.{Coded, code_by, coded×}
@@ -12,13 +12,13 @@ use Rattle.sqlite.specs.Order.{Row}
 use Rattle.sqlite.specs.Tree.{Trees}
 use Rattle.desk_policy.specs.Policy.{Content}
 use Rattle.desk_core.specs.Edit.{Already, Answer, Edit, Refused, Stored, revision_of}
-use Rattle.desk_core.specs.Head.{Newest, Revision, last_revision, newest_in, put}
+use Rattle.desk_core.specs.Head.{Newest, Revision, last_revision, longest_revision, newest_in, put}
 use Rattle.desk_core.specs.History.{IsAnswered, IsHistory, added_if, newest_of, revisions_of}
-use Rattle.desk_core.specs.Judging.{Answers, IsFileName, first_case, longest_edit, seven}
+use Rattle.desk_core.specs.Judging.{Answers, IsFileName, first_case, seven}
 use Rattle.desk_core.specs.Site.{IsConsistent, site_in}
 use Rattle.desk_core.specs.State.{IsJudged}
 use Rattle.desk_core.specs.Views.{Kept, Ready, kept_code}
-use Rattle.desk_store.specs.Tables.{Adds, AddsTo, IsAtRest, LeavesCommit}
+use Rattle.desk_store.specs.Tables.{Adds, AddsTo, IsAtRest, LeadsTo, LeavesCommit}
 use Rattle.desk_store.specs.History.{Holds, row_of}
 use Rattle.desk_store.specs.declared.desk.Done.{Done}
 use Rattle.desk_store.specs.declared.desk.Revision.{Revision as Found}
@@ -46,7 +46,7 @@ pub record IsStorable (r : Revision) : Type 0 where
   pub file : IsUtf8 r.file
   pub author : IsUtf8 r.author
   pub body : IsUtf8 r.body
-  pub short : length r.body ≤ longest_edit
+  pub short : length r.body ≤ longest_revision
 
 -- the history of a site, as a database of this project may hold it: each of the seven files has a revision, and the site is
 -- consistent
@@ -154,6 +154,20 @@ pub record HasStored (row : Row) (old new : State) : Type 0 where
   pub live : IsTrue new.is_open
   pub adds : Adds row old.committed new.committed
   pub leaves : LeavesCommit new
+
+-- What an attempt to commit a change leaves. It is made, in one commit, and a crash leaves that; or there is an error, and the tables
+-- are as before. A crash meanwhile leaves what it could before, or that commit.
+pub record CommitsAtMost {T E : Type 0} (Change : Database → Database → Type 0) (old new : State) (result : Result T E) : Type 0 where
+  -- a connection that was at rest still is, and one that is open was
+  pub rest : HasCleanDisk new → IsAtRest old → IsAtRest new
+  pub opened : HasCleanDisk new → IsTrue new.is_open → IsTrue old.is_open
+  -- the change is made, the connection is open, and a crash leaves the commit
+  pub made : HasCleanDisk new → OnOk result (Change old.committed new.committed)
+  pub live : HasCleanDisk new → OnOk result (IsTrue new.is_open)
+  pub durable : HasCleanDisk new → OnOk result (LeavesCommit new)
+  -- an error changed nothing
+  pub unchanged : HasCleanDisk new → IsTrue new.is_open → OnErr result (new.committed ≡ old.committed)
+  pub crash : Survives old new (λ trees. IsTrue old.is_open × LeadsTo Change old.committed trees)
 
 -- what an edit did to a desk, all together (each part is a clause of `edit`)
 pub record IsEdited {V : Type 0} (old new : State) (before after : Kept V) (e : Edit) (result : Result Done DeskError) : Type 0 where

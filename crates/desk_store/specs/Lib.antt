@@ -7,3 +7,4 @@ pub mod Open
 pub mod Create
 pub mod Newest
 pub mod Looks
+pub mod Error

@@ -1,11 +1,38 @@
--- What is read of the revisions of one file. (this project's own)
-use Rattle.std.specs.Prelude.{◌&&◌, ℕ, Bool, List, [], ◌∷◌, codes, filter, map, pos}
+-- What a look changes, which is nothing, and what the queries read. (this project's own)
+use Rattle.std.specs.Prelude.{◌≡◌, ◌&&◌, ℕ, Bool, false, List, [], ◌∷◌, IfOk, IsPermutation, IsTrue, Ok, OnOk, Result, Vec, codes, filter, map, pos}
 use Rattle.std.specs.Ordering.{is_eq}
-use Rattle.sqlite.specs.Effect.{Database}
+use Rattle.sqlite.specs.Effect.{Database, Reads}
+use Rattle.sqlite.specs.Given.{IsPlain}
+use Rattle.sqlite.specs.Listing.{reads_listing, understood}
+use Rattle.sqlite.specs.Schema.{Schema}
+use Rattle.sqlite.specs.State.{HasCleanDisk, State}
+use Rattle.sqlite.specs.declared.error.Error.{Error}
+use Rattle.sqlite_resolve.specs.declared.compiled.Compiled.{Compiled}
 use Rattle.sqlite.specs.Order.{Row, column, value_cmp}
 use Rattle.sqlite.specs.declared.types.Value.{Value}
 use Rattle.sqlite.specs.declared.types.Value.TheVariants.{Int, Text as Words}
-use Rattle.desk_store.specs.Tables.{rows_of}
+use Rattle.desk_store.specs.Desk.{LeavesTables}
+use Rattle.desk_store.specs.Tables.{HasTables, IsAtRest, rows_of}
+
+-- A look changes nothing: the tables are as before, and a crash leaves what it could before. A connection that was at rest still is,
+-- and one that is open was.
+pub record ChangesNothing (old new : State) : Type 0 where
+  pub mode : old.in_transaction ≡ false → new.in_transaction ≡ false
+  pub rest : HasCleanDisk new → IsAtRest old → IsAtRest new
+  pub opened : HasCleanDisk new → IsTrue new.is_open → IsTrue old.is_open
+  pub leaves : LeavesTables old new
+
+-- a query changes nothing, and reads these rows of the database, in some order, over a connection that is open
+pub record ReadsRows {Y : Type 0} (of : Database → List Row) (old new : State) (result : Result (Vec Row Y) Error) : Type 0 where
+  pub look : ChangesNothing old new
+  pub live : HasCleanDisk new → OnOk result (IsTrue new.is_open)
+  pub rows : HasCleanDisk new → IfOk result (λ rows. IsPermutation (of old.committed) rows.items)
+
+-- a query that writes nothing, and that shows these rows of a database with the two tables, in some order
+pub record IsLook (sql : List ℕ) (params : Row) (of : Database → List Row) : Type 0 where
+  pub plain : (schema : Schema) → HasTables schema → IsPlain (understood schema sql)
+  pub unlisted : (schema : Schema) → HasTables schema → reads_listing schema sql ≡ false
+  pub rows : (db : Database) (rows : List Row) (c : Compiled) → HasTables db.schema → understood db.schema sql ≡ Ok c → Reads c.command db params rows → IsPermutation (of db) rows
 
 abbrev pub select_numbers : List ℕ
 select_numbers = codes "SELECT rev, author FROM file_rev WHERE file = ?1"

@@ -7,8 +7,9 @@ ghost use Rattle.sqlite.specs.State.{HasCleanDisk};
 ghost use Rattle.sqlite.specs.declared.types.Value.TheVariants.{Int};
 ghost use Rattle.desk_core.specs.Head.{newest_in};
 ghost use Rattle.desk_core.specs.History.{newest_of};
-ghost use Rattle.desk_store.specs.Desk.{History, IsSiteHistory, LeavesTables};
+ghost use Rattle.desk_store.specs.Desk.{History, IsSiteHistory};
 ghost use Rattle.desk_store.specs.History.{row_of};
+ghost use Rattle.desk_store.specs.Looks.{ChangesNothing};
 ghost use Rattle.desk_store.specs.Open.{IsOfOpening, IsOurs, IsProject};
 ghost use Rattle.desk_store.specs.Tables.{HasTables, IsAtRest, rows_of};
 ghost use Rattle.desk_store.specs.declared.error.DeskError.TheVariants as error;
@@ -25,10 +26,9 @@ use std::alloc::Global;
 /// Looks for the two tables; `Schema` if the database does not have them.
 fn find_tables<S: Alter>(conn: &mut Connection<S>) -> Result<(), DeskError>
     requires { (state S.Store conn.old).in_transaction ≡ false }
-    ensures mode { (state S.Store conn.new).in_transaction ≡ false }
+    ensures look { ChangesNothing (state S.Store conn.old) (state S.Store conn.new) }
     ensures rest { HasCleanDisk (state S.Store conn.new) → OnOk result (IsAtRest (state S.Store conn.new)) }
     ensures live { HasCleanDisk (state S.Store conn.new) → OnOk result (IsTrue (state S.Store conn.new).is_open) }
-    ensures leaves { LeavesTables (state S.Store conn.old) (state S.Store conn.new) }
     ensures sound { HasCleanDisk (state S.Store conn.new) → OnOk result (IsDatabase (state S.Store conn.old).committed) }
     ensures foreign { HasCleanDisk (state S.Store conn.new) → result ≡ Err error.Schema → HasTables (state S.Store conn.old).committed.schema → ⊥ }
     ensures errors { IfErr result IsOfOpening }
@@ -42,12 +42,9 @@ fn find_tables<S: Alter>(conn: &mut Connection<S>) -> Result<(), DeskError>
 
 /// Reads the version; `Schema` if it is not the one version 1.
 fn check_version<S: Alter>(conn: &mut Connection<S>) -> Result<(), DeskError>
-    requires mode { (state S.Store conn.old).in_transaction ≡ false }
-    requires rest { HasCleanDisk (state S.Store conn.old) → IsAtRest (state S.Store conn.old) }
-    ensures mode { (state S.Store conn.new).in_transaction ≡ false }
-    ensures rest { HasCleanDisk (state S.Store conn.new) → IsAtRest (state S.Store conn.new) }
+    requires { HasCleanDisk (state S.Store conn.old) → IsAtRest (state S.Store conn.old) }
+    ensures look { ChangesNothing (state S.Store conn.old) (state S.Store conn.new) }
     ensures live { HasCleanDisk (state S.Store conn.new) → OnOk result (IsTrue (state S.Store conn.new).is_open) }
-    ensures leaves { LeavesTables (state S.Store conn.old) (state S.Store conn.new) }
     ensures version { HasCleanDisk (state S.Store conn.new) → OnOk result (rows_of (state S.Store conn.old).committed (codes "meta") ≡ (Int (pos 1) ∷ []) ∷ []) }
     ensures foreign { HasCleanDisk (state S.Store conn.new) → result ≡ Err error.Schema → rows_of (state S.Store conn.old).committed (codes "meta") ≡ (Int (pos 1) ∷ []) ∷ [] → ⊥ }
     ensures errors { IfErr result IsOfOpening }
@@ -63,12 +60,9 @@ fn read_history<S: Alter, V: PolicyView + Drop>(
     alloc: Global,
     conn: &mut Connection<S>,
 ) -> Result<State<V>, DeskError>
-    requires mode { (state S.Store conn.old).in_transaction ≡ false }
-    requires rest { HasCleanDisk (state S.Store conn.old) → IsAtRest (state S.Store conn.old) }
-    ensures mode { (state S.Store conn.new).in_transaction ≡ false }
-    ensures rest { HasCleanDisk (state S.Store conn.new) → IsAtRest (state S.Store conn.new) }
+    requires { HasCleanDisk (state S.Store conn.old) → IsAtRest (state S.Store conn.old) }
+    ensures look { ChangesNothing (state S.Store conn.old) (state S.Store conn.new) }
     ensures live { HasCleanDisk (state S.Store conn.new) → OnOk result (IsTrue (state S.Store conn.new).is_open) }
-    ensures leaves { LeavesTables (state S.Store conn.old) (state S.Store conn.new) }
     ensures history { HasCleanDisk (state S.Store conn.new) → IfOk result (λ state'. (history : History) × IsSiteHistory history
         × IsPermutation (map row_of history) (rows_of (state S.Store conn.old).committed (codes "file_rev")) × (newest_in state'.heads ≡ newest_of history)) }
     ensures foreign { HasCleanDisk (state S.Store conn.new) → result ≡ Err error.Schema → (history : History) → IsSiteHistory history
@@ -87,10 +81,9 @@ pub(crate) fn read_state<S: Alter, V: PolicyView + Drop>(
     conn: &mut Connection<S>,
 ) -> Result<State<V>, DeskError>
     requires { (state S.Store conn.old).in_transaction ≡ false }
-    ensures mode { (state S.Store conn.new).in_transaction ≡ false }
+    ensures look { ChangesNothing (state S.Store conn.old) (state S.Store conn.new) }
     ensures rest { HasCleanDisk (state S.Store conn.new) → OnOk result (IsAtRest (state S.Store conn.new)) }
     ensures live { HasCleanDisk (state S.Store conn.new) → OnOk result (IsTrue (state S.Store conn.new).is_open) }
-    ensures leaves { LeavesTables (state S.Store conn.old) (state S.Store conn.new) }
     ensures sound { HasCleanDisk (state S.Store conn.new) → OnOk result (IsDatabase (state S.Store conn.old).committed) }
     ensures project { HasCleanDisk (state S.Store conn.new) → IfOk result (λ state'. (history : History) × IsProject (state S.Store conn.old).committed history
         × (newest_in state'.heads ≡ newest_of history)) }

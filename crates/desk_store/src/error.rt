@@ -1,9 +1,21 @@
 //! Why an edit, a look, or a new database is refused.
 
+ghost use Rattle.std.specs.Prelude.{◌≡◌};
+ghost use Rattle.desk_store.specs.Error.{create_error_name, create_error_number, desk_error_name, desk_error_number};
+
 use desk_core::Refusal;
 use desk_policy::SiteFault;
 use desk_text::Text;
 use sqlite::Error;
+
+/// The number of an error if a statement was refused.
+pub const STORE_NUMBER: u32 = 201;
+
+/// The number of an error if the database is not one of this project, or has tables in the way of a new one.
+pub const SCHEMA_NUMBER: u32 = 202;
+
+/// The number of an error if memory ran out.
+pub const MEMORY_NUMBER: u32 = 203;
 
 /// What a statement was for.
 #[derive(Clone, Copy)]
@@ -41,6 +53,32 @@ pub enum DeskError {
     Memory,
 }
 
+impl DeskError {
+    /// Returns the number of the error.
+    pub fn number(&self) -> u32
+        ensures { result ≡ desk_error_number self.now }
+    {
+        match self {
+            DeskError::Refused(refusal) => refusal.number(),
+            DeskError::Store(_) => STORE_NUMBER,
+            DeskError::Schema => SCHEMA_NUMBER,
+            DeskError::Memory => MEMORY_NUMBER,
+        }
+    }
+
+    /// Returns the name of the error.
+    pub fn name(&self) -> &'static str
+        ensures { result.now ≡ desk_error_name self.now }
+    {
+        match self {
+            DeskError::Refused(refusal) => refusal.name(),
+            DeskError::Store(_) => "Store",
+            DeskError::Schema => "Schema",
+            DeskError::Memory => "Memory",
+        }
+    }
+}
+
 /// Why no database was made.
 #[derive(Drop)]
 pub enum CreateError {
@@ -54,4 +92,32 @@ pub enum CreateError {
     Fault(SiteFault),
     /// The text of this file is too long.
     TooLarge(Text),
+}
+
+impl CreateError {
+    /// Returns the number of the error. (A fault and a text that is too long have the numbers that they have in an edit.)
+    pub fn number(&self) -> u32
+        ensures { result ≡ create_error_number self.now }
+    {
+        match self {
+            CreateError::Store(_) => STORE_NUMBER,
+            CreateError::Schema => SCHEMA_NUMBER,
+            CreateError::Memory => MEMORY_NUMBER,
+            CreateError::Fault(_) => 9,
+            CreateError::TooLarge(_) => Refusal::TooLarge.number(),
+        }
+    }
+
+    /// Returns the name of the error.
+    pub fn name(&self) -> &'static str
+        ensures { result.now ≡ create_error_name self.now }
+    {
+        match self {
+            CreateError::Store(_) => "Store",
+            CreateError::Schema => "Schema",
+            CreateError::Memory => "Memory",
+            CreateError::Fault(_) => "Fault",
+            CreateError::TooLarge(_) => Refusal::TooLarge.name(),
+        }
+    }
 }

@@ -1,6 +1,6 @@
 //! The first revisions of a site's files, and the state that they put in force.
 
-ghost use Rattle.std.specs.Prelude.{◌≡◌, ◌≤◌, ◌∷◌, ◌++◌, [], All, length, IfErr, IfOk, None, false, true, string_bytes, OnOk, Some, map, unwrap_or};
+ghost use Rattle.std.specs.Prelude.{◌≡◌, ◌≤◌, ◌∷◌, ◌++◌, [], All, length, IfErr, IfOk, None, false, true, OnOk, Some, map, unwrap_or};
 ghost use Rattle.std.specs.Option.{option_copied};
 ghost use Rattle.std.specs.Result.{result_unwrap_or};
 ghost use Rattle.desk_text.specs.Path.{path_text};
@@ -15,31 +15,18 @@ ghost use Rattle.desk_core.specs.Site.{IsConsistent, site_in};
 ghost use Rattle.desk_store.specs.declared.error.CreateError.TheVariants as refused;
 
 use crate::error::CreateError;
-use desk_core::{Head, State};
-use desk_policy::{PolicyView, Site, SiteFault};
+use desk_core::{Head, LONGEST_REVISION, State};
+use desk_policy::{PolicyView, Site, SiteFault, SiteFile, exports_file_name};
 use desk_tables::laws::{mount_points_read_back, tables_are_in_order};
 use desk_tables::{FileSystems, Mount};
 use desk_text::{Path, ReadError, Text};
 use std::alloc::{AllocError, Global};
 
-/// The most bytes that the text of a revision may have.
-const LONGEST_BODY: usize = 65_536;
-
-/// Lends the exports text of a mount point, which is empty if the site has none.
-fn exports_text<'a>(site: &'a Site, mount: &Path) -> &'a str
-    ensures { result.now ≡ (texts_of site.now).exports (path_text mount.now) }
-{
-    match site.exports.get(mount.text()) {
-        Some(text) => text.as_str(),
-        None => "",
-    }
-}
-
 /// Tests whether a text is longer than a revision's may be.
 fn is_long(text: &str) -> bool
     ensures { result ≡ is_long text.now }
 {
-    text.len() > LONGEST_BODY
+    text.len() > LONGEST_REVISION
 }
 
 /// Finds the first of the seven files whose text is too long, in the order in which they are read.
@@ -71,7 +58,7 @@ fn first_long_mount<'a>(site: &Site, mounts: &'a [Mount]) -> Option<&'a Mount>
 {
     mounts
         .iter()
-        .find(|mount| is_long(exports_text(site, &mount.path)))
+        .find(|mount| is_long(site.exports_text(mount.path.text())))
 }
 
 /// Makes revision 1 of a file, by `site`.
@@ -87,21 +74,13 @@ fn first_revision(alloc: Global, file: &str, text: &str) -> Result<Head, AllocEr
     })
 }
 
-/// Makes the name of the exports file of a mount point.
-fn exports_name(alloc: Global, mount: &Path) -> Result<String, AllocError>
-    ensures { IfOk result (λ name. string_bytes name ≡ exports_name mount.now) }
-{
-    let mount = mount.text();
-    format!(in alloc; "exports:{mount}")
-}
-
 /// Makes revision 1 of the exports file of a mount point.
 fn revision_of_mount(alloc: Global, site: &Site, mount: &Mount) -> Result<Head, AllocError>
     ensures made { IfOk result (λ head. head ≡ revision_of_mount (texts_of site.now) mount.now) }
     ensures utf8 { IfOk result IsUtf8Revision }
 {
-    let name = exports_name(alloc, &mount.path)?;
-    first_revision(alloc, name.as_str(), exports_text(site, &mount.path))
+    let name = exports_file_name(alloc, mount.path.text())?;
+    first_revision(alloc, name.as_str(), site.exports_text(mount.path.text()))
 }
 
 /// Adds revision 1 of a file.
@@ -184,13 +163,7 @@ fn state_of<V: PolicyView + Drop>(alloc: Global, heads: Vec<Head>) -> Result<Sta
 fn is_of_seven(file: &str) -> bool
     ensures { result ≡ is_of_seven file.now }
 {
-    file == "custodians"
-        || file == "filesystems"
-        || file == "hosts"
-        || file == "networks"
-        || file == "passwd"
-        || file == "group"
-        || file == "netgroup"
+    SiteFile::of(file).is_some()
 }
 
 /// Tells that the text of a file is too long.
@@ -207,7 +180,7 @@ fn too_large(alloc: Global, file: &str) -> CreateError
 fn too_large_exports(alloc: Global, mount: &Path) -> CreateError
     ensures { TellsTooLarge (exports_name mount.now) result }
 {
-    match exports_name(alloc, mount) {
+    match exports_file_name(alloc, mount.text()) {
         Ok(name) => CreateError::TooLarge(Text::from_string(name)),
         Err(_) => CreateError::Memory,
     }

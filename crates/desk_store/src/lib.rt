@@ -25,7 +25,9 @@ mod tables;
 
 pub use declared::{declares_file_rev, declares_meta};
 pub use desk::{Desk, Done, Revision};
-pub use error::{CreateError, DeskError, StoreFault, Task};
+pub use error::{
+    CreateError, DeskError, MEMORY_NUMBER, SCHEMA_NUMBER, STORE_NUMBER, StoreFault, Task,
+};
 pub use laws::{
     calls_are_a_run, crashes_leave_desks, crashes_leave_first_histories, declared_tables_are_ours,
     edits_are_a_run, one_history, pending_edits_have_no_answer, stored_edits_keep_site_histories,

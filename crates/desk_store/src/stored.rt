@@ -11,17 +11,11 @@ ghost use Rattle.desk_store.specs.Tables.{revision_row};
 ghost use Rattle.desk_store.specs.declared.error.DeskError.TheVariants as error;
 
 use crate::error::DeskError;
-use desk_core::{Head, is_file_name};
+use desk_core::{Head, LAST_REVISION, LONGEST_REVISION, is_file_name};
 use desk_text::Text;
 use sqlite::Row;
 use sqlite_value::value::ValueRef;
 use std::alloc::{AllocError, Global};
-
-/// The last number that a revision may have.
-const LAST_REVISION: u32 = 2_147_483_647;
-
-/// The most bytes that the text of a revision may have.
-const LONGEST_BODY: usize = 65_536;
 
 /// Reads the revisions in rows; `Schema` if a row is not that of a revision that a database of this project may hold.
 pub(crate) fn revisions_in(alloc: Global, rows: &[Row]) -> Result<Vec<Head>, DeskError>
@@ -134,7 +128,7 @@ fn revision_of(
     let Ok(named) = is_file_name(alloc, file) else {
         return Err(DeskError::Memory);
     };
-    if !named || rev == 0 || rev > LAST_REVISION || body.len() > LONGEST_BODY {
+    if !named || rev == 0 || rev > LAST_REVISION || body.len() > LONGEST_REVISION {
         return Err(DeskError::Schema);
     }
     match copied(alloc, file, rev, author, body) {

@@ -1,7 +1,7 @@
 -- The answer to the words is the one that is reported.
 use Rattle.std.proofs.Common.{◌<◌, ℕ, List, [], ◌∷◌, length, map, rules, Option, Result, arith}
-use Rattle.cli_words.specs.declared.failure.Failure.{Failure}
-use Rattle.cli_texts.specs.declared.output.Output.{Output}
+use Rattle.cli_files.specs.declared.failure.Failure.{Failure}
+use Rattle.cli_output.specs.declared.output.Output.{Output}
 use Rattle.cli.specs.Commands.{AnswersCommand, AnswersProgram}
 use Rattle.cli.proofs.run.Goals as goal
 

@@ -1,6 +1,6 @@
 -- The line that was read is answered, or it could not be read.
 use Rattle.std.proofs.Common.{inl, inr, subst, List, ℕ}
-use Rattle.cli_words.specs.Input.{first_line}
+use Rattle.cli_files.specs.Input.{first_line}
 use Rattle.cli.specs.Commands.{AnswersLine}
 use Rattle.cli.proofs.commands.run_first_line.Goals as goal
 

@@ -1,9 +1,9 @@
 -- The files are read in turn.
 use Rattle.std.proofs.Common.{Err, List, Ok, inl, inr, refl, subst, ℕ}
 use Rattle.std.proofs.lemmas.Result.{err_from_is_err_and}
-use Rattle.cli_words.specs.Files.{ReadsInTurn}
-use Rattle.cli_words.specs.declared.files.FileArgument.TheVariants.{Dir}
-use Rattle.cli_texts.specs.SiteFiles.{site_list, site_words}
+use Rattle.cli_files.specs.Files.{ReadsInTurn}
+use Rattle.cli_files.specs.declared.files.FileArgument.TheVariants.{Dir}
+use Rattle.cli_output.specs.SiteFolder.{site_list, site_words}
 use Rattle.cli_database.proofs.init_command.run_init.Goals as goal
 
 pub returns-in_err-paths : goal.returns-in_err-paths
@@ -24,5 +24,5 @@ pub returns : goal.returns
 returns g c = inr (record {
   read = Ok (site_list c.in_ok-texts.texts);
   reads = subst (λ (paths : List (List ℕ)). ReadsInTurn (site_words Dir paths) (g.I.Read.remaining c.args.input.now) (Ok (site_list c.in_ok-texts.texts))) c.in_ok-paths.ensures c.in_ok-texts.ensures.texts;
-  answers = c.init_texts.ensures;
+  answers = c.split_texts.ensures;
 })

@@ -9,5 +9,5 @@ pub returns : goal.returns
 returns g c =
     let words = given_put c.args.words in
     let known = g.I.Read.remaining c.args.input.now in
-    subst (λ (base : Option ℕ). AnswersPutBy words base known c.put_files.result) (sym c.in_ok-base.ensures)
-    (by_key words c.in_ok-base.base words.key words.key_file c.in_ok-key.key known c.put_files.result c.in_ok-key.ensures c.put_files.ensures)
+    subst (λ (base : Option ℕ). AnswersPutBy words base known c.read_texts.result) (sym c.in_ok-base.ensures)
+    (by_key words c.in_ok-base.base words.key words.key_file c.in_ok-key.key known c.read_texts.result c.in_ok-key.ensures c.read_texts.ensures)

@@ -1,8 +1,8 @@
 -- The files are read in turn.
 use Rattle.std.proofs.Common.{Err, List, Ok, inr, refl, subst, ℕ}
-use Rattle.cli_words.specs.Files.{ReadsInTurn}
-use Rattle.cli_words.specs.declared.files.FileArgument.TheVariants.{Site}
-use Rattle.cli_texts.specs.SiteFiles.{site_list, site_words}
+use Rattle.cli_files.specs.Files.{ReadsInTurn}
+use Rattle.cli_files.specs.declared.files.FileArgument.TheVariants.{Site}
+use Rattle.cli_output.specs.SiteFolder.{site_list, site_words}
 use Rattle.cli_texts.proofs.check_site_files.check_paths.Goals as goal
 
 pub returns-in-Ok : goal.returns-in-Ok

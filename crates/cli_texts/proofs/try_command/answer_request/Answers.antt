@@ -1,6 +1,6 @@
 -- At most one file is standard input, so that they are read in turn.
 use Rattle.std.proofs.Common.{◌≡◌, Err, Ok, List, ℕ, false, refl, rules, subst, sym}
-use Rattle.cli_words.specs.Files.{name_input_twice}
+use Rattle.cli_files.specs.Files.{name_input_twice}
 use Rattle.std.specs.Option.{option_map}
 use Rattle.cli_words.specs.Words.{given_tables, given_try}
 use Rattle.cli_texts.specs.TableFiles.{texts_of, whole_files}

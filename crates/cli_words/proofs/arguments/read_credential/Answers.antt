@@ -7,7 +7,7 @@ use Rattle.desk_tables.specs.Users.{read_users}
 use Rattle.desk_tables.specs.declared.credential_text.CredFault.{CredFault}
 use Rattle.desk_tables.specs.declared.credentials.Cred.{Cred}
 use Rattle.cli_words.specs.Arguments.{IsBadOwn, own_answer}
-use Rattle.cli_words.specs.declared.failure.Failure.TheVariants.{Memory}
+use Rattle.cli_files.specs.declared.failure.Failure.TheVariants.{Memory}
 use Rattle.cli_words.proofs.arguments.read_credential.Goals as goal
 
 out_of_memory : (word : Option (List ℕ)) (answer : Option (Result Cred CredFault)) → IsBadOwn word answer Memory

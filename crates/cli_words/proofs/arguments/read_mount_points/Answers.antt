@@ -2,8 +2,8 @@
 use Rattle.std.proofs.Common.{◌≡◌, ◌∙◌, Bor, List, ℕ, get_or, refl, take_all, map, rules, Ok, subst, [], take}
 use Rattle.desk_text.specs.Path.{read_path}
 use Rattle.cli_words.specs.Arguments.{AnswersArgument, IsBadMount, is_no_path}
-use Rattle.cli_words.specs.declared.arguments.Argument.TheVariants as name
-use Rattle.cli_words.specs.declared.arguments.ArgumentFault.TheVariants as fault
+use Rattle.cli_files.specs.declared.bad_argument.Argument.TheVariants as name
+use Rattle.cli_files.specs.declared.bad_argument.ArgumentFault.TheVariants as fault
 use Rattle.cli_words.proofs.FirstBad.{find_none, first_found, none_more_of}
 use Rattle.cli_words.proofs.MountWords.{bad_mount, good_mount, paths_more}
 use Rattle.cli_words.proofs.arguments.read_mount_points.Goals as goal

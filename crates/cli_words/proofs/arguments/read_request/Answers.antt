@@ -5,10 +5,11 @@ use Rattle.desk_text.specs.Path.{read_path}
 use Rattle.desk_text.specs.declared.address.Addr.{Addr}
 use Rattle.desk_text.specs.declared.address.AddrFault.{AddrFault}
 use Rattle.desk_text.specs.declared.path.PathFault.{PathFault}
-use Rattle.cli_words.specs.Arguments.{AnswersArgument, IsBadArgument, IsNoTable, IsRefusal}
-use Rattle.cli_words.specs.declared.arguments.Argument.TheVariants as name
-use Rattle.cli_words.specs.declared.arguments.ArgumentFault.TheVariants as fault
-use Rattle.cli_words.specs.declared.failure.Failure.{Failure}
+use Rattle.cli_files.specs.BadArgument.{IsRefusal}
+use Rattle.cli_words.specs.Arguments.{AnswersArgument, IsBadArgument, IsNoTable}
+use Rattle.cli_files.specs.declared.bad_argument.Argument.TheVariants as name
+use Rattle.cli_files.specs.declared.bad_argument.ArgumentFault.TheVariants as fault
+use Rattle.cli_files.specs.declared.failure.Failure.{Failure}
 use Rattle.cli_words.proofs.arguments.read_request.Goals as goal
 
 module _ (host dir : List ℕ) (mounts : List (List ℕ)) (other : Failure) where

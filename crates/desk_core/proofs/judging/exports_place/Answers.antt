@@ -4,4 +4,4 @@ use Rattle.desk_core.proofs.ExportsNames.{none_named}
 use Rattle.desk_core.proofs.judging.exports_place.Goals as goal
 
 pub returns-in-None : goal.returns-in-None
-returns-in-None c = sym (ap (option_map (λ place. record { 0 = place })) (none_named c.args.table.now c.args.file.now c.in-None.ensures.cases))
+returns-in-None c = sym (ap (option_map (λ place. record { 0 = place })) (none_named c.args.table.now c.args.file.now c.in-None.ensures))

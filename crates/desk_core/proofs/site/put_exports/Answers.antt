@@ -12,10 +12,9 @@ step false text old = refl
 
 pub returns-in_ok-insert : goal.returns-in_ok-insert
 returns-in_ok-insert c = λ m.
-    let h = c.in-Some.ensures.cases in
     let key : List ℕ = string_bytes c.in_ok-mount.mount in
     let named : c.in-Some.mount.now ≡ key = sym c.in_ok-mount.ensures.ok in
-    let file : c.args.file.now ≡ codes "exports:" ++ key = h.1.1 ∙ ap (λ (r : List ℕ). codes "exports:" ++ r) (sym h.2 ∙ named) in
+    let file : c.args.file.now ≡ codes "exports:" ++ key = c.in-Some.ensures ∙ ap (λ (r : List ℕ). codes "exports:" ++ r) named in
     let old : Option (List ℕ) = get_by_text c.args.exports.now m in
     let u = btree_map_updates_text key c.args.exports.now c.insert.new.self (Some c.in_ok-text.text) c.in_ok-insert.ensures.updates m in
     ap (λ (o : Option (List ℕ)). unwrap_or o []) u ∙ step (bytes_eq key m) c.in_ok-text.text old

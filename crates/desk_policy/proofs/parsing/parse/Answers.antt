@@ -31,17 +31,17 @@ unfolding read_site
 returns-in_err-custodians c =
     let texts = texts_of c.args.site.now in
     let p = err_from_is_err_and c.from_residual.result c.from_residual.ensures.1 in
-    rw (p.1, p.2) (refused c.in_err-custodians.field-0.0 (custodians_in texts) (after_custodians texts)
-    (c.in_err-custodians.ensures.read (read_custodians texts.custodians) (subst (λ (t : List ℕ). Reads c.read.result (read_custodians t)) c.as_str.ensures c.read.ensures)))
+    rw (p.1, p.2) (refused (λ value. value) (λ value. value) c.in_err-custodians.field-0.0 (custodians_in texts) (after_custodians texts)
+    (c.in_err-custodians.ensures.read (read_custodians texts.custodians) (subst (λ (t : List ℕ). Reads c.read-custodians.result (read_custodians t)) c.as_str.ensures c.read-custodians.ensures)))
 
 pub returns-in_err-filesystems : goal.returns-in_err-filesystems
 unfolding read_site
 returns-in_err-filesystems c =
     let texts = texts_of c.args.site.now in
-    let custodians = c.in_ok-custodians.ensures.read (read_custodians texts.custodians) (subst (λ (t : List ℕ). Reads c.read.result (read_custodians t)) c.as_str.ensures c.read.ensures) in
+    let custodians = c.in_ok-custodians.ensures.read (read_custodians texts.custodians) (subst (λ (t : List ℕ). Reads c.read-custodians.result (read_custodians t)) c.as_str.ensures c.read-custodians.ensures) in
     let rows = c.in_ok-custodians.custodians in
     let p = err_from_is_err_and c.from_residual-in_err-filesystems.result c.from_residual-in_err-filesystems.ensures.1 in
-    rw (p.1, p.2) (goes_on (custodians_in texts) (after_custodians texts) rows (Err c.in_err-filesystems.field-0.0) custodians (refused c.in_err-filesystems.field-0.0 (filesystems_in texts rows) (read_after_filesystems texts)
+    rw (p.1, p.2) (goes_on (λ value. value) (custodians_in texts) (after_custodians texts) rows (Err c.in_err-filesystems.field-0.0) custodians (refused (λ value. value) (λ value. value) c.in_err-filesystems.field-0.0 (filesystems_in texts rows) (read_after_filesystems texts)
     (c.in_err-filesystems.ensures.read (if_listed rows (read_filesystems texts.filesystems))
     (subst (λ (t : List ℕ). Reads c.read_filesystems-filesystems.result (if_listed rows (read_filesystems t))) c.as_str-2.ensures c.read_filesystems-filesystems.ensures.read))))
 
@@ -54,8 +54,8 @@ pub returns : goal.returns
 unfolding read_site
 returns c =
     let texts = texts_of c.args.site.now in
-    let custodians = c.in_ok-custodians.ensures.read (read_custodians texts.custodians) (subst (λ (t : List ℕ). Reads c.read.result (read_custodians t)) c.as_str.ensures c.read.ensures) in
+    let custodians = c.in_ok-custodians.ensures.read (read_custodians texts.custodians) (subst (λ (t : List ℕ). Reads c.read-custodians.result (read_custodians t)) c.as_str.ensures c.read-custodians.ensures) in
     let rows = c.in_ok-custodians.custodians in
     let table = c.in_ok-filesystems.ensures.read (if_listed rows (read_filesystems texts.filesystems))
     (subst (λ (t : List ℕ). Reads c.read_filesystems-filesystems.result (if_listed rows (read_filesystems t))) c.as_str-2.ensures c.read_filesystems-filesystems.ensures.read) in
-    goes_on (custodians_in texts) (after_custodians texts) rows _ custodians (goes_on (filesystems_in texts rows) (read_after_filesystems texts) c.in_ok-filesystems.filesystems _ table c.read_after_filesystems.ensures)
+    goes_on (λ value. value) (custodians_in texts) (after_custodians texts) rows _ custodians (goes_on (λ value. value) (filesystems_in texts rows) (read_after_filesystems texts) c.in_ok-filesystems.filesystems _ table c.read_after_filesystems.ensures)

@@ -6,7 +6,9 @@ use Rattle.desk_exports.specs.Files.{FileAscends, file_answer}
 use Rattle.desk_exports.specs.declared.entry.Entry.{Entry}
 use Rattle.desk_exports.specs.declared.rules.Rule.{Rule}
 use Rattle.desk_policy.specs.Parsing.{ExportsFile, file_with, in_file, rows_with, then_read}
+use Rattle.desk_policy.specs.Site.{texts_of}
 use Rattle.desk_policy.specs.SiteFault.{exports_name, line_fault}
+use Rattle.desk_policy.specs.SiteFile.{exports_file_name}
 use Rattle.desk_policy.specs.Warning.{entry_warnings}
 use Rattle.desk_policy.specs.declared.site_fault.SiteFault.{SiteFault}
 use Rattle.desk_policy.proofs.FilesRead.{file_ascends}
@@ -20,13 +22,14 @@ returns c =
     let entries : List Entry = c.in_ok-entries.entries in
     let text = c.exports_text.result.now in
     let next : List Entry → Result ExportsFile SiteFault = λ es. Ok (file_with site_tables name es) in
-    let named = c.as_str.ensures.value ∙ c.in_ok-name.ensures in
-    let again = c.as_str-2.ensures.value ∙ c.in_ok-name.ensures in
+    let named = c.as_str.ensures.value ∙ c.in_ok-name.ensures ∙ ap exports_file_name c.text.ensures.printed in
+    let again = c.as_str-2.ensures.value ∙ c.in_ok-name.ensures ∙ ap exports_file_name c.text.ensures.printed in
+    let lent = c.exports_text.ensures ∙ ap (λ m. (texts_of c.args.site.now).exports m) c.text-2.ensures.printed in
     let told = c.in_ok-entries.ensures.read (file_answer rows c.args.fs text) c.read_file-entries.ensures.read in
     let R : Result (List Entry) (ReadError (LineFault Rule)) → Type 0 = λ r. IfOk r FileAscends in
     record {
       file = file_with site_tables name entries;
-      is = ap (λ t. then_read (in_file (line_fault name) (file_answer rows c.args.fs t)) next) (sym c.exports_text.ensures)
+      is = ap (λ t. then_read (in_file (line_fault name) (file_answer rows c.args.fs t)) next) (sym lent)
           ∙ ap (λ n. then_read (in_file (line_fault n) (file_answer rows c.args.fs text)) next) (sym named)
           ∙ ap (λ r. then_read r next) told;
       lines = c.in_ok-push.ensures.items ∙ ap (λ rs. c.args.rows.now.items ++ rs ∷ []) c.in_ok-lines_in_force.ensures.rows;

@@ -1,10 +1,9 @@
-use Rattle.std.proofs.Common.{◌≡◌, ◌∙◌, Bool, true, false, inl, inr, IsTrue, ap, subst, sym, Ok, Err}
+use Rattle.std.proofs.Common.{◌≡◌, ◌∙◌, Bool, false, inl, inr, IsTrue, subst, Ok, Err}
 use Rattle.std.proofs.lemmas.Bool.{both_ways, cases_Bool}
 use Rattle.sqlite_trees.specs.View.{doubt}
 use Rattle.sqlite_trees.proofs.Doubt.{no_doubt}
 use Rattle.sqlite.specs.Held.{state}
 use Rattle.desk_policy.specs.Site.{texts_of}
-use Rattle.desk_core.specs.Head.{Revision}
 use Rattle.desk_store.specs.Create.{StoresAll, first_history}
 use Rattle.desk_store.proofs.MadeState.{made_state, not_stored_state}
 use Rattle.desk_store.proofs.creating.create_state.Goals as goal

@@ -1,7 +1,7 @@
-use Rattle.std.proofs.Common.{◌≡◌, ◌∙◌, [], ap, sym, subst, rules, true, false}
+use Rattle.std.proofs.Common.{◌∙◌, [], sym, subst}
 use Rattle.sqlite.specs.Held.{state}
-use Rattle.desk_store.specs.Create.{HasRoom, has_one}
-use Rattle.desk_store.proofs.Inserting.{not_run}
+use Rattle.desk_store.specs.Create.{HasRoom}
+use Rattle.desk_store.proofs.ChangesNothing.{not_run}
 use Rattle.desk_store.proofs.Room.{no_room, not_looked, one_there, room_there}
 use Rattle.desk_store.proofs.creating.look_for_room.Goals as goal
 

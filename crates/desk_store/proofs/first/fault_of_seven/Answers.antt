@@ -1,4 +1,3 @@
-use Rattle.std.proofs.Common.{rules}
 use Rattle.desk_policy.specs.Site.{texts_of}
 use Rattle.desk_store.proofs.FirstState.{if_seven, none_but, none_of_seven}
 use Rattle.desk_store.proofs.first.fault_of_seven.Goals as goal

@@ -1,4 +1,4 @@
-use Rattle.std.proofs.Common.{◌≡◌, All, arith, subst, sym}
+use Rattle.std.proofs.Common.{All, arith, subst, sym}
 use Rattle.desk_store.specs.Create.{IsUtf8Revision}
 use Rattle.desk_store.proofs.first.revisions_of_seven.Goals as goal
 

@@ -1,10 +1,12 @@
-use Rattle.std.proofs.Common.{[], ◌≡◌, rules}
-use Rattle.sqlite.specs.Held.{state}
-use Rattle.desk_store.proofs.Inserting.{kept_commit, not_run}
+use Rattle.std.proofs.Common.{[], inl}
+use Rattle.desk_store.proofs.ChangesNothing.{changes_nothing, not_run}
 use Rattle.desk_store.proofs.tables.sees_tables.Goals as goal
 
-pub returns-in_err-prepare-clause-unchanged : goal.returns-in_err-prepare-clause-unchanged
-returns-in_err-prepare-clause-unchanged g c clean live =
-    let kept : (state g.S.Store c.prepare.new.self).committed ≡ (state g.S.Store c.args.conn.now).committed =
-    kept_commit _ _ (not_run _ _ _ [] _ (c.in_err-prepare.ensures.err clean [])) live in
-    search (rules, kept)
+pub returns-then-is_autocommit-clause-look : goal.returns-then-is_autocommit-clause-look
+returns-then-is_autocommit-clause-look g c = changes_nothing _ _ c.prepare.ensures.mode (λ clean. inl (c.in_ok-prepare.ensures.ok clean).1) c.prepare.ensures.survives
+
+pub returns-else-is_autocommit-clause-look : goal.returns-else-is_autocommit-clause-look
+returns-else-is_autocommit-clause-look g c = changes_nothing _ _ c.prepare.ensures.mode (λ clean. inl (c.in_ok-prepare.ensures.ok clean).1) c.prepare.ensures.survives
+
+pub returns-in_err-prepare-clause-look : goal.returns-in_err-prepare-clause-look
+returns-in_err-prepare-clause-look g c = changes_nothing _ _ c.prepare.ensures.mode (λ clean. not_run _ _ _ [] _ (c.in_err-prepare.ensures.err clean [])) c.prepare.ensures.survives

@@ -8,8 +8,7 @@ use Rattle.desk_store.proofs.desk.Desk.revision.Goals.{in-Ok, in-Err}
 
 pub invariant_of-self : goal.invariant_of-self
 invariant_of-self g c =
-    let a = c.read_revision.ensures in
-    desk_still (state g.S.Store c.self.inside.conn) (state g.S.Store c.read_revision.new.conn) c.self.inside.current a.opened a.unchanged a.crash c.self.invariant a.rest
+    desk_still (state g.S.Store c.self.inside.conn) (state g.S.Store c.read_revision.new.conn) c.self.inside.current c.read_revision.ensures.look c.self.invariant
 
 pub returns-clause-found : goal.returns-clause-found
 returns-clause-found g c clean history pending stands =
@@ -20,7 +19,7 @@ returns-clause-found g c clean history pending stands =
           let a = w.in-Ok.ensures in
           let shown = revision_in c.args.file.now c.args.rev old.committed in
           let rows : IsPermutation shown w.as_slice.result.now = subst (IsPermutation shown) (sym w.as_slice.ensures.value) (a.rows clean) in
-          let found = found_if old.committed history w.as_slice.result.now (here.tables (a.opened clean (a.live clean))) c.args.file.now c.args.rev rows w.find_revision.result w.find_revision.ensures.found in
+          let found = found_if old.committed history w.as_slice.result.now (here.tables (a.look.opened clean (a.live clean))) c.args.file.now c.args.rev rows w.find_revision.result w.find_revision.ensures.found in
           subst (λ r. IfOk r (λ found. found ≡ stored_of (revision_at history c.args.file.now c.args.rev))) (sym w.result-is) found
       | in-Err w ↦ subst (λ r. IfOk r (λ found. found ≡ stored_of (revision_at history c.args.file.now c.args.rev))) (sym w.result-is) tt
     ]

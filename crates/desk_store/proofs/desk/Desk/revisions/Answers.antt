@@ -11,8 +11,7 @@ use Rattle.desk_store.proofs.desk.Desk.revisions.Goals.{in-Ok, in-Err}
 
 pub invariant_of-self : goal.invariant_of-self
 invariant_of-self g c =
-    let a = c.read_numbers.ensures in
-    desk_still (state g.S.Store c.self.inside.conn) (state g.S.Store c.read_numbers.new.conn) c.self.inside.current a.opened a.unchanged a.crash c.self.invariant a.rest
+    desk_still (state g.S.Store c.self.inside.conn) (state g.S.Store c.read_numbers.new.conn) c.self.inside.current c.read_numbers.ensures.look c.self.invariant
 
 pub returns-clause-found : goal.returns-clause-found
 returns-clause-found g c clean history pending stands =
@@ -23,7 +22,7 @@ returns-clause-found g c clean history pending stands =
           let a = w.in-Ok.ensures in
           let shown = numbers_in c.args.file.now old.committed in
           let rows : IsPermutation shown w.as_slice.result.now = subst (IsPermutation shown) (sym w.as_slice.ensures.value) (a.rows clean) in
-          let found = listed_if old.committed history w.as_slice.result.now (here.tables (a.opened clean (a.live clean))) c.args.file.now rows w.list_revisions.result w.list_revisions.ensures.listed in
+          let found = listed_if old.committed history w.as_slice.result.now (here.tables (a.look.opened clean (a.live clean))) c.args.file.now rows w.list_revisions.result w.list_revisions.ensures.listed in
           subst (λ r. IfOk r (λ found. found ≡ map (λ (r : Revision). (r.rev, r.author)) (revisions_of c.args.file.now history))) (sym w.result-is) found
       | in-Err w ↦ subst (λ r. IfOk r (λ found. found ≡ map (λ (r : Revision). (r.rev, r.author)) (revisions_of c.args.file.now history))) (sym w.result-is) tt
     ]

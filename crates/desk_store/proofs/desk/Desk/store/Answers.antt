@@ -17,8 +17,8 @@ invariant_of-self g c clean =
     let sound = subst (λ s. IsConsistent (site_in (newest_in s.state.heads))) (sym c.self.view_is) c.requires.sound in
     let accepted = subst (λ s. IsAccepted g.V.PolicyView.in_force s.state e c.args.accepted) (sym c.self.view_is) c.requires.accepted in
     desk_after old new c.self.inside.current c.self.inside.current e (Err error.Memory)
-    (edit_failed c.newest_of_a_longer_history.ensures c.stored_edits_keep_site_histories.ensures g.V.PolicyView.in_force old new c.self.inside.current c.self.inside.current e c.args.accepted c.as_bytes-body.result.now sound accepted a.utf8 c.as_bytes-body.ensures.utf8 c.as_bytes-body.ensures.value error.Memory (inl refl) a.opened a.unchanged a.crash)
-    c.self.invariant a.rest clean
+    (edit_failed c.newest_of_a_longer_history.ensures c.stored_edits_keep_site_histories.ensures g.V.PolicyView.in_force old new c.self.inside.current c.self.inside.current e c.args.accepted c.as_bytes-body.result.now sound accepted a.utf8 c.as_bytes-body.ensures.utf8 c.as_bytes-body.ensures.value error.Memory (inl refl) a.added)
+    c.self.invariant a.added.rest clean
 
 pub returns-in-Err-clause-edited : goal.returns-in-Err-clause-edited
 returns-in-Err-clause-edited g c =
@@ -28,7 +28,7 @@ returns-in-Err-clause-edited g c =
     let a = c.in-Err.ensures in
     let sound = subst (λ s. IsConsistent (site_in (newest_in s.state.heads))) (sym c.self.view_is) c.requires.sound in
     let accepted = subst (λ s. IsAccepted g.V.PolicyView.in_force s.state e c.args.accepted) (sym c.self.view_is) c.requires.accepted in
-    let done = edit_failed c.newest_of_a_longer_history.ensures c.stored_edits_keep_site_histories.ensures g.V.PolicyView.in_force old new c.self.inside.current c.self.inside.current e c.args.accepted c.as_bytes-body.result.now sound accepted a.utf8 c.as_bytes-body.ensures.utf8 c.as_bytes-body.ensures.value c.not_stored.result c.not_stored.ensures.either a.opened a.unchanged a.crash in
+    let done = edit_failed c.newest_of_a_longer_history.ensures c.stored_edits_keep_site_histories.ensures g.V.PolicyView.in_force old new c.self.inside.current c.self.inside.current e c.args.accepted c.as_bytes-body.result.now sound accepted a.utf8 c.as_bytes-body.ensures.utf8 c.as_bytes-body.ensures.value c.not_stored.result c.not_stored.ensures.either a.added in
     subst (λ s. IsEdited (state g.S.Store s.conn) new s.state c.self.inside.current e (Err c.not_stored.result)) c.self.view_is done
 
 pub invariant_of-self-2 : goal.invariant_of-self-2
@@ -40,8 +40,8 @@ invariant_of-self-2 g c clean =
     let sound = subst (λ s. IsConsistent (site_in (newest_in s.state.heads))) (sym c.self.view_is) c.requires.sound in
     let accepted = subst (λ s. IsAccepted g.V.PolicyView.in_force s.state e c.args.accepted) (sym c.self.view_is) c.requires.accepted in
     desk_after old new c.self.inside.current c.apply.new.self e (Ok (record { rev = e.base + 1; already = false }))
-    (edit_stored c.newest_of_a_longer_history.ensures c.stored_edits_keep_site_histories.ensures g.V.PolicyView.in_force old new c.self.inside.current c.apply.new.self e c.args.accepted c.as_bytes-body.result.now sound accepted a.utf8 c.as_bytes-body.ensures.utf8 c.as_bytes-body.ensures.value a.opened a.live a.added a.durable c.apply.ensures.heads a.crash)
-    c.self.invariant a.rest clean
+    (edit_stored c.newest_of_a_longer_history.ensures c.stored_edits_keep_site_histories.ensures g.V.PolicyView.in_force old new c.self.inside.current c.apply.new.self e c.args.accepted c.as_bytes-body.result.now sound accepted a.utf8 c.as_bytes-body.ensures.utf8 c.as_bytes-body.ensures.value a.added c.apply.ensures.heads)
+    c.self.invariant a.added.rest clean
 
 pub returns-in-Err-clause-errors : goal.returns-in-Err-clause-errors
 returns-in-Err-clause-errors g c = of_edit c.not_stored.result c.not_stored.ensures.either
@@ -54,5 +54,5 @@ returns-clause-edited g c =
     let a = c.in_default.ensures in
     let sound = subst (λ s. IsConsistent (site_in (newest_in s.state.heads))) (sym c.self.view_is) c.requires.sound in
     let accepted = subst (λ s. IsAccepted g.V.PolicyView.in_force s.state e c.args.accepted) (sym c.self.view_is) c.requires.accepted in
-    let done = edit_stored c.newest_of_a_longer_history.ensures c.stored_edits_keep_site_histories.ensures g.V.PolicyView.in_force old new c.self.inside.current c.apply.new.self e c.args.accepted c.as_bytes-body.result.now sound accepted a.utf8 c.as_bytes-body.ensures.utf8 c.as_bytes-body.ensures.value a.opened a.live a.added a.durable c.apply.ensures.heads a.crash in
+    let done = edit_stored c.newest_of_a_longer_history.ensures c.stored_edits_keep_site_histories.ensures g.V.PolicyView.in_force old new c.self.inside.current c.apply.new.self e c.args.accepted c.as_bytes-body.result.now sound accepted a.utf8 c.as_bytes-body.ensures.utf8 c.as_bytes-body.ensures.value a.added c.apply.ensures.heads in
     subst (λ s. IsEdited (state g.S.Store s.conn) new s.state c.apply.new.self e (Ok (record { rev = e.base + 1; already = false }))) c.self.view_is done

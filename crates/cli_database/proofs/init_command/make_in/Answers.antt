@@ -1,8 +1,0 @@
--- The connection is one that no clause can name.
-use Rattle.sqlite.specs.Files.{over_files}
-use Rattle.desk_policy.specs.Site.{texts_of}
-use Rattle.cli_database.proofs.InitAnswers.{comes_to}
-use Rattle.cli_database.proofs.init_command.make_in.Goals as goal
-
-pub returns-in-Ok : goal.returns-in-Ok
-returns-in-Ok c = comes_to over_files c.in-Ok.conn c.store-stored.result.1 (texts_of c.args.site.now) c.store-stored.result.0 c.store-stored.ensures

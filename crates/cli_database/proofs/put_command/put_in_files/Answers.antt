@@ -1,9 +1,0 @@
--- What was told of the files is told of the path.
-use Rattle.std.proofs.Common.{[]}
-use Rattle.sqlite.specs.Files.{over_files}
-use Rattle.desk_core.specs.Edit.{asked}
-use Rattle.cli_database.proofs.PutAnswers.{answers}
-use Rattle.cli_database.proofs.put_command.put_in_files.Goals as goal
-
-pub returns : goal.returns
-returns c = answers over_files (record { log = []; db = [] }) c.args.words.db.now (asked c.args.edit.now) c.put_from-answer.result.0 c.put_from-answer.result.1 c.put_from-answer.ensures

@@ -1,0 +1,33 @@
+-- Why a database is not opened. (this project's own)
+use Rattle.std.specs.Prelude.{ℕ, Bool, true, false, List, IsTrue, if◌then◌else◌}
+use Rattle.sqlite.specs.declared.error.Error.{Error}
+use Rattle.sqlite.specs.declared.error.Error.TheVariants.{SqliteFailure}
+use Rattle.sqlite.specs.declared.error.ErrorCode.TheVariants.{OutOfMemory, SystemIoFailure}
+use Rattle.sqlite_disk.specs.Memory.{memory_is_usable}
+use Rattle.sqlite_disk.specs.declared.Files.{Files}
+use Rattle.sqlite_disk.specs.declared.memory.Memory.{Memory}
+use Rattle.cli_files.specs.Files.{IsUnread}
+use Rattle.cli_files.specs.declared.failure.Failure.TheVariants.{Memory as NoMemory}
+use Rattle.cli_files.specs.declared.files.FileArgument.TheVariants.{Database}
+use Rattle.cli_database.specs.declared.copy.Unopened.{Unopened}
+use Rattle.cli_database.specs.declared.copy.Unopened.TheVariants.{Refused, Unread}
+
+-- the database at this path cannot be read, or SQLite does not open it; out of memory says nothing
+abbrev pub IsUnopened : List ℕ → Unopened → Type 0
+IsUnopened path (Unread failure) = IsUnread Database path failure
+IsUnopened path (Refused error) = Unit {0}
+
+-- An error of a copy in memory means that memory ran out. One of the disk does: a copy is made of memory alone.
+abbrev pub is_out_of_memory : Error → Bool
+is_out_of_memory (SqliteFailure OutOfMemory) = true
+is_out_of_memory (SqliteFailure SystemIoFailure) = true
+is_out_of_memory error = false
+
+-- why a copy in memory is not opened, by the error of SQLite
+abbrev pub copy_unopened : Error → Unopened
+copy_unopened error = if is_out_of_memory error then Unread NoMemory else Refused error
+
+-- no sync of these files has failed
+pub record AreUsable (files : Files Memory) : Type 0 where
+  pub log : IsTrue (memory_is_usable files.log)
+  pub db : IsTrue (memory_is_usable files.db)

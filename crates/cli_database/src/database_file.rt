@@ -1,0 +1,70 @@
+//! The file of a database: its path, and the locks of SQLite.
+
+use os::RangeLock;
+use sqlite::{Error, ErrorCode};
+use std::alloc::{AllocError, Global};
+use std::fs::OpenOptions;
+use std::os::fd::AsRawFd;
+use std::os::unix::fs::MetadataExt;
+use std::{fs, io};
+
+pub const CANNOT_OPEN: Error = Error::SqliteFailure(ErrorCode::CannotOpen);
+
+/// Returns a path that SQLite takes for one: to it `:memory:`, and what begins with `file:`, is something else.
+pub fn plain_path(alloc: Global, db: &str) -> Result<String, AllocError> {
+    if db.starts_with('/') {
+        String::from_str(alloc, db)
+    } else {
+        format!(in alloc; "./{db}")
+    }
+}
+
+/// Returns the path of a database without a link in it, beside which SQLite has its log; the path itself if nothing is there.
+pub fn real_path(rt: &HostRuntime, db: &str) -> io::Result<String> {
+    match fs::canonicalize(rt, db) {
+        Ok(real) => Ok(String::from_str(rt.alloc(), real.as_str())?),
+        Err(error) if error.kind() == io::ErrorKind::NotFound => {
+            Ok(String::from_str(rt.alloc(), db)?)
+        }
+        Err(error) => Err(error),
+    }
+}
+
+/// Tests whether a regular file with one name stands at a path. A second name would hide its log.
+pub fn is_plain(rt: &HostRuntime, path: &str) -> io::Result<bool> {
+    let found = fs::symlink_metadata(rt, path)?;
+    Ok(found.is_file() && found.nlink() == 1)
+}
+
+/// Takes the locks of SQLite, shared as its readers do, or alone. They end when the file is closed.
+pub fn lock(file: &fs::File, kind: RangeLock) -> Result<(), Error> {
+    if os::try_lock_range(file.as_raw_fd(), kind, 1 << 30, 512) == 0 {
+        return Ok(());
+    }
+    match io::Error::from_raw_os_error(os::errno()).kind() {
+        io::ErrorKind::WouldBlock => Err(Error::SqliteFailure(ErrorCode::DatabaseBusy)),
+        _ => Err(Error::SqliteFailure(ErrorCode::SystemIoFailure)),
+    }
+}
+
+/// Opens a database file alone: until it is closed, no other command opens the database. Returns `None` if another process has
+/// it open, or if the path has come to lead to another file.
+pub fn open_alone(rt: &HostRuntime, path: &str) -> io::Result<Option<fs::File>> {
+    let real = real_path(rt, path)?;
+    if !is_plain(rt, real.as_str())? {
+        return Ok(None);
+    }
+    let file = OpenOptions::new()
+        .read(true)
+        .write(true)
+        .open(rt, real.as_str())?;
+    if lock(&file, RangeLock::Exclusive).is_err() {
+        return Ok(None);
+    }
+    let (found, named) = (file.metadata()?, fs::symlink_metadata(rt, real.as_str())?);
+    if found.dev() == named.dev() && found.ino() == named.ino() {
+        Ok(Some(file))
+    } else {
+        Ok(None)
+    }
+}

@@ -1,0 +1,4 @@
+pub mod FilesInTurn
+pub mod KnownBytes
+pub mod KnownText
+pub mod TextFaults

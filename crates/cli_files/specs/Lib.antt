@@ -1,0 +1,3 @@
+pub mod BadArgument
+pub mod Files
+pub mod Input

@@ -1,0 +1,142 @@
+//! The files that words name, read whole as texts.
+
+ghost use Rattle.std.specs.Prelude.{◌≡◌, ◌≢◌, ◌≤◌, ◌==◌, IfErr, IfOk, IfSome, codes, length, take};
+ghost use Rattle.std.specs.String.{string_bytes};
+ghost use Rattle.cli_files.specs.Files as spec;
+ghost use Rattle.std.specs.Option.{option_map};
+ghost use Rattle.cli_files.specs.Files.{IsUnread, Leaves, ReadsIfGiven, ReadsText};
+
+use crate::failure::{Failure, ReadFailure};
+use crate::input::{LONGEST_INPUT, read_bytes, text_of};
+use std::alloc::Global;
+use std::io::BufRead;
+use std::{fs, io};
+
+/// A file that a command is given.
+#[derive(Clone, Copy)]
+pub enum FileArgument {
+    /// The exports text.
+    File,
+    /// The text of the file systems.
+    FileSystems,
+    Hosts,
+    Networks,
+    Passwd,
+    Group,
+    Netgroup,
+    /// A file in the folder of a site.
+    Site,
+    /// A file in the folder of a new database's site.
+    Dir,
+    /// The file with the key of an edit.
+    KeyFile,
+    /// The file of a database.
+    Database,
+}
+
+impl FileArgument {
+    /// Names the file as the usage does.
+    pub fn name(self) -> &'static str {
+        match self {
+            FileArgument::File => "FILE",
+            FileArgument::FileSystems => "FILESYSTEMS",
+            FileArgument::Hosts => "--hosts",
+            FileArgument::Networks => "--networks",
+            FileArgument::Passwd => "--passwd",
+            FileArgument::Group => "--group",
+            FileArgument::Netgroup => "--netgroup",
+            FileArgument::Site => "--site",
+            FileArgument::Dir => "DIR",
+            FileArgument::KeyFile => "--key-file",
+            FileArgument::Database => "DB",
+        }
+    }
+}
+
+/// Tests whether a word names standard input.
+pub fn is_input(word: &str) -> bool
+    ensures { result ≡ spec.is_input word.now }
+{
+    word == "-"
+}
+
+/// Reads the text of the file that a word names; `-` is standard input.
+pub fn read_text<I: BufRead>(
+    rt: &HostRuntime,
+    argument: FileArgument,
+    word: &str,
+    input: &mut I,
+) -> Result<String, Failure>
+    ensures text { ReadsText argument word.now (I.remaining input.old) result }
+    ensures short { IfOk result (λ text. length (string_bytes text) ≤ 16777216) }
+    ensures untouched { word.now ≢ codes "-" → input.new ≡ input.old }
+{
+    let bytes = read_file(rt, argument, word, input)?;
+    match text_of(bytes) {
+        Ok(text) => Ok(text),
+        Err(fault) => Err(Failure::of_file(rt.alloc(), argument, word, ReadFailure::Text(fault))),
+    }
+}
+
+/// Reads the text of the file that a word names, or the empty text if there is no word.
+pub fn read_if_given<I: BufRead>(
+    rt: &HostRuntime,
+    argument: FileArgument,
+    word: Option<&str>,
+    input: &mut I,
+) -> Result<String, Failure>
+    ensures text { ReadsIfGiven argument (option_map (λ word. word.now) word.entry) (I.remaining input.old) result }
+    ensures short { IfOk result (λ text. length (string_bytes text) ≤ 16777216) }
+    ensures left { Leaves (option_map (λ word. word.now) word.entry) (I.remaining input.old) (I.remaining input.new) }
+{
+    match word {
+        Some(word) => read_text(rt, argument, word, input),
+        None => Ok(String::new(rt.alloc())),
+    }
+}
+
+/// Reads the bytes of a file.
+fn read_file<I: BufRead>(
+    rt: &HostRuntime,
+    argument: FileArgument,
+    word: &str,
+    input: &mut I,
+) -> Result<Vec<u8>, Failure>
+    ensures read { word.now ≡ codes "-" → IfSome (I.remaining input.old)
+        (λ given. IfOk result (λ bytes. bytes.items ≡ take 16777217 given)) }
+    ensures unread { IfErr result (IsUnread argument word.now) }
+    ensures untouched { word.now ≢ codes "-" → input.new ≡ input.old }
+{
+    match open_and_read(rt, word, input) {
+        Ok(bytes) => Ok(bytes),
+        Err(error) => Err(Failure::of_file(
+            rt.alloc(),
+            argument,
+            word,
+            ReadFailure::of_error(error)?,
+        )),
+    }
+}
+
+/// Reads the file that a word names; `-` is standard input.
+fn open_and_read<I: BufRead>(rt: &HostRuntime, word: &str, input: &mut I) -> io::Result<Vec<u8>>
+    ensures read { word.now ≡ codes "-" → IfSome (I.remaining input.old)
+        (λ given. IfOk result (λ bytes. bytes.items ≡ take 16777217 given)) }
+    ensures untouched { word.now ≢ codes "-" → input.new ≡ input.old }
+{
+    if word == "-" {
+        return read_bytes(rt.alloc(), input, 0);
+    }
+    let file = fs::open(rt, word)?;
+    let room = room_for(&file);
+    read_bytes(rt.alloc(), file, room)
+}
+
+/// Returns how many bytes to make room for before a file is read: its length, up to the most of a text, and one byte more, in
+/// which its end is found.
+fn room_for(file: &fs::File) -> usize {
+    match file.metadata() {
+        Ok(found) => found.len().min(LONGEST_INPUT as u64) as usize + 1,
+        Err(_) => 0,
+    }
+}

@@ -1,0 +1,14 @@
+//! The files that a command is given, read whole as texts, standard input among them; and why a command has no answer.
+//!
+//! Its promise: [`files::read_text`] gives the text of the bytes that a file has, or says why they are not one: they are over
+//! the limit, or not UTF-8, with the place of the first byte that breaks it. It knows no command.
+//!
+//! ```text
+//! read_text(rt, FileArgument::File, "-", input)? // all that standard input has, if that is a text
+//! ```
+#![tactic(auto)]
+
+pub mod bad_argument;
+pub mod failure;
+pub mod files;
+pub mod input;

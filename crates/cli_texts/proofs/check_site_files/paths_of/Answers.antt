@@ -1,6 +1,0 @@
--- Each path is that of its file.
-use Rattle.std.proofs.Common.{refl}
-use Rattle.cli_texts.proofs.check_site_files.paths_of.Goals as goal
-
-pub returns : goal.returns
-returns c = rw (c.in_ok-path_in.ensures, c.in_ok-path_in-2.ensures, c.in_ok-path_in-3.ensures, c.in_ok-path_in-4.ensures, c.in_ok-path_in-5.ensures, c.in_ok-path_in-6.ensures, c.in_ok-path_in-7.ensures, c.in_ok-path_in-8.ensures) refl

@@ -1,0 +1,70 @@
+-- The texts of a site are within a limit exactly if each file is, and each value of the map of exports files.
+use Rattle.std.proofs.Common.{◌≡◌, ◌≤◌, ℕ, Bool, true, false, Decides, List, [], Option, Some, None, String, arith, get_or, length, subst, sym, unwrap_or, ◌∙◌}
+use Rattle.std.specs.BTreeMap.{BTreeMap, get_by_text, IsOrdered, values}
+use Rattle.std.specs.List.{list_all}
+use Rattle.std.specs.Option.{IfSome}
+use Rattle.std.specs.String.{string_bytes, string_cmp, string_cmp_total}
+use Rattle.std.proofs.lemmas.Bool.{and_from, and_parts, le-leb, leb-true, true≢false}
+use Rattle.std.proofs.lemmas.List.Folds.{list_all-map}
+use Rattle.std.proofs.lemmas.List.Sums.{AllPass-from_list_all, list_all-from_AllPass}
+use Rattle.std.proofs.lemmas.Map.Entries.{All-lookup, btree_map_get_place}
+use Rattle.std.proofs.lemmas.Option.{slice_get-get_or}
+use Rattle.desk_policy.specs.PrivateSite.{are_files_within, is_within}
+use Rattle.desk_policy.specs.Site.{HaveLengthsWithin, texts_of}
+use Rattle.desk_policy.specs.declared.site.Site.{Site}
+
+found_fits : (limit : ℕ) (found : Option (List ℕ)) → IfSome found (λ text. is_within limit text ≡ true) → length (unwrap_or found []) ≤ limit
+found_fits limit None fits = omega arith
+found_fits limit (Some text) fits = leb-true (length text) limit fits
+
+module _ {Y : Type 0} (limit : ℕ) (exports : BTreeMap (String Y) (List ℕ)) where
+  abbrev EachFits : Type 0
+  EachFits = (mount : List ℕ) → length (unwrap_or (get_by_text exports mount) []) ≤ limit
+
+  values_fit : list_all (is_within limit) (values exports) ≡ true → EachFits
+  values_fit all mount =
+      let each = AllPass-from_list_all (λ e. is_within limit e.1) exports.entries (sym (list_all-map (is_within limit) (λ e. e.1) exports.entries) ∙ all) in
+      found_fits limit (get_by_text exports mount) (All-lookup (λ text. is_within limit text ≡ true) _ exports.entries each)
+
+  fit_values : IsOrdered string_cmp exports → EachFits → list_all (is_within limit) (values exports) ≡ true
+  fit_values ordered fits =
+      list_all-map (is_within limit) (λ e. e.1) exports.entries ∙ list_all-from_AllPass (λ e. is_within limit e.1) exports.entries (λ i d below.
+      let entry = get_or exports.entries i d in
+      let found = btree_map_get_place string_cmp_total exports i entry.0 entry.1 ordered (slice_get-get_or exports.entries i d below) in
+      le-leb (length entry.1) limit (subst (λ (o : Option (List ℕ)). length (unwrap_or o []) ≤ limit) found (fits (string_bytes entry.0))))
+
+module _ (limit : ℕ) (site : Site) where
+  files_fit : HaveLengthsWithin limit (texts_of site) → are_files_within limit site ≡ true
+  files_fit texts =
+      let two = and_from _ _ (le-leb _ _ texts.custodians) (le-leb _ _ texts.filesystems) in
+      let four = and_from _ _ (and_from _ _ two (le-leb _ _ texts.hosts)) (le-leb _ _ texts.networks) in
+      and_from _ _ (and_from _ _ (and_from _ _ four (le-leb _ _ texts.passwd)) (le-leb _ _ texts.group)) (le-leb _ _ texts.netgroup)
+
+  texts_fit : are_files_within limit site ≡ true → EachFits limit site.exports → HaveLengthsWithin limit (texts_of site)
+  texts_fit files exports =
+      let six = and_parts _ _ files in
+      let five = and_parts _ _ six.0 in
+      let four = and_parts _ _ five.0 in
+      let three = and_parts _ _ four.0 in
+      let two = and_parts _ _ three.0 in
+      let one = and_parts _ _ two.0 in
+      record {
+        custodians = leb-true _ _ one.0;
+        filesystems = leb-true _ _ one.1;
+        hosts = leb-true _ _ two.1;
+        networks = leb-true _ _ three.1;
+        passwd = leb-true _ _ four.1;
+        group = leb-true _ _ five.1;
+        netgroup = leb-true _ _ six.1;
+        exports = exports;
+      }
+
+  -- no file is too long: it depends on the exports files
+  pub by_exports : (fit : Bool) → are_files_within limit site ≡ true → fit ≡ list_all (is_within limit) (values site.exports) → IsOrdered string_cmp site.exports
+      → Decides fit (HaveLengthsWithin limit (texts_of site))
+  by_exports fit files is ordered =
+      (λ yes. texts_fit files (values_fit limit site.exports (sym is ∙ yes)), λ texts. is ∙ fit_values limit site.exports ordered (texts.exports))
+
+  -- a file is too long
+  pub too_long : (fit : Bool) → fit ≡ are_files_within limit site → fit ≡ false → Decides fit (HaveLengthsWithin limit (texts_of site))
+  too_long fit is none = (λ yes. absurd (true≢false (sym yes ∙ none)), λ texts. is ∙ files_fit texts)

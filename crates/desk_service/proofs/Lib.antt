@@ -1,0 +1,2 @@
+pub mod EditAnswers
+pub mod QuestionAnswers

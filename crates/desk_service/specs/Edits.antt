@@ -1,0 +1,56 @@
+-- What making an edit does and answers, with the replies that it is handed. (this project's own)
+use Rattle.std.specs.Prelude.{◌≡◌, ◌≢◌, ◌⊎◌, List, [], Result, Ok, Err, IsTrue, if◌then◌else◌}
+use Rattle.sqlite_trees.specs.declared.store.Store.{Ghosts}
+use Rattle.sqlite.specs.Held.{state}
+use Rattle.sqlite.specs.State.{HasCleanDisk, State, Survives}
+use Rattle.desk_core.specs.Edit.{Edit, revision_of}
+use Rattle.desk_core.specs.Head.{Revision, newest_in}
+use Rattle.desk_core.specs.History.{added_if, newest_of}
+use Rattle.desk_core.specs.Views.{Kept}
+use Rattle.desk_store.specs.Desk.{CommitsOne, HasStored, IsEdited, IsJudgedBy, LeavesTables, Shown, StepsOn, told}
+use Rattle.desk_store.specs.History.{row_of}
+use Rattle.desk_store.specs.Open.{IsOfOpening, IsOurs, IsProject}
+use Rattle.desk_store.specs.declared.desk.Done.{Done}
+use Rattle.desk_store.specs.declared.error.DeskError.{DeskError}
+use Rattle.desk_store.specs.declared.error.DeskError.TheVariants as error
+use Rattle.desk_service.specs.declared.edits.Replies.{Replies}
+
+-- the reply to an edit by what a desk answers: one of the two that were made before, or why the edit is refused
+abbrev pub reply_to : {T E : Type 0} → Replies T → Result Done E → Result T E
+reply_to replies (Ok done) = Ok (if done.already then replies.already else replies.accepted)
+reply_to replies (Err failed) = Err failed
+
+-- What making an edit of a desk did: the desk was edited, and the result is the reply to its answer. An edit that is stored, or was,
+-- always has its reply.
+abbrev pub PutsBy : {S V T : Type 0} → Ghosts S → Shown S V → Shown S V → Edit → Replies T → Result T DeskError → Type 0
+PutsBy g old new e replies result =
+    (answer : Result Done DeskError) × IsEdited (state g old.conn) (state g new.conn) old.state new.state e answer × (result ≡ reply_to replies answer)
+
+-- No edit was made of the database of a connection: it is not one of this project, a statement that looks for that was refused,
+-- or memory ran out. The tables are as before, and a crash leaves what it could before.
+pub record IsNotPut (old new : State) (failed : DeskError) : Type 0 where
+  pub opening : IsOfOpening failed
+  pub foreign : HasCleanDisk new → failed ≡ error.Schema → IsOurs old.committed → ⊥
+  pub tables : LeavesTables old new
+
+-- An edit was made of the database of a connection, and has this answer: by the newest revisions of the desk that was opened on
+-- it, whatever the disk did. The database is one of this project, and these are the newest of the history that it held; it then
+-- holds the history after the edit, and a crash at any moment leaves what it could before, or the edit's one commit. Once the edit
+-- is answered as stored, its revision is the one row more, and a crash leaves that.
+pub record IsPut (V : Type 0) (old new : State) (e : Edit) (answer : Result Done DeskError) : Type 0 where
+  -- what the desk that was opened on it kept beside the tables
+  pub before : Kept V
+  pub after : Kept V
+  pub judged : IsJudgedBy before after e answer
+  pub ours : HasCleanDisk new → IsOurs old.committed
+  pub heads : HasCleanDisk new → (history : List Revision) → IsProject old.committed history → newest_in before.heads ≡ newest_of history
+  pub step : HasCleanDisk new → (history : List Revision) → IsProject old.committed history → StepsOn new after e (told answer) history []
+  pub unchanged : HasCleanDisk new → IsTrue new.is_open → added_if e (told answer) ≡ [] → new.committed ≡ old.committed
+  pub crash : Survives old new (CommitsOne before e (told answer) old.committed)
+  pub stored : HasCleanDisk new → added_if e (told answer) ≢ [] → HasStored (row_of (revision_of e)) old new
+
+-- what making an edit of the database of a connection did, and answered
+abbrev pub PutsOver : {T : Type 0} → Type 0 → State → State → Edit → Replies T → Result T DeskError → Type 0
+PutsOver V old new e replies result =
+    ((failed : DeskError) × IsNotPut old new failed × (result ≡ Err failed))
+    ⊎ ((answer : Result Done DeskError) × IsPut V old new e answer × (result ≡ reply_to replies answer))

@@ -1,0 +1,110 @@
+-- What is asked without changing anything, and the answers, as data. (this project's own)
+use Rattle.std.specs.Prelude.{◌≡◌, ℕ, List, [], ◌∷◌, Option, Some, None, Result, map}
+use Rattle.sqlite_trees.specs.declared.store.Store.{Ghosts}
+use Rattle.sqlite.specs.Held.{state}
+use Rattle.desk_text.specs.Address.{number_of}
+use Rattle.desk_policy.specs.Listings.{listing_of}
+use Rattle.desk_policy.specs.Policy.{Content}
+use Rattle.desk_policy.specs.Verdict.{Grant, verdict_of, verdict_result}
+use Rattle.desk_policy.specs.declared.listings.Shown.{Shown as ShownSystem}
+use Rattle.desk_policy.specs.declared.verdict.Denial.{Denial}
+use Rattle.desk_core.specs.Head.{Revision}
+use Rattle.desk_core.specs.History.{newest_of, revisions_of}
+use Rattle.desk_core.specs.Site.{IsInForce, site_in}
+use Rattle.desk_store.specs.Desk.{LeavesTables, Shown, StaysAsItWas, revision_at}
+use Rattle.desk_service.specs.declared.questions.FileAnswer.{FileAnswer}
+use Rattle.desk_service.specs.declared.questions.FileAnswer.TheVariants as found
+use Rattle.desk_service.specs.declared.questions.FileQuestion.{FileQuestion as LentFileQuestion}
+use Rattle.desk_service.specs.declared.questions.FileQuestion.TheVariants as lent_file
+use Rattle.desk_service.specs.declared.questions.PolicyAnswer.{PolicyAnswer as LentPolicyAnswer}
+use Rattle.desk_service.specs.declared.questions.PolicyAnswer.TheVariants as lent_answer
+use Rattle.desk_service.specs.declared.questions.PolicyQuestion.{PolicyQuestion as LentPolicyQuestion}
+use Rattle.desk_service.specs.declared.questions.PolicyQuestion.TheVariants as lent
+
+-- a question on the policy in force: whether a client may mount a path, what it may mount, and all exports
+pub data PolicyQuestion : Type 0 where
+  Mount : ℕ → List (List ℕ) → PolicyQuestion
+  Listing : ℕ → PolicyQuestion
+  Exports : PolicyQuestion
+
+-- a question on the policy in force, by value
+abbrev pub policy_question : LentPolicyQuestion → PolicyQuestion
+policy_question (lent.Mount address path) = Mount (number_of address) path.now
+policy_question (lent.Listing address) = Listing (number_of address)
+policy_question lent.Exports = Exports
+
+-- an answer by the policy in force, with that policy: a verdict, what a client may mount, and all exports
+pub data PolicyAnswer : Type 0 where
+  VerdictIs : Content → Result Grant Denial → PolicyAnswer
+  ListingIs : Content → List ShownSystem → PolicyAnswer
+  ExportsAre : Content → PolicyAnswer
+
+-- an answer by the policy in force, by value
+abbrev pub policy_answer_of : LentPolicyAnswer → PolicyAnswer
+policy_answer_of (lent_answer.Verdict policy verdict) = VerdictIs policy.now (verdict_result verdict)
+policy_answer_of (lent_answer.Listing policy listing) = ListingIs policy.now listing.items
+policy_answer_of (lent_answer.Exports policy) = ExportsAre policy.now
+
+-- the answer of a policy to a question
+abbrev pub policy_answer : Content → PolicyQuestion → PolicyAnswer
+policy_answer content (Mount address path) = VerdictIs content (verdict_of content address path)
+policy_answer content (Listing address) = ListingIs content (listing_of content address)
+policy_answer content Exports = ExportsAre content
+
+-- a question on the revisions of a file: its text as of a revision, or else the newest, and the list of them
+pub data FileQuestion : Type 0 where
+  Text : List ℕ → Option ℕ → FileQuestion
+  Revisions : List ℕ → FileQuestion
+
+-- a question on the revisions of a file, by value
+abbrev pub file_question : LentFileQuestion → FileQuestion
+file_question (lent_file.Text name rev) = Text name.now rev
+file_question (lent_file.Revisions name) = Revisions name.now
+
+-- the numbers and authors of a file's revisions
+abbrev pub numbered_authors : List ℕ → List Revision → List (ℕ × List ℕ)
+numbered_authors file history = map (λ r. (r.rev, r.author)) (revisions_of file history)
+
+-- the revision of a file that is asked for: that of this number, or else the newest
+abbrev pub revision_asked : List Revision → List ℕ → Option ℕ → Option Revision
+revision_asked history file (Some rev) = revision_at history file rev
+revision_asked history file None = newest_of history file
+
+-- the answer that a revision is, or that there is none
+abbrev pub text_answer : Option Revision → FileAnswer
+text_answer (Some r) = found.Text (record { rev = r.rev; author = r.author; body = r.body })
+text_answer None = found.NoRevision
+
+-- the answer that a list of revisions is, or that there is none
+abbrev pub revisions_answer : List (ℕ × List ℕ) → FileAnswer
+revisions_answer [] = found.NoRevision
+revisions_answer (first ∷ others) = found.Revisions (first ∷ others)
+
+-- the answer of a history to a question on the revisions of a file
+abbrev pub file_answer : List Revision → FileQuestion → FileAnswer
+file_answer history (Text file rev) = text_answer (revision_asked history file rev)
+file_answer history (Revisions file) = revisions_answer (numbered_authors file history)
+
+-- a question on a site: on its policy in force, or on its files
+pub data Question : Type 0 where
+  OnPolicy : PolicyQuestion → Question
+  OnFile : FileQuestion → Question
+
+-- an answer: by the policy in force, or by the revisions of a file
+pub data Answer : Type 0 where
+  ByPolicy : PolicyAnswer → Answer
+  ByFile : FileAnswer → Answer
+
+-- a policy in force by a history tells this
+abbrev pub TellsInForce : List Revision → (Content → Type 0) → Type 0
+TellsInForce history Tells = (content : Content) × IsInForce (site_in (newest_of history)) content × Tells content
+
+-- the answer to a question by a history: of the policy in force by it, or of its revisions
+abbrev pub AnswersByHistory : List Revision → Question → Answer → Type 0
+AnswersByHistory history (OnPolicy question) (ByPolicy answer) = TellsInForce history (λ content. answer ≡ policy_answer content question)
+AnswersByHistory history (OnFile question) (ByFile answer) = answer ≡ file_answer history question
+AnswersByHistory history question answer = ⊥
+
+-- A desk was only looked at: it is as it was, wherever it stood, and so are its tables and what a crash leaves.
+abbrev pub OnlyLooks : {S V : Type 0} → Ghosts S → Shown S V → Shown S V → Type 0
+OnlyLooks g old new = StaysAsItWas g old new × LeavesTables (state g old.conn) (state g new.conn)

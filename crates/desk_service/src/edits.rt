@@ -1,0 +1,73 @@
+//! Edits, and their replies.
+
+ghost use Rattle.std.specs.Prelude.{◌≡◌, false};
+ghost use Rattle.sqlite.specs.Held.{state};
+ghost use Rattle.desk_core.specs.Edit.{asked};
+ghost use Rattle.desk_store.specs.Desk.{IsEdited};
+ghost use Rattle.desk_service.specs.Edits.{PutsBy, PutsOver};
+
+use desk_core::Edit;
+use desk_policy::PolicyView;
+use desk_store::{Desk, DeskError, Done};
+use sqlite::{Alter, Connection};
+use std::alloc::Global;
+
+/// The replies to an edit that is not refused, of whatever form. Both are made before the edit, so that no edit that is stored
+/// goes without its reply; the number of its revision is known by then: it is one more than the edit's base.
+#[derive(Drop)]
+pub struct Replies<T: Drop> {
+    /// The edit is stored.
+    pub accepted: T,
+    /// The edit was stored before.
+    pub already: T,
+}
+
+/// Makes an edit of a desk, and returns the reply to it, or why the desk refuses it.
+pub fn put<S: Alter + Drop, V: PolicyView + Drop, T: Drop>(
+    alloc: Global,
+    desk: &mut Desk<S, V>,
+    edit: &Edit<'_>,
+    replies: Replies<T>,
+) -> Result<T, DeskError>
+    ensures { PutsBy S.Store desk.old desk.new (asked edit.now) replies result }
+{
+    match edited(alloc, desk, edit) {
+        Ok(done) => Ok(if done.already {
+            replies.already
+        } else {
+            replies.accepted
+        }),
+        Err(error) => Err(error),
+    }
+}
+
+/// Edits a desk. (Split off for its proof.)
+fn edited<S: Alter + Drop, V: PolicyView + Drop>(
+    alloc: Global,
+    desk: &mut Desk<S, V>,
+    edit: &Edit<'_>,
+) -> Result<Done, DeskError>
+    ensures { IsEdited (state S.Store desk.old.conn) (state S.Store desk.new.conn) desk.old.state desk.new.state (asked edit.now) result }
+{
+    desk.edit(alloc, edit)
+}
+
+/// Opens a desk on the database of a connection, and makes an edit of it. The connection is handed back.
+pub fn put_over<S: Alter + Drop, V: PolicyView + Drop, T: Drop>(
+    alloc: Global,
+    conn: Connection<S>,
+    edit: &Edit<'_>,
+    replies: Replies<T>,
+) -> (Result<T, DeskError>, Connection<S>)
+    requires { (state S.Store conn).in_transaction ≡ false }
+    ensures { PutsOver V (state S.Store conn) (state S.Store result.1) (asked edit.now) replies result.0 }
+{
+    let opened: Result<Desk<S, V>, _> = Desk::open(alloc, conn);
+    match opened {
+        Ok(mut desk) => {
+            let answer = put(alloc, &mut desk, edit, replies);
+            (answer, desk.into_connection())
+        }
+        Err((error, conn)) => (Err(error), conn),
+    }
+}

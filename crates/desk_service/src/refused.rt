@@ -1,0 +1,62 @@
+//! Why a question or an edit is refused: its number and name.
+
+ghost use Rattle.std.specs.Prelude.{◌≡◌};
+ghost use Rattle.desk_service.specs.Refused.{refused_by, refused_name, refused_number};
+
+use desk_core::Refusal;
+use desk_store::DeskError;
+
+/// Why a question or an edit is refused.
+#[derive(Drop)]
+pub enum Refused {
+    /// By the rules of edits, or by the fault of a site.
+    Edit(Refusal),
+    /// There is no such file or revision.
+    NoRevision,
+    /// The database cannot be opened, or a statement was refused.
+    Store,
+    /// The database is not one of this project.
+    Schema,
+    /// There is no memory.
+    Memory,
+}
+
+impl Refused {
+    /// Returns the refusal that an error of a desk is.
+    pub fn by(error: DeskError) -> Refused
+        ensures { result ≡ refused_by error }
+    {
+        match error {
+            DeskError::Refused(refusal) => Refused::Edit(refusal),
+            DeskError::Store(_) => Refused::Store,
+            DeskError::Schema => Refused::Schema,
+            DeskError::Memory => Refused::Memory,
+        }
+    }
+
+    /// Returns the number of the refusal: 1 to 9 of an edit, 111, and from 201 what the database or the machine refuses.
+    pub fn number(&self) -> u32
+        ensures { result ≡ refused_number self.now }
+    {
+        match self {
+            Refused::Edit(refusal) => refusal.number(),
+            Refused::NoRevision => 111,
+            Refused::Store => 201,
+            Refused::Schema => 202,
+            Refused::Memory => 203,
+        }
+    }
+
+    /// Returns the name of the refusal.
+    pub fn name(&self) -> &'static str
+        ensures { result.now ≡ refused_name self.now }
+    {
+        match self {
+            Refused::Edit(refusal) => refusal.name(),
+            Refused::NoRevision => "NoRevision",
+            Refused::Store => "Store",
+            Refused::Schema => "Schema",
+            Refused::Memory => "Memory",
+        }
+    }
+}
