@@ -8,13 +8,14 @@
 //! [1]
 //! ```
 //!
-//! A block is a command (`terminal`, `tools`), its standard input up to a line `END` if its line ends in ` <<END`, what it prints
+//! A block is a command behind `$` and a blank (`terminal`, `tools`, `holders`), its standard input up to a line `END` if its line ends in ` <<END`, what it prints
 //! on standard output, what it prints on standard error with `!` and a blank before each line (`!` alone before an empty
 //! one), and in brackets its exit status. A carriage return in what it prints is written `\r`. Between blocks empty lines
 //! and those that begin with `#` are skipped.
 
 use crate::report::Report;
-use crate::{terminal, tools};
+use crate::{holders, terminal, tools};
+use desk_cases_texts::answers::Asked;
 use std::alloc::AllocError;
 
 /// Tries the commands of a text.
@@ -64,18 +65,28 @@ fn is_status(line: &str) -> bool {
 
 /// Tries a block, from its command to its status.
 fn try_block(rt: &HostRuntime, report: &mut Report, block: &str) -> Result<(), AllocError> {
-    let (command, below) = block.split_once('\n').unwrap_or((block, ""));
-    let (input, wanted) = if command.ends_with(terminal::HERE) {
+    let (line, below) = block.split_once('\n').unwrap_or((block, ""));
+    let (input, wanted) = if line.ends_with(terminal::HERE) {
         below.split_once("\nEND\n").unwrap_or((below, ""))
     } else {
         ("", below)
     };
     let mut found = String::new(rt.alloc());
-    if !terminal::run(rt, &mut found, command, input)? && !tools::run(rt, &mut found, command)? {
-        return report.add_difference(command, "is not a command that can be run");
+    if !run(rt, &mut found, line, input)? {
+        return report.add_difference(line, "is not a command that can be run");
     }
     if found.as_str() == wanted {
         return Ok(());
     }
-    report.add_difference(command, found.as_str())
+    report.add_difference(line, found.as_str())
+}
+
+/// Runs the command of a block, and adds what it prints and its status. Tells whether it is a command.
+fn run(rt: &HostRuntime, shown: &mut String, line: &str, input: &str) -> Asked {
+    let Some(command) = line.strip_prefix("$ ") else {
+        return Ok(false);
+    };
+    Ok(terminal::run(rt, shown, command, input)?
+        || tools::run(rt, shown, command)?
+        || holders::run(rt, shown, command)?)
 }

@@ -4,6 +4,7 @@
 
 mod cases;
 mod commands;
+mod holders;
 mod report;
 mod terminal;
 mod tools;

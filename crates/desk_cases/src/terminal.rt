@@ -1,4 +1,4 @@
-//! Commands as they are written at a terminal: `$ exportdesk`, and its words between blanks; a word with blanks is written
+//! Commands as they are written at a terminal: `exportdesk`, and its words between blanks; a word with blanks is written
 //! between single quotes. Behind the words ` < FILE` names the file that is standard input, and ` <<END` takes it from the
 //! lines below. `printf 'TEXT' | ` before `exportdesk` gives a text as standard input. The words and that text may have
 //! the escapes of cases (`escapes`).
@@ -48,7 +48,6 @@ fn read(rt: &HostRuntime, command: &mut Command, line: &str, here: &str) -> Aske
 
 /// Returns the words of a command, behind the name of the program.
 fn words_part(line: &str) -> Option<&str> {
-    let line = line.strip_prefix("$ ")?;
     let line = match line.strip_prefix("printf '") {
         Some(piped) => {
             let (_, line) = piped.split_once("' | ")?;
@@ -68,7 +67,7 @@ fn push_input(rt: &HostRuntime, input: &mut Vec<u8>, line: &str, here: &str) -> 
         input.push(b'\n')?;
         return Ok(true);
     }
-    if let Some(piped) = line.strip_prefix("$ printf '") {
+    if let Some(piped) = line.strip_prefix("printf '") {
         let (text, _) = piped.split_once("' | ").unwrap_or((piped, ""));
         return escapes::push(rt.alloc(), input, text);
     }

@@ -1,15 +1,19 @@
-//! The commands beside `exportdesk` that a file of commands may have: `rm FILE..`, `cp FROM TO`, `printf 'TEXT' > FILE` (with
-//! the escapes of cases) and `sqlite3 FILE "STATEMENTS"`. They print nothing, and end with the status 0, or 1 if they fail.
+//! The commands beside `exportdesk` that a file of commands may have: `rm FILE..`, `cp FROM TO`, `ln FROM TO` and `ln -s FROM TO`,
+//! `mkdir FOLDER`, `rmdir FOLDER`, `chmod MODE FILE`, `printf 'TEXT' > FILE` (with the escapes of cases) and
+//! `sqlite3 FILE "STATEMENTS"` print nothing; `ls FOLDER` prints the names in a folder in byte order, and `stat -c %a FILE` the
+//! mode of a file. They end with the status 0, or 1 if they fail, and then print no message.
 
 use desk_cases_texts::answers::Asked;
 use desk_cases_texts::escapes;
 use sqlite::{Connection, Error};
 use std::alloc::AllocError;
-use std::fs;
+use std::fs::Permissions;
+use std::os::unix::fs::{MetadataExt, PermissionsExt, symlink};
+use std::{fs, io};
 
-/// Runs a command, and adds its status in the form of a file of commands. Tells whether it is one of these.
+/// Runs a command, and adds what it prints, and its status in the form of a file of commands. Tells whether it is one of these.
 pub fn run(rt: &HostRuntime, shown: &mut String, line: &str) -> Asked {
-    match attempt(rt, line)? {
+    match attempt(rt, shown, line)? {
         Some(true) => shown.push_str("[0]\n")?,
         Some(false) => shown.push_str("[1]\n")?,
         None => return Ok(false),
@@ -17,20 +21,21 @@ pub fn run(rt: &HostRuntime, shown: &mut String, line: &str) -> Asked {
     Ok(true)
 }
 
-/// Tells whether a command succeeded, if it is one of these.
-fn attempt(rt: &HostRuntime, line: &str) -> Result<Option<bool>, AllocError> {
-    if let Some(files) = line.strip_prefix("$ rm ") {
-        return Ok(Some(remove(rt, files)));
-    }
-    if let Some(files) = line.strip_prefix("$ cp ") {
-        return Ok(copy(rt, files));
-    }
-    if let Some(rest) = line.strip_prefix("$ printf '") {
-        return write(rt, rest);
-    }
-    match line.strip_prefix("$ sqlite3 ") {
-        Some(rest) => Ok(change(rt, rest)),
-        None => Ok(None),
+/// Runs a command, and adds what it prints. Tells whether it succeeded, if it is one of these.
+fn attempt(rt: &HostRuntime, shown: &mut String, line: &str) -> Result<Option<bool>, AllocError> {
+    let (name, rest) = line.split_once(' ').unwrap_or((line, ""));
+    match name {
+        "rm" => Ok(Some(remove(rt, rest))),
+        "cp" => Ok(copy(rt, rest)),
+        "ln" => Ok(link(rt, rest)),
+        "mkdir" => Ok(Some(fs::create_dir(rt, rest).is_ok())),
+        "rmdir" => Ok(Some(fs::remove_dir(rt, rest).is_ok())),
+        "chmod" => Ok(set_mode(rt, rest)),
+        "ls" => Ok(Some(print_names(rt, shown, rest).is_ok())),
+        "stat" => print_mode(rt, shown, rest),
+        "printf" => write(rt, rest),
+        "sqlite3" => Ok(change(rt, rest)),
+        _ => Ok(None),
     }
 }
 
@@ -49,9 +54,60 @@ fn copy(rt: &HostRuntime, files: &str) -> Option<bool> {
     Some(fs::copy(rt, from, to).is_ok())
 }
 
+/// Gives a file a second name, or makes a symbolic link.
+fn link(rt: &HostRuntime, words: &str) -> Option<bool> {
+    let (from, to) = words.strip_prefix("-s ").unwrap_or(words).split_once(' ')?;
+    let linked = if words.starts_with("-s ") {
+        symlink(rt, from, to)
+    } else {
+        fs::hard_link(rt, from, to)
+    };
+    Some(linked.is_ok())
+}
+
+/// Sets the mode of a file, which is written in octal.
+fn set_mode(rt: &HostRuntime, words: &str) -> Option<bool> {
+    let (mode, file) = words.split_once(' ')?;
+    let mode = u32::from_str_radix(mode, 8).ok()?;
+    Some(fs::set_permissions(rt, file, Permissions::from_mode(mode)).is_ok())
+}
+
+/// Prints the names in a folder.
+fn print_names(rt: &HostRuntime, shown: &mut String, folder: &str) -> io::Result<()> {
+    let mut names = Vec::new(rt.alloc());
+    for entry in fs::read_dir(rt, folder)? {
+        names.push(String::from_str(rt.alloc(), entry?.file_name())?)?;
+    }
+    names.sort_unstable();
+    for name in &names {
+        write!(shown, "{name}\n")?;
+    }
+    Ok(())
+}
+
+/// Prints the mode of a file in octal.
+fn print_mode(
+    rt: &HostRuntime,
+    shown: &mut String,
+    words: &str,
+) -> Result<Option<bool>, AllocError> {
+    let Some(file) = words.strip_prefix("-c %a ") else {
+        return Ok(None);
+    };
+    let Ok(found) = fs::symlink_metadata(rt, file) else {
+        return Ok(Some(false));
+    };
+    let mode = found.mode() & 0o7777;
+    write!(shown, "{mode:o}\n")?;
+    Ok(Some(true))
+}
+
 /// Writes a text into a file.
 fn write(rt: &HostRuntime, rest: &str) -> Result<Option<bool>, AllocError> {
     let Some((text, file)) = rest.split_once("' > ") else {
+        return Ok(None);
+    };
+    let Some(text) = text.strip_prefix('\'') else {
         return Ok(None);
     };
     let mut bytes = Vec::new(rt.alloc());
@@ -61,7 +117,7 @@ fn write(rt: &HostRuntime, rest: &str) -> Result<Option<bool>, AllocError> {
     Ok(Some(fs::write(rt, file, bytes.as_slice()).is_ok()))
 }
 
-/// Runs statements on a database.
+/// Runs statements on a database, and copies its log into its file.
 fn change(rt: &HostRuntime, rest: &str) -> Option<bool> {
     let (file, statements) = rest.split_once(" \"")?;
     let statements = statements.strip_suffix('"')?;

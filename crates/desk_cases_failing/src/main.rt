@@ -1,0 +1,56 @@
+//! Tries the commands at readers and writers that fail, and desks on files that fail. What is answered while they work is in the
+//! worked cases.
+#![tactic(auto)]
+
+mod commands;
+mod desks;
+mod failing;
+mod full;
+mod sample;
+mod trials;
+
+use std::io;
+use std::process::ExitCode;
+
+/// What came of the cases.
+#[derive(Drop)]
+struct Tally {
+    passed: u64,
+    failed: u64,
+}
+
+/// Prints for each case whether it passed, and what is wrong if it failed. The exit status is 0 if no case failed.
+fn main(rt: HostRuntime) -> io::Result<ExitCode> {
+    let mut tally = Tally {
+        passed: 0,
+        failed: 0,
+    };
+    for case in &commands::CASES {
+        let wrong = commands::try_case(&rt, case)?;
+        report(&rt, &mut tally, case.name, wrong.as_str())?;
+    }
+    let wrong = commands::try_print_memory(rt.alloc())?;
+    report(&rt, &mut tally, "a refusal that is not printed", wrong.as_str())?;
+    for trial in &trials::TRIALS {
+        let wrong = trials::try_all(rt.alloc(), trial)?;
+        report(&rt, &mut tally, trial.name, wrong.as_str())?;
+    }
+    let (passed, failed) = (tally.passed, tally.failed);
+    println!(rt; "{passed} passed, {failed} failed")?;
+    Ok(if failed == 0 {
+        ExitCode::SUCCESS
+    } else {
+        ExitCode::FAILURE
+    })
+}
+
+/// Prints and counts what came of a case, which passed if nothing is wrong.
+fn report(rt: &HostRuntime, tally: &mut Tally, name: &str, wrong: &str) -> io::Result<()> {
+    if wrong.is_empty() {
+        tally.passed = tally.passed.saturating_add(1);
+        println!(rt; "{name}: passed")
+    } else {
+        tally.failed = tally.failed.saturating_add(1);
+        println!(rt; "{name}: FAILED: {wrong}")
+    }
+}
