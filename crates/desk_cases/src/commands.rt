@@ -86,7 +86,9 @@ fn run(rt: &HostRuntime, shown: &mut String, line: &str, input: &str) -> Asked {
     let Some(command) = line.strip_prefix("$ ") else {
         return Ok(false);
     };
-    Ok(terminal::run(rt, shown, command, input)?
-        || tools::run(rt, shown, command)?
-        || holders::run(rt, shown, command)?)
+    Ok(
+        terminal::run(rt, shown, command, input)?
+            || tools::run(rt, shown, command)?
+            || holders::run(rt, shown, command)?,
+    )
 }

@@ -83,7 +83,13 @@ pub fn try_case(rt: &HostRuntime, case: &Case) -> Result<String, AllocError> {
         Failing::Print => run(rt, case.words, &mut whole, &mut Closed, &mut err),
         Failing::Flush => run(rt, case.words, &mut whole, &mut Leaking, &mut err),
     };
-    compare(rt.alloc(), status, out.as_slice(), err.as_slice(), case.wanted)
+    compare(
+        rt.alloc(),
+        status,
+        out.as_slice(),
+        err.as_slice(),
+        case.wanted,
+    )
 }
 
 /// Prints to a writer that fails that memory ran out. Returns what is wrong.

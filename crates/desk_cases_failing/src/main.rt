@@ -30,7 +30,12 @@ fn main(rt: HostRuntime) -> io::Result<ExitCode> {
         report(&rt, &mut tally, case.name, wrong.as_str())?;
     }
     let wrong = commands::try_print_memory(rt.alloc())?;
-    report(&rt, &mut tally, "a refusal that is not printed", wrong.as_str())?;
+    report(
+        &rt,
+        &mut tally,
+        "a refusal that is not printed",
+        wrong.as_str(),
+    )?;
     for trial in &trials::TRIALS {
         let wrong = trials::try_all(rt.alloc(), trial)?;
         report(&rt, &mut tally, trial.name, wrong.as_str())?;
