@@ -55,10 +55,6 @@ abbrev pub is_repeat : Edit → Option Revision → Bool
 is_repeat e None = false
 is_repeat e (Some revision) = revision.rev == e.base + 1 && (bytes_eq revision.author e.caller && bytes_eq revision.body e.text)
 
--- the former name of this limit
-abbrev pub longest_edit : ℕ
-longest_edit = longest_revision
-
 -- Whether a case holds, by the custodians and file systems in force and the file's newest revision: the caller is not
 -- listed; the key is not the caller's; there is no such file; the caller does not keep it; the text is too long; the
 -- newest revision is this edit; the base is not the newest revision's number; there is no further number.
