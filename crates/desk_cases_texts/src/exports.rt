@@ -8,6 +8,7 @@ use crate::entries::add_entry;
 use crate::filesystems::fs_id;
 use crate::site::Site;
 use desk_exports::{Boxed, Entry, Rule, Tables, fault_text, read_file, read_whole};
+use desk_policy::LONGEST_TEXT;
 use desk_tables::{FileSystems, FsId};
 use desk_text::{LineFault, ReadError};
 use std::alloc::{AllocError, Global};
@@ -106,7 +107,7 @@ fn entries_in(alloc: Global, tables: &Tables, out: &mut String, text: &str) -> A
     let Some(own_fs) = fs_id(number) else {
         return Ok(false);
     };
-    if lines.len() > 4294967294 {
+    if lines.len() > LONGEST_TEXT {
         return Ok(false);
     }
     entries_of_file(alloc, tables, out, own_fs, lines)

@@ -11,7 +11,7 @@ use crate::filesystems::fs_id;
 use crate::site::Site;
 use desk_exports::{Scope, find_faults};
 use desk_netgroup::Netgroups;
-use desk_policy::{Contradiction, contradictions};
+use desk_policy::{Contradiction, LONGEST_TEXT, contradictions};
 use desk_tables::{Custodians, FileSystems, FsId, Groups, Hosts, Networks, Users};
 use desk_text::Place;
 use std::alloc::{AllocError, Global};
@@ -143,7 +143,7 @@ fn of_exports(alloc: Global, site: &Site, out: &mut String, scope: Scope, text: 
 fn of_file(alloc: Global, site: &Site, out: &mut String, text: &str) -> Asked {
     let (number, text) = split(text);
     match fs_id(number) {
-        Some(fs) if text.len() <= 4294967294 => of_exports(alloc, site, out, Scope::File(fs), text),
+        Some(fs) if text.len() <= LONGEST_TEXT => of_exports(alloc, site, out, Scope::File(fs), text),
         _ => Ok(false),
     }
 }

@@ -9,7 +9,7 @@ use crate::filesystems::{self, fs_id, mounted};
 use crate::site::{InForce, Site};
 use desk_exports::{Boxed, Entry, read_whole};
 use desk_netgroup::Netgroups;
-use desk_policy::{Denial, Policy, Row, Verdict, act_as, verdict_text};
+use desk_policy::{Denial, LONGEST_TEXT, Policy, Row, Verdict, act_as, verdict_text};
 use desk_tables::{FileSystems, FsId, Hosts, credential};
 use desk_text::{Addr, Path, ReadError, Sequence};
 use std::alloc::{AllocError, Global};
@@ -52,7 +52,7 @@ fn read_with(alloc: Global, site: &mut Site, out: &mut String, text: &str) -> As
     requires { length text.now ≤ 4294967294 }
 {
     let (mounts, text) = text.split_once('\n').unwrap_or((text, ""));
-    if text.len() > 4294967294 {
+    if text.len() > LONGEST_TEXT {
         return Ok(false);
     }
     match mounted(alloc, mounts) {

@@ -8,6 +8,7 @@ use crate::{
     addresses, credentials, custodians, exports, faults, filesystems, hosts, lines, listings,
     netgroups, nets, networks, paths, policies, sites,
 };
+use desk_policy::LONGEST_TEXT;
 use std::alloc::Global;
 
 /// Answers a question.
@@ -18,7 +19,7 @@ pub fn answer(
     question: &str,
     text: &str,
 ) -> Asked {
-    if text.len() > 4294967294 {
+    if text.len() > LONGEST_TEXT {
         return Ok(false);
     }
     Ok(of_text(alloc, out, question, text)? || of_site(alloc, site, out, question, text)?)
