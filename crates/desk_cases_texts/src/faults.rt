@@ -143,7 +143,13 @@ fn of_exports(alloc: Global, site: &Site, out: &mut String, scope: Scope, text: 
 fn of_file(alloc: Global, site: &Site, out: &mut String, text: &str) -> Asked {
     let (number, text) = split(text);
     match fs_id(number) {
-        Some(fs) if text.len() <= LONGEST_TEXT => of_exports(alloc, site, out, Scope::File(fs), text),
+        Some(fs) if text.len() <= LONGEST_TEXT => of_exports(
+            alloc,
+            site,
+            out,
+            Scope::File(fs),
+            text,
+        ),
         _ => Ok(false),
     }
 }
