@@ -4,7 +4,8 @@ ghost use Rattle.std.specs.Prelude.{◌≡◌, ◌≤◌, IfOk, Ok, length};
 ghost use Rattle.desk_text.specs.Address.{number_of};
 ghost use Rattle.desk_text.specs.Reading.{Reads};
 ghost use Rattle.desk_policy.specs.Parsing.{read_whole_with, without_warnings};
-ghost use Rattle.desk_check.specs.TryText.{Tries, answer_of, policy_answer};
+ghost use Rattle.desk_policy.specs.Verdict.{verdict_result};
+ghost use Rattle.desk_check.specs.TryText.{Tries, answer_of, answer_on};
 
 use desk_policy::{
     Plain, Policy, PolicyView, SiteFault, SiteTables, Verdict, parse_whole_without_warnings,
@@ -55,22 +56,21 @@ fn answer_by(
     ensures { Tries (Ok policy) own.now (number_of address) path.now result }
 {
     let view = Plain::build(alloc, policy)?;
-    let tried = decide_by(alloc, &view, address, path, own)?;
+    let verdict = view.decide(address, path);
+    let tried = printed_verdict(alloc, view.policy(), &verdict, own)?;
     Ok(tried)
 }
 
-/// Decides whether a client may mount a directory by a policy in force.
-pub fn decide_by(
+/// Prints a verdict by a policy, and says whether it grants the mount.
+pub fn printed_verdict(
     alloc: Global,
-    view: &Plain,
-    address: Addr,
-    path: &Path,
+    policy: &Policy,
+    verdict: &Verdict<'_>,
     own: &Option<Cred>,
 ) -> Result<Tried, AllocError>
-    ensures { IfOk result (λ tried. answer_of tried ≡ policy_answer view.now own.now (number_of address) path.now) }
+    ensures { IfOk result (λ tried. answer_of tried ≡ answer_on policy.now own.now (verdict_result verdict.now)) }
 {
-    let verdict = view.decide(address, path);
     let granted = matches!(verdict, Verdict::Granted { .. });
-    let line = verdict_text(alloc, view.policy(), &verdict, own)?;
+    let line = verdict_text(alloc, policy, verdict, own)?;
     Ok(Tried { granted, line })
 }
