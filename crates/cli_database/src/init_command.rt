@@ -11,7 +11,8 @@ ghost use Rattle.desk_policy.specs.Site.{texts_of};
 ghost use Rattle.cli_output.specs.SiteFolder.{AreShortFiles, site_list};
 ghost use Rattle.cli_output.specs.declared.refused.Refused.TheVariants as refused;
 ghost use Rattle.cli_database.specs.InitCommand.{AnswersInit, AnswersInitSite, AnswersInitTexts, AnswersInitWith, AreParts, ComesTo, Creates, HaveRevisionLengths, IsReadyText, IsRefusedFor, IsSiteWith, SplitsExports, Stores, are_files_short, is_short, ready_text, warning_line};
-ghost use Rattle.cli_database.specs.ToldRefusal.{IsRefusedAs};
+ghost use Rattle.cli_database.specs.ToldRefusal.{IsRefusedAs, IsRefusedByDesk};
+ghost use Rattle.desk_service.specs.declared.refused.Refused.TheVariants as desk;
 ghost use Rattle.desk_core.specs.declared.edit.Refusal.TheVariants.{Fault as SiteRefusal};
 ghost use Rattle.cli_words.specs.Words.{given_init};
 
@@ -32,6 +33,7 @@ use desk_check::{SiteSources, Source, WholeSources, tell_site_fault, tell_split_
 use desk_core::Refusal;
 use desk_exports::{Rule, split};
 use desk_policy::{Site, SiteFault, Warning, parse};
+use desk_service::Refused as ByDesk;
 use desk_store::{CreateError, Desk};
 use desk_tables::{FileSystems, Mount};
 use desk_text::{LineFault, ReadError, Text};
@@ -456,9 +458,9 @@ fn faulty(
     site: &Site,
     fault: SiteFault,
 ) -> Result<Output, Failure>
-    ensures { IsRefusedAs (refused.Edit (SiteRefusal fault)) result }
+    ensures { IsRefusedByDesk (desk.Edit (SiteRefusal fault)) result }
 {
     let name = fault.file.as_str();
     let told = tell_site_fault(alloc, with_exports(sources, site, name), &fault)?;
-    Ok(Output::Refused(Refused::Edit(Refusal::Fault(fault)), told))
+    Ok(Output::Refused(Refused::Desk(ByDesk::Edit(Refusal::Fault(fault))), told))
 }
