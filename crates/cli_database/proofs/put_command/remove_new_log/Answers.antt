@@ -6,4 +6,5 @@ use Rattle.cli_database.proofs.PutAnswers.{answers}
 use Rattle.cli_database.proofs.put_command.remove_new_log.Goals as goal
 
 pub returns : goal.returns
-returns c = answers over_files (record { log = []; db = [] }) c.args.words.db.now (asked c.args.edit.now) c.open_files-answer.result.0 c.open_files-answer.result.1 c.open_files-answer.ensures
+returns c =
+    answers over_files (record { log = []; db = [] }) c.args.words.db.now (asked c.args.edit.now) c.in_ok-replies.replies c.open_files-answer.result.0 c.open_files-answer.result.1 ? c.open_files-answer.ensures
