@@ -20,5 +20,6 @@ pub fn run_ask(rt: &HostRuntime, words: AskWords<'_>) -> Result<Output, Failure>
     let address = read_host(alloc, words.host)?;
     let path = read_path(alloc, Argument::Dir, words.dir)?;
     let own = read_credential(alloc, words.credential, "", "")?;
-    answer_question(rt, words.db, SiteQuestion::OnPolicy(PolicyQuestion::Mount(address, &path), &own))
+    let question = PolicyQuestion::Mount(address, &path);
+    answer_question(rt, words.db, SiteQuestion::OnPolicy(question, &own))
 }

@@ -16,7 +16,8 @@ use desk_service::FileQuestion;
 pub fn run_log(rt: &HostRuntime, words: LogWords<'_>) -> Result<Output, Failure>
     ensures { AnswersLog (given_log words.entry) result }
 {
-    answer_question(rt, words.db, SiteQuestion::OnFile(FileQuestion::Revisions(words.name)))
+    let question = FileQuestion::Revisions(words.name);
+    answer_question(rt, words.db, SiteQuestion::OnFile(question))
 }
 
 /// Answers `cat DB NAME [--rev N]`.
@@ -27,5 +28,6 @@ pub fn run_cat(rt: &HostRuntime, words: CatWords<'_>) -> Result<Output, Failure>
         Some(word) => Some(read_number(rt.alloc(), Argument::Rev, word)?),
         None => None,
     };
-    answer_question(rt, words.db, SiteQuestion::OnFile(FileQuestion::Text(words.name, rev)))
+    let question = FileQuestion::Text(words.name, rev);
+    answer_question(rt, words.db, SiteQuestion::OnFile(question))
 }

@@ -170,9 +170,7 @@ fn file_output(
     ensures { PrintsAnswer None (ByFile answer) result }
 {
     match answer {
-        FileAnswer::Text(text) => {
-            Ok(Output::Done(String::from_str(alloc, text.body.as_str())?))
-        }
+        FileAnswer::Text(text) => { Ok(Output::Done(String::from_str(alloc, text.body.as_str())?)) }
         FileAnswer::Revisions(revisions) => {
             Ok(Output::Done(log_text(alloc, revisions.as_slice())?))
         }

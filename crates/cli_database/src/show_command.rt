@@ -16,12 +16,14 @@ pub fn run_show(rt: &HostRuntime, words: ShowWords<'_>) -> Result<Output, Failur
     ensures { AnswersShow (given_show words.entry) result }
 {
     let address = read_host(rt.alloc(), words.host)?;
-    answer_question(rt, words.db, SiteQuestion::OnPolicy(PolicyQuestion::Listing(address), &None))
+    let question = PolicyQuestion::Listing(address);
+    answer_question(rt, words.db, SiteQuestion::OnPolicy(question, &None))
 }
 
 /// Answers `exports DB`.
 pub fn run_exports(rt: &HostRuntime, words: ExportsWords<'_>) -> Result<Output, Failure>
     ensures { AnswersExports (given_exports words.entry) result }
 {
-    answer_question(rt, words.db, SiteQuestion::OnPolicy(PolicyQuestion::Exports, &None))
+    let question = PolicyQuestion::Exports;
+    answer_question(rt, words.db, SiteQuestion::OnPolicy(question, &None))
 }

@@ -30,15 +30,17 @@ impl Refused {
     {
         match self {
             Refused::Desk(ByDesk::Edit(Refusal::Fault(_))) | Refused::Split(_) => 3,
-            Refused::Desk(ByDesk::Edit(
-                Refusal::UnknownCaller
-                | Refusal::BadKey
-                | Refusal::UnknownFile
-                | Refusal::NotCustodian
-                | Refusal::TooLarge
-                | Refusal::Stale(_)
-                | Refusal::Full,
-            )) => 1,
+            Refused::Desk(
+                ByDesk::Edit(
+                    Refusal::UnknownCaller
+                    | Refusal::BadKey
+                    | Refusal::UnknownFile
+                    | Refusal::NotCustodian
+                    | Refusal::TooLarge
+                    | Refusal::Stale(_)
+                    | Refusal::Full,
+                ),
+            ) => 1,
             Refused::Desk(ByDesk::NoRevision) | Refused::TooLarge(_) => 1,
             Refused::Desk(ByDesk::Store | ByDesk::Schema | ByDesk::Memory) => 4,
         }
