@@ -1,16 +1,15 @@
 //! The command `init`: a new database of a site's files.
 
-ghost use Rattle.std.specs.Prelude.{◌≡◌, ◌≤◌, ◌++◌, ℕ, [], Decides, Err, false, IfOk, List, Ok, OnOk, if◌then◌else◌, length, map, string_bytes, unwrap_or};
-ghost use Rattle.std.specs.BTreeMap.{IsOrdered, get_by_text, values};
-ghost use Rattle.std.specs.List.{flat_map, list_all};
-ghost use Rattle.std.specs.String.{string_cmp};
+ghost use Rattle.std.specs.Prelude.{◌≡◌, ◌≤◌, ◌++◌, ℕ, [], Err, false, IfOk, List, Ok, OnOk, if◌then◌else◌, length, map, string_bytes, unwrap_or};
+ghost use Rattle.std.specs.BTreeMap.{get_by_text};
+ghost use Rattle.std.specs.List.{flat_map};
 ghost use Rattle.std.specs.Str.{bytes_eq};
 ghost use Rattle.sqlite.specs.Held.{state};
 ghost use Rattle.desk_tables.specs.FileSystemsText.{read_filesystems};
 ghost use Rattle.desk_policy.specs.Site.{texts_of};
 ghost use Rattle.cli_output.specs.SiteFolder.{AreShortFiles, site_list};
 ghost use Rattle.cli_output.specs.declared.refused.Refused.TheVariants as refused;
-ghost use Rattle.cli_database.specs.InitCommand.{AnswersInit, AnswersInitSite, AnswersInitTexts, AnswersInitWith, AreParts, ComesTo, Creates, HaveRevisionLengths, IsReadyText, IsRefusedFor, IsSiteWith, SplitsExports, Stores, are_files_short, is_short, ready_text, warning_line};
+ghost use Rattle.cli_database.specs.InitCommand.{AnswersInit, AnswersInitSite, AnswersInitTexts, AnswersInitWith, AreParts, ComesTo, Creates, IsReadyText, IsRefusedFor, IsSiteWith, SplitsExports, Stores, ready_text, warning_line};
 ghost use Rattle.cli_database.specs.ToldRefusal.{IsRefusedAs, IsRefusedByDesk};
 ghost use Rattle.desk_service.specs.declared.refused.Refused.TheVariants as desk;
 ghost use Rattle.desk_core.specs.declared.edit.Refusal.TheVariants.{Fault as SiteRefusal};
@@ -30,7 +29,7 @@ use cli_output::site_folder::{SiteFiles, paths_of, read_texts, sources_of};
 use cli_words::database_words::InitWords;
 use desk_check::split_text::SplitFault;
 use desk_check::{SiteSources, Source, WholeSources, tell_site_fault, tell_split_fault};
-use desk_core::Refusal;
+use desk_core::{LONGEST_REVISION, Refusal};
 use desk_exports::{Rule, split};
 use desk_policy::{Site, SiteFault, Warning, parse};
 use desk_service::Refused as ByDesk;
@@ -42,9 +41,6 @@ use std::alloc::{AllocError, Global};
 use std::collections::BTreeMap;
 use std::io;
 use std::io::BufRead;
-
-/// The most bytes that the text of a revision may have.
-const LONGEST_REVISION: usize = 65_536;
 
 /// Answers `init DB DIR`.
 pub fn run_init<I: BufRead>(
@@ -200,7 +196,7 @@ fn site_of(
 fn ready_text(alloc: Global, site: &Site) -> Result<String, AllocError>
     ensures { IfOk result (λ text. IsReadyText (texts_of site.now) (string_bytes text)) }
 {
-    if !has_revision_lengths(site) {
+    if !site.has_lengths_within(LONGEST_REVISION) {
         return warned_text(alloc, &[]);
     }
     match parse(alloc, site) {
@@ -208,41 +204,6 @@ fn ready_text(alloc: Global, site: &Site) -> Result<String, AllocError>
         Err(ReadError::Fault(_)) => warned_text(alloc, &[]),
         Err(ReadError::Memory) => Err(AllocError),
     }
-}
-
-/// Tests whether no text of a site is too long for a revision.
-fn has_revision_lengths(site: &Site) -> bool
-    ensures { Decides result (HaveRevisionLengths (texts_of site.now)) }
-{
-    are_files_short(site) && are_exports_short(&site.exports)
-}
-
-/// Tests whether none of the seven files is too long for a revision.
-fn are_files_short(site: &Site) -> bool
-    ensures { result ≡ are_files_short site.now }
-{
-    is_short(&site.custodians)
-        && is_short(&site.filesystems)
-        && is_short(&site.hosts)
-        && is_short(&site.networks)
-        && is_short(&site.passwd)
-        && is_short(&site.group)
-        && is_short(&site.netgroup)
-}
-
-/// Tests whether no exports text is too long for a revision.
-fn are_exports_short(exports: &BTreeMap<String, Text>) -> bool
-    ensures each { result ≡ list_all is_short (values exports.now) }
-    ensures ordered { IsOrdered string_cmp exports.now }
-{
-    exports.values().all(is_short)
-}
-
-/// Tests whether a text is not too long for a revision.
-fn is_short(text: &Text) -> bool
-    ensures { result ≡ is_short text.now }
-{
-    text.as_str().len() <= LONGEST_REVISION
 }
 
 /// Writes a line for each warning, and `ready`.
