@@ -31,7 +31,7 @@ use desk_check::split_text::SplitFault;
 use desk_check::{SiteSources, Source, WholeSources, tell_site_fault, tell_split_fault};
 use desk_core::{LONGEST_REVISION, Refusal};
 use desk_exports::{Rule, split};
-use desk_policy::{Site, SiteFault, Warning, parse};
+use desk_policy::{Site, SiteFault, SiteFile, Warning, mount_of, parse};
 use desk_service::Refused as ByDesk;
 use desk_store::{CreateError, Desk};
 use desk_tables::{FileSystems, Mount};
@@ -368,7 +368,7 @@ fn refuse(
 fn too_large(alloc: Global, sources: SiteSources<'_>, file: Text) -> Result<Output, Failure>
     ensures { IsRefusedAs (refused.TooLarge file) result }
 {
-    let told = match file.as_str().strip_prefix("exports:") {
+    let told = match mount_of(file.as_str()) {
         Some(mount) => lines_too_large_told(alloc, sources.whole.exports.path, mount)?,
         None => too_large_told(alloc, FileArgument::Dir, path_of(sources, file.as_str()))?,
     };
@@ -380,26 +380,24 @@ fn lines_too_large_told(alloc: Global, path: &str, mount: &str) -> Result<String
     format!(in alloc; "exportdesk: DIR {path:?}: the lines of {mount:?} are over 65536 bytes\n")
 }
 
-/// Lends the path of one of the seven files.
-fn path_of<'a>(sources: SiteSources<'a>, file: &str) -> &'a str {
-    match file {
-        "custodians" => sources.custodians.path,
-        "filesystems" => sources.filesystems.path,
-        "hosts" => sources.whole.tables.hosts.path,
-        "networks" => sources.whole.tables.networks.path,
-        "passwd" => sources.whole.tables.passwd.path,
-        "group" => sources.whole.tables.group.path,
-        _ => sources.whole.tables.netgroup.path,
+/// Lends the path of the file of this name, or the exports file's if it is not one of the seven.
+fn path_of<'a>(sources: SiteSources<'a>, name: &str) -> &'a str {
+    match SiteFile::of(name) {
+        Some(SiteFile::Custodians) => sources.custodians.path,
+        Some(SiteFile::Filesystems) => sources.filesystems.path,
+        Some(SiteFile::Hosts) => sources.whole.tables.hosts.path,
+        Some(SiteFile::Networks) => sources.whole.tables.networks.path,
+        Some(SiteFile::Passwd) => sources.whole.tables.passwd.path,
+        Some(SiteFile::Group) => sources.whole.tables.group.path,
+        Some(SiteFile::Netgroup) => sources.whole.tables.netgroup.path,
+        None => sources.whole.exports.path,
     }
 }
 
 /// Lends the sources with the exports file of this name, if there is one, in the place of the whole exports text.
 fn with_exports<'a>(sources: SiteSources<'a>, site: &'a Site, name: &'a str) -> SiteSources<'a> {
-    let text = match name.strip_prefix("exports:") {
-        Some(mount) => match site.exports.get(mount) {
-            Some(text) => text.as_str(),
-            None => "",
-        },
+    let text = match mount_of(name) {
+        Some(mount) => site.exports_text(mount),
         None => "",
     };
     SiteSources {

@@ -30,6 +30,7 @@ use cli_words::arguments::read_number;
 use cli_words::database_words::PutWords;
 use desk_check::{SiteSources, Source, TableSources, WholeSources, tell_site_fault};
 use desk_core::{Edit, Refusal};
+use desk_policy::SiteFile;
 use desk_service::{Refused as ByDesk, Replies, put_over};
 use desk_store::{Desk, DeskError};
 use sqlite::{Alter, Connection, FileFrom, FileStore, Start, Wary};
@@ -300,15 +301,15 @@ fn sources_of<'a, S: Alter + Drop>(
     file: &'a str,
 ) -> SiteSources<'a> {
     SiteSources {
-        custodians: source_of(desk, edit, "custodians"),
-        filesystems: source_of(desk, edit, "filesystems"),
+        custodians: source_of(desk, edit, SiteFile::Custodians.name()),
+        filesystems: source_of(desk, edit, SiteFile::Filesystems.name()),
         whole: WholeSources {
             tables: TableSources {
-                hosts: source_of(desk, edit, "hosts"),
-                networks: source_of(desk, edit, "networks"),
-                passwd: source_of(desk, edit, "passwd"),
-                group: source_of(desk, edit, "group"),
-                netgroup: source_of(desk, edit, "netgroup"),
+                hosts: source_of(desk, edit, SiteFile::Hosts.name()),
+                networks: source_of(desk, edit, SiteFile::Networks.name()),
+                passwd: source_of(desk, edit, SiteFile::Passwd.name()),
+                group: source_of(desk, edit, SiteFile::Group.name()),
+                netgroup: source_of(desk, edit, SiteFile::Netgroup.name()),
             },
             exports: source_of(desk, edit, file),
         },
