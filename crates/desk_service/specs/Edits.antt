@@ -54,5 +54,5 @@ pub record IsPut (V : Type 0) (old new : State) (e : Edit) (answer : Result Done
 -- desk is the reply to its answer.
 abbrev pub PutsOver : {S V T : Type 0} → Ghosts S → Held S → Edit → Replies T → Result (Result T DeskError × Shown S V) (DeskError × Held S) → Type 0
 PutsOver g conn e replies (Err both) = IsNotPut (state g conn) (state g both.1) both.0
-PutsOver {V = V} g conn e replies (Ok both) =
+PutsOver {S} {V} g conn e replies (Ok both) =
     (answer : Result Done DeskError) × IsPut V (state g conn) (state g both.1.conn) e answer × (both.0 ≡ reply_to replies answer)
