@@ -41,9 +41,9 @@ abbrev pub desk_line : ByDesk → List ℕ
 desk_line (desk.Edit refusal) = refusal_line refusal ++ 10 ∷ []
 desk_line other = numbered_line (refused_number other) (refused_name other)
 
--- the line of a file whose text is too long, as `refused 5 TooLarge hosts`
-abbrev pub too_large_line : List ℕ → List ℕ
-too_large_line file = refusal_line refusal.TooLarge ++ 32 ∷ file ++ 10 ∷ []
+-- the line of a refusal for the text of a file, as `refused 5 TooLarge hosts`
+abbrev pub filed_line : Refusal → List ℕ → List ℕ
+filed_line refused file = refusal_line refused ++ 32 ∷ file ++ 10 ∷ []
 
 -- the line of a fault in the exports text, by the number and name of its rule
 abbrev pub split_line : ℕ → ℕ → List ℕ → List ℕ
@@ -52,5 +52,5 @@ split_line line number name = codes "fault exports line " ++ decimal line ++ cod
 -- the line that is printed, with its line end
 abbrev pub refused_line : Refused → List ℕ
 refused_line (refused.Desk refused) = desk_line refused
-refused_line (refused.TooLarge file) = too_large_line file
+refused_line (refused.TooLarge file) = filed_line refusal.TooLarge file
 refused_line (refused.Split fault) = split_line fault.line (rule_number fault.rule) (rule_name fault.rule)

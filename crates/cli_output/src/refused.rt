@@ -1,9 +1,8 @@
 //! Why a command on a database is refused: the fixed line, and the exit status.
 
-ghost use Rattle.std.specs.Prelude.{◌≡◌, ◌++◌, ◌∷◌, [], IfOk, codes};
-ghost use Rattle.std.specs.Fmt.{decimal};
+ghost use Rattle.std.specs.Prelude.{◌≡◌, IfOk};
 ghost use Rattle.std.specs.String.{string_bytes};
-ghost use Rattle.cli_output.specs.Refused.{desk_line, numbered_line, refused_line, refused_status, split_line, too_large_line};
+ghost use Rattle.cli_output.specs.Refused.{filed_line, numbered_line, refused_line, refused_status, split_line};
 
 use desk_core::Refusal;
 use desk_exports::Rule;
@@ -53,7 +52,7 @@ impl Refused {
         match self {
             Refused::Desk(ByDesk::Edit(refusal)) => format!(in alloc; "{refusal}\n"),
             Refused::Desk(refused) => numbered_line(alloc, refused.number(), refused.name()),
-            Refused::TooLarge(file) => too_large_line(alloc, file.as_str()),
+            Refused::TooLarge(file) => filed_line(alloc, &Refusal::TooLarge, file.as_str()),
             Refused::Split(fault) => {
                 split_line(alloc, fault.line, fault.rule.number(), fault.rule.name())
             }
@@ -68,11 +67,10 @@ fn numbered_line(alloc: Global, number: u32, name: &str) -> Result<String, Alloc
     format!(in alloc; "refused {number} {name}\n")
 }
 
-/// Writes the line on a text that is too long.
-fn too_large_line(alloc: Global, file: &str) -> Result<String, AllocError>
-    ensures { IfOk result (λ text. string_bytes text ≡ too_large_line file.now) }
+/// Writes the line of a refusal for the text of a file.
+fn filed_line(alloc: Global, refusal: &Refusal, file: &str) -> Result<String, AllocError>
+    ensures { IfOk result (λ text. string_bytes text ≡ filed_line refusal.now file.now) }
 {
-    let refusal = Refusal::TooLarge;
     format!(in alloc; "{refusal} {file}\n")
 }
 
