@@ -16,7 +16,7 @@ use Rattle.desk_store.specs.declared.error.DeskError.{DeskError}
 use Rattle.desk_store.specs.declared.error.DeskError.TheVariants as error
 use Rattle.desk_service.specs.Edits.{IsPut, reply_to}
 use Rattle.desk_service.specs.declared.edits.Replies.{Replies}
-use Rattle.desk_service.specs.declared.refused.Refused.TheVariants as desk
+use Rattle.desk_service.specs.declared.refused.Refused.TheVariants as by_desk
 use Rattle.cli_line.specs.CommandLine.{PutWords}
 use Rattle.cli_files.specs.Files.{HasText, LacksText, Leaves, ReadsInTurn}
 use Rattle.cli_files.specs.declared.failure.Failure.{Failure}
@@ -46,14 +46,14 @@ tells_answer e replies (Ok done) (Err failure) has number tells = absurd tells
 tells_answer e replies (Err failed) result has number tells = tells
 
 -- a database is not one of this project
-pub foreign : (path : List ℕ) (e : Edit) (result : Result Output Failure) → IsRefusedByDesk desk.Schema result → AnswersEdit path e result
+pub foreign : (path : List ℕ) (e : Edit) (result : Result Output Failure) → IsRefusedByDesk by_desk.Schema result → AnswersEdit path e result
 foreign path e (Ok (Refused why told)) is = subst (λ (w : Why). AnswersEdit path e (Ok (Refused w told))) (sym is) tt
 foreign path e (Ok output) is = absurd is
 foreign path e (Err Memory) is = tt
 foreign path e (Err failure) is = absurd is
 
 -- SQLite does not open a database, or refused a statement
-pub not_stored : (path : List ℕ) (e : Edit) (result : Result Output Failure) → IsRefusedByDesk desk.Store result → AnswersEdit path e result
+pub not_stored : (path : List ℕ) (e : Edit) (result : Result Output Failure) → IsRefusedByDesk by_desk.Store result → AnswersEdit path e result
 not_stored path e (Ok (Refused why told)) is = subst (λ (w : Why). AnswersEdit path e (Ok (Refused w told))) (sym is) tt
 not_stored path e (Ok output) is = absurd is
 not_stored path e (Err Memory) is = tt
@@ -81,8 +81,8 @@ failed_so path e (Err error.Memory) failure tells = subst (λ (r : Result Output
 
 answered : (path : List ℕ) (old new : State) (e : Edit) (answer : Result Done DeskError) (result : Result Output Failure) → IsPut Content old new e answer → TellsAnswer answer result → AnswersEdit path e result
 answered path old new e answer (Err failure) put tells = failed_so path e answer failure tells
-answered path old new e answer (Ok (Refused (refused.Desk desk.Store) told)) put tells = tt
-answered path old new e answer (Ok (Refused (refused.Desk desk.Schema) told)) put tells = tt
+answered path old new e answer (Ok (Refused (refused.Desk by_desk.Store) told)) put tells = tt
+answered path old new e answer (Ok (Refused (refused.Desk by_desk.Schema) told)) put tells = tt
 answered path old new e answer (Ok output) put tells = record {
   newest = newest_in put.before.heads;
   consistent = put.judged.consistent;

@@ -18,7 +18,7 @@ use Rattle.desk_store.specs.declared.error.Task.TheVariants as task
 use Rattle.desk_service.specs.Questions.{Answer, AnswersByHistory, ByFile, ByPolicy, ExportsAre, ListingIs, OnlyLooks, Question, VerdictIs}
 use Rattle.desk_service.specs.declared.questions.FileAnswer.TheVariants as found
 use Rattle.desk_service.specs.declared.refused.Refused.{Refused as ByDesk}
-use Rattle.desk_service.specs.declared.refused.Refused.TheVariants as desk
+use Rattle.desk_service.specs.declared.refused.Refused.TheVariants as by_desk
 use Rattle.cli_files.specs.Files.{IsUnread}
 use Rattle.cli_files.specs.declared.failure.Failure.{Failure}
 use Rattle.cli_files.specs.declared.failure.Failure.TheVariants.{Memory}
@@ -34,7 +34,7 @@ use Rattle.cli_database.specs.ToldRefusal.{IsRefusedByDesk, TellsError, copy_err
 -- a database at a path answers
 pub at_path : (path : List ℕ) (db : Database) (q : Question) (own : Option Cred) (result : Result Output Failure) → AnswersByDatabase db q own result → AnswersQuestion path q own result
 at_path path db q own (Err failure) is = subst (λ (f : Failure). IsUnread DatabaseFile path f) (sym is) tt
-at_path path db q own (Ok (Refused (refused.Desk desk.Store) told)) h = tt
+at_path path db q own (Ok (Refused (refused.Desk by_desk.Store) told)) h = tt
 at_path path db q own (Ok output) h = (db, h)
 
 -- What holds of this refusal and of out of memory holds of a result that tells the refusal.
@@ -45,14 +45,14 @@ told_so P memory why so (Err Memory) is = memory
 told_so P memory why so (Err failure) is = absurd is
 
 -- a statement was refused on a copy, or there was no memory
-fault_told : (P : Result Output Failure → Type 0) → P (Err Memory) → ((told : _) → P (Ok (Refused (refused.Desk desk.Store) told))) → (fault : StoreFault) (out : Bool) (result : Result Output Failure)
+fault_told : (P : Result Output Failure → Type 0) → P (Err Memory) → ((told : _) → P (Ok (Refused (refused.Desk by_desk.Store) told))) → (fault : StoreFault) (out : Bool) (result : Result Output Failure)
     → TellsError (cond out error.Memory (error.Store fault)) result → P result
 fault_told P memory so fault true result tells = subst P (sym tells) memory
-fault_told P memory so fault false result tells = told_so P memory desk.Store so result tells
+fault_told P memory so fault false result tells = told_so P memory by_desk.Store so result tells
 
 -- a desk is not opened on a copy of a database
 pub refuses_copy : (db : Database) (q : Question) (own : Option Cred) (e : DeskError) (result : Result Output Failure) → IsOfOpening e → (e ≡ error.Schema → IsOurs db → ⊥) → TellsError (copy_error e) result → AnswersByDatabase db q own result
-refuses_copy db q own error.Schema result look none tells = told_so (λ r. AnswersByDatabase db q own r) refl desk.Schema (λ told. none refl) result tells
+refuses_copy db q own error.Schema result look none tells = told_so (λ r. AnswersByDatabase db q own r) refl by_desk.Schema (λ told. none refl) result tells
 refuses_copy db q own (error.Store fault) result look none tells = fault_told (λ r. AnswersByDatabase db q own r) refl (λ told. tt) fault (is_out_of_memory fault.error) result tells
 refuses_copy db q own error.Memory result look none tells = subst (λ (r : Result Output Failure). AnswersByDatabase db q own r) (sym tells) refl
 refuses_copy db q own (error.Refused refusal) result (inl schema) none tells = absurd (cc)
@@ -71,10 +71,10 @@ look_fails history q own (error.Refused refusal) result (inr (fault, known, is))
 -- an answer by a history is printed
 pub printed : (history : List Revision) (q : Question) (own : Option Cred) (answer : Answer) (result : Result Output Failure) → AnswersByHistory history q answer → PrintsAnswer own answer result → TellsByHistory history q own result
 printed history q own answer (Err failure) by prints = prints
-printed history q own answer (Ok (Refused (refused.Desk desk.Store) told)) by prints = tt
+printed history q own answer (Ok (Refused (refused.Desk by_desk.Store) told)) by prints = tt
 printed history q own answer (Ok output) by prints = (answer, by, prints)
 
-not_schema : (own : Option Cred) (answer : Answer) (told : _) → Prints own answer (Refused (refused.Desk desk.Schema) told) → ⊥
+not_schema : (own : Option Cred) (answer : Answer) (told : _) → Prints own answer (Refused (refused.Desk by_desk.Schema) told) → ⊥
 not_schema own (ByPolicy (VerdictIs content verdict)) told h = h
 not_schema own (ByPolicy (ListingIs content listing)) told h = h
 not_schema own (ByPolicy (ExportsAre content)) told h = h
@@ -85,8 +85,8 @@ not_schema own (ByFile found.NoRevision) told h = h
 -- a desk on a database of this project answers
 answers : (db : Database) (q : Question) (own : Option Cred) (result : Result Output Failure) → IsOurs db → ((history : List Revision) → IsProject db history → TellsByHistory history q own result) → AnswersByDatabase db q own result
 answers db q own (Err failure) ours by = by ours.0 ours.1
-answers db q own (Ok (Refused (refused.Desk desk.Store) told)) ours by = tt
-answers db q own (Ok (Refused (refused.Desk desk.Schema) told)) ours by =
+answers db q own (Ok (Refused (refused.Desk by_desk.Store) told)) ours by = tt
+answers db q own (Ok (Refused (refused.Desk by_desk.Schema) told)) ours by =
     let printed = by ours.0 ours.1 in
     absurd (not_schema own printed.0 told printed.2)
 answers db q own (Ok output) ours by = (ours, by)

@@ -30,7 +30,7 @@ use Rattle.desk_store.specs.Desk.{IsSiteHistory}
 use Rattle.desk_store.specs.Tables.{LeavesCommit}
 use Rattle.desk_store.specs.declared.error.CreateError.{CreateError}
 use Rattle.desk_store.specs.declared.error.CreateError.TheVariants as create
-use Rattle.desk_service.specs.declared.refused.Refused.TheVariants as desk
+use Rattle.desk_service.specs.declared.refused.Refused.TheVariants as by_desk
 use Rattle.cli_line.specs.CommandLine.{InitWords}
 use Rattle.cli_files.specs.Files.{ReadsInTurn}
 use Rattle.cli_files.specs.declared.failure.Failure.{Failure}
@@ -104,8 +104,8 @@ ComesTo site (Err refused) = IsRefusedFor site refused
 -- the output tells what came of making a database of a site; `ready` is told only of one that is made
 abbrev pub TellsCreated : SiteTexts → Result Unit CreateError → Output → Type 0
 TellsCreated site (Ok made) (Done text) = IsReadyText site (string_bytes text)
-TellsCreated site (Err create.Schema) (Refused (refused.Desk desk.Schema) told) = Unit {0}
-TellsCreated site (Err (create.Fault fault)) (Refused (refused.Desk (desk.Edit refusal)) told) = refusal ≡ SiteRefusal fault
+TellsCreated site (Err create.Schema) (Refused (refused.Desk by_desk.Schema) told) = Unit {0}
+TellsCreated site (Err (create.Fault fault)) (Refused (refused.Desk (by_desk.Edit refusal)) told) = refusal ≡ SiteRefusal fault
 TellsCreated site (Err (create.TooLarge file)) (Refused (refused.TooLarge found) told) = found ≡ file
 TellsCreated site answer output = ⊥
 
@@ -118,7 +118,7 @@ pub record MakesDatabase (site : SiteTexts) (output : Output) : Type 0 where
 
 -- the answer to a site: that of making its database; or this cannot be opened, or a statement was refused
 abbrev pub AnswersInitSite : SiteTexts → Result Output Failure → Type 0
-AnswersInitSite site (Ok (Refused (refused.Desk desk.Store) told)) = Unit {0}
+AnswersInitSite site (Ok (Refused (refused.Desk by_desk.Store) told)) = Unit {0}
 AnswersInitSite site (Ok output) = MakesDatabase site output
 AnswersInitSite site (Err failure) = failure ≡ Memory
 

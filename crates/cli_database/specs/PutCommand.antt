@@ -17,7 +17,7 @@ use Rattle.desk_store.specs.declared.desk.Done.{Done}
 use Rattle.desk_store.specs.declared.error.DeskError.{DeskError}
 use Rattle.desk_service.specs.Edits.{IsNotPut, IsPut, reply_to}
 use Rattle.desk_service.specs.declared.edits.Replies.{Replies}
-use Rattle.desk_service.specs.declared.refused.Refused.TheVariants as desk
+use Rattle.desk_service.specs.declared.refused.Refused.TheVariants as by_desk
 use Rattle.cli_words.specs.Arguments.{IsBadNumber, revision_number}
 use Rattle.cli_line.specs.CommandLine.{PutWords}
 use Rattle.cli_files.specs.Files.{IsUnread, ReadsInTurn, is_input}
@@ -72,7 +72,7 @@ TellsPut old new e replies result =
 abbrev pub PutsFrom : {S A : Type 0} → Ghosts S → Image → Edit → Replies (String A) → Result Output Failure → Option (Held S) → Type 0
 PutsFrom {S} g image e replies result (Some left) =
     (conn : Held S) × (HasCleanDisk (state g conn) → Opens (state g conn) × FindsIn image (state g conn)) × TellsPut (state g conn) (state g left) e replies result
-PutsFrom g image e replies result None = IsRefusedByDesk desk.Store result
+PutsFrom g image e replies result None = IsRefusedByDesk by_desk.Store result
 
 -- An edit is judged by the newest revisions of some desk, which write a consistent site, and its answer is told. Which desk that
 -- was, no clause can name, since the connection to its database is made and dropped inside.
@@ -87,8 +87,8 @@ pub record PutsInto (e : Edit) (output : Output) : Type 0 where
 -- it or refused a statement, that it is not one of this project, and out of memory say nothing.
 abbrev pub AnswersEdit : List ℕ → Edit → Result Output Failure → Type 0
 AnswersEdit path e (Err failure) = IsUnread DatabaseFile path failure
-AnswersEdit path e (Ok (Refused (refused.Desk desk.Store) told)) = Unit {0}
-AnswersEdit path e (Ok (Refused (refused.Desk desk.Schema) told)) = Unit {0}
+AnswersEdit path e (Ok (Refused (refused.Desk by_desk.Store) told)) = Unit {0}
+AnswersEdit path e (Ok (Refused (refused.Desk by_desk.Schema) told)) = Unit {0}
 AnswersEdit path e (Ok output) = PutsInto e output
 
 -- the edit that the words ask for, with a key and a text

@@ -10,7 +10,7 @@ use Rattle.desk_core.specs.Head.{Revision}
 use Rattle.desk_store.specs.Open.{IsOurs, IsProject}
 use Rattle.desk_service.specs.Questions.{Answer, AnswersByHistory, ByFile, ByPolicy, ExportsAre, ListingIs, OnFile, OnPolicy, Question, VerdictIs, file_question, policy_question}
 use Rattle.desk_service.specs.declared.questions.FileAnswer.TheVariants as found
-use Rattle.desk_service.specs.declared.refused.Refused.TheVariants as desk
+use Rattle.desk_service.specs.declared.refused.Refused.TheVariants as by_desk
 use Rattle.desk_check.specs.TryText.{answer_of, answer_on}
 use Rattle.cli_files.specs.Files.{IsUnread}
 use Rattle.cli_files.specs.declared.failure.Failure.{Failure}
@@ -47,7 +47,7 @@ Prints own (ByPolicy (ListingIs content listing)) (Done text) = string_bytes tex
 Prints own (ByPolicy (ExportsAre content)) (Done text) = string_bytes text ≡ all_exports content
 Prints own (ByFile (found.Text file)) (Done text) = string_bytes text ≡ file.body
 Prints own (ByFile (found.Revisions revisions)) (Done text) = string_bytes text ≡ log_text revisions
-Prints own (ByFile found.NoRevision) (Refused (refused.Desk desk.NoRevision) told) = Unit {0}
+Prints own (ByFile found.NoRevision) (Refused (refused.Desk by_desk.NoRevision) told) = Unit {0}
 Prints own answer output = ⊥
 
 -- an answer is printed, or memory ran out
@@ -61,15 +61,15 @@ OutputByHistory history question own output = (answer : Answer) × AnswersByHist
 
 -- What is told of a question by a history. That a statement was refused, and that there is no memory, say nothing.
 abbrev pub TellsByHistory : List Revision → Question → Option Cred → Result Output Failure → Type 0
-TellsByHistory history question own (Ok (Refused (refused.Desk desk.Store) told)) = Unit {0}
+TellsByHistory history question own (Ok (Refused (refused.Desk by_desk.Store) told)) = Unit {0}
 TellsByHistory history question own (Ok output) = OutputByHistory history question own output
 TellsByHistory history question own (Err failure) = failure ≡ Memory
 
 -- The answer to a question on a database: by each history that it holds, or that it is not one of this project. That a statement
 -- was refused, and that there is no memory, say nothing.
 abbrev pub AnswersByDatabase : Database → Question → Option Cred → Result Output Failure → Type 0
-AnswersByDatabase db question own (Ok (Refused (refused.Desk desk.Schema) told)) = IsOurs db → ⊥
-AnswersByDatabase db question own (Ok (Refused (refused.Desk desk.Store) told)) = Unit {0}
+AnswersByDatabase db question own (Ok (Refused (refused.Desk by_desk.Schema) told)) = IsOurs db → ⊥
+AnswersByDatabase db question own (Ok (Refused (refused.Desk by_desk.Store) told)) = Unit {0}
 AnswersByDatabase db question own (Ok output) = IsOurs db × ((history : List Revision) → IsProject db history → OutputByHistory history question own output)
 AnswersByDatabase db question own (Err failure) = failure ≡ Memory
 
@@ -77,5 +77,5 @@ AnswersByDatabase db question own (Err failure) = failure ≡ Memory
 -- it. Out of memory says nothing.
 abbrev pub AnswersQuestion : List ℕ → Question → Option Cred → Result Output Failure → Type 0
 AnswersQuestion path question own (Err failure) = IsUnread DatabaseFile path failure
-AnswersQuestion path question own (Ok (Refused (refused.Desk desk.Store) told)) = Unit {0}
+AnswersQuestion path question own (Ok (Refused (refused.Desk by_desk.Store) told)) = Unit {0}
 AnswersQuestion path question own (Ok output) = (db : Database) × AnswersByDatabase db question own (Ok output)

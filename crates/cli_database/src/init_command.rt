@@ -11,7 +11,7 @@ ghost use Rattle.cli_output.specs.SiteFolder.{AreShortFiles, site_list};
 ghost use Rattle.cli_output.specs.declared.refused.Refused.TheVariants as refused;
 ghost use Rattle.cli_database.specs.InitCommand.{AnswersInit, AnswersInitSite, AnswersInitTexts, AnswersInitWith, AreParts, ComesTo, Creates, IsReadyText, IsRefusedFor, IsSiteWith, SplitsExports, Stores, ready_text, warning_line};
 ghost use Rattle.cli_database.specs.ToldRefusal.{IsRefusedAs, IsRefusedByDesk};
-ghost use Rattle.desk_service.specs.declared.refused.Refused.TheVariants as desk;
+ghost use Rattle.desk_service.specs.declared.refused.Refused.TheVariants as by_desk;
 ghost use Rattle.desk_core.specs.declared.edit.Refusal.TheVariants.{Fault as SiteRefusal};
 ghost use Rattle.cli_words.specs.Words.{given_init};
 
@@ -417,7 +417,7 @@ fn faulty(
     site: &Site,
     fault: SiteFault,
 ) -> Result<Output, Failure>
-    ensures { IsRefusedByDesk (desk.Edit (SiteRefusal fault)) result }
+    ensures { IsRefusedByDesk (by_desk.Edit (SiteRefusal fault)) result }
 {
     let name = fault.file.as_str();
     let told = tell_site_fault(alloc, with_exports(sources, site, name), &fault)?;

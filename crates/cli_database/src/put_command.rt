@@ -9,7 +9,7 @@ ghost use Rattle.sqlite_wal.specs.Files.{image_at};
 ghost use Rattle.sqlite.specs.Files.{over_files};
 ghost use Rattle.sqlite.specs.Held.{state};
 ghost use Rattle.desk_core.specs.Edit.{asked};
-ghost use Rattle.desk_service.specs.declared.refused.Refused.TheVariants as desk;
+ghost use Rattle.desk_service.specs.declared.refused.Refused.TheVariants as by_desk;
 ghost use Rattle.cli_words.specs.Words.{given_put};
 ghost use Rattle.cli_database.specs.PutCommand.{AnswersEdit, AnswersKeyFile, AnswersPut, AnswersPutFiles, GivesKey, HasReplies, IsKeyIn, PutsFrom, TellsPut, TellsReply, edit_of, key_in, key_file_in};
 ghost use Rattle.cli_database.specs.ToldRefusal.{IsRefusedByDesk};
@@ -283,7 +283,7 @@ fn refused<S: Alter + Drop>(
     edit: &Edit<'_>,
     refusal: Refusal,
 ) -> Result<Output, Failure>
-    ensures { IsRefusedByDesk (desk.Edit refusal) result }
+    ensures { IsRefusedByDesk (by_desk.Edit refusal) result }
 {
     let told = match &refusal {
         Refusal::Fault(fault) => {

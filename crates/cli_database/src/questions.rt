@@ -117,7 +117,7 @@ fn policy_output(
     answer: PolicyAnswer<'_>,
     own: &Option<Cred>,
 ) -> Result<Output, Failure>
-    ensures { PrintsAnswer own.now (ByPolicy (policy_answer_of answer)) result }
+    ensures { PrintsAnswer own.now (ByPolicy (policy_answer_of answer.entry)) result }
 {
     match answer {
         PolicyAnswer::Verdict(policy, verdict) => {
@@ -137,7 +137,7 @@ fn told_verdict(
     verdict: Verdict<'_>,
     own: &Option<Cred>,
 ) -> Result<Tried, AllocError>
-    ensures { IfOk result (λ tried. answer_of tried ≡ answer_on policy.now own.now (verdict_result verdict)) }
+    ensures { IfOk result (λ tried. answer_of tried ≡ answer_on policy.now own.now (verdict_result verdict.entry)) }
 {
     let granted = matches!(verdict, Verdict::Granted { .. });
     let line = verdict_text(alloc, policy, &verdict, own)?;

@@ -1,7 +1,7 @@
 //! Outputs of commands on a database that are refused, with the sentence that standard error tells beside the fixed line.
 
 ghost use Rattle.std.specs.Prelude.{◌≡◌};
-ghost use Rattle.desk_service.specs.declared.refused.Refused.TheVariants as desk;
+ghost use Rattle.desk_service.specs.declared.refused.Refused.TheVariants as by_desk;
 ghost use Rattle.cli_database.specs.ToldRefusal.{IsRefusedByDesk, TellsError, copy_error};
 
 use crate::copy::is_out_of_memory;
@@ -19,7 +19,7 @@ use std::io;
 
 /// Answers that the file of a question, or its revision of the number that is asked for, is not there.
 pub fn no_revision(alloc: Global, question: FileQuestion<'_>) -> Result<Output, Failure>
-    ensures { IsRefusedByDesk desk.NoRevision result }
+    ensures { IsRefusedByDesk by_desk.NoRevision result }
 {
     let told = match question {
         FileQuestion::Text(name, Some(rev)) => {
@@ -34,7 +34,7 @@ pub fn no_revision(alloc: Global, question: FileQuestion<'_>) -> Result<Output, 
 
 /// Answers that SQLite does not open a database.
 pub fn not_opened(alloc: Global, db: &str, error: Error) -> Result<Output, Failure>
-    ensures { IsRefusedByDesk desk.Store result }
+    ensures { IsRefusedByDesk by_desk.Store result }
 {
     let told = match error {
         Error::SqliteFailure(ErrorCode::OutOfMemory) => return Err(Failure::Memory),
@@ -56,7 +56,7 @@ pub fn not_opened(alloc: Global, db: &str, error: Error) -> Result<Output, Failu
 
 /// Answers that SQLite does not open a database, by what stands in the way of its files, if that is known.
 pub fn not_opened_at(rt: &HostRuntime, db: &str, error: Error) -> Result<Output, Failure>
-    ensures { IsRefusedByDesk desk.Store result }
+    ensures { IsRefusedByDesk by_desk.Store result }
 {
     match error {
         Error::SqliteFailure(ErrorCode::CannotOpen) => match find_obstacle(rt, db) {
@@ -69,7 +69,7 @@ pub fn not_opened_at(rt: &HostRuntime, db: &str, error: Error) -> Result<Output,
 
 /// Answers by what stands in the way of a database's files.
 pub fn obstructed(alloc: Global, db: &str, obstacle: Obstacle) -> Result<Output, Failure>
-    ensures { IsRefusedByDesk desk.Store result }
+    ensures { IsRefusedByDesk by_desk.Store result }
 {
     let told = format!(in alloc; "exportdesk: DB {db:?}: {obstacle}\n")?;
     Ok(Output::Refused(Refused::Desk(ByDesk::Store), told))
@@ -77,7 +77,7 @@ pub fn obstructed(alloc: Global, db: &str, obstacle: Obstacle) -> Result<Output,
 
 /// Answers that the system does not open a database for writing.
 pub fn not_writable(alloc: Global, db: &str, error: &io::Error) -> Result<Output, Failure>
-    ensures { IsRefusedByDesk desk.Store result }
+    ensures { IsRefusedByDesk by_desk.Store result }
 {
     if error.kind() == io::ErrorKind::OutOfMemory {
         return Err(Failure::Memory);
@@ -88,21 +88,21 @@ pub fn not_writable(alloc: Global, db: &str, error: &io::Error) -> Result<Output
 
 /// Answers that a statement was refused.
 pub fn refused_by_store(alloc: Global, db: &str, fault: StoreFault) -> Result<Output, Failure>
-    ensures { IsRefusedByDesk desk.Store result }
+    ensures { IsRefusedByDesk by_desk.Store result }
 {
     refused_by_desk(alloc, db, DeskError::Store(fault))
 }
 
 /// Answers that a database is not one of this project.
 pub fn refused_by_schema(alloc: Global, db: &str) -> Result<Output, Failure>
-    ensures { IsRefusedByDesk desk.Schema result }
+    ensures { IsRefusedByDesk by_desk.Schema result }
 {
     refused_by_desk(alloc, db, DeskError::Schema)
 }
 
 /// Answers that a new database has a table already.
 pub fn refused_by_table(alloc: Global, db: &str) -> Result<Output, Failure>
-    ensures { IsRefusedByDesk desk.Schema result }
+    ensures { IsRefusedByDesk by_desk.Schema result }
 {
     let told = format!(in alloc;
         "exportdesk: DB {db:?}: it has a table meta or file_rev already (put changes a desk)\n"

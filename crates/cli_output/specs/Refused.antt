@@ -7,7 +7,7 @@ use Rattle.desk_core.specs.declared.edit.Refusal.{Refusal}
 use Rattle.desk_core.specs.declared.edit.Refusal.TheVariants as refusal
 use Rattle.desk_service.specs.Refused.{refused_name, refused_number}
 use Rattle.desk_service.specs.declared.refused.Refused.{Refused as ByDesk}
-use Rattle.desk_service.specs.declared.refused.Refused.TheVariants as desk
+use Rattle.desk_service.specs.declared.refused.Refused.TheVariants as by_desk
 use Rattle.cli_output.specs.declared.refused.Refused.{Refused}
 use Rattle.cli_output.specs.declared.refused.Refused.TheVariants as refused
 
@@ -24,11 +24,11 @@ refusal_status refusal.Full = 1
 
 -- the exit status
 abbrev pub refused_status : Refused → ℕ
-refused_status (refused.Desk (desk.Edit refusal)) = refusal_status refusal
-refused_status (refused.Desk desk.NoRevision) = 1
-refused_status (refused.Desk desk.Store) = 4
-refused_status (refused.Desk desk.Schema) = 4
-refused_status (refused.Desk desk.Memory) = 4
+refused_status (refused.Desk (by_desk.Edit refusal)) = refusal_status refusal
+refused_status (refused.Desk by_desk.NoRevision) = 1
+refused_status (refused.Desk by_desk.Store) = 4
+refused_status (refused.Desk by_desk.Schema) = 4
+refused_status (refused.Desk by_desk.Memory) = 4
 refused_status (refused.TooLarge file) = 1
 refused_status (refused.Split fault) = 3
 
@@ -38,7 +38,7 @@ numbered_line number name = codes "refused " ++ decimal number ++ 32 ∷ name ++
 
 -- the line of what a desk refuses: of an edit the refusal as it is printed, else its number and name
 abbrev pub desk_line : ByDesk → List ℕ
-desk_line (desk.Edit refusal) = refusal_line refusal ++ 10 ∷ []
+desk_line (by_desk.Edit refusal) = refusal_line refusal ++ 10 ∷ []
 desk_line other = numbered_line (refused_number other) (refused_name other)
 
 -- the line of a refusal for the text of a file, as `refused 5 TooLarge hosts`
