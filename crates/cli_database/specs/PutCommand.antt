@@ -23,7 +23,7 @@ use Rattle.cli_line.specs.CommandLine.{PutWords}
 use Rattle.cli_files.specs.Files.{IsUnread, ReadsInTurn, is_input}
 use Rattle.cli_files.specs.declared.bad_argument.Argument.TheVariants as name
 use Rattle.cli_files.specs.declared.failure.Failure.{Failure}
-use Rattle.cli_files.specs.declared.failure.Failure.TheVariants.{InputTwice, KeyTwice, Memory, NoKey}
+use Rattle.cli_files.specs.declared.failure.Failure.TheVariants.{InputTwice, KeyTwice, NoKey}
 use Rattle.cli_files.specs.declared.files.FileArgument.{FileArgument}
 use Rattle.cli_files.specs.declared.files.FileArgument.TheVariants.{Database as DatabaseFile, File, KeyFile}
 use Rattle.cli_output.specs.declared.output.Output.{Output}
