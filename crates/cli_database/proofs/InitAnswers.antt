@@ -16,6 +16,7 @@ use Rattle.desk_policy.specs.Site.{SiteTexts}
 use Rattle.desk_policy.specs.declared.site_fault.SiteFault.{SiteFault}
 use Rattle.desk_core.specs.declared.edit.Refusal.TheVariants.{Fault as SiteRefusal}
 use Rattle.desk_store.specs.declared.error.CreateError.TheVariants as create
+use Rattle.desk_service.specs.declared.refused.Refused.TheVariants as by_desk
 use Rattle.cli_files.specs.declared.failure.Failure.{Failure}
 use Rattle.cli_files.specs.declared.failure.Failure.TheVariants.{Memory}
 use Rattle.cli_output.specs.SiteFolder.{site_list}
@@ -25,7 +26,7 @@ use Rattle.cli_output.specs.declared.output.Output.TheVariants.{Refused}
 use Rattle.cli_output.specs.declared.refused.Refused.{Refused as Why}
 use Rattle.cli_output.specs.declared.refused.Refused.TheVariants as refused
 use Rattle.cli_database.specs.InitCommand.{AnswersInitBy, AnswersInitOf, AnswersInitSite, AnswersInitSplit, AnswersInitTexts, AnswersInitWith, ComesTo, IsRefusedFor, SplitsExports, Stores, TellsSplitFault, part_of}
-use Rattle.cli_database.specs.ToldRefusal.{IsRefusedAs}
+use Rattle.cli_database.specs.ToldRefusal.{IsRefusedAs, IsRefusedByDesk}
 use Rattle.cli_database.specs.declared.init_command.NotMade.{NotMade}
 use Rattle.cli_database.specs.declared.init_command.NotMade.TheVariants as not_made
 
@@ -96,13 +97,13 @@ comes_to g old new site (Err (not_made.Obstacle obstacle)) stores = absurd store
 comes_to g old new site (Err (not_made.Unopened error)) stores = absurd stores
 
 -- a site is refused, and that is told
-pub table_there : (site : SiteTexts) (result : Result Output Failure) → IsRefusedAs refused.Schema result → AnswersInitSite site result
+pub table_there : (site : SiteTexts) (result : Result Output Failure) → IsRefusedByDesk by_desk.Schema result → AnswersInitSite site result
 table_there site (Ok (Refused why told)) is = subst (λ (w : Why). AnswersInitSite site (Ok (Refused w told))) (sym is) (record { answer = Err create.Schema; judged = tt; told = tt })
 table_there site (Ok output) is = absurd is
 table_there site (Err Memory) is = refl
 table_there site (Err failure) is = absurd is
 
-pub has_fault : (site : SiteTexts) (fault : SiteFault) (result : Result Output Failure) → IsRefusedFor site (not_made.Create (create.Fault fault)) → IsRefusedAs (refused.Edit (SiteRefusal fault)) result → AnswersInitSite site result
+pub has_fault : (site : SiteTexts) (fault : SiteFault) (result : Result Output Failure) → IsRefusedFor site (not_made.Create (create.Fault fault)) → IsRefusedByDesk (by_desk.Edit (SiteRefusal fault)) result → AnswersInitSite site result
 has_fault site fault (Ok (Refused why told)) judged is =
     subst (λ (w : Why). AnswersInitSite site (Ok (Refused w told))) (sym is) (record { answer = Err (create.Fault fault); judged = judged; told = refl })
 has_fault site fault (Ok output) judged is = absurd is

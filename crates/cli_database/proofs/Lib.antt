@@ -2,5 +2,4 @@ pub mod AskAnswers
 pub mod InitAnswers
 pub mod PutAnswers
 pub mod QuestionAnswers
-pub mod RevisionLengths
 pub mod Writing

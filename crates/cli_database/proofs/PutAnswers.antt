@@ -1,21 +1,22 @@
 -- What a desk answers to an edit is told, for `put_command`.
-use Rattle.std.proofs.Common.{◌≡◌, ◌∙◌, ℕ, List, [], ◌∷◌, inl, inr, Option, Some, None, Result, Ok, Err, IsTrue, arith, refl, subst, sym}
+use Rattle.std.proofs.Common.{◌≡◌, ◌∙◌, ◌+◌, ◌++◌, ℕ, Bool, true, false, List, [], ◌∷◌, inl, inr, Option, Some, None, Result, Ok, Err, String, cond, refl, subst, sym}
+use Rattle.std.specs.Prelude.{IfOk, codes}
+use Rattle.std.specs.Fmt.{decimal}
+use Rattle.std.specs.String.{string_bytes}
 use Rattle.sqlite_wal.specs.Recovery.{Image}
 use Rattle.sqlite_trees.specs.declared.store.Store.{Ghosts}
-use Rattle.sqlite.specs.Effect.{Database}
 use Rattle.sqlite.specs.Held.{Held, state}
-use Rattle.sqlite.specs.State.{HasCleanDisk, State}
-use Rattle.sqlite.proofs.StateLemmas.{survives_then}
+use Rattle.sqlite.specs.State.{State}
 use Rattle.desk_policy.specs.Policy.{Content}
-use Rattle.desk_core.specs.Edit.{Edit, revision_of}
+use Rattle.desk_core.specs.Edit.{Edit}
 use Rattle.desk_core.specs.Head.{newest_in}
-use Rattle.desk_store.specs.Desk.{CommitsOne, IsEdited, LeavesTables, Shown, told}
-use Rattle.desk_store.specs.History.{row_of}
-use Rattle.desk_store.specs.Open.{IsOfOpening, OpensAt}
-use Rattle.desk_store.specs.Tables.{Adds}
-use Rattle.desk_store.specs.declared.desk.Done.{Done as Answered}
+use Rattle.desk_store.specs.Open.{IsOfOpening}
+use Rattle.desk_store.specs.declared.desk.Done.{Done}
 use Rattle.desk_store.specs.declared.error.DeskError.{DeskError}
 use Rattle.desk_store.specs.declared.error.DeskError.TheVariants as error
+use Rattle.desk_service.specs.Edits.{IsPut, reply_to}
+use Rattle.desk_service.specs.declared.edits.Replies.{Replies}
+use Rattle.desk_service.specs.declared.refused.Refused.TheVariants as by_desk
 use Rattle.cli_line.specs.CommandLine.{PutWords}
 use Rattle.cli_files.specs.Files.{HasText, LacksText, Leaves, ReadsInTurn}
 use Rattle.cli_files.specs.declared.failure.Failure.{Failure}
@@ -23,65 +24,36 @@ use Rattle.cli_files.specs.declared.failure.Failure.TheVariants.{Memory}
 use Rattle.cli_files.specs.declared.files.FileArgument.TheVariants.{File, KeyFile}
 use Rattle.cli_output.specs.declared.output.Output.{Output}
 use Rattle.cli_output.specs.declared.output.Output.TheVariants.{Refused}
+use Rattle.cli_output.specs.declared.output.Output.TheVariants.{Done as Prints}
 use Rattle.cli_output.specs.declared.refused.Refused.{Refused as Why}
 use Rattle.cli_output.specs.declared.refused.Refused.TheVariants as refused
-use Rattle.cli_database.specs.PutCommand.{AnswersEdit, AnswersPutFiles, AnswersPutKey, GivesKeyBy, IsNotPut, IsPut, PutsBy, PutsFrom, PutsOver, TellsAnswer, key_file_in, key_in, put_files, with_first}
-use Rattle.cli_database.specs.ToldRefusal.{IsRefusedAs, TellsError}
+use Rattle.cli_database.specs.PutCommand.{AnswersEdit, AnswersPutFiles, AnswersPutKey, GivesKeyBy, HasReplies, PutsFrom, TellsAnswer, TellsReply, key_file_in, key_in, put_files, with_first}
+use Rattle.cli_database.specs.ToldRefusal.{IsRefusedByDesk, TellsError}
 use Rattle.cli_database.specs.declared.put_command.KeySource.{KeySource}
 use Rattle.cli_database.specs.declared.put_command.KeySource.TheVariants.{InFile, Word}
 
--- An edit is put into a desk that was opened on the database of a connection.
-module _ {S : Type 0} (g : Ghosts S) (conn : Held S) (desk after : Shown S Content) (e : Edit) (opens : HasCleanDisk (state g desk.conn) → OpensAt g (state g conn).committed desk) (lives : HasCleanDisk (state g desk.conn) → IsTrue (state g desk.conn).is_open) (tables : LeavesTables (state g conn) (state g desk.conn)) where
-  abbrev first : State
-  first = state g conn
+-- the replies are the lines of the answer
+line : {A : Type 0} (already : Bool) (rev number : ℕ) (replies : Replies (String A)) → HasReplies number replies → rev ≡ number
+    → string_bytes (cond already replies.already replies.accepted) ≡ cond already (codes "already rev ") (codes "accepted rev ") ++ decimal rev ++ 10 ∷ []
+line true rev number replies has is = rw is has.already
+line false rev number replies has is = rw is has.accepted
 
-  abbrev mid : State
-  mid = state g desk.conn
-
-  abbrev last : State
-  last = state g after.conn
-
-  no_memory : (result : Result Output Failure) → after ≡ desk → result ≡ Err Memory → IsNotPut first last result
-  no_memory result same is = record {
-    failed = error.Memory;
-    opening = inr (inl refl);
-    foreign = λ good schema ours. absurd (cc);
-    tables = subst (λ (d : Shown S Content). LeavesTables first (state g d.conn)) (sym same) tables;
-    told = is;
-  }
-
-  is_put : (answer : Result Answered DeskError) → IsEdited mid last desk.state after.state e answer → IsPut first last e answer
-  is_put answer edited =
-      let clean : HasCleanDisk last → HasCleanDisk mid = λ good. omega (arith, good, edited.crash.clean) in
-      let same : HasCleanDisk last → mid.committed ≡ first.committed = λ good. tables.same (clean good) (lives (clean good)) in
-      record {
-        before = desk.state;
-        after = after.state;
-        judged = edited.judged;
-        ours = λ good. (opens (clean good)).0;
-        heads = λ good history project. ((opens (clean good)).1 history project).heads;
-        step = λ good history project. edited.step good history [] ((opens (clean good)).1 history project);
-        unchanged = λ good live none. edited.tables good live none ∙ same good;
-        crash = survives_then first mid last (λ _. ⊥) (CommitsOne desk.state e (told answer) mid.committed) (CommitsOne desk.state e (told answer) first.committed) (λ good trees none. absurd none)
-            (λ good trees commits. subst (λ (db : Database). CommitsOne desk.state e (told answer) db trees) (same good) commits) tables.crash edited.crash;
-        stored = λ good some.
-            let it = edited.durable good some in
-            record { live = it.live; adds = subst (λ (db : Database). Adds (row_of (revision_of e)) db last.committed) (same good) it.adds; leaves = it.leaves };
-      }
-
-  pub puts_over : (result : Result Output Failure) → PutsBy g desk after e result → PutsOver first last e result
-  puts_over result (inl (same, is)) = inl (no_memory result same is)
-  puts_over result (inr (answer, edited, tells)) = inr (answer, is_put answer edited, tells)
+tells_answer : {A : Type 0} (e : Edit) (replies : Replies (String A)) (answer : Result Done DeskError) (result : Result Output Failure) → HasReplies (e.base + 1) replies
+    → IfOk answer (λ done. done.rev ≡ e.base + 1) → TellsReply (reply_to replies answer) result → TellsAnswer answer result
+tells_answer e replies (Ok done) (Ok (Prints text)) has number tells = tells ∙ line done.already done.rev (e.base + 1) replies has number
+tells_answer e replies (Ok done) (Ok output) has number tells = absurd tells
+tells_answer e replies (Ok done) (Err failure) has number tells = absurd tells
+tells_answer e replies (Err failed) result has number tells = tells
 
 -- a database is not one of this project
-pub foreign : (path : List ℕ) (e : Edit) (result : Result Output Failure) → IsRefusedAs refused.Schema result → AnswersEdit path e result
+pub foreign : (path : List ℕ) (e : Edit) (result : Result Output Failure) → IsRefusedByDesk by_desk.Schema result → AnswersEdit path e result
 foreign path e (Ok (Refused why told)) is = subst (λ (w : Why). AnswersEdit path e (Ok (Refused w told))) (sym is) tt
 foreign path e (Ok output) is = absurd is
 foreign path e (Err Memory) is = tt
 foreign path e (Err failure) is = absurd is
 
 -- SQLite does not open a database, or refused a statement
-pub not_stored : (path : List ℕ) (e : Edit) (result : Result Output Failure) → IsRefusedAs refused.Store result → AnswersEdit path e result
+pub not_stored : (path : List ℕ) (e : Edit) (result : Result Output Failure) → IsRefusedByDesk by_desk.Store result → AnswersEdit path e result
 not_stored path e (Ok (Refused why told)) is = subst (λ (w : Why). AnswersEdit path e (Ok (Refused w told))) (sym is) tt
 not_stored path e (Ok output) is = absurd is
 not_stored path e (Err Memory) is = tt
@@ -97,7 +69,7 @@ not_put path e (error.Refused refusal) result (inr (inl memory)) tells = absurd 
 not_put path e (error.Refused refusal) result (inr (inr (fault, look, known, is))) tells = absurd (cc)
 
 -- of an edit that has no revision, only out of memory is a failure
-failed_so : (path : List ℕ) (e : Edit) (answer : Result Answered DeskError) (failure : Failure) → TellsAnswer answer (Err failure) → AnswersEdit path e (Err failure)
+failed_so : (path : List ℕ) (e : Edit) (answer : Result Done DeskError) (failure : Failure) → TellsAnswer answer (Err failure) → AnswersEdit path e (Err failure)
 failed_so path e (Ok done) failure tells = absurd tells
 failed_so path e (Err (error.Refused refusal)) Memory tells = tt
 failed_so path e (Err (error.Refused refusal)) failure tells = absurd tells
@@ -107,10 +79,10 @@ failed_so path e (Err error.Schema) Memory tells = tt
 failed_so path e (Err error.Schema) failure tells = absurd tells
 failed_so path e (Err error.Memory) failure tells = subst (λ (r : Result Output Failure). AnswersEdit path e r) (sym tells) tt
 
-answered : (path : List ℕ) (old new : State) (e : Edit) (answer : Result Answered DeskError) (result : Result Output Failure) → IsPut old new e answer → TellsAnswer answer result → AnswersEdit path e result
+answered : (path : List ℕ) (old new : State) (e : Edit) (answer : Result Done DeskError) (result : Result Output Failure) → IsPut Content old new e answer → TellsAnswer answer result → AnswersEdit path e result
 answered path old new e answer (Err failure) put tells = failed_so path e answer failure tells
-answered path old new e answer (Ok (Refused refused.Store told)) put tells = tt
-answered path old new e answer (Ok (Refused refused.Schema told)) put tells = tt
+answered path old new e answer (Ok (Refused (refused.Desk by_desk.Store) told)) put tells = tt
+answered path old new e answer (Ok (Refused (refused.Desk by_desk.Schema) told)) put tells = tt
 answered path old new e answer (Ok output) put tells = record {
   newest = newest_in put.before.heads;
   consistent = put.judged.consistent;
@@ -120,11 +92,12 @@ answered path old new e answer (Ok output) put tells = record {
 }
 
 -- an edit is put into the files that a path leads to
-pub answers : {S : Type 0} (g : Ghosts S) (image : Image) (path : List ℕ) (e : Edit) (result : Result Output Failure) (left : Option (Held S)) → PutsFrom g image e result left → AnswersEdit path e result
-answers g image path e result None is = not_stored path e result is
-answers g image path e result (Some left) (conn, opened, inl none) =
-    not_put path e none.failed result none.opening none.told
-answers g image path e result (Some left) (conn, opened, inr (answer, put, tells)) = answered path (state g conn) (state g left) e answer result put tells
+pub answers : {S A : Type 0} (g : Ghosts S) (image : Image) (path : List ℕ) (e : Edit) (replies : Replies (String A)) (result : Result Output Failure) (left : Option (Held S)) → HasReplies (e.base + 1) replies
+    → PutsFrom g image e replies result left → AnswersEdit path e result
+answers g image path e replies result None has is = not_stored path e result is
+answers g image path e replies result (Some left) has (conn, opened, inl (failed, none, tells)) = not_put path e failed result none.opening tells
+answers g image path e replies result (Some left) has (conn, opened, inr (answer, put, tells)) =
+    answered path (state g conn) (state g left) e answer result put (tells_answer e replies answer result has put.number tells)
 
 -- FILE has no text
 pub no_file : (words : PutWords) (base : ℕ) (key : KeySource) (known : Option (List ℕ)) (failure : Failure) → LacksText File words.file known failure → AnswersPutFiles words base (key_in key) (key_file_in key) known (Err failure)

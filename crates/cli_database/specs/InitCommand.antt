@@ -1,5 +1,5 @@
 -- The output of `init` by its words and files. (this project's own)
-use Rattle.std.specs.Prelude.{◌≡◌, ◌≤◌, ◌⊎◌, ◌&&◌, Bool, false, IfErr, IsTrue, OnErr, OnOk, ℕ, ◌++◌, ◌∷◌, List, [], Option, Result, Ok, Err, String, codes, length, nat_le, take, unwrap_or, if◌then◌else◌}
+use Rattle.std.specs.Prelude.{◌≡◌, ◌⊎◌, false, IfErr, IsTrue, OnErr, OnOk, ℕ, ◌++◌, ◌∷◌, List, [], Option, Result, Ok, Err, String, codes, take, unwrap_or, if◌then◌else◌}
 use Rattle.std.specs.BTreeMap.{BTreeMap, get_by_text}
 use Rattle.std.specs.Fmt.{decimal}
 use Rattle.std.specs.List.{flat_map}
@@ -19,9 +19,8 @@ use Rattle.desk_exports.specs.Splitting.{split_text}
 use Rattle.desk_exports.specs.declared.rules.Rule.{Rule}
 use Rattle.desk_policy.specs.Parsing.{read_site}
 use Rattle.desk_policy.specs.Policy.{Content}
-use Rattle.desk_policy.specs.Site.{SiteTexts}
+use Rattle.desk_policy.specs.Site.{HaveLengthsWithin, SiteTexts}
 use Rattle.desk_policy.specs.Warning.{kind_name}
-use Rattle.desk_policy.specs.declared.site.Site.{Site}
 use Rattle.desk_policy.specs.declared.site_fault.SiteFault.{SiteFault}
 use Rattle.desk_policy.specs.declared.warning.Warning.{Warning}
 use Rattle.desk_core.specs.declared.edit.Refusal.TheVariants.{Fault as SiteRefusal}
@@ -31,6 +30,7 @@ use Rattle.desk_store.specs.Desk.{IsSiteHistory}
 use Rattle.desk_store.specs.Tables.{LeavesCommit}
 use Rattle.desk_store.specs.declared.error.CreateError.{CreateError}
 use Rattle.desk_store.specs.declared.error.CreateError.TheVariants as create
+use Rattle.desk_service.specs.declared.refused.Refused.TheVariants as by_desk
 use Rattle.cli_line.specs.CommandLine.{InitWords}
 use Rattle.cli_files.specs.Files.{ReadsInTurn}
 use Rattle.cli_files.specs.declared.failure.Failure.{Failure}
@@ -56,31 +56,11 @@ abbrev pub warnings_in : Result Content SiteFault → List Warning
 warnings_in (Ok policy) = policy.warnings
 warnings_in (Err fault) = []
 
--- a text is not too long for a revision
-abbrev pub is_short : List ℕ → Bool
-is_short text = nat_le (length text) longest_revision
-
--- none of the seven files is too long
-abbrev pub are_files_short : Site → Bool
-are_files_short site =
-    is_short site.custodians && is_short site.filesystems && is_short site.hosts && is_short site.networks && is_short site.passwd && is_short site.group && is_short site.netgroup
-
--- no text of a site is too long for a revision
-pub record HaveRevisionLengths (texts : SiteTexts) : Type 0 where
-  pub custodians : length texts.custodians ≤ longest_revision
-  pub filesystems : length texts.filesystems ≤ longest_revision
-  pub hosts : length texts.hosts ≤ longest_revision
-  pub networks : length texts.networks ≤ longest_revision
-  pub passwd : length texts.passwd ≤ longest_revision
-  pub group : length texts.group ≤ longest_revision
-  pub netgroup : length texts.netgroup ≤ longest_revision
-  pub exports : (mount : List ℕ) → length (texts.exports mount) ≤ longest_revision
-
 -- The text is what is printed of a site once it is stored. One with a text that is too long is refused, and its warnings are not
 -- looked for.
 pub record IsReadyText (site : SiteTexts) (text : List ℕ) : Type 0 where
-  pub short : HaveRevisionLengths site → text ≡ ready_text (warnings_in (read_site site))
-  pub long : ¬ HaveRevisionLengths site → text ≡ ready_text []
+  pub short : HaveLengthsWithin longest_revision site → text ≡ ready_text (warnings_in (read_site site))
+  pub long : ¬ HaveLengthsWithin longest_revision site → text ≡ ready_text []
 
 -- A database was made of a site: none of the two tables was there, and they now hold revision 1 of each file, which is the history
 -- of a site, beside what was there; and a crash leaves just that.
@@ -124,8 +104,8 @@ ComesTo site (Err refused) = IsRefusedFor site refused
 -- the output tells what came of making a database of a site; `ready` is told only of one that is made
 abbrev pub TellsCreated : SiteTexts → Result Unit CreateError → Output → Type 0
 TellsCreated site (Ok made) (Done text) = IsReadyText site (string_bytes text)
-TellsCreated site (Err create.Schema) (Refused refused.Schema told) = Unit {0}
-TellsCreated site (Err (create.Fault fault)) (Refused (refused.Edit refusal) told) = refusal ≡ SiteRefusal fault
+TellsCreated site (Err create.Schema) (Refused (refused.Desk by_desk.Schema) told) = Unit {0}
+TellsCreated site (Err (create.Fault fault)) (Refused (refused.Desk (by_desk.Edit refusal)) told) = refusal ≡ SiteRefusal fault
 TellsCreated site (Err (create.TooLarge file)) (Refused (refused.TooLarge found) told) = found ≡ file
 TellsCreated site answer output = ⊥
 
@@ -138,7 +118,7 @@ pub record MakesDatabase (site : SiteTexts) (output : Output) : Type 0 where
 
 -- the answer to a site: that of making its database; or this cannot be opened, or a statement was refused
 abbrev pub AnswersInitSite : SiteTexts → Result Output Failure → Type 0
-AnswersInitSite site (Ok (Refused refused.Store told)) = Unit {0}
+AnswersInitSite site (Ok (Refused (refused.Desk by_desk.Store) told)) = Unit {0}
 AnswersInitSite site (Ok output) = MakesDatabase site output
 AnswersInitSite site (Err failure) = failure ≡ Memory
 

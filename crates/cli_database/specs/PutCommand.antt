@@ -1,5 +1,5 @@
 -- The output of `put` by its words and files. (this project's own)
-use Rattle.std.specs.Prelude.{◌≡◌, ◌≢◌, ◌⊎◌, ℕ, ◌++◌, ◌∷◌, ◌&&◌, true, false, List, [], Option, Some, None, Result, Ok, Err, IsErrAnd, IsOkAnd, IsTrue, codes, length, if◌then◌else◌}
+use Rattle.std.specs.Prelude.{◌≡◌, ◌⊎◌, ℕ, ◌++◌, ◌∷◌, ◌&&◌, true, false, List, [], Option, Some, None, Result, Ok, Err, IsErrAnd, IsOkAnd, String, codes, length, if◌then◌else◌}
 use Rattle.std.specs.Fmt.{decimal}
 use Rattle.std.specs.Str.Lines.{IsFirstLine}
 use Rattle.std.specs.String.{string_bytes}
@@ -7,103 +7,79 @@ use Rattle.sqlite_wal.specs.Recovery.{Image}
 use Rattle.sqlite_trees.specs.declared.store.Store.{Ghosts}
 use Rattle.sqlite.specs.Held.{Held, state}
 use Rattle.sqlite.specs.Start.{FindsIn}
-use Rattle.sqlite.specs.State.{HasCleanDisk, Opens, State, Survives}
+use Rattle.sqlite.specs.State.{HasCleanDisk, Opens, State}
 use Rattle.desk_policy.specs.Policy.{Content}
-use Rattle.desk_core.specs.Edit.{Edit, revision_of}
-use Rattle.desk_core.specs.Head.{Newest, Revision, newest_in}
-use Rattle.desk_core.specs.Views.{Kept}
-use Rattle.desk_core.specs.History.{added_if, newest_of}
+use Rattle.desk_core.specs.Edit.{Edit}
+use Rattle.desk_core.specs.Head.{Newest}
 use Rattle.desk_core.specs.Site.{IsConsistent, site_in}
-use Rattle.desk_store.specs.Desk.{AnswersBy, CommitsOne, HasStored, IsEdited, IsJudgedBy, LeavesTables, Shown, StepsOn, told as told_answer}
-use Rattle.desk_store.specs.History.{row_of}
-use Rattle.desk_store.specs.Open.{IsOfOpening, IsOurs, IsProject}
-use Rattle.desk_store.specs.declared.desk.Done.{Done as Answered}
+use Rattle.desk_store.specs.Desk.{AnswersBy}
+use Rattle.desk_store.specs.declared.desk.Done.{Done}
 use Rattle.desk_store.specs.declared.error.DeskError.{DeskError}
-use Rattle.desk_store.specs.declared.error.DeskError.TheVariants as error
+use Rattle.desk_service.specs.Edits.{IsNotPut, IsPut, reply_to}
+use Rattle.desk_service.specs.declared.edits.Replies.{Replies}
+use Rattle.desk_service.specs.declared.refused.Refused.TheVariants as by_desk
 use Rattle.cli_words.specs.Arguments.{IsBadNumber, revision_number}
 use Rattle.cli_line.specs.CommandLine.{PutWords}
 use Rattle.cli_files.specs.Files.{IsUnread, ReadsInTurn, is_input}
 use Rattle.cli_files.specs.declared.bad_argument.Argument.TheVariants as name
 use Rattle.cli_files.specs.declared.failure.Failure.{Failure}
-use Rattle.cli_files.specs.declared.failure.Failure.TheVariants.{InputTwice, KeyTwice, Memory, NoKey}
+use Rattle.cli_files.specs.declared.failure.Failure.TheVariants.{InputTwice, KeyTwice, NoKey}
 use Rattle.cli_files.specs.declared.files.FileArgument.{FileArgument}
 use Rattle.cli_files.specs.declared.files.FileArgument.TheVariants.{Database as DatabaseFile, File, KeyFile}
 use Rattle.cli_output.specs.declared.output.Output.{Output}
-use Rattle.cli_output.specs.declared.output.Output.TheVariants.{Done, Refused}
+use Rattle.cli_output.specs.declared.output.Output.TheVariants.{Refused}
+use Rattle.cli_output.specs.declared.output.Output.TheVariants.{Done as Prints}
 use Rattle.cli_output.specs.declared.refused.Refused.TheVariants as refused
-use Rattle.cli_database.specs.ToldRefusal.{IsRefusedAs, TellsError}
+use Rattle.cli_database.specs.ToldRefusal.{IsRefusedByDesk, TellsError}
 use Rattle.cli_database.specs.declared.put_command.KeySource.{KeySource}
 use Rattle.cli_database.specs.declared.put_command.KeySource.TheVariants.{InFile, Word}
-use Rattle.cli_database.specs.declared.put_command.Replies.{Replies}
 
 -- the key in the text of a key's file: its first line, without its line end; empty if the text is empty
 abbrev pub IsKeyIn : List ℕ → List ℕ → Type 0
 IsKeyIn text key = ((length text ≡ 0) × (key ≡ [])) ⊎ ((rest : List ℕ) × IsFirstLine text key rest)
 
 -- what is printed of an edit that is not refused, as `accepted rev 2`
-abbrev pub reply_line : Answered → List ℕ
+abbrev pub reply_line : Done → List ℕ
 reply_line done = (if done.already then codes "already rev " else codes "accepted rev ") ++ decimal done.rev ++ 10 ∷ []
 
 -- the two lines that may be printed of an edit whose revision has this number
-pub record HasReplies (rev : ℕ) (replies : Replies) : Type 0 where
+pub record HasReplies {A : Type 0} (rev : ℕ) (replies : Replies (String A)) : Type 0 where
   pub accepted : string_bytes replies.accepted ≡ codes "accepted rev " ++ decimal rev ++ 10 ∷ []
   pub already : string_bytes replies.already ≡ codes "already rev " ++ decimal rev ++ 10 ∷ []
 
 -- The result tells the answer of a desk to an edit. That an edit is stored, or was, is always told, since its lines are made
 -- before; a refusal or a fault may be told as out of memory.
-abbrev pub TellsAnswer : Result Answered DeskError → Result Output Failure → Type 0
-TellsAnswer (Ok done) (Ok (Done text)) = string_bytes text ≡ reply_line done
+abbrev pub TellsAnswer : Result Done DeskError → Result Output Failure → Type 0
+TellsAnswer (Ok done) (Ok (Prints text)) = string_bytes text ≡ reply_line done
 TellsAnswer (Ok done) result = ⊥
 TellsAnswer (Err failed) result = TellsError failed result
 
--- What putting an edit into a desk did: its answer to the edit is told; or memory ran out before, and nothing was done.
-abbrev pub PutsBy : {S V : Type 0} → Ghosts S → Shown S V → Shown S V → Edit → Result Output Failure → Type 0
-PutsBy g old new e result =
-    ((new ≡ old) × (result ≡ Err Memory))
-    ⊎ ((answer : Result Answered DeskError) × IsEdited (state g old.conn) (state g new.conn) old.state new.state e answer × TellsAnswer answer result)
+-- the result tells the reply to an edit, or why a desk has none
+abbrev pub TellsReply : {A : Type 0} → Result (String A) DeskError → Result Output Failure → Type 0
+TellsReply (Ok reply) (Ok (Prints text)) = string_bytes text ≡ string_bytes reply
+TellsReply (Ok reply) result = ⊥
+TellsReply (Err failed) result = TellsError failed result
 
--- No edit was put into the database of a connection: it is not one of this project, a statement that looks for that was refused,
--- or memory ran out. Why is told; the tables are as before, and a crash leaves what it could before.
-pub record IsNotPut (old new : State) (result : Result Output Failure) : Type 0 where
-  pub failed : DeskError
-  pub opening : IsOfOpening failed
-  pub foreign : HasCleanDisk new → failed ≡ error.Schema → IsOurs old.committed → ⊥
-  pub tables : LeavesTables old new
-  pub told : TellsError failed result
-
--- An edit was put into the database of a connection, and has this answer: by the newest revisions of the desk that was opened on
--- it, whatever the disk did. The database is one of this project, and these are the newest of the history that it held; it then
--- holds the history after the edit, and a crash at any moment leaves what it could before, or the edit's one commit. Once the edit
--- is answered as stored, its revision is the one row more, and a crash leaves that.
-pub record IsPut (old new : State) (e : Edit) (answer : Result Answered DeskError) : Type 0 where
-  -- what the desk that was opened on it kept beside the tables
-  pub before : Kept Content
-  pub after : Kept Content
-  pub judged : IsJudgedBy before after e answer
-  pub ours : HasCleanDisk new → IsOurs old.committed
-  pub heads : HasCleanDisk new → (history : List Revision) → IsProject old.committed history → newest_in before.heads ≡ newest_of history
-  pub step : HasCleanDisk new → (history : List Revision) → IsProject old.committed history → StepsOn new after e (told_answer answer) history []
-  pub unchanged : HasCleanDisk new → IsTrue new.is_open → added_if e (told_answer answer) ≡ [] → new.committed ≡ old.committed
-  pub crash : Survives old new (CommitsOne before e (told_answer answer) old.committed)
-  pub stored : HasCleanDisk new → added_if e (told_answer answer) ≢ [] → HasStored (row_of (revision_of e)) old new
-
--- what putting an edit into the database of a connection did, and told
-abbrev pub PutsOver : State → State → Edit → Result Output Failure → Type 0
-PutsOver old new e result = IsNotPut old new result ⊎ ((answer : Result Answered DeskError) × IsPut old new e answer × TellsAnswer answer result)
+-- What putting an edit into the database of a connection came to, with these replies, is told: why no edit was made of it, or the
+-- reply to the answer.
+abbrev pub TellsPut : {A : Type 0} → State → State → Edit → Replies (String A) → Result Output Failure → Type 0
+TellsPut old new e replies result =
+    ((failed : DeskError) × IsNotPut old new failed × TellsError failed result)
+    ⊎ ((answer : Result Done DeskError) × IsPut Content old new e answer × TellsReply (reply_to replies answer) result)
 
 -- A connection to files that held this image was opened, an edit was put into its database, and this is what is left of it; if
 -- none is left, it was not opened.
-abbrev pub PutsFrom : {S : Type 0} → Ghosts S → Image → Edit → Result Output Failure → Option (Held S) → Type 0
-PutsFrom {S} g image e result (Some left) =
-    (conn : Held S) × (HasCleanDisk (state g conn) → Opens (state g conn) × FindsIn image (state g conn)) × PutsOver (state g conn) (state g left) e result
-PutsFrom g image e result None = IsRefusedAs refused.Store result
+abbrev pub PutsFrom : {S A : Type 0} → Ghosts S → Image → Edit → Replies (String A) → Result Output Failure → Option (Held S) → Type 0
+PutsFrom {S} g image e replies result (Some left) =
+    (conn : Held S) × (HasCleanDisk (state g conn) → Opens (state g conn) × FindsIn image (state g conn)) × TellsPut (state g conn) (state g left) e replies result
+PutsFrom g image e replies result None = IsRefusedByDesk by_desk.Store result
 
 -- An edit is judged by the newest revisions of some desk, which write a consistent site, and its answer is told. Which desk that
 -- was, no clause can name, since the connection to its database is made and dropped inside.
 pub record PutsInto (e : Edit) (output : Output) : Type 0 where
   pub newest : Newest
   pub consistent : IsConsistent (site_in newest)
-  pub answer : Result Answered DeskError
+  pub answer : Result Done DeskError
   pub answers : AnswersBy newest e answer
   pub told : TellsAnswer answer (Ok output)
 
@@ -111,8 +87,8 @@ pub record PutsInto (e : Edit) (output : Output) : Type 0 where
 -- it or refused a statement, that it is not one of this project, and out of memory say nothing.
 abbrev pub AnswersEdit : List ℕ → Edit → Result Output Failure → Type 0
 AnswersEdit path e (Err failure) = IsUnread DatabaseFile path failure
-AnswersEdit path e (Ok (Refused refused.Store told)) = Unit {0}
-AnswersEdit path e (Ok (Refused refused.Schema told)) = Unit {0}
+AnswersEdit path e (Ok (Refused (refused.Desk by_desk.Store) told)) = Unit {0}
+AnswersEdit path e (Ok (Refused (refused.Desk by_desk.Schema) told)) = Unit {0}
 AnswersEdit path e (Ok output) = PutsInto e output
 
 -- the edit that the words ask for, with a key and a text

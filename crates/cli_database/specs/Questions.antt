@@ -1,23 +1,17 @@
--- What is asked of a database without changing it, and the answers. (this project's own)
-use Rattle.std.specs.Prelude.{◌≡◌, ◌≢◌, ℕ, ◌++◌, ◌∷◌, List, [], Option, Some, None, Result, Ok, Err, codes, map}
+-- What is asked of a database without changing it, and what is printed of the answers. (this project's own)
+use Rattle.std.specs.Prelude.{◌≡◌, ℕ, ◌++◌, ◌∷◌, List, [], Option, None, Result, Ok, Err, codes}
 use Rattle.std.specs.Fmt.{decimal}
 use Rattle.std.specs.List.{flat_map}
-use Rattle.std.specs.Option.{option_map}
 use Rattle.std.specs.String.{string_bytes}
-use Rattle.sqlite_trees.specs.declared.store.Store.{Ghosts}
 use Rattle.sqlite.specs.Effect.{Database}
-use Rattle.sqlite.specs.Held.{state}
-use Rattle.desk_text.specs.Address.{number_of}
 use Rattle.desk_tables.specs.declared.credentials.Cred.{Cred}
 use Rattle.desk_policy.specs.ListingPrints.{all_exports, listing_text}
-use Rattle.desk_policy.specs.Listings.{listing_of}
-use Rattle.desk_policy.specs.Policy.{Content}
 use Rattle.desk_core.specs.Head.{Revision}
-use Rattle.desk_core.specs.History.{newest_of, revisions_of}
-use Rattle.desk_core.specs.Site.{IsInForce, site_in}
-use Rattle.desk_store.specs.Desk.{LeavesTables, Shown, StaysAsItWas, revision_at}
 use Rattle.desk_store.specs.Open.{IsOurs, IsProject}
-use Rattle.desk_check.specs.TryText.{answer_of, policy_answer}
+use Rattle.desk_service.specs.Questions.{Answer, AnswersByHistory, ByFile, ByPolicy, ExportsAre, ListingIs, OnFile, OnPolicy, Question, VerdictIs, file_question, policy_question}
+use Rattle.desk_service.specs.declared.questions.FileAnswer.TheVariants as found
+use Rattle.desk_service.specs.declared.refused.Refused.TheVariants as by_desk
+use Rattle.desk_check.specs.TryText.{answer_of, answer_on}
 use Rattle.cli_files.specs.Files.{IsUnread}
 use Rattle.cli_files.specs.declared.failure.Failure.{Failure}
 use Rattle.cli_files.specs.declared.failure.Failure.TheVariants.{Memory}
@@ -25,25 +19,18 @@ use Rattle.cli_files.specs.declared.files.FileArgument.TheVariants.{Database as 
 use Rattle.cli_output.specs.declared.output.Output.{Output}
 use Rattle.cli_output.specs.declared.output.Output.TheVariants.{Done, Refused, Tried}
 use Rattle.cli_output.specs.declared.refused.Refused.TheVariants as refused
-use Rattle.cli_database.specs.declared.questions.SiteQuestion.{SiteQuestion as LentQuestion}
-use Rattle.cli_database.specs.declared.questions.SiteQuestion.TheVariants as lent
-
--- a question on a site: a verdict for an address, a path and the client's credential, if it is given; what an address may mount;
--- all exports; the revisions of a file; its text as of a revision, or else the newest
-pub data SiteQuestion : Type 0 where
-  Ask : ℕ → List (List ℕ) → Option Cred → SiteQuestion
-  Show : ℕ → SiteQuestion
-  Exports : SiteQuestion
-  Log : List ℕ → SiteQuestion
-  Cat : List ℕ → Option ℕ → SiteQuestion
+use Rattle.cli_database.specs.declared.questions.SiteQuestion.{SiteQuestion}
+use Rattle.cli_database.specs.declared.questions.SiteQuestion.TheVariants as site
 
 -- a question by value
-abbrev pub asked_question : LentQuestion → SiteQuestion
-asked_question (lent.Ask address path own) = Ask (number_of address) path.now own.now
-asked_question (lent.Show address) = Show (number_of address)
-asked_question lent.Exports = Exports
-asked_question (lent.Log name) = Log name.now
-asked_question (lent.Cat name rev) = Cat name.now rev
+abbrev pub question_in : SiteQuestion → Question
+question_in (site.OnPolicy question own) = OnPolicy (policy_question question)
+question_in (site.OnFile question) = OnFile (file_question question)
+
+-- the client's credential beside it, if that is given
+abbrev pub credential_in : SiteQuestion → Option Cred
+credential_in (site.OnPolicy question own) = own.now
+credential_in (site.OnFile question) = None
 
 -- the line of a revision, as `rev 2 site`
 abbrev pub revision_line : ℕ × List ℕ → List ℕ
@@ -52,51 +39,43 @@ revision_line revision = codes "rev " ++ decimal revision.0 ++ 32 ∷ revision.1
 abbrev pub log_text : List (ℕ × List ℕ) → List ℕ
 log_text revisions = flat_map revision_line revisions
 
--- the numbers and authors of a file's revisions
-abbrev pub numbered_authors : List ℕ → List Revision → List (ℕ × List ℕ)
-numbered_authors file history = map (λ r. (r.rev, r.author)) (revisions_of file history)
+-- The output prints an answer: a verdict as `try` does, with as whom the client acts if its credential is given; a text as it is; and
+-- a list of revisions in lines.
+abbrev pub Prints : Option Cred → Answer → Output → Type 0
+Prints own (ByPolicy (VerdictIs content verdict)) (Tried tried) = answer_of tried ≡ answer_on content own verdict
+Prints own (ByPolicy (ListingIs content listing)) (Done text) = string_bytes text ≡ listing_text content listing
+Prints own (ByPolicy (ExportsAre content)) (Done text) = string_bytes text ≡ all_exports content
+Prints own (ByFile (found.Text file)) (Done text) = string_bytes text ≡ file.body
+Prints own (ByFile (found.Revisions revisions)) (Done text) = string_bytes text ≡ log_text revisions
+Prints own (ByFile found.NoRevision) (Refused (refused.Desk by_desk.NoRevision) told) = Unit {0}
+Prints own answer output = ⊥
 
--- the revision of a file that is asked for: that of this number, or else the newest
-abbrev pub revision_asked : List Revision → List ℕ → Option ℕ → Option Revision
-revision_asked history file (Some rev) = revision_at history file rev
-revision_asked history file None = newest_of history file
+-- an answer is printed, or memory ran out
+abbrev pub PrintsAnswer : Option Cred → Answer → Result Output Failure → Type 0
+PrintsAnswer own answer (Ok output) = Prints own answer output
+PrintsAnswer own answer (Err failure) = failure ≡ Memory
 
--- a policy in force by a history tells this
-abbrev pub TellsInForce : List Revision → (Content → Type 0) → Type 0
-TellsInForce history Tells = (content : Content) × IsInForce (site_in (newest_of history)) content × Tells content
+-- the output prints the answer to a question by a history
+abbrev pub OutputByHistory : List Revision → Question → Option Cred → Output → Type 0
+OutputByHistory history question own output = (answer : Answer) × AnswersByHistory history question answer × Prints own answer output
 
--- the output answers a question by a history
-abbrev pub OutputByHistory : List Revision → SiteQuestion → Output → Type 0
-OutputByHistory history (Ask address path own) (Tried tried) = TellsInForce history (λ content. answer_of tried ≡ policy_answer content own address path)
-OutputByHistory history (Show address) (Done text) = TellsInForce history (λ content. string_bytes text ≡ listing_text content (listing_of content address))
-OutputByHistory history Exports (Done text) = TellsInForce history (λ content. string_bytes text ≡ all_exports content)
-OutputByHistory history (Log file) (Done text) = (revisions_of file history ≢ []) × (string_bytes text ≡ log_text (numbered_authors file history))
-OutputByHistory history (Log file) (Refused refused.NoRevision told) = revisions_of file history ≡ []
-OutputByHistory history (Cat file rev) (Done text) = option_map (λ r. r.body) (revision_asked history file rev) ≡ Some (string_bytes text)
-OutputByHistory history (Cat file rev) (Refused refused.NoRevision told) = revision_asked history file rev ≡ None
-OutputByHistory history question output = ⊥
-
--- The answer to a question by a history. That a statement was refused, and that there is no memory, say nothing.
-abbrev pub AnswersByHistory : List Revision → SiteQuestion → Result Output Failure → Type 0
-AnswersByHistory history question (Ok (Refused refused.Store told)) = Unit {0}
-AnswersByHistory history question (Ok output) = OutputByHistory history question output
-AnswersByHistory history question (Err failure) = failure ≡ Memory
-
--- A desk was only looked at: it is as it was, wherever it stood, and so are its tables and what a crash leaves.
-abbrev pub OnlyLooks : {S V : Type 0} → Ghosts S → Shown S V → Shown S V → Type 0
-OnlyLooks g old new = StaysAsItWas g old new × LeavesTables (state g old.conn) (state g new.conn)
+-- What is told of a question by a history. That a statement was refused, and that there is no memory, say nothing.
+abbrev pub TellsByHistory : List Revision → Question → Option Cred → Result Output Failure → Type 0
+TellsByHistory history question own (Ok (Refused (refused.Desk by_desk.Store) told)) = Unit {0}
+TellsByHistory history question own (Ok output) = OutputByHistory history question own output
+TellsByHistory history question own (Err failure) = failure ≡ Memory
 
 -- The answer to a question on a database: by each history that it holds, or that it is not one of this project. That a statement
 -- was refused, and that there is no memory, say nothing.
-abbrev pub AnswersByDatabase : Database → SiteQuestion → Result Output Failure → Type 0
-AnswersByDatabase db question (Ok (Refused refused.Schema told)) = IsOurs db → ⊥
-AnswersByDatabase db question (Ok (Refused refused.Store told)) = Unit {0}
-AnswersByDatabase db question (Ok output) = IsOurs db × ((history : List Revision) → IsProject db history → OutputByHistory history question output)
-AnswersByDatabase db question (Err failure) = failure ≡ Memory
+abbrev pub AnswersByDatabase : Database → Question → Option Cred → Result Output Failure → Type 0
+AnswersByDatabase db question own (Ok (Refused (refused.Desk by_desk.Schema) told)) = IsOurs db → ⊥
+AnswersByDatabase db question own (Ok (Refused (refused.Desk by_desk.Store) told)) = Unit {0}
+AnswersByDatabase db question own (Ok output) = IsOurs db × ((history : List Revision) → IsProject db history → OutputByHistory history question own output)
+AnswersByDatabase db question own (Err failure) = failure ≡ Memory
 
 -- The answer to a question on the database at a path: by what it holds; or that it cannot be read, or that SQLite does not open
 -- it. Out of memory says nothing.
-abbrev pub AnswersQuestion : List ℕ → SiteQuestion → Result Output Failure → Type 0
-AnswersQuestion path question (Err failure) = IsUnread DatabaseFile path failure
-AnswersQuestion path question (Ok (Refused refused.Store told)) = Unit {0}
-AnswersQuestion path question (Ok output) = (db : Database) × AnswersByDatabase db question (Ok output)
+abbrev pub AnswersQuestion : List ℕ → Question → Option Cred → Result Output Failure → Type 0
+AnswersQuestion path question own (Err failure) = IsUnread DatabaseFile path failure
+AnswersQuestion path question own (Ok (Refused (refused.Desk by_desk.Store) told)) = Unit {0}
+AnswersQuestion path question own (Ok output) = (db : Database) × AnswersByDatabase db question own (Ok output)

@@ -1,8 +1,9 @@
 -- The output of a command on a database that is refused. (this project's own)
-use Rattle.std.specs.Prelude.{◌≡◌, Result, Ok, Err, IsTrue, false}
+use Rattle.std.specs.Prelude.{◌≡◌, Result, Ok, Err, if◌then◌else◌}
 use Rattle.desk_store.specs.declared.error.DeskError.{DeskError}
 use Rattle.desk_store.specs.declared.error.DeskError.TheVariants as error
-use Rattle.desk_store.specs.declared.error.StoreFault.{StoreFault}
+use Rattle.desk_service.specs.Refused.{refused_by}
+use Rattle.desk_service.specs.declared.refused.Refused.{Refused as ByDesk}
 use Rattle.cli_files.specs.declared.failure.Failure.{Failure}
 use Rattle.cli_files.specs.declared.failure.Failure.TheVariants.{Memory}
 use Rattle.cli_output.specs.declared.output.Output.{Output}
@@ -17,19 +18,16 @@ IsRefusedAs why (Ok (Tells found told)) = found ≡ why
 IsRefusedAs why (Err Memory) = Unit {0}
 IsRefusedAs why result = ⊥
 
+-- the output tells that a desk refuses so
+abbrev pub IsRefusedByDesk : ByDesk → Result Output Failure → Type 0
+IsRefusedByDesk why result = IsRefusedAs (refused.Desk why) result
+
 -- the output tells why a desk has no answer
 abbrev pub TellsError : DeskError → Result Output Failure → Type 0
-TellsError (error.Refused refusal) result = IsRefusedAs (refused.Edit refusal) result
-TellsError (error.Store fault) result = IsRefusedAs refused.Store result
-TellsError error.Schema result = IsRefusedAs refused.Schema result
 TellsError error.Memory result = result ≡ Err Memory
+TellsError failed result = IsRefusedByDesk (refused_by failed) result
 
--- the output tells that a statement was refused on a copy in memory, or that there was no memory, if that is why
-pub record TellsCopyFault (fault : StoreFault) (result : Result Output Failure) : Type 0 where
-  pub memory : IsTrue (is_out_of_memory fault.error) → result ≡ Err Memory
-  pub other : is_out_of_memory fault.error ≡ false → IsRefusedAs refused.Store result
-
--- the output tells why a desk over a copy in memory has no answer
-abbrev pub TellsCopyError : DeskError → Result Output Failure → Type 0
-TellsCopyError (error.Store fault) result = TellsCopyFault fault result
-TellsCopyError failed result = TellsError failed result
+-- the error that one of a desk over a copy in memory means: a statement may be refused since memory ran out
+abbrev pub copy_error : DeskError → DeskError
+copy_error (error.Store fault) = if is_out_of_memory fault.error then error.Memory else error.Store fault
+copy_error failed = failed

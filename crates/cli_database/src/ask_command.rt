@@ -10,6 +10,7 @@ use cli_files::failure::Failure;
 use cli_output::output::Output;
 use cli_words::arguments::{read_credential, read_host, read_path};
 use cli_words::database_words::AskWords;
+use desk_service::PolicyQuestion;
 
 /// Answers `ask DB HOST DIR [--as CRED]`. The arguments are parsed from left to right, CRED without users and groups.
 pub fn run_ask(rt: &HostRuntime, words: AskWords<'_>) -> Result<Output, Failure>
@@ -19,5 +20,6 @@ pub fn run_ask(rt: &HostRuntime, words: AskWords<'_>) -> Result<Output, Failure>
     let address = read_host(alloc, words.host)?;
     let path = read_path(alloc, Argument::Dir, words.dir)?;
     let own = read_credential(alloc, words.credential, "", "")?;
-    answer_question(rt, words.db, SiteQuestion::Ask(address, &path, &own))
+    let question = PolicyQuestion::Mount(address, &path);
+    answer_question(rt, words.db, SiteQuestion::OnPolicy(question, &own))
 }

@@ -1,17 +1,17 @@
 //! The command `init`: a new database of a site's files.
 
-ghost use Rattle.std.specs.Prelude.{◌≡◌, ◌≤◌, ◌++◌, ℕ, [], Decides, Err, false, IfOk, List, Ok, OnOk, if◌then◌else◌, length, map, string_bytes, unwrap_or};
-ghost use Rattle.std.specs.BTreeMap.{IsOrdered, get_by_text, values};
-ghost use Rattle.std.specs.List.{flat_map, list_all};
-ghost use Rattle.std.specs.String.{string_cmp};
+ghost use Rattle.std.specs.Prelude.{◌≡◌, ◌≤◌, ◌++◌, ℕ, [], Err, false, IfOk, List, Ok, OnOk, if◌then◌else◌, length, map, string_bytes, unwrap_or};
+ghost use Rattle.std.specs.BTreeMap.{get_by_text};
+ghost use Rattle.std.specs.List.{flat_map};
 ghost use Rattle.std.specs.Str.{bytes_eq};
 ghost use Rattle.sqlite.specs.Held.{state};
 ghost use Rattle.desk_tables.specs.FileSystemsText.{read_filesystems};
 ghost use Rattle.desk_policy.specs.Site.{texts_of};
 ghost use Rattle.cli_output.specs.SiteFolder.{AreShortFiles, site_list};
 ghost use Rattle.cli_output.specs.declared.refused.Refused.TheVariants as refused;
-ghost use Rattle.cli_database.specs.InitCommand.{AnswersInit, AnswersInitSite, AnswersInitTexts, AnswersInitWith, AreParts, ComesTo, Creates, HaveRevisionLengths, IsReadyText, IsRefusedFor, IsSiteWith, SplitsExports, Stores, are_files_short, is_short, ready_text, warning_line};
-ghost use Rattle.cli_database.specs.ToldRefusal.{IsRefusedAs};
+ghost use Rattle.cli_database.specs.InitCommand.{AnswersInit, AnswersInitSite, AnswersInitTexts, AnswersInitWith, AreParts, ComesTo, Creates, IsReadyText, IsRefusedFor, IsSiteWith, SplitsExports, Stores, ready_text, warning_line};
+ghost use Rattle.cli_database.specs.ToldRefusal.{IsRefusedAs, IsRefusedByDesk};
+ghost use Rattle.desk_service.specs.declared.refused.Refused.TheVariants as by_desk;
 ghost use Rattle.desk_core.specs.declared.edit.Refusal.TheVariants.{Fault as SiteRefusal};
 ghost use Rattle.cli_words.specs.Words.{given_init};
 
@@ -29,9 +29,10 @@ use cli_output::site_folder::{SiteFiles, paths_of, read_texts, sources_of};
 use cli_words::database_words::InitWords;
 use desk_check::split_text::SplitFault;
 use desk_check::{SiteSources, Source, WholeSources, tell_site_fault, tell_split_fault};
-use desk_core::Refusal;
+use desk_core::{LONGEST_REVISION, Refusal};
 use desk_exports::{Rule, split};
-use desk_policy::{Site, SiteFault, Warning, parse};
+use desk_policy::{Site, SiteFault, SiteFile, Warning, mount_of, parse};
+use desk_service::Refused as ByDesk;
 use desk_store::{CreateError, Desk};
 use desk_tables::{FileSystems, Mount};
 use desk_text::{LineFault, ReadError, Text};
@@ -40,9 +41,6 @@ use std::alloc::{AllocError, Global};
 use std::collections::BTreeMap;
 use std::io;
 use std::io::BufRead;
-
-/// The most bytes that the text of a revision may have.
-const LONGEST_REVISION: usize = 65_536;
 
 /// Answers `init DB DIR`.
 pub fn run_init<I: BufRead>(
@@ -198,7 +196,7 @@ fn site_of(
 fn ready_text(alloc: Global, site: &Site) -> Result<String, AllocError>
     ensures { IfOk result (λ text. IsReadyText (texts_of site.now) (string_bytes text)) }
 {
-    if !has_revision_lengths(site) {
+    if !site.has_lengths_within(LONGEST_REVISION) {
         return warned_text(alloc, &[]);
     }
     match parse(alloc, site) {
@@ -206,41 +204,6 @@ fn ready_text(alloc: Global, site: &Site) -> Result<String, AllocError>
         Err(ReadError::Fault(_)) => warned_text(alloc, &[]),
         Err(ReadError::Memory) => Err(AllocError),
     }
-}
-
-/// Tests whether no text of a site is too long for a revision.
-fn has_revision_lengths(site: &Site) -> bool
-    ensures { Decides result (HaveRevisionLengths (texts_of site.now)) }
-{
-    are_files_short(site) && are_exports_short(&site.exports)
-}
-
-/// Tests whether none of the seven files is too long for a revision.
-fn are_files_short(site: &Site) -> bool
-    ensures { result ≡ are_files_short site.now }
-{
-    is_short(&site.custodians)
-        && is_short(&site.filesystems)
-        && is_short(&site.hosts)
-        && is_short(&site.networks)
-        && is_short(&site.passwd)
-        && is_short(&site.group)
-        && is_short(&site.netgroup)
-}
-
-/// Tests whether no exports text is too long for a revision.
-fn are_exports_short(exports: &BTreeMap<String, Text>) -> bool
-    ensures each { result ≡ list_all is_short (values exports.now) }
-    ensures ordered { IsOrdered string_cmp exports.now }
-{
-    exports.values().all(is_short)
-}
-
-/// Tests whether a text is not too long for a revision.
-fn is_short(text: &Text) -> bool
-    ensures { result ≡ is_short text.now }
-{
-    text.as_str().len() <= LONGEST_REVISION
 }
 
 /// Writes a line for each warning, and `ready`.
@@ -405,7 +368,7 @@ fn refuse(
 fn too_large(alloc: Global, sources: SiteSources<'_>, file: Text) -> Result<Output, Failure>
     ensures { IsRefusedAs (refused.TooLarge file) result }
 {
-    let told = match file.as_str().strip_prefix("exports:") {
+    let told = match mount_of(file.as_str()) {
         Some(mount) => lines_too_large_told(alloc, sources.whole.exports.path, mount)?,
         None => too_large_told(alloc, FileArgument::Dir, path_of(sources, file.as_str()))?,
     };
@@ -417,26 +380,24 @@ fn lines_too_large_told(alloc: Global, path: &str, mount: &str) -> Result<String
     format!(in alloc; "exportdesk: DIR {path:?}: the lines of {mount:?} are over 65536 bytes\n")
 }
 
-/// Lends the path of one of the seven files.
-fn path_of<'a>(sources: SiteSources<'a>, file: &str) -> &'a str {
-    match file {
-        "custodians" => sources.custodians.path,
-        "filesystems" => sources.filesystems.path,
-        "hosts" => sources.whole.tables.hosts.path,
-        "networks" => sources.whole.tables.networks.path,
-        "passwd" => sources.whole.tables.passwd.path,
-        "group" => sources.whole.tables.group.path,
-        _ => sources.whole.tables.netgroup.path,
+/// Lends the path of the file of this name, or the exports file's if it is not one of the seven.
+fn path_of<'a>(sources: SiteSources<'a>, name: &str) -> &'a str {
+    match SiteFile::of(name) {
+        Some(SiteFile::Custodians) => sources.custodians.path,
+        Some(SiteFile::Filesystems) => sources.filesystems.path,
+        Some(SiteFile::Hosts) => sources.whole.tables.hosts.path,
+        Some(SiteFile::Networks) => sources.whole.tables.networks.path,
+        Some(SiteFile::Passwd) => sources.whole.tables.passwd.path,
+        Some(SiteFile::Group) => sources.whole.tables.group.path,
+        Some(SiteFile::Netgroup) => sources.whole.tables.netgroup.path,
+        None => sources.whole.exports.path,
     }
 }
 
 /// Lends the sources with the exports file of this name, if there is one, in the place of the whole exports text.
 fn with_exports<'a>(sources: SiteSources<'a>, site: &'a Site, name: &'a str) -> SiteSources<'a> {
-    let text = match name.strip_prefix("exports:") {
-        Some(mount) => match site.exports.get(mount) {
-            Some(text) => text.as_str(),
-            None => "",
-        },
+    let text = match mount_of(name) {
+        Some(mount) => site.exports_text(mount),
         None => "",
     };
     SiteSources {
@@ -456,9 +417,9 @@ fn faulty(
     site: &Site,
     fault: SiteFault,
 ) -> Result<Output, Failure>
-    ensures { IsRefusedAs (refused.Edit (SiteRefusal fault)) result }
+    ensures { IsRefusedByDesk (by_desk.Edit (SiteRefusal fault)) result }
 {
     let name = fault.file.as_str();
     let told = tell_site_fault(alloc, with_exports(sources, site, name), &fault)?;
-    Ok(Output::Refused(Refused::Edit(Refusal::Fault(fault)), told))
+    Ok(Output::Refused(Refused::Desk(ByDesk::Edit(Refusal::Fault(fault))), told))
 }

@@ -10,12 +10,14 @@ use cli_files::failure::Failure;
 use cli_output::output::Output;
 use cli_words::arguments::read_number;
 use cli_words::database_words::{CatWords, LogWords};
+use desk_service::FileQuestion;
 
 /// Answers `log DB NAME`.
 pub fn run_log(rt: &HostRuntime, words: LogWords<'_>) -> Result<Output, Failure>
     ensures { AnswersLog (given_log words.entry) result }
 {
-    answer_question(rt, words.db, SiteQuestion::Log(words.name))
+    let question = FileQuestion::Revisions(words.name);
+    answer_question(rt, words.db, SiteQuestion::OnFile(question))
 }
 
 /// Answers `cat DB NAME [--rev N]`.
@@ -26,5 +28,6 @@ pub fn run_cat(rt: &HostRuntime, words: CatWords<'_>) -> Result<Output, Failure>
         Some(word) => Some(read_number(rt.alloc(), Argument::Rev, word)?),
         None => None,
     };
-    answer_question(rt, words.db, SiteQuestion::Cat(words.name, rev))
+    let question = FileQuestion::Text(words.name, rev);
+    answer_question(rt, words.db, SiteQuestion::OnFile(question))
 }

@@ -4,16 +4,15 @@
 //! not write, as CannotOpen alone, so the system is asked for each first, and then DB is closed at once. An empty DB is refused
 //! before SQLite opens it, which would write a database into it.
 
-ghost use Rattle.std.specs.Prelude.{◌≡◌, false, IfOk};
+ghost use Rattle.std.specs.Prelude.{◌≡◌, ◌+◌, false, IfOk};
 ghost use Rattle.sqlite_wal.specs.Files.{image_at};
 ghost use Rattle.sqlite.specs.Files.{over_files};
 ghost use Rattle.sqlite.specs.Held.{state};
 ghost use Rattle.desk_core.specs.Edit.{asked};
-ghost use Rattle.desk_store.specs.Desk.{IsEdited};
+ghost use Rattle.desk_service.specs.declared.refused.Refused.TheVariants as by_desk;
 ghost use Rattle.cli_words.specs.Words.{given_put};
-ghost use Rattle.cli_output.specs.declared.refused.Refused.TheVariants as refused;
-ghost use Rattle.cli_database.specs.PutCommand.{AnswersEdit, AnswersKeyFile, AnswersPut, AnswersPutFiles, GivesKey, HasReplies, IsKeyIn, PutsBy, PutsFrom, PutsOver, edit_of, key_in, key_file_in};
-ghost use Rattle.cli_database.specs.ToldRefusal.{IsRefusedAs};
+ghost use Rattle.cli_database.specs.PutCommand.{AnswersEdit, AnswersKeyFile, AnswersPut, AnswersPutFiles, GivesKey, HasReplies, IsKeyIn, PutsFrom, TellsPut, TellsReply, edit_of, key_in, key_file_in};
+ghost use Rattle.cli_database.specs.ToldRefusal.{IsRefusedByDesk};
 
 use crate::View;
 use crate::copy::unread;
@@ -31,7 +30,9 @@ use cli_words::arguments::read_number;
 use cli_words::database_words::PutWords;
 use desk_check::{SiteSources, Source, TableSources, WholeSources, tell_site_fault};
 use desk_core::{Edit, Refusal};
-use desk_store::{Desk, DeskError, Done};
+use desk_policy::SiteFile;
+use desk_service::{Refused as ByDesk, Replies, put_over};
+use desk_store::{Desk, DeskError};
 use sqlite::{Alter, Connection, FileFrom, FileStore, Start, Wary};
 use std::alloc::{AllocError, Global};
 use std::fs::OpenOptions;
@@ -180,19 +181,30 @@ fn is_empty_file(rt: &HostRuntime, path: &str) -> io::Result<bool> {
     Ok(file.metadata()?.len() <= 1)
 }
 
-/// Puts an edit into a database, and then removes its log if that was made for nothing.
+/// Puts an edit into a database, and then removes its log if that was made for nothing. What may be printed of the edit is made
+/// before it.
 fn remove_new_log(rt: &HostRuntime, words: PutWords<'_>, edit: &Edit<'_>) -> Result<Output, Failure>
     ensures { AnswersEdit words.entry.db.now (asked edit.now) result }
 {
     let log = log_to_make(rt, words.db)?;
     let path = plain_path(rt.alloc(), words.db)?;
-    let (answer, left) = open_files(rt, words, path.as_str(), edit, &log, Wary);
+    let replies = replies_of(rt.alloc(), u64::from(edit.base) + 1)?;
+    let (answer, left) = open_files(rt, words, path.as_str(), edit, replies, &log, Wary);
     if left.is_some() {
         // Before the lock goes with the connection: behind that, another process may write the log.
         remove_log(rt, &log);
     }
     drop(left);
     answer
+}
+
+/// Writes the lines that may be printed of an edit whose revision has this number.
+fn replies_of(alloc: Global, rev: u64) -> Result<Replies<String>, AllocError>
+    ensures { IfOk result (HasReplies rev) }
+{
+    let accepted = format!(in alloc; "accepted rev {rev}\n")?;
+    let already = format!(in alloc; "already rev {rev}\n")?;
+    Ok(Replies { accepted, already })
 }
 
 /// A connection to files, where `S` stands for what they held.
@@ -204,14 +216,15 @@ fn open_files<S: Start>(
     words: PutWords<'_>,
     path: &str,
     edit: &Edit<'_>,
+    replies: Replies<String>,
     log: &Option<String>,
     start: S,
 ) -> (Result<Output, Failure>, Option<FilesFrom<S>>)
-    ensures { PutsFrom over_files (image_at S.Start) (asked edit.now) result.0 result.1 }
+    ensures { PutsFrom over_files (image_at S.Start) (asked edit.now) replies result.0 result.1 }
 {
     match Connection::open_from(rt, path, false, start) {
         Ok(conn) => {
-            let (answer, left) = over_connection(rt.alloc(), words, conn, edit);
+            let (answer, left) = over_connection(rt.alloc(), words, conn, edit, replies);
             (answer, Some(left))
         }
         Err((error, left)) => {
@@ -224,73 +237,42 @@ fn open_files<S: Start>(
     }
 }
 
-/// Opens a desk over a connection, which is handed back, and puts an edit into it.
+/// Puts an edit into the database of a connection, which is handed back.
 fn over_connection<S: Alter + Drop>(
     alloc: Global,
     words: PutWords<'_>,
     conn: Connection<S>,
     edit: &Edit<'_>,
+    replies: Replies<String>,
 ) -> (Result<Output, Failure>, Connection<S>)
     requires { (state S.Store conn).in_transaction ≡ false }
-    ensures { PutsOver (state S.Store conn) (state S.Store result.1) (asked edit.now) result.0 }
+    ensures { TellsPut (state S.Store conn) (state S.Store result.1) (asked edit.now) replies result.0 }
 {
-    let opened: Result<Desk<S, View>, _> = Desk::open(alloc, conn);
-    match opened {
-        Ok(mut desk) => {
-            let answer = edit_desk(alloc, words, &mut desk, edit);
+    let put: Result<(_, Desk<S, View>), _> = put_over(alloc, conn, edit, replies);
+    match put {
+        Ok((reply, desk)) => {
+            let answer = told(alloc, words, &desk, edit, reply);
             (answer, desk.into_connection())
         }
         Err((error, conn)) => (refused_by_desk(alloc, words.db, error), conn),
     }
 }
 
-/// What is printed of an edit that is not refused. It is made before the edit is stored.
-#[derive(Drop)]
-pub struct Replies {
-    pub accepted: String,
-    pub already: String,
-}
-
-impl Replies {
-    fn of(alloc: Global, rev: u64) -> Result<Replies, AllocError>
-        ensures { IfOk result (HasReplies rev) }
-    {
-        let accepted = format!(in alloc; "accepted rev {rev}\n")?;
-        let already = format!(in alloc; "already rev {rev}\n")?;
-        Ok(Replies { accepted, already })
-    }
-}
-
-/// Puts an edit into a desk; what is printed is made before.
-fn edit_desk<S: Alter + Drop>(
+/// Answers by the reply to an edit of a desk, or by why the desk has none.
+fn told<S: Alter + Drop>(
     alloc: Global,
     words: PutWords<'_>,
-    desk: &mut Desk<S, View>,
+    desk: &Desk<S, View>,
     edit: &Edit<'_>,
+    reply: Result<String, DeskError>,
 ) -> Result<Output, Failure>
-    ensures { PutsBy S.Store desk.old desk.new (asked edit.now) result }
+    ensures { TellsReply reply result }
 {
-    let replies = Replies::of(alloc, u64::from(edit.base) + 1)?;
-    match edited(alloc, desk, edit) {
-        Ok(done) => Ok(Output::Done(if done.already {
-            replies.already
-        } else {
-            replies.accepted
-        })),
+    match reply {
+        Ok(line) => Ok(Output::Done(line)),
         Err(DeskError::Refused(refusal)) => refused(alloc, words.file, desk, edit, refusal),
         Err(error) => refused_by_desk(alloc, words.db, error),
     }
-}
-
-/// Edits a desk. (Split off for its proof.)
-fn edited<S: Alter + Drop>(
-    alloc: Global,
-    desk: &mut Desk<S, View>,
-    edit: &Edit<'_>,
-) -> Result<Done, DeskError>
-    ensures { IsEdited (state S.Store desk.old.conn) (state S.Store desk.new.conn) desk.old.state desk.new.state (asked edit.now) result }
-{
-    desk.edit(alloc, edit)
 }
 
 /// Answers by why an edit, whose text is that of the file of this path, is refused.
@@ -301,7 +283,7 @@ fn refused<S: Alter + Drop>(
     edit: &Edit<'_>,
     refusal: Refusal,
 ) -> Result<Output, Failure>
-    ensures { IsRefusedAs (refused.Edit refusal) result }
+    ensures { IsRefusedByDesk (by_desk.Edit refusal) result }
 {
     let told = match &refusal {
         Refusal::Fault(fault) => {
@@ -309,7 +291,7 @@ fn refused<S: Alter + Drop>(
         }
         _ => refusal_told(alloc, path, edit, &refusal)?,
     };
-    Ok(Output::Refused(Refused::Edit(refusal), told))
+    Ok(Output::Refused(Refused::Desk(ByDesk::Edit(refusal)), told))
 }
 
 /// Lends the texts of the site with an edit, and of the exports the file of this name.
@@ -319,15 +301,15 @@ fn sources_of<'a, S: Alter + Drop>(
     file: &'a str,
 ) -> SiteSources<'a> {
     SiteSources {
-        custodians: source_of(desk, edit, "custodians"),
-        filesystems: source_of(desk, edit, "filesystems"),
+        custodians: source_of(desk, edit, SiteFile::Custodians.name()),
+        filesystems: source_of(desk, edit, SiteFile::Filesystems.name()),
         whole: WholeSources {
             tables: TableSources {
-                hosts: source_of(desk, edit, "hosts"),
-                networks: source_of(desk, edit, "networks"),
-                passwd: source_of(desk, edit, "passwd"),
-                group: source_of(desk, edit, "group"),
-                netgroup: source_of(desk, edit, "netgroup"),
+                hosts: source_of(desk, edit, SiteFile::Hosts.name()),
+                networks: source_of(desk, edit, SiteFile::Networks.name()),
+                passwd: source_of(desk, edit, SiteFile::Passwd.name()),
+                group: source_of(desk, edit, SiteFile::Group.name()),
+                netgroup: source_of(desk, edit, SiteFile::Netgroup.name()),
             },
             exports: source_of(desk, edit, file),
         },

@@ -1,41 +1,37 @@
-//! What is asked of a database without changing it, and the answers.
+//! Questions on the site in a database, and how their answers are printed.
 
-ghost use Rattle.std.specs.Prelude.{◌≡◌, ◌++◌, [], false, IfOk, None, OnOk, Some};
+ghost use Rattle.std.specs.Prelude.{◌≡◌, ◌++◌, [], false, IfOk, None, OnOk};
 ghost use Rattle.std.specs.String.{string_bytes};
 ghost use Rattle.sqlite.specs.Held.{state};
 ghost use Rattle.sqlite.specs.State.{HasCleanDisk};
-ghost use Rattle.desk_text.specs.Address.{number_of};
-ghost use Rattle.desk_policy.specs.ListingPrints.{listing_text};
-ghost use Rattle.desk_policy.specs.Listings.{listing_of};
+ghost use Rattle.desk_policy.specs.Verdict.{verdict_result};
 ghost use Rattle.desk_store.specs.Desk.{HasGoodDisk, History, LeavesTables, StandsAt};
-ghost use Rattle.cli_database.specs.Questions.{AnswersByDatabase, AnswersByHistory, AnswersQuestion, Cat, Log, OnlyLooks, asked_question, log_text, revision_line};
+ghost use Rattle.desk_check.specs.TryText.{answer_of, answer_on};
+ghost use Rattle.desk_service.specs.Questions.{ByFile, ByPolicy, OnFile, OnPolicy, OnlyLooks, file_question, policy_answer_of, policy_question};
+ghost use Rattle.cli_database.specs.Questions.{AnswersByDatabase, AnswersQuestion, PrintsAnswer, TellsByHistory, credential_in, log_text, question_in, revision_line};
 
 use crate::View;
 use crate::copy::{Unopened, open_copy};
 use crate::told_refusal::{no_revision, not_opened_at, refused_by_copy};
 use cli_files::failure::Failure;
 use cli_output::output::Output;
-use desk_check::try_text::decide_by;
-use desk_policy::{PolicyView, all_exports, listing, listing_text};
+use desk_check::try_text::Tried;
+use desk_policy::{Policy, Verdict, all_exports, listing_text, verdict_text};
+use desk_service::{
+    FileAnswer, FileQuestion, PolicyAnswer, PolicyQuestion, answer_by_desk, answer_in_force,
+};
 use desk_store::Desk;
 use desk_tables::Cred;
-use desk_text::{Addr, Path, Text};
+use desk_text::Text;
 use sqlite::{Alter, Connection};
 use std::alloc::{AllocError, Global};
 
 /// What is asked of the site in a database.
 #[derive(Clone, Copy)]
 pub enum SiteQuestion<'a> {
-    /// Whether the client of this address may mount this directory, and as whom it acts, if its credential is given.
-    Ask(Addr, &'a Path, &'a Option<Cred>),
-    /// What the client of this address may mount.
-    Show(Addr),
-    /// All exports.
-    Exports,
-    /// The revisions of this file.
-    Log(&'a str),
-    /// The text of this file, as of this revision or else the newest.
-    Cat(&'a str, Option<u32>),
+    /// By the policy in force. If the client's credential is given, a verdict is printed with as whom it acts.
+    OnPolicy(PolicyQuestion<'a>, &'a Option<Cred>),
+    OnFile(FileQuestion<'a>),
 }
 
 /// Answers a question by the database at a path.
@@ -44,7 +40,7 @@ pub fn answer_question(
     db: &str,
     question: SiteQuestion<'_>,
 ) -> Result<Output, Failure>
-    ensures { AnswersQuestion db.now (asked_question question.entry) result }
+    ensures { AnswersQuestion db.now (question_in question.entry) (credential_in question.entry) result }
 {
     match open_copy(rt, db) {
         Ok(conn) => {
@@ -66,7 +62,8 @@ fn answer_over<S: Alter + Drop>(
     question: SiteQuestion<'_>,
 ) -> (Result<Output, Failure>, Connection<S>)
     requires { (state S.Store conn).in_transaction ≡ false }
-    ensures answered { HasCleanDisk (state S.Store result.1) → AnswersByDatabase (state S.Store conn).committed (asked_question question.entry) result.0 }
+    ensures answered { HasCleanDisk (state S.Store result.1)
+        → AnswersByDatabase (state S.Store conn).committed (question_in question.entry) (credential_in question.entry) result.0 }
     ensures tables { LeavesTables (state S.Store conn) (state S.Store result.1) }
     ensures mode { HasCleanDisk (state S.Store result.1) → (state S.Store result.1).in_transaction ≡ false }
 {
@@ -88,50 +85,96 @@ fn answer_by<S: Alter + Drop>(
     question: SiteQuestion<'_>,
 ) -> Result<Output, Failure>
     ensures answered { HasGoodDisk S.Store desk.new → (history : History) → StandsAt S.Store desk.old history []
-        → AnswersByHistory history (asked_question question.entry) result }
+        → TellsByHistory history (question_in question.entry) (credential_in question.entry) result }
     ensures looks { OnlyLooks S.Store desk.old desk.new }
 {
-    leave(desk);
     match question {
-        SiteQuestion::Ask(address, path, own) => {
-            Ok(Output::Tried(decide_by(alloc, desk.view(), address, path, own)?))
-        }
-        SiteQuestion::Show(address) => Ok(Output::Done(shown_text(alloc, desk.view(), address)?)),
-        SiteQuestion::Exports => Ok(Output::Done(all_exports(alloc, desk.view().policy())?)),
-        SiteQuestion::Log(name) => log(alloc, db, desk, name),
-        SiteQuestion::Cat(name, None) => newest_text(alloc, desk, name),
-        SiteQuestion::Cat(name, Some(rev)) => text_at(alloc, db, desk, name, rev),
+        SiteQuestion::OnPolicy(question, own) => by_policy(alloc, desk, question, own),
+        SiteQuestion::OnFile(question) => by_file(alloc, db, desk, question),
     }
 }
 
-/// A desk that is left alone was only looked at.
-fn leave<S: Alter + Drop>(desk: &Desk<S, View>)
-    ensures { OnlyLooks S.Store desk.now desk.now }
-{}
-
-/// Writes what a client may mount.
-fn shown_text(alloc: Global, view: &View, address: Addr) -> Result<String, AllocError>
-    ensures { IfOk result (λ text. string_bytes text ≡ listing_text view.now (listing_of view.now (number_of address))) }
+/// Answers a question on the policy in force by a desk.
+fn by_policy<S: Alter + Drop>(
+    alloc: Global,
+    desk: &Desk<S, View>,
+    question: PolicyQuestion<'_>,
+    own: &Option<Cred>,
+) -> Result<Output, Failure>
+    ensures answered { (history : History) → StandsAt S.Store desk.now history []
+        → TellsByHistory history (OnPolicy (policy_question question.entry)) own.now result }
+    ensures looks { OnlyLooks S.Store desk.now desk.now }
 {
-    let shown = listing(alloc, view, address)?;
-    listing_text(alloc, view.policy(), shown.as_slice())
+    match answer_in_force(alloc, desk, question) {
+        Ok(answer) => policy_output(alloc, answer, own),
+        Err(_) => Err(Failure::Memory),
+    }
 }
 
-/// Lists the revisions of a file.
-fn log<S: Alter + Drop>(
+/// Prints the answer to a question on the policy in force.
+fn policy_output(
+    alloc: Global,
+    answer: PolicyAnswer<'_>,
+    own: &Option<Cred>,
+) -> Result<Output, Failure>
+    ensures { PrintsAnswer own.now (ByPolicy (policy_answer_of answer.entry)) result }
+{
+    match answer {
+        PolicyAnswer::Verdict(policy, verdict) => {
+            Ok(Output::Tried(told_verdict(alloc, policy, verdict, own)?))
+        }
+        PolicyAnswer::Listing(policy, listing) => {
+            Ok(Output::Done(listing_text(alloc, policy, listing.as_slice())?))
+        }
+        PolicyAnswer::Exports(policy) => Ok(Output::Done(all_exports(alloc, policy)?)),
+    }
+}
+
+/// Prints a verdict.
+fn told_verdict(
+    alloc: Global,
+    policy: &Policy,
+    verdict: Verdict<'_>,
+    own: &Option<Cred>,
+) -> Result<Tried, AllocError>
+    ensures { IfOk result (λ tried. answer_of tried ≡ answer_on policy.now own.now (verdict_result verdict.entry)) }
+{
+    let granted = matches!(verdict, Verdict::Granted { .. });
+    let line = verdict_text(alloc, policy, &verdict, own)?;
+    Ok(Tried { granted, line })
+}
+
+/// Answers a question on the revisions of a file by a desk.
+fn by_file<S: Alter + Drop>(
     alloc: Global,
     db: &str,
     desk: &mut Desk<S, View>,
-    name: &str,
+    question: FileQuestion<'_>,
 ) -> Result<Output, Failure>
     ensures answered { HasGoodDisk S.Store desk.new → (history : History) → StandsAt S.Store desk.old history []
-        → AnswersByHistory history (Log name.now) result }
+        → TellsByHistory history (OnFile (file_question question.entry)) None result }
     ensures looks { OnlyLooks S.Store desk.old desk.new }
 {
-    match desk.revisions(alloc, name) {
-        Ok(revisions) if revisions.is_empty() => no_revision(alloc, name, None),
-        Ok(revisions) => Ok(Output::Done(log_text(alloc, revisions.as_slice())?)),
+    match answer_by_desk(alloc, desk, question) {
+        Ok(answer) => file_output(alloc, question, answer),
         Err(error) => refused_by_copy(alloc, db, error),
+    }
+}
+
+/// Prints the answer to a question on the revisions of a file.
+fn file_output(
+    alloc: Global,
+    question: FileQuestion<'_>,
+    answer: FileAnswer,
+) -> Result<Output, Failure>
+    ensures { PrintsAnswer None (ByFile answer) result }
+{
+    match answer {
+        FileAnswer::Text(text) => { Ok(Output::Done(String::from_str(alloc, text.body.as_str())?)) }
+        FileAnswer::Revisions(revisions) => {
+            Ok(Output::Done(log_text(alloc, revisions.as_slice())?))
+        }
+        FileAnswer::NoRevision => no_revision(alloc, question),
     }
 }
 
@@ -151,37 +194,4 @@ fn push_revision(rev: u32, author: &str, text: &mut String) -> Result<(), AllocE
     ensures { OnOk result (string_bytes text.new ≡ string_bytes text.old ++ revision_line (rev, author.now)) }
 {
     write!(text, "rev {rev} {author}\n")
-}
-
-/// Gives the newest text of a file.
-fn newest_text<S: Alter + Drop>(
-    alloc: Global,
-    desk: &Desk<S, View>,
-    name: &str,
-) -> Result<Output, Failure>
-    ensures { (history : History) → StandsAt S.Store desk.now history [] → AnswersByHistory history (Cat name.now None) result }
-{
-    match desk.newest(name) {
-        Some(head) => Ok(Output::Done(String::from_str(alloc, head.body.as_str())?)),
-        None => no_revision(alloc, name, None),
-    }
-}
-
-/// Gives the text of a file as of a revision.
-fn text_at<S: Alter + Drop>(
-    alloc: Global,
-    db: &str,
-    desk: &mut Desk<S, View>,
-    name: &str,
-    rev: u32,
-) -> Result<Output, Failure>
-    ensures answered { HasGoodDisk S.Store desk.new → (history : History) → StandsAt S.Store desk.old history []
-        → AnswersByHistory history (Cat name.now (Some rev)) result }
-    ensures looks { OnlyLooks S.Store desk.old desk.new }
-{
-    match desk.revision(alloc, name, rev) {
-        Ok(Some(revision)) => { Ok(Output::Done(String::from_str(alloc, revision.body.as_str())?)) }
-        Ok(None) => no_revision(alloc, name, Some(rev)),
-        Err(error) => refused_by_copy(alloc, db, error),
-    }
 }

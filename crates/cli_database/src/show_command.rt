@@ -9,18 +9,21 @@ use cli_files::failure::Failure;
 use cli_output::output::Output;
 use cli_words::arguments::read_host;
 use cli_words::database_words::{ExportsWords, ShowWords};
+use desk_service::PolicyQuestion;
 
 /// Answers `show DB HOST`.
 pub fn run_show(rt: &HostRuntime, words: ShowWords<'_>) -> Result<Output, Failure>
     ensures { AnswersShow (given_show words.entry) result }
 {
     let address = read_host(rt.alloc(), words.host)?;
-    answer_question(rt, words.db, SiteQuestion::Show(address))
+    let question = PolicyQuestion::Listing(address);
+    answer_question(rt, words.db, SiteQuestion::OnPolicy(question, &None))
 }
 
 /// Answers `exports DB`.
 pub fn run_exports(rt: &HostRuntime, words: ExportsWords<'_>) -> Result<Output, Failure>
     ensures { AnswersExports (given_exports words.entry) result }
 {
-    answer_question(rt, words.db, SiteQuestion::Exports)
+    let question = PolicyQuestion::Exports;
+    answer_question(rt, words.db, SiteQuestion::OnPolicy(question, &None))
 }

@@ -1,7 +1,8 @@
 //! Outputs of commands on a database that are refused, with the sentence that standard error tells beside the fixed line.
 
-ghost use Rattle.cli_output.specs.declared.refused.Refused.TheVariants as refused;
-ghost use Rattle.cli_database.specs.ToldRefusal.{IsRefusedAs, TellsCopyError, TellsCopyFault, TellsError};
+ghost use Rattle.std.specs.Prelude.{◌≡◌};
+ghost use Rattle.desk_service.specs.declared.refused.Refused.TheVariants as by_desk;
+ghost use Rattle.cli_database.specs.ToldRefusal.{IsRefusedByDesk, TellsError, copy_error};
 
 use crate::copy::is_out_of_memory;
 use crate::obstacles::{Obstacle, find_obstacle};
@@ -10,25 +11,30 @@ use cli_files::files::FileArgument;
 use cli_output::output::Output;
 use cli_output::refused::Refused;
 use desk_core::{Edit, Refusal};
+use desk_service::{FileQuestion, Refused as ByDesk};
 use desk_store::{DeskError, StoreFault, Task};
 use sqlite::{Error, ErrorCode};
 use std::alloc::{AllocError, Global};
 use std::io;
 
-/// Answers that a file, or its revision of this number, is not there.
-pub fn no_revision(alloc: Global, name: &str, rev: Option<u32>) -> Result<Output, Failure>
-    ensures { IsRefusedAs refused.NoRevision result }
+/// Answers that the file of a question, or its revision of the number that is asked for, is not there.
+pub fn no_revision(alloc: Global, question: FileQuestion<'_>) -> Result<Output, Failure>
+    ensures { IsRefusedByDesk by_desk.NoRevision result }
 {
-    let told = match rev {
-        Some(rev) => format!(in alloc; "exportdesk: NAME {name:?}: it has no revision {rev}\n")?,
-        None => format!(in alloc; "exportdesk: NAME {name:?}: it has no revision\n")?,
+    let told = match question {
+        FileQuestion::Text(name, Some(rev)) => {
+            format!(in alloc; "exportdesk: NAME {name:?}: it has no revision {rev}\n")?
+        }
+        FileQuestion::Text(name, None) | FileQuestion::Revisions(name) => {
+            format!(in alloc; "exportdesk: NAME {name:?}: it has no revision\n")?
+        }
     };
-    Ok(Output::Refused(Refused::NoRevision, told))
+    Ok(Output::Refused(Refused::Desk(ByDesk::NoRevision), told))
 }
 
 /// Answers that SQLite does not open a database.
 pub fn not_opened(alloc: Global, db: &str, error: Error) -> Result<Output, Failure>
-    ensures { IsRefusedAs refused.Store result }
+    ensures { IsRefusedByDesk by_desk.Store result }
 {
     let told = match error {
         Error::SqliteFailure(ErrorCode::OutOfMemory) => return Err(Failure::Memory),
@@ -45,12 +51,12 @@ pub fn not_opened(alloc: Global, db: &str, error: Error) -> Result<Output, Failu
         }
         _ => format!(in alloc; "exportdesk: DB {db:?}: it cannot be opened: {error}\n")?,
     };
-    Ok(Output::Refused(Refused::Store, told))
+    Ok(Output::Refused(Refused::Desk(ByDesk::Store), told))
 }
 
 /// Answers that SQLite does not open a database, by what stands in the way of its files, if that is known.
 pub fn not_opened_at(rt: &HostRuntime, db: &str, error: Error) -> Result<Output, Failure>
-    ensures { IsRefusedAs refused.Store result }
+    ensures { IsRefusedByDesk by_desk.Store result }
 {
     match error {
         Error::SqliteFailure(ErrorCode::CannotOpen) => match find_obstacle(rt, db) {
@@ -63,86 +69,89 @@ pub fn not_opened_at(rt: &HostRuntime, db: &str, error: Error) -> Result<Output,
 
 /// Answers by what stands in the way of a database's files.
 pub fn obstructed(alloc: Global, db: &str, obstacle: Obstacle) -> Result<Output, Failure>
-    ensures { IsRefusedAs refused.Store result }
+    ensures { IsRefusedByDesk by_desk.Store result }
 {
     let told = format!(in alloc; "exportdesk: DB {db:?}: {obstacle}\n")?;
-    Ok(Output::Refused(Refused::Store, told))
+    Ok(Output::Refused(Refused::Desk(ByDesk::Store), told))
 }
 
 /// Answers that the system does not open a database for writing.
 pub fn not_writable(alloc: Global, db: &str, error: &io::Error) -> Result<Output, Failure>
-    ensures { IsRefusedAs refused.Store result }
+    ensures { IsRefusedByDesk by_desk.Store result }
 {
     if error.kind() == io::ErrorKind::OutOfMemory {
         return Err(Failure::Memory);
     }
     let told = format!(in alloc; "exportdesk: DB {db:?}: it cannot be written: {error}\n")?;
-    Ok(Output::Refused(Refused::Store, told))
+    Ok(Output::Refused(Refused::Desk(ByDesk::Store), told))
 }
 
 /// Answers that a statement was refused.
 pub fn refused_by_store(alloc: Global, db: &str, fault: StoreFault) -> Result<Output, Failure>
-    ensures { IsRefusedAs refused.Store result }
+    ensures { IsRefusedByDesk by_desk.Store result }
 {
-    let task = task_text(fault.task);
-    let error = fault.error;
-    let advice = advice_text(fault.task);
-    let told = format!(in alloc; "exportdesk: DB {db:?}: {task}: {error}{advice}\n")?;
-    Ok(Output::Refused(Refused::Store, told))
+    refused_by_desk(alloc, db, DeskError::Store(fault))
 }
 
 /// Answers that a database is not one of this project.
 pub fn refused_by_schema(alloc: Global, db: &str) -> Result<Output, Failure>
-    ensures { IsRefusedAs refused.Schema result }
+    ensures { IsRefusedByDesk by_desk.Schema result }
 {
-    let told = format!(in alloc;
-        "exportdesk: DB {db:?}: it is not a database of exportdesk, or its log (DB-wal) is not beside it, or it was changed by hand\n"
-    )?;
-    Ok(Output::Refused(Refused::Schema, told))
+    refused_by_desk(alloc, db, DeskError::Schema)
 }
 
 /// Answers that a new database has a table already.
 pub fn refused_by_table(alloc: Global, db: &str) -> Result<Output, Failure>
-    ensures { IsRefusedAs refused.Schema result }
+    ensures { IsRefusedByDesk by_desk.Schema result }
 {
     let told = format!(in alloc;
         "exportdesk: DB {db:?}: it has a table meta or file_rev already (put changes a desk)\n"
     )?;
-    Ok(Output::Refused(Refused::Schema, told))
+    Ok(Output::Refused(Refused::Desk(ByDesk::Schema), told))
 }
 
-/// Answers by why a desk has no answer.
+/// Answers by why a desk has no answer. Of a refused edit nothing is said.
 pub fn refused_by_desk(alloc: Global, db: &str, error: DeskError) -> Result<Output, Failure>
     ensures { TellsError error result }
 {
-    match error {
-        DeskError::Store(fault) => refused_by_store(alloc, db, fault),
-        DeskError::Schema => refused_by_schema(alloc, db),
-        DeskError::Memory => Err(Failure::Memory),
-        DeskError::Refused(refusal) => {
-            Ok(Output::Refused(Refused::Edit(refusal), String::new(alloc)))
-        }
-    }
+    let told = match &error {
+        DeskError::Refused(_) => String::new(alloc),
+        DeskError::Store(fault) => store_told(alloc, db, *fault)?,
+        DeskError::Schema => schema_told(alloc, db)?,
+        DeskError::Memory => return Err(Failure::Memory),
+    };
+    Ok(Output::Refused(Refused::Desk(ByDesk::by(error)), told))
 }
 
-/// Reports an error of a desk over an in-memory copy; one that means out of memory is reported as `Memory`.
+/// Says that a statement was refused.
+fn store_told(alloc: Global, db: &str, fault: StoreFault) -> Result<String, AllocError> {
+    let task = task_text(fault.task);
+    let error = fault.error;
+    let advice = advice_text(fault.task);
+    format!(in alloc; "exportdesk: DB {db:?}: {task}: {error}{advice}\n")
+}
+
+/// Says that a database is not one of this project.
+fn schema_told(alloc: Global, db: &str) -> Result<String, AllocError> {
+    format!(in alloc;
+        "exportdesk: DB {db:?}: it is not a database of exportdesk, or its log (DB-wal) is not beside it, or it was changed by hand\n"
+    )
+}
+
+/// Answers by why a desk over a copy in memory has no answer.
 pub fn refused_by_copy(alloc: Global, db: &str, error: DeskError) -> Result<Output, Failure>
-    ensures { TellsCopyError error result }
+    ensures { TellsError (copy_error error) result }
 {
-    match error {
-        DeskError::Store(fault) => refused_by_copy_store(alloc, db, fault),
-        error => refused_by_desk(alloc, db, error),
-    }
+    refused_by_desk(alloc, db, copy_error(error))
 }
 
-/// Answers that a statement was refused on a copy in memory.
-fn refused_by_copy_store(alloc: Global, db: &str, fault: StoreFault) -> Result<Output, Failure>
-    ensures { TellsCopyFault fault result }
+/// Returns the error that one of a desk over a copy in memory means: a statement may be refused since memory ran out.
+fn copy_error(error: DeskError) -> DeskError
+    ensures { result ≡ copy_error error }
 {
-    if is_out_of_memory(fault.error) {
-        Err(Failure::Memory)
-    } else {
-        refused_by_store(alloc, db, fault)
+    match error {
+        DeskError::Store(fault) if is_out_of_memory(fault.error) => DeskError::Memory,
+        error => error,
     }
 }
 

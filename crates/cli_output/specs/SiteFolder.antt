@@ -2,6 +2,7 @@
 use Rattle.std.specs.Prelude.{ℕ, ◌==◌, ◌-◌, ◌≤◌, ◌++◌, Bool, true, List, [], ◌∷◌, Option, Some, codes, length, map, slice_get, if◌then◌else◌}
 use Rattle.std.specs.Option.{option_map_or}
 use Rattle.std.specs.String.{string_bytes}
+use Rattle.desk_policy.specs.SiteFile.{all_files, file_name}
 use Rattle.desk_check.specs.declared.check_site.SiteSources.{SiteSources}
 use Rattle.cli_files.specs.declared.files.FileArgument.{FileArgument}
 use Rattle.cli_output.specs.declared.site_folder.SiteFiles.{SiteFiles}
@@ -16,8 +17,7 @@ path_in folder name = if needs_no_slash folder then folder ++ name else folder +
 
 -- the paths of a site's files, in the order in which they are read
 abbrev pub site_paths : List ℕ → List (List ℕ)
-site_paths folder =
-    path_in folder (codes "custodians") ∷ path_in folder (codes "filesystems") ∷ path_in folder (codes "hosts") ∷ path_in folder (codes "networks") ∷ path_in folder (codes "passwd") ∷ path_in folder (codes "group") ∷ path_in folder (codes "netgroup") ∷ path_in folder (codes "exports") ∷ []
+site_paths folder = map (λ file. path_in folder (file_name file)) all_files ++ path_in folder (codes "exports") ∷ []
 
 -- files of a site to be read
 abbrev pub site_words : FileArgument → List (List ℕ) → List (FileArgument × Option (List ℕ))

@@ -3,12 +3,14 @@
 ghost use Rattle.std.specs.Prelude.{◌≡◌, ◌≤◌, ◌++◌, IfOk, Some, codes, length};
 ghost use Rattle.std.specs.Result.{result_map_both};
 ghost use Rattle.std.specs.String.{string_bytes};
+ghost use Rattle.desk_policy.specs.SiteFile.{file_name};
 ghost use Rattle.cli_files.specs.Files.{Leaves, ReadsIfGiven, ReadsInTurn};
 ghost use Rattle.cli_output.specs.SiteFolder.{AreShortFiles, needs_no_slash, path_in, site_list, site_paths, site_paths_in, site_texts_in, site_words};
 
 use cli_files::failure::Failure;
 use cli_files::files::{FileArgument, read_if_given};
 use desk_check::{SiteSources, Source, TableSources, WholeSources};
+use desk_policy::SiteFile;
 use std::alloc::{AllocError, Global};
 use std::io::BufRead;
 
@@ -62,15 +64,22 @@ pub fn paths_of(alloc: Global, folder: &str) -> Result<SiteFiles, AllocError>
     ensures { IfOk result (λ paths. site_list paths ≡ site_paths folder.now) }
 {
     Ok(SiteFiles {
-        custodians: path_in(alloc, folder, "custodians")?,
-        filesystems: path_in(alloc, folder, "filesystems")?,
-        hosts: path_in(alloc, folder, "hosts")?,
-        networks: path_in(alloc, folder, "networks")?,
-        passwd: path_in(alloc, folder, "passwd")?,
-        group: path_in(alloc, folder, "group")?,
-        netgroup: path_in(alloc, folder, "netgroup")?,
+        custodians: path_of(alloc, folder, SiteFile::Custodians)?,
+        filesystems: path_of(alloc, folder, SiteFile::Filesystems)?,
+        hosts: path_of(alloc, folder, SiteFile::Hosts)?,
+        networks: path_of(alloc, folder, SiteFile::Networks)?,
+        passwd: path_of(alloc, folder, SiteFile::Passwd)?,
+        group: path_of(alloc, folder, SiteFile::Group)?,
+        netgroup: path_of(alloc, folder, SiteFile::Netgroup)?,
         exports: path_in(alloc, folder, "exports")?,
     })
+}
+
+/// Makes the path of one of the seven files in a folder.
+fn path_of(alloc: Global, folder: &str, file: SiteFile) -> Result<String, AllocError>
+    ensures { IfOk result (λ path. string_bytes path ≡ path_in folder.now (file_name file)) }
+{
+    path_in(alloc, folder, file.name())
 }
 
 /// Makes the path of a file in a folder; the empty path is the current folder.

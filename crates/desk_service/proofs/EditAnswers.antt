@@ -1,5 +1,5 @@
 -- An edit that is made of a desk is made of the database that the desk was opened on, for `edits`.
-use Rattle.std.proofs.Common.{◌≡◌, ◌∙◌, [], IsTrue, Result, Err, arith, inr, subst}
+use Rattle.std.proofs.Common.{◌≡◌, ◌∙◌, [], IsTrue, Result, Ok, arith, subst}
 use Rattle.sqlite.specs.Effect.{Database}
 use Rattle.sqlite.specs.Held.{Held, state}
 use Rattle.sqlite.specs.State.{HasCleanDisk, State}
@@ -34,6 +34,7 @@ module _ {S V : Type 0} (g : Ghosts S) (conn : Held S) (desk after : Shown S V) 
         before = desk.state;
         after = after.state;
         judged = edited.judged;
+        number = edited.number;
         ours = λ good. (opens (clean good)).0;
         heads = λ good history project. ((opens (clean good)).1 history project).heads;
         step = λ good history project. edited.step good history [] ((opens (clean good)).1 history project);
@@ -45,5 +46,5 @@ module _ {S V : Type 0} (g : Ghosts S) (conn : Held S) (desk after : Shown S V) 
             record { live = it.live; adds = subst (λ (db : Database). Adds (row_of (revision_of e)) db last.committed) (same good) it.adds; leaves = it.leaves };
       }
 
-  pub puts_over : {T : Type 0} (replies : Replies T) (result : Result T DeskError) → PutsBy g desk after e replies result → PutsOver V first last e replies result
-  puts_over replies result (answer, edited, is) = inr (answer, is_put answer edited, is)
+  pub puts_over : {T : Type 0} (replies : Replies T) (reply : Result T DeskError) → PutsBy g desk after e replies reply → PutsOver g conn e replies (Ok (reply, after))
+  puts_over replies reply (answer, edited, is) = (answer, is_put answer edited, is)

@@ -1,7 +1,7 @@
 -- What making an edit does and answers, with the replies that it is handed. (this project's own)
-use Rattle.std.specs.Prelude.{◌≡◌, ◌≢◌, ◌⊎◌, List, [], Result, Ok, Err, IsTrue, if◌then◌else◌}
+use Rattle.std.specs.Prelude.{◌≡◌, ◌≢◌, ◌+◌, List, [], Result, Ok, Err, IfOk, IsTrue, if◌then◌else◌}
 use Rattle.sqlite_trees.specs.declared.store.Store.{Ghosts}
-use Rattle.sqlite.specs.Held.{state}
+use Rattle.sqlite.specs.Held.{Held, state}
 use Rattle.sqlite.specs.State.{HasCleanDisk, State, Survives}
 use Rattle.desk_core.specs.Edit.{Edit, revision_of}
 use Rattle.desk_core.specs.Head.{Revision, newest_in}
@@ -42,6 +42,7 @@ pub record IsPut (V : Type 0) (old new : State) (e : Edit) (answer : Result Done
   pub before : Kept V
   pub after : Kept V
   pub judged : IsJudgedBy before after e answer
+  pub number : IfOk answer (λ done. done.rev ≡ e.base + 1)
   pub ours : HasCleanDisk new → IsOurs old.committed
   pub heads : HasCleanDisk new → (history : List Revision) → IsProject old.committed history → newest_in before.heads ≡ newest_of history
   pub step : HasCleanDisk new → (history : List Revision) → IsProject old.committed history → StepsOn new after e (told answer) history []
@@ -49,8 +50,9 @@ pub record IsPut (V : Type 0) (old new : State) (e : Edit) (answer : Result Done
   pub crash : Survives old new (CommitsOne before e (told answer) old.committed)
   pub stored : HasCleanDisk new → added_if e (told answer) ≢ [] → HasStored (row_of (revision_of e)) old new
 
--- what making an edit of the database of a connection did, and answered
-abbrev pub PutsOver : {T : Type 0} → Type 0 → State → State → Edit → Replies T → Result T DeskError → Type 0
-PutsOver V old new e replies result =
-    ((failed : DeskError) × IsNotPut old new failed × (result ≡ Err failed))
-    ⊎ ((answer : Result Done DeskError) × IsPut V old new e answer × (result ≡ reply_to replies answer))
+-- What opening a desk on the database of a connection, and making an edit of it, came to: no edit was made; or one was, and beside the
+-- desk is the reply to its answer.
+abbrev pub PutsOver : {S V T : Type 0} → Ghosts S → Held S → Edit → Replies T → Result (Result T DeskError × Shown S V) (DeskError × Held S) → Type 0
+PutsOver g conn e replies (Err both) = IsNotPut (state g conn) (state g both.1) both.0
+PutsOver {S} {V} g conn e replies (Ok both) =
+    (answer : Result Done DeskError) × IsPut V (state g conn) (state g both.1.conn) e answer × (both.0 ≡ reply_to replies answer)

@@ -52,22 +52,23 @@ fn edited<S: Alter + Drop, V: PolicyView + Drop>(
     desk.edit(alloc, edit)
 }
 
-/// Opens a desk on the database of a connection, and makes an edit of it. The connection is handed back.
+/// Opens a desk on the database of a connection, and makes an edit of it. The desk is handed back beside the reply, since a
+/// refusal may have to be told with its texts; and the connection beside why no desk is opened.
 pub fn put_over<S: Alter + Drop, V: PolicyView + Drop, T: Drop>(
     alloc: Global,
     conn: Connection<S>,
     edit: &Edit<'_>,
     replies: Replies<T>,
-) -> (Result<T, DeskError>, Connection<S>)
+) -> Result<(Result<T, DeskError>, Desk<S, V>), (DeskError, Connection<S>)>
     requires { (state S.Store conn).in_transaction ≡ false }
-    ensures { PutsOver V (state S.Store conn) (state S.Store result.1) (asked edit.now) replies result.0 }
+    ensures { PutsOver S.Store conn (asked edit.now) replies result }
 {
     let opened: Result<Desk<S, V>, _> = Desk::open(alloc, conn);
     match opened {
         Ok(mut desk) => {
             let answer = put(alloc, &mut desk, edit, replies);
-            (answer, desk.into_connection())
+            Ok((answer, desk))
         }
-        Err((error, conn)) => (Err(error), conn),
+        Err(both) => Err(both),
     }
 }

@@ -88,9 +88,11 @@ pub fn answer_in_force<'a, S: Alter + Drop, V: PolicyView + Drop>(
     desk: &'a Desk<S, V>,
     question: PolicyQuestion<'_>,
 ) -> Result<PolicyAnswer<'a>, AllocError>
-    ensures { (history pending : History) → StandsAt S.Store desk.now history pending
+    ensures answered { (history pending : History) → StandsAt S.Store desk.now history pending
         → IfOk result (λ answer. AnswersByHistory history (OnPolicy (policy_question question.entry)) (ByPolicy (policy_answer_of answer))) }
+    ensures looks { OnlyLooks S.Store desk.now desk.now }
 {
+    leave(desk);
     answer_by_view(alloc, desk.view(), question)
 }
 

@@ -1,10 +1,11 @@
 //! Why a question or an edit is refused: its number and name.
 
 ghost use Rattle.std.specs.Prelude.{◌≡◌};
+ghost use Rattle.desk_store.specs.Error.{desk_error_name, desk_error_number};
 ghost use Rattle.desk_service.specs.Refused.{refused_by, refused_name, refused_number};
 
 use desk_core::Refusal;
-use desk_store::DeskError;
+use desk_store::{DeskError, MEMORY_NUMBER, SCHEMA_NUMBER, STORE_NUMBER};
 
 /// Why a question or an edit is refused.
 #[derive(Drop)]
@@ -22,9 +23,11 @@ pub enum Refused {
 }
 
 impl Refused {
-    /// Returns the refusal that an error of a desk is.
+    /// Returns the refusal that an error of a desk is. It has the error's number and name.
     pub fn by(error: DeskError) -> Refused
-        ensures { result ≡ refused_by error }
+        ensures value { result ≡ refused_by error }
+        ensures number { refused_number result ≡ desk_error_number error }
+        ensures name { refused_name result ≡ desk_error_name error }
     {
         match error {
             DeskError::Refused(refusal) => Refused::Edit(refusal),
@@ -34,16 +37,16 @@ impl Refused {
         }
     }
 
-    /// Returns the number of the refusal: 1 to 9 of an edit, 111, and from 201 what the database or the machine refuses.
+    /// Returns the number of the refusal: 1 to 9 of an edit, 111, or that of the error of a desk.
     pub fn number(&self) -> u32
         ensures { result ≡ refused_number self.now }
     {
         match self {
             Refused::Edit(refusal) => refusal.number(),
             Refused::NoRevision => 111,
-            Refused::Store => 201,
-            Refused::Schema => 202,
-            Refused::Memory => 203,
+            Refused::Store => STORE_NUMBER,
+            Refused::Schema => SCHEMA_NUMBER,
+            Refused::Memory => MEMORY_NUMBER,
         }
     }
 

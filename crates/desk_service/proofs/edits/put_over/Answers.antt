@@ -1,18 +1,12 @@
 -- The edit is made of the desk that was opened.
-use Rattle.std.proofs.Common.{inl, refl}
 use Rattle.desk_core.specs.Edit.{asked}
 use Rattle.desk_service.proofs.EditAnswers.{puts_over}
 use Rattle.desk_service.proofs.edits.put_over.Goals as goal
 
 pub returns-in-Ok : goal.returns-in-Ok
 returns-in-Ok g c =
-    rw (c.into_connection.ensures.same)
-    (puts_over g.S.Store c.args.conn c.in-Ok.desk c.put-answer.new.desk (asked c.args.edit.now) c.in-Ok.ensures.opened
-    (λ good. (c.in-Ok.ensures.durable good).0) c.in-Ok.ensures.tables c.args.replies c.put-answer.result c.put-answer.ensures)
+    puts_over g.S.Store c.args.conn c.in-Ok.desk c.put-answer.new.desk (asked c.args.edit.now) c.in-Ok.ensures.opened
+    (λ good. (c.in-Ok.ensures.durable good).0) c.in-Ok.ensures.tables c.args.replies c.put-answer.result c.put-answer.ensures
 
 pub returns-in-Err : goal.returns-in-Err
-returns-in-Err g c = inl (
-  c.in-Err.error,
-  record { opening = c.in-Err.ensures.errors; foreign = c.in-Err.ensures.foreign; tables = c.in-Err.ensures.tables },
-  refl,
-)
+returns-in-Err g c = record { opening = c.in-Err.ensures.errors; foreign = c.in-Err.ensures.foreign; tables = c.in-Err.ensures.tables }
