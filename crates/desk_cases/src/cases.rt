@@ -17,13 +17,14 @@ struct Trial {
     found: String,
 }
 
-/// Tries the cases of a text. Those that read a table set it for the cases below them.
+/// Tries the cases of a text, and returns what came of them. Those that read a table set it for the cases below them.
 pub fn report_of(alloc: Global, text: &str) -> Result<Report, AllocError> {
     let mut report = Report::new(alloc);
     try_lines(alloc, &mut report, text)?;
     Ok(report)
 }
 
+/// Tries the cases of a text, about nothing at first.
 fn try_lines(alloc: Global, report: &mut Report, text: &str) -> Result<(), AllocError> {
     let mut subject = Subject::new(alloc);
     let mut trial = Trial {
@@ -34,6 +35,7 @@ fn try_lines(alloc: Global, report: &mut Report, text: &str) -> Result<(), Alloc
     try_cases(alloc, &mut subject, &mut trial, report, text)
 }
 
+/// Tries the cases of a text. The lines that are skipped are no cases.
 fn try_cases(
     alloc: Global,
     subject: &mut Subject,
@@ -50,7 +52,7 @@ fn try_cases(
     Ok(())
 }
 
-/// Tries a case.
+/// Tries a case. Adds to the report if it cannot be asked, or has another answer.
 fn try_case(
     alloc: Global,
     subject: &mut Subject,

@@ -8,10 +8,10 @@
 //! [1]
 //! ```
 //!
-//! A block is a command behind `$` and a blank (`terminal`, `tools`, `holders`), its standard input up to a line `END` if its line ends in ` <<END`, what it prints
-//! on standard output, what it prints on standard error with `!` and a blank before each line (`!` alone before an empty
-//! one), and in brackets its exit status. A carriage return in what it prints is written `\r`. Between blocks empty lines
-//! and those that begin with `#` are skipped.
+//! A block is a command behind `$` and a blank (`terminal`, `tools`, `holders`), its standard input up to a line `END` if
+//! its line ends in ` <<END`, what it prints on standard output, what it prints on standard error with `!` and a blank
+//! before each line (`!` alone before an empty one), and in brackets its exit status. A carriage return in what it prints
+//! is written `\r`. Between blocks empty lines and those that begin with `#` are skipped.
 
 use crate::report::Report;
 use crate::{holders, terminal, tools};
@@ -54,11 +54,11 @@ fn add_line(
 
 /// Tests whether a line is a status in brackets.
 fn is_status(line: &str) -> bool {
-    match line.strip_prefix('[') {
-        Some(line) => match line.strip_suffix(']') {
-            Some(number) => number.parse::<u8>().is_ok(),
-            None => false,
-        },
+    let Some(line) = line.strip_prefix('[') else {
+        return false;
+    };
+    match line.strip_suffix(']') {
+        Some(number) => number.parse::<u8>().is_ok(),
         None => false,
     }
 }

@@ -1,5 +1,5 @@
-//! Commands that run while a database is held: `reading DB COMMAND` while a question reads it, `editing DB COMMAND` while an edit
-//! has it open. The command is one of `exportdesk` without an input of its own.
+//! Commands that run while a database is held: `reading DB COMMAND` while a question reads it, `editing DB COMMAND` while
+//! an edit has it open. The command is one of `exportdesk` without an input of its own.
 //!
 //! One program can hold a database against itself: the locks are those of an open file, and not of a process.
 

@@ -1,5 +1,5 @@
-//! Tries the worked cases of the libraries. Each file of `data/` whose name ends in `.cases` or `.commands` holds cases;
-//! the others are files that the commands read.
+//! Tries the worked cases of the libraries. Each file of `data/` whose name ends in `.cases` or `.commands` holds cases; one
+//! whose name ends in `.by_hand` holds cases that are tried by hand, and the others are files that the commands read.
 #![tactic(auto)]
 
 mod cases;

@@ -109,6 +109,7 @@ fn words_in(alloc: Global, line: &[u8]) -> Result<Vec<&[u8]>, AllocError> {
     Ok(words)
 }
 
+/// Adds the pieces of a line that are not empty.
 fn push_words<'a>(words: &mut Vec<&'a [u8]>, pieces: &[&'a [u8]]) -> Result<(), AllocError> {
     for word in pieces {
         if !word.is_empty() {
@@ -118,6 +119,7 @@ fn push_words<'a>(words: &mut Vec<&'a [u8]>, pieces: &[&'a [u8]]) -> Result<(), 
     Ok(())
 }
 
+/// Returns what stands between the bytes of this kind.
 fn pieces(alloc: Global, line: &[u8], at: u8) -> Result<Vec<&[u8]>, AllocError> {
     line.split(|byte| *byte == at).collect(alloc)
 }
@@ -162,6 +164,7 @@ fn push_lines(shown: &mut String, mark: &str, text: &str) -> Asked {
     Ok(true)
 }
 
+/// Adds a line, with a mark before it, and a blank between the two if neither is empty.
 fn push_line(shown: &mut String, mark: &str, line: &str) -> Result<(), AllocError> {
     let blank = if mark.is_empty() || line.is_empty() {
         ""

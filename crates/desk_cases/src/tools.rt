@@ -1,7 +1,7 @@
-//! The commands beside `exportdesk` that a file of commands may have: `rm FILE..`, `cp FROM TO`, `ln FROM TO` and `ln -s FROM TO`,
-//! `mkdir FOLDER`, `rmdir FOLDER`, `chmod MODE FILE`, `printf 'TEXT' > FILE` (with the escapes of cases) and
-//! `sqlite3 FILE "STATEMENTS"` print nothing; `ls FOLDER` prints the names in a folder in byte order, and `stat -c %a FILE` the
-//! mode of a file. They end with the status 0, or 1 if they fail, and then print no message.
+//! The commands beside `exportdesk` that a file of commands may have: `rm FILE..`, `cp FROM TO`, `cmp -s FILE FILE`,
+//! `ln FROM TO` and `ln -s FROM TO`, `mkdir FOLDER`, `rmdir FOLDER`, `chmod MODE FILE`, `printf 'TEXT' > FILE` (with the
+//! escapes of cases) and `sqlite3 FILE "STATEMENTS"` print nothing; `ls FOLDER` prints the names in a folder in byte order,
+//! and `stat -c %a FILE` the mode of a file. They end with the status 0, or 1 if they fail, and then print no message.
 
 use desk_cases_texts::answers::Asked;
 use desk_cases_texts::escapes;
@@ -11,7 +11,8 @@ use std::fs::Permissions;
 use std::os::unix::fs::{MetadataExt, PermissionsExt, symlink};
 use std::{fs, io};
 
-/// Runs a command, and adds what it prints, and its status in the form of a file of commands. Tells whether it is one of these.
+/// Runs a command, and adds what it prints, and its status in the form of a file of commands. Tells whether it is one of
+/// these.
 pub fn run(rt: &HostRuntime, shown: &mut String, line: &str) -> Asked {
     match attempt(rt, shown, line)? {
         Some(true) => shown.push_str("[0]\n")?,
@@ -27,6 +28,7 @@ fn attempt(rt: &HostRuntime, shown: &mut String, line: &str) -> Result<Option<bo
     match name {
         "rm" => Ok(Some(remove(rt, rest))),
         "cp" => Ok(copy(rt, rest)),
+        "cmp" => Ok(compare(rt, rest)),
         "ln" => Ok(link(rt, rest)),
         "mkdir" => Ok(Some(fs::create_dir(rt, rest).is_ok())),
         "rmdir" => Ok(Some(fs::remove_dir(rt, rest).is_ok())),
@@ -52,6 +54,19 @@ fn remove(rt: &HostRuntime, files: &str) -> bool {
 fn copy(rt: &HostRuntime, files: &str) -> Option<bool> {
     let (from, to) = files.split_once(' ')?;
     Some(fs::copy(rt, from, to).is_ok())
+}
+
+/// Compares two files to the byte.
+fn compare(rt: &HostRuntime, words: &str) -> Option<bool> {
+    let (one, other) = words.strip_prefix("-s ")?.split_once(' ')?;
+    Some(have_same_bytes(rt, one, other).unwrap_or(false))
+}
+
+/// Tests whether two files hold the same bytes.
+fn have_same_bytes(rt: &HostRuntime, one: &str, other: &str) -> io::Result<bool> {
+    let one = fs::read(rt, one)?;
+    let other = fs::read(rt, other)?;
+    Ok(one.as_slice() == other.as_slice())
 }
 
 /// Gives a file a second name, or makes a symbolic link.
@@ -124,6 +139,7 @@ fn change(rt: &HostRuntime, rest: &str) -> Option<bool> {
     Some(run_statements(rt, file, statements).is_ok())
 }
 
+/// Runs statements on a database that is opened for them, and closes it.
 fn run_statements(rt: &HostRuntime, file: &str, statements: &str) -> Result<(), Error> {
     let mut conn = Connection::open(rt, file)?;
     conn.execute_batch(statements)?;

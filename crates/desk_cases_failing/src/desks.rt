@@ -33,6 +33,7 @@ impl Answers {
         }
     }
 
+    /// Keeps what SQLite said as it refused a statement.
     fn refused(&mut self, error: Error) {
         if self.fault.is_none() {
             self.fault = Some(error);
@@ -41,8 +42,8 @@ impl Answers {
     }
 }
 
-/// Makes a desk of the site on new files and puts the edits. What is refused is tried once more. Gives the files back as they
-/// are then.
+/// Makes a desk of the site on new files and puts the edits. What is refused is tried once more. Gives the files back as
+/// they are then.
 pub fn run<D: Disk + Drop>(
     alloc: Global,
     files: Files<D>,
@@ -56,7 +57,8 @@ pub fn run<D: Disk + Drop>(
     }
 }
 
-/// Small caches, and how many pages the log takes before they are copied into the database file.
+/// Returns options with small caches, and with this many pages that the log takes before they are copied into the database
+/// file.
 pub fn options(log_pages: usize) -> Options {
     Options {
         cache_pages: 50,
@@ -81,6 +83,7 @@ fn opened<D: Disk + Drop>(
     }
 }
 
+/// Opens files, if they may be used. If they are not opened, they are given back.
 fn open_once<D: Disk + Drop>(
     alloc: Global,
     files: Files<D>,
@@ -139,6 +142,7 @@ fn created<D: Disk + Drop>(
     }
 }
 
+/// Makes a desk. If it is refused, the connection is given back.
 fn create_once<D: Disk + Drop>(
     alloc: Global,
     conn: Connection<FileStore<D>>,
@@ -199,7 +203,7 @@ fn put<D: Disk + Drop>(
     is_done
 }
 
-/// The number of a file's newest revision, by the desk.
+/// Returns the number of a file's newest revision, by the desk.
 fn newest_number<D: Disk + Drop>(desk: &Desk<FileStore<D>, Plain>, file: &str) -> u32 {
     match desk.newest(file) {
         Some(head) => head.rev,
@@ -277,7 +281,7 @@ fn reopened<D: Disk + Drop>(
 }
 
 /// Tells the revisions of each file of the site: its name, the number, the author, and in the next lines the text. Of a file
-/// that is not edited they are the newest.
+/// that is not edited only the newest is told.
 fn tell<D: Disk + Drop>(
     alloc: Global,
     desk: &mut Desk<FileStore<D>, Plain>,
@@ -298,6 +302,7 @@ fn is_edited(name: &str) -> bool {
     EDITS.iter().any(|edit| edit.file == name)
 }
 
+/// Tells the newest revision of a file.
 fn tell_newest<D: Disk + Drop>(
     desk: &Desk<FileStore<D>, Plain>,
     name: &str,
@@ -310,6 +315,7 @@ fn tell_newest<D: Disk + Drop>(
     write!(out, "{name} {rev} {author}\n{text}")
 }
 
+/// Tells all revisions of a file.
 fn tell_revisions<D: Disk + Drop>(
     alloc: Global,
     desk: &mut Desk<FileStore<D>, Plain>,
@@ -327,6 +333,7 @@ fn tell_revisions<D: Disk + Drop>(
     Ok(())
 }
 
+/// Tells the text of a revision.
 fn tell_body<D: Disk + Drop>(
     alloc: Global,
     desk: &mut Desk<FileStore<D>, Plain>,

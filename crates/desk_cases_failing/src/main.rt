@@ -1,5 +1,5 @@
-//! Tries the commands at readers and writers that fail, and desks on files that fail. What is answered while they work is in the
-//! worked cases.
+//! Tries the commands at readers and writers that fail, and desks on files that fail. What is answered while they work is
+//! in the worked cases.
 #![tactic(auto)]
 
 mod commands;

@@ -82,7 +82,7 @@ pub const EDITS: [Edit<'static>; 2] = [
     },
 ];
 
-/// The texts of the site.
+/// Returns the texts of the site.
 pub fn site(alloc: Global) -> Result<Site, AllocError> {
     Ok(Site {
         custodians: Text::copy(alloc, CUSTODIANS)?,
@@ -96,6 +96,7 @@ pub fn site(alloc: Global) -> Result<Site, AllocError> {
     })
 }
 
+/// Returns the exports texts of the site, by mount point.
 fn exports(alloc: Global) -> Result<BTreeMap<String, Text>, AllocError> {
     let mut exports = BTreeMap::new(alloc);
     for (mount, text) in EXPORTS {
@@ -104,7 +105,7 @@ fn exports(alloc: Global) -> Result<BTreeMap<String, Text>, AllocError> {
     Ok(exports)
 }
 
-/// The names of the files that the site has.
+/// Returns the names of the files that the site has.
 pub fn names(alloc: Global) -> Result<Vec<String>, AllocError> {
     let mut names = Vec::new(alloc);
     for (name, _) in TABLES {
@@ -116,8 +117,8 @@ pub fn names(alloc: Global) -> Result<Vec<String>, AllocError> {
     Ok(names)
 }
 
-/// What the tables hold after so many steps, as `tell` of a desk tells it: the first step makes the desk, and each other
-/// is an edit. Before the first there are no tables.
+/// Tells what the tables hold after so many steps, as `tell` of a desk tells it: the first step makes the desk, and each
+/// other is an edit. Before the first there are no tables.
 pub fn history_after(alloc: Global, steps: usize) -> Result<String, AllocError> {
     let mut history = String::new(alloc);
     if steps == 0 {

@@ -1,5 +1,5 @@
-//! Desks on files that fail: the sample site is made a desk, the hosts file is edited, and an exports file, while a file stops, or
-//! has no room, at each of its calls in turn. Whatever is left is opened again.
+//! Desks on files that fail: the sample site is made a desk, the hosts file is edited, and an exports file, while a file
+//! stops, or has no room, at each of its calls in turn. Whatever is left is opened again.
 
 use crate::desks::{Answers, look, options, run};
 use crate::full::Full;
@@ -24,8 +24,8 @@ enum Failing {
     RefusesOne,
 }
 
-/// How the two files fail, how many pages the log takes before they are copied into the database file, and the error that is
-/// answered first.
+/// How the two files fail, how many pages the log takes before they are copied into the database file, and the error that
+/// is answered first.
 #[derive(Clone, Copy)]
 pub struct Trial {
     pub name: &'static str,
@@ -86,8 +86,8 @@ impl Trial {
         matches!(self.log, Failing::RefusesOne) || matches!(self.db, Failing::RefusesOne)
     }
 
-    /// Tests whether so many steps are answered as done, in turn, if the files fail later and later: with files that fail once,
-    /// all from the first on, and else each number of steps, one after another.
+    /// Tests whether so many steps are answered as done, in turn, if the files fail later and later: with files that fail
+    /// once, all from the first on, and else each number of steps, one after another.
     fn wants(&self, counts: &str) -> bool {
         if self.refuses_one() {
             counts.starts_with('3')
@@ -136,11 +136,13 @@ struct Left {
 }
 
 impl Left {
+    /// Tests whether all that was written was synced.
     fn is_synced(&self) -> bool {
         self.written.as_slice() == self.synced.as_slice()
     }
 }
 
+/// Returns what a file holds when the machine goes on.
 fn left_of(alloc: Global, mut file: File) -> Result<Left, AllocError> {
     let written = Vec::from_slice(alloc, file.inner().inner().bytes())?;
     file.crash();
@@ -155,8 +157,8 @@ fn file_of(alloc: Global, bytes: &[u8]) -> io::Result<Memory> {
     Ok(file)
 }
 
-/// Opens what is left, and looks whether a desk holds the history of the steps that were answered as done, or one step more; and
-/// whether it goes on. Adds what is wrong.
+/// Opens what is left, and looks whether a desk holds the history of the steps that were answered as done, or one step
+/// more; and whether it goes on. Adds what is wrong.
 fn check_files(
     alloc: Global,
     site: &Site,
@@ -204,8 +206,8 @@ fn check_left(
     Ok(())
 }
 
-/// Looks at the answers of a run: what is not done was refused, at first for the reason that is wanted; and if the file fails no
-/// more, then because SQLite closed the database at the first refusal. Adds what is wrong.
+/// Looks at the answers of a run: what is not done was refused, at first for the reason that is wanted; and if the file
+/// fails no more, then because SQLite closed the database at the first refusal. Adds what is wrong.
 fn check_answers(trial: &Trial, answers: &Answers, wrong: &mut String) -> Result<(), AllocError> {
     if answers.is_odd {
         wrong.push_str("an answer is neither right nor a refused statement\n")?;
@@ -246,8 +248,8 @@ pub fn try_all(alloc: Global, trial: &Trial) -> io::Result<String> {
     Ok(wrong)
 }
 
-/// Runs the steps on files of which so many calls or writes pass, and adds how many were answered as done, and what is wrong. Tells
-/// whether a file failed.
+/// Runs the steps on files of which so many calls or writes pass, and adds how many were answered as done, and what is
+/// wrong. Tells whether a file failed.
 fn try_once(
     alloc: Global,
     trial: &Trial,
