@@ -9,10 +9,11 @@ use Rattle.std.proofs.lemmas.List.{drop_at, take-append-drop}
 use Rattle.httparse.specs.Grammar.{Field, IsToken, LineEnd, RequestHead, crlf, is_token_byte, lf, print_blank, print_end, print_field, print_request, print_version}
 use Rattle.httparse.specs.Pieces.{is_newline}
 use Rattle.httparse.proofs.GrammarLemmas.{print_request-append}
+use Rattle.desk_messages.specs.declared.framing.Pending.{Pending}
 use Rattle.desk_messages.specs.declared.framing.Pending.TheVariants as pending
 use Rattle.desk_messages.specs.Front.{IsWaiting}
 use Rattle.desk_messages.specs.Head.{headers_of}
-use Rattle.desk_messages.specs.Reading.{ends_section}
+use Rattle.desk_messages.specs.Reading.{IsDue, ends_section}
 use Rattle.desk_messages.specs.Stream.{HasHead, HasNoHead}
 use Rattle.desk_messages.proofs.FieldLemmas.{both}
 use Rattle.desk_messages.proofs.StreamLemmas.{HasHead-append, open_with_head, open_without_head, short_body, unfaulted_with_head, unfaulted_without_head}
@@ -119,6 +120,27 @@ others_more bytes seen others =
     ap (list_all is_newline) (again bytes seen)
     ∙ list_all-append is_newline (take seen bytes) (drop seen bytes)
     ∙ ap (λ b. b && list_all is_newline (drop seen bytes)) others
+
+and_false : (x : Bool) → (x && false) ≡ false
+and_false true = refl
+and_false false = refl
+
+-- or if those behind the first ones have
+pub others_behind : (bytes : List ℕ) (seen : ℕ) → list_all is_newline (drop seen bytes) ≡ false → list_all is_newline bytes ≡ false
+others_behind bytes seen others =
+    ap (list_all is_newline) (again bytes seen)
+    ∙ list_all-append is_newline (take seen bytes) (drop seen bytes)
+    ∙ ap (λ b. list_all is_newline (take seen bytes) && b) others
+    ∙ and_false (list_all is_newline (take seen bytes))
+
+-- bytes to be looked at anew behind the first `later` are so behind fewer
+pub due_earlier : (p : Pending) (seen later : ℕ) (bytes : List ℕ) → seen ≤ later → IsDue p later bytes → IsDue p seen bytes
+due_earlier pending.Message seen later bytes le due = omega (arith, le, due)
+due_earlier pending.Blank seen later bytes le due = due
+due_earlier pending.Head seen later bytes le (inl many) = inl many
+due_earlier pending.Head seen later bytes le (inr ends) = inr (ends.0, omega (arith, le, ends.1), ends.2, ends.3)
+due_earlier pending.NoHead seen later bytes le due = due
+due_earlier (pending.Body whole) seen later bytes le due = due
 
 pub waits_head : (bytes : List ℕ) (seen : ℕ) → IsWaiting (take seen bytes) pending.Head → length bytes < 8192 → ((place : ℕ) → seen ≤ place → place < length bytes → ends_section (take (place + 1) bytes) ≡ false) → IsWaiting bytes pending.Head
 waits_head bytes seen waits short plain =

@@ -25,6 +25,7 @@ pub enum Outcome {
 /// Reads until more may be at the front of the bytes that wait, which wait so, and returns how many reads it took. So the bytes
 /// are looked at anew only when that is due, in whatever pieces they come: an empty line before a request, and a byte of a head
 /// or a body that does not end it, costs no more than its own reading.
+#[tactic(auto, using(crate::proofs::WaitLemmas::due_earlier))]
 pub fn read_on<R: Source>(
     buffer: &mut Buffer,
     reader: &mut R,
@@ -62,7 +63,7 @@ pub fn read_on<R: Source>(
 /// Tests whether bytes wait as their first ones did, at which was looked.
 #[tactic(auto, using(crate::proofs::WaitLemmas::waits_blank, crate::proofs::WaitLemmas::waits_head, crate::proofs::WaitLemmas::waits_without, crate::proofs::WaitLemmas::waits_body))]
 fn waits_still(bytes: &[u8], seen: usize, pending: Pending) -> bool
-    requires seen { seen ≤ length bytes.now }
+    requires seen { seen < length bytes.now }
     requires waiting { IsWaiting (take seen bytes.now) pending }
     ensures still { result ≡ true → IsWaiting bytes.now pending }
     ensures due { result ≡ false → IsDue pending seen bytes.now }
