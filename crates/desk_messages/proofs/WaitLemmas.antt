@@ -184,10 +184,10 @@ method_ends_no_line (b ∷ method) token ends =
 within_all : (whole before middle after : List ℕ) → whole ≡ before ++ (middle ++ after) → list_all is_newline whole ≡ true → list_all is_newline middle ≡ true
 within_all whole before middle after parts all =
     let split : (list_all is_newline before && (list_all is_newline middle && list_all is_newline after)) ≡ true =
-        ap (λ b. list_all is_newline before && b) (sym (list_all-append is_newline middle after))
-        ∙ sym (list_all-append is_newline before (middle ++ after))
-        ∙ ap (list_all is_newline) (sym parts)
-        ∙ all in
+    ap (λ b. list_all is_newline before && b) (sym (list_all-append is_newline middle after))
+    ∙ sym (list_all-append is_newline before (middle ++ after))
+    ∙ ap (list_all is_newline) (sym parts)
+    ∙ all in
     first_of (list_all is_newline middle) (list_all is_newline after) (second_of (list_all is_newline before) _ split)
 
 -- bytes of line ends alone have no head
@@ -198,9 +198,9 @@ blank_no_head bytes blank h m x =
 pub waits_blank : (bytes : List ℕ) (seen : ℕ) → IsWaiting (take seen bytes) pending.Blank → length bytes < 8192 → list_all is_newline (drop seen bytes) ≡ true → IsWaiting bytes pending.Blank
 waits_blank bytes seen waits short more =
     let blank : list_all is_newline bytes ≡ true =
-        ap (list_all is_newline) (again bytes seen)
-        ∙ list_all-append is_newline (take seen bytes) (drop seen bytes)
-        ∙ both (list_all is_newline (take seen bytes)) (list_all is_newline (drop seen bytes)) waits.pends more in
+    ap (list_all is_newline) (again bytes seen)
+    ∙ list_all-append is_newline (take seen bytes) (drop seen bytes)
+    ∙ both (list_all is_newline (take seen bytes)) (list_all is_newline (drop seen bytes)) waits.pends more in
     let none = blank_no_head bytes blank in
     record {
       ends = (waits.ends.0, (λ e. waits.ends.1.0 (nothing_before seen bytes e), none));
@@ -213,7 +213,7 @@ waits_blank bytes seen waits short more =
 pub waits_without : (bytes : List ℕ) (seen : ℕ) → IsWaiting (take seen bytes) pending.NoHead → length bytes < 8192 → IsWaiting bytes pending.NoHead
 waits_without bytes seen waits short =
     let never : (more : List ℕ) → HasNoHead (bytes ++ more) = λ more.
-        subst HasNoHead (sym (append_assoc (take seen bytes) (drop seen bytes) more) ∙ ap (λ l. l ++ more) (sym (again bytes seen))) (waits.pends (drop seen bytes ++ more)) in
+    subst HasNoHead (sym (append_assoc (take seen bytes) (drop seen bytes) more) ∙ ap (λ l. l ++ more) (sym (again bytes seen))) (waits.pends (drop seen bytes ++ more)) in
     let none : HasNoHead bytes = subst HasNoHead (append-nil bytes) (never []) in
     record {
       ends = (waits.ends.0, (λ e. waits.ends.1.0 (nothing_before seen bytes e), none));
