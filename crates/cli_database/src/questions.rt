@@ -4,9 +4,7 @@ ghost use Rattle.std.specs.Prelude.{◌≡◌, ◌++◌, [], false, IfOk, None, 
 ghost use Rattle.std.specs.String.{string_bytes};
 ghost use Rattle.sqlite.specs.Held.{state};
 ghost use Rattle.sqlite.specs.State.{HasCleanDisk};
-ghost use Rattle.desk_policy.specs.Verdict.{verdict_result};
 ghost use Rattle.desk_store.specs.Desk.{HasGoodDisk, History, LeavesTables, StandsAt};
-ghost use Rattle.desk_check.specs.TryText.{answer_of, answer_on};
 ghost use Rattle.desk_service.specs.Questions.{ByFile, ByPolicy, OnFile, OnPolicy, OnlyLooks, file_question, policy_answer_of, policy_question};
 ghost use Rattle.cli_database.specs.Questions.{AnswersByDatabase, AnswersQuestion, PrintsAnswer, TellsByHistory, credential_in, log_text, question_in, revision_line};
 
@@ -15,8 +13,8 @@ use crate::copy::{Unopened, open_copy};
 use crate::told_refusal::{no_revision, not_opened_at, refused_by_copy};
 use cli_files::failure::Failure;
 use cli_output::output::Output;
-use desk_check::try_text::Tried;
-use desk_policy::{Policy, Verdict, all_exports, listing_text, verdict_text};
+use desk_check::try_text::printed_verdict;
+use desk_policy::{all_exports, listing_text};
 use desk_service::{
     FileAnswer, FileQuestion, PolicyAnswer, PolicyQuestion, answer_by_desk, answer_in_force,
 };
@@ -121,27 +119,13 @@ fn policy_output(
 {
     match answer {
         PolicyAnswer::Verdict(policy, verdict) => {
-            Ok(Output::Tried(told_verdict(alloc, policy, verdict, own)?))
+            Ok(Output::Tried(printed_verdict(alloc, policy, &verdict, own)?))
         }
         PolicyAnswer::Listing(policy, listing) => {
             Ok(Output::Done(listing_text(alloc, policy, listing.as_slice())?))
         }
         PolicyAnswer::Exports(policy) => Ok(Output::Done(all_exports(alloc, policy)?)),
     }
-}
-
-/// Prints a verdict.
-fn told_verdict(
-    alloc: Global,
-    policy: &Policy,
-    verdict: Verdict<'_>,
-    own: &Option<Cred>,
-) -> Result<Tried, AllocError>
-    ensures { IfOk result (λ tried. answer_of tried ≡ answer_on policy.now own.now (verdict_result verdict.entry)) }
-{
-    let granted = matches!(verdict, Verdict::Granted { .. });
-    let line = verdict_text(alloc, policy, &verdict, own)?;
-    Ok(Tried { granted, line })
 }
 
 /// Answers a question on the revisions of a file by a desk.
