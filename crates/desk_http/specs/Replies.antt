@@ -1,0 +1,64 @@
+-- What a refusal is replied, and what a desk does at a call that has a reply. (this project's own)
+use Rattle.std.specs.Prelude.{◌≡◌, ℕ, Bool, List, codes}
+use Rattle.serde_json.specs.Data.{Data}
+use Rattle.desk_core.specs.declared.edit.Refusal.{Refusal}
+use Rattle.desk_core.specs.declared.edit.Refusal.TheVariants as refusal
+use Rattle.desk_store.specs.Desk.{History}
+use Rattle.desk_service.specs.Refused.{refused_name, refused_number}
+use Rattle.desk_service.specs.declared.refused.Refused.{Refused}
+use Rattle.desk_service.specs.declared.refused.Refused.TheVariants as refused
+use Rattle.desk_messages.specs.Replies.{Reply, print_reply, refusal_data, refusal_reply, reply_with}
+use Rattle.desk_requests.specs.declared.faults.RequestFault.{RequestFault}
+use Rattle.desk_requests.specs.declared.faults.RequestFault.TheVariants as fault
+use Rattle.desk_bodies.specs.Edits.{fault_data, stale_data}
+
+-- the reply to a request that calls for nothing
+abbrev pub request_fault_reply : RequestFault → Reply
+request_fault_reply fault.NoRoute = refusal_reply 404 (codes "NoRoute") 106
+request_fault_reply fault.BadMethod = refusal_reply 405 (codes "BadMethod") 107
+request_fault_reply fault.BadQuery = refusal_reply 400 (codes "BadQuery") 108
+request_fault_reply fault.BadHeader = refusal_reply 400 (codes "BadHeader") 109
+request_fault_reply fault.BadBody = refusal_reply 400 (codes "BadBody") 110
+
+-- the status of the reply to an edit that is refused
+abbrev pub edit_status : Refusal → ℕ
+edit_status refusal.UnknownCaller = 403
+edit_status refusal.BadKey = 403
+edit_status refusal.UnknownFile = 404
+edit_status refusal.NotCustodian = 403
+edit_status refusal.TooLarge = 413
+edit_status (refusal.Stale current) = 409
+edit_status refusal.Full = 409
+edit_status (refusal.Fault found) = 422
+
+-- the status of the reply to a question or an edit that is refused
+abbrev pub refused_status : Refused → ℕ
+refused_status (refused.Edit why) = edit_status why
+refused_status refused.NoRevision = 404
+refused_status refused.Store = 503
+refused_status refused.Schema = 503
+refused_status refused.Memory = 503
+
+-- the body of that reply: the refusal's name and number, with the newest revision's number or the fault of the site if it tells one
+abbrev pub refused_data : Refused → Data
+refused_data (refused.Edit (refusal.Stale current)) = stale_data current
+refused_data (refused.Edit (refusal.Fault found)) = fault_data found
+refused_data other = refusal_data (refused_name other) (refused_number other)
+
+-- the reply to a question or an edit that is refused
+abbrev pub refused_reply : Refused → Reply
+refused_reply why = reply_with (refused_status why) (refused_data why)
+
+-- What a desk does at a call that has a reply. The words on a desk are desk_store's: that its disk is good, and that it stands at a
+-- history with revisions of which a crash may bring one to light.
+module _ {S : Type 0} (good : S → Type 0) (stands : S → History → History → Type 0) where
+  -- A desk after a call of which this is the reply: no fault of its disk is forgotten, and on a good disk, wherever it stood, the
+  -- reply is an answer by that history, and it stands at the history after it.
+  pub record Gives (answered : History → Reply → History → Type 0) (old : S) (reply : Reply) (new : S) : Type 0 where
+    pub disk : good new → good old
+    pub step : good new → (history pending : History) → stands old history pending
+        → (after left : History) × answered history reply after × stands new after left
+
+  -- a desk after a call that wrote this text, which is its reply; ends says that the stream ends after it
+  abbrev pub GivesText : (History → Reply → History → Type 0) → Bool → S → List ℕ → S → Type 0
+  GivesText answered ends old text new = (reply : Reply) × Gives answered old reply new × (text ≡ print_reply ends reply)

@@ -1,0 +1,122 @@
+//! The texts of replies.
+
+ghost use Rattle.std.specs.Prelude.{◌≡◌, IfOk};
+ghost use Rattle.std.specs.String.{string_bytes};
+ghost use Rattle.desk_messages.specs.Replies.{print_reply, reply_with};
+ghost use Rattle.desk_service.specs.Refused.{refused_by};
+ghost use Rattle.desk_service.specs.declared.refused.Refused.TheVariants as refused;
+ghost use Rattle.desk_bodies.specs.Edits.{done_data};
+ghost use Rattle.desk_http.specs.Replies as spec;
+
+use desk_bodies::{done_body, fault_body, stale_body};
+use desk_core::Refusal;
+use desk_messages::{refusal_text, reply_text};
+use desk_requests::RequestFault;
+use desk_service::Refused;
+use desk_store::DeskError;
+use http::StatusCode;
+use std::alloc::{AllocError, Global};
+
+/// Writes the reply to a request that calls for nothing.
+pub(crate) fn request_fault_text(
+    alloc: Global,
+    fault: RequestFault,
+    ends: bool,
+) -> Result<String, AllocError>
+    ensures { IfOk result (λ text. string_bytes text ≡ print_reply ends (spec.request_fault_reply fault)) }
+{
+    match fault {
+        RequestFault::NoRoute => refusal_text(alloc, StatusCode::NOT_FOUND, "NoRoute", 106, ends),
+        RequestFault::BadMethod => {
+            refusal_text(alloc, StatusCode::METHOD_NOT_ALLOWED, "BadMethod", 107, ends)
+        }
+        RequestFault::BadQuery => refusal_text(alloc, StatusCode::BAD_REQUEST, "BadQuery", 108, ends),
+        RequestFault::BadHeader => {
+            refusal_text(alloc, StatusCode::BAD_REQUEST, "BadHeader", 109, ends)
+        }
+        RequestFault::BadBody => refusal_text(alloc, StatusCode::BAD_REQUEST, "BadBody", 110, ends),
+    }
+}
+
+/// Writes the reply to an edit that was stored as a revision, or that is the newest revision already.
+pub(crate) fn done_text(
+    alloc: Global,
+    already: bool,
+    rev: u32,
+    ends: bool,
+) -> Result<String, AllocError>
+    ensures { IfOk result (λ text. string_bytes text ≡ print_reply ends (reply_with 200 (done_data already rev))) }
+{
+    let body = done_body(alloc, already, rev)?;
+    reply_text(alloc, StatusCode::OK, body.as_str(), ends)
+}
+
+/// Writes the reply where a desk does not answer. Of want of memory there is none: that is an error here, too.
+pub(crate) fn failed_text(
+    alloc: Global,
+    error: DeskError,
+    ends: bool,
+) -> Result<String, AllocError>
+    ensures { IfOk result (λ text. string_bytes text ≡ print_reply ends (spec.refused_reply (refused_by error))) }
+{
+    match Refused::by(error) {
+        Refused::Memory => Err(AllocError),
+        refused => refused_text(alloc, &refused, ends),
+    }
+}
+
+/// Writes the reply to a question or an edit that is refused.
+pub(crate) fn refused_text(
+    alloc: Global,
+    refused: &Refused,
+    ends: bool,
+) -> Result<String, AllocError>
+    ensures { IfOk result (λ text. string_bytes text ≡ print_reply ends (spec.refused_reply refused.now)) }
+{
+    match refused {
+        Refused::Edit(refusal) => edit_refused_text(alloc, refusal, ends),
+        other => refusal_text(alloc, refused_status(other), other.name(), other.number(), ends),
+    }
+}
+
+/// Writes the reply to an edit that is refused.
+fn edit_refused_text(alloc: Global, refusal: &Refusal, ends: bool) -> Result<String, AllocError>
+    ensures { IfOk result (λ text. string_bytes text ≡ print_reply ends (spec.refused_reply (refused.Edit refusal.now))) }
+{
+    let status = edit_status(refusal);
+    match refusal {
+        Refusal::Stale(current) => {
+            let body = stale_body(alloc, *current)?;
+            reply_text(alloc, status, body.as_str(), ends)
+        }
+        Refusal::Fault(fault) => {
+            let body = fault_body(alloc, fault)?;
+            reply_text(alloc, status, body.as_str(), ends)
+        }
+        other => refusal_text(alloc, status, other.name(), other.number(), ends),
+    }
+}
+
+/// Returns the status of the reply to a refusal.
+fn refused_status(refused: &Refused) -> StatusCode
+    ensures { result ≡ spec.refused_status refused.now }
+{
+    match refused {
+        Refused::Edit(refusal) => edit_status(refusal),
+        Refused::NoRevision => StatusCode::NOT_FOUND,
+        Refused::Store | Refused::Schema | Refused::Memory => StatusCode::SERVICE_UNAVAILABLE,
+    }
+}
+
+/// Returns the status of the reply to an edit that is refused.
+fn edit_status(refusal: &Refusal) -> StatusCode
+    ensures { result ≡ spec.edit_status refusal.now }
+{
+    match refusal {
+        Refusal::UnknownCaller | Refusal::BadKey | Refusal::NotCustodian => StatusCode::FORBIDDEN,
+        Refusal::UnknownFile => StatusCode::NOT_FOUND,
+        Refusal::TooLarge => StatusCode::PAYLOAD_TOO_LARGE,
+        Refusal::Stale(_) | Refusal::Full => StatusCode::CONFLICT,
+        Refusal::Fault(_) => StatusCode::UNPROCESSABLE_ENTITY,
+    }
+}
