@@ -267,6 +267,10 @@ module _ {S : Type 0} (good : S → Type 0) (stands : S → History → History 
     ended WriteFault ends other at = absurd ends
     ended Memory ends other at = absurd ends
 
+  -- what a connection did, as it is told
+  pub told_by : (served : Served) (replied written : ℕ) (end : End) → served ≡ record { replies = replied; written = written; end = end } → (old new : S) (left left' held held' : Option (List ℕ)) → SessionOf good stands end old new left left' held held' replied written → SessionOf good stands served.end old new left left' held held' served.replies served.written
+  told_by served replied written end is old new left left' held held' did = subst (λ s. SessionOf good stands s.end old new left left' held held' s.replies s.written) (sym is) did
+
   -- a desk after some messages: what its replies were
   abbrev pub SomeRun : S → S → Type 0
   SomeRun old new = (messages : List Message) × (texts : List (List ℕ)) × Serves good stands old messages texts new
