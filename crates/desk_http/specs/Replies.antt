@@ -10,7 +10,7 @@ use Rattle.desk_service.specs.declared.refused.Refused.TheVariants as refused
 use Rattle.desk_messages.specs.Replies.{Reply, print_reply, refusal_data, refusal_reply, reply_with}
 use Rattle.desk_requests.specs.declared.faults.RequestFault.{RequestFault}
 use Rattle.desk_requests.specs.declared.faults.RequestFault.TheVariants as fault
-use Rattle.desk_bodies.specs.Edits.{fault_data, stale_data}
+use Rattle.desk_bodies.specs.Edits.{refused_data}
 
 -- the reply to a request that calls for nothing
 abbrev pub request_fault_reply : RequestFault → Reply
@@ -39,15 +39,14 @@ refused_status refused.Store = 503
 refused_status refused.Schema = 503
 refused_status refused.Memory = 503
 
--- the body of that reply: the refusal's name and number, with the newest revision's number or the fault of the site if it tells one
-abbrev pub refused_data : Refused → Data
-refused_data (refused.Edit (refusal.Stale current)) = stale_data current
-refused_data (refused.Edit (refusal.Fault found)) = fault_data found
-refused_data other = refusal_data (refused_name other) (refused_number other)
+-- the body of that reply
+abbrev pub refused_body : Refused → Data
+refused_body (refused.Edit why) = refused_data why
+refused_body other = refusal_data (refused_name other) (refused_number other)
 
 -- the reply to a question or an edit that is refused
 abbrev pub refused_reply : Refused → Reply
-refused_reply why = reply_with (refused_status why) (refused_data why)
+refused_reply why = reply_with (refused_status why) (refused_body why)
 
 -- What a desk does at a call that has a reply. The words on a desk are desk_store's: that its disk is good, and that it stands at a
 -- history with revisions of which a crash may bring one to light.

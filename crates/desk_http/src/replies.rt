@@ -4,11 +4,10 @@ ghost use Rattle.std.specs.Prelude.{◌≡◌, IfOk};
 ghost use Rattle.std.specs.String.{string_bytes};
 ghost use Rattle.desk_messages.specs.Replies.{print_reply, reply_with};
 ghost use Rattle.desk_service.specs.Refused.{refused_by};
-ghost use Rattle.desk_service.specs.declared.refused.Refused.TheVariants as refused;
 ghost use Rattle.desk_bodies.specs.Edits.{done_data};
 ghost use Rattle.desk_http.specs.Replies as spec;
 
-use desk_bodies::{done_body, fault_body, stale_body};
+use desk_bodies::{done_body, refusal_body};
 use desk_core::Refusal;
 use desk_messages::{refusal_text, reply_text};
 use desk_requests::RequestFault;
@@ -74,26 +73,11 @@ pub(crate) fn refused_text(
     ensures { IfOk result (λ text. string_bytes text ≡ print_reply ends (spec.refused_reply refused.now)) }
 {
     match refused {
-        Refused::Edit(refusal) => edit_refused_text(alloc, refusal, ends),
+        Refused::Edit(refusal) => {
+            let body = refusal_body(alloc, refusal)?;
+            reply_text(alloc, edit_status(refusal), body.as_str(), ends)
+        }
         other => refusal_text(alloc, refused_status(other), other.name(), other.number(), ends),
-    }
-}
-
-/// Writes the reply to an edit that is refused.
-fn edit_refused_text(alloc: Global, refusal: &Refusal, ends: bool) -> Result<String, AllocError>
-    ensures { IfOk result (λ text. string_bytes text ≡ print_reply ends (spec.refused_reply (refused.Edit refusal.now))) }
-{
-    let status = edit_status(refusal);
-    match refusal {
-        Refusal::Stale(current) => {
-            let body = stale_body(alloc, *current)?;
-            reply_text(alloc, status, body.as_str(), ends)
-        }
-        Refusal::Fault(fault) => {
-            let body = fault_body(alloc, fault)?;
-            reply_text(alloc, status, body.as_str(), ends)
-        }
-        other => refusal_text(alloc, status, other.name(), other.number(), ends),
     }
 }
 

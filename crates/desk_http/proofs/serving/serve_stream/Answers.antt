@@ -85,7 +85,7 @@ pub returns-in-Bad-clause-session : goal.returns-in-Bad-clause-session
 returns-in-Bad-clause-session g c =
     let got = c.read_on-made.ensures.read in
     let p = Progress-more (HasGoodDisk g.S.Store) (StandsAt g.S.Store) _ _ _ _ _ _ _ _ _ c.loop-extent.invariant.progress _ got.0 _ got.1 got.2 in
-    let waits = subst (λ o. ReadOn c.in-Open.pending o c.read_on-made.new.buffer c.read_on-made.result.0 (1000000 - c.loop-extent.reads) (g.R.Source.has_failed c.read_on-made.new.reader) (g.R.Source.left c.read_on-made.new.reader)) c.in-AtEnd.is c.read_on-made.ensures.outcome in
+    let waits = subst (λ o. ReadOn c.in-Open.pending o (length c.loop-extent.buffer) c.read_on-made.new.buffer c.read_on-made.result.0 (1000000 - c.loop-extent.reads) (g.R.Source.has_failed c.read_on-made.new.reader) (g.R.Source.left c.read_on-made.new.reader)) c.in-AtEnd.is c.read_on-made.ensures.outcome in
     let ends = subst (λ end. EndsSo [] c.read_on-made.new.buffer end) (sym c.in-Bad.ensures) waits.0.ends in
     refused (HasGoodDisk g.S.Store) (StandsAt g.S.Store) _ _ _ _ _ _ _ _ _ p c.in-Bad.fault ends.1 (inl waits.1) _ c.refuse-in-Bad.result c.refuse-in-Bad.ensures.refuses
 
@@ -93,7 +93,7 @@ pub returns-in-Failed-clause-session : goal.returns-in-Failed-clause-session
 returns-in-Failed-clause-session g c =
     let got = c.read_on-made.ensures.read in
     let p = Progress-more (HasGoodDisk g.S.Store) (StandsAt g.S.Store) _ _ _ _ _ _ _ _ _ c.loop-extent.invariant.progress _ got.0 _ got.1 got.2 in
-    let waits = subst (λ o. ReadOn c.in-Open.pending o c.read_on-made.new.buffer c.read_on-made.result.0 (1000000 - c.loop-extent.reads) (g.R.Source.has_failed c.read_on-made.new.reader) (g.R.Source.left c.read_on-made.new.reader)) c.in-Failed.is c.read_on-made.ensures.outcome in
+    let waits = subst (λ o. ReadOn c.in-Open.pending o (length c.loop-extent.buffer) c.read_on-made.new.buffer c.read_on-made.result.0 (1000000 - c.loop-extent.reads) (g.R.Source.has_failed c.read_on-made.new.reader) (g.R.Source.left c.read_on-made.new.reader)) c.in-Failed.is c.read_on-made.ensures.outcome in
     told_by (HasGoodDisk g.S.Store) (StandsAt g.S.Store) c.ended-in-Failed.result _ _ _ c.ended-in-Failed.ensures _ _ _ _ _ _
     (before (HasGoodDisk g.S.Store) (StandsAt g.S.Store) _ _ _ _ _ _ _ _ _ p waits.0.is_open waits.0.unfaulted _ (Keeps-same _))
 
@@ -101,6 +101,6 @@ pub returns-in-Bound-clause-session : goal.returns-in-Bound-clause-session
 returns-in-Bound-clause-session g c =
     let got = c.read_on-made.ensures.read in
     let p = Progress-more (HasGoodDisk g.S.Store) (StandsAt g.S.Store) _ _ _ _ _ _ _ _ _ c.loop-extent.invariant.progress _ got.0 _ got.1 got.2 in
-    let waits = subst (λ o. ReadOn c.in-Open.pending o c.read_on-made.new.buffer c.read_on-made.result.0 (1000000 - c.loop-extent.reads) (g.R.Source.has_failed c.read_on-made.new.reader) (g.R.Source.left c.read_on-made.new.reader)) c.in-Bound.is c.read_on-made.ensures.outcome in
+    let waits = subst (λ o. ReadOn c.in-Open.pending o (length c.loop-extent.buffer) c.read_on-made.new.buffer c.read_on-made.result.0 (1000000 - c.loop-extent.reads) (g.R.Source.has_failed c.read_on-made.new.reader) (g.R.Source.left c.read_on-made.new.reader)) c.in-Bound.is c.read_on-made.ensures.outcome in
     told_by (HasGoodDisk g.S.Store) (StandsAt g.S.Store) c.ended-in-Bound.result _ _ _ c.ended-in-Bound.ensures _ _ _ _ _ _
     (before (HasGoodDisk g.S.Store) (StandsAt g.S.Store) _ _ _ _ _ _ _ _ _ p waits.0.is_open waits.0.unfaulted _ (Keeps-same _))
