@@ -34,6 +34,7 @@ fault_entries r fault address = entries (
     ∷ (member_if (codes "other") count fault.other
     ++ ((codes "rule", count (rule_number fault.rule)) ∷ []))))
 
+-- a refusal with a fault of the site
 abbrev pub fault_data : Refusal → SiteFault → Data
 fault_data r fault = fault_entries r fault (option_map (λ a. addr_text (number_of a)) fault.address)
 

@@ -1,4 +1,4 @@
--- What is at the front of the bytes that wait.
+-- What is at the front of the bytes that wait. (this project's own)
 use Rattle.std.specs.Prelude.{◌≡◌, ℕ, ◌+◌, ◌<◌, ◌≤◌, true, false, List, [], ◌++◌, length, take, drop, slice_range, Ok}
 use Rattle.std.specs.List.{list_all}
 use Rattle.httparse.specs.Pieces.{is_newline}
@@ -17,7 +17,7 @@ use Rattle.desk_messages.specs.Head.{body_length, ends_stream, headers_of}
 use Rattle.desk_messages.specs.Stream.{IsMessage, print_message, HasFault, HasHead, HasNoHead, EndsSo, IsOpen, IsUnfaulted}
 use Rattle.desk_messages.specs.Stream as stream
 
--- a whole message is at the front, with its parts where the extent says
+-- a whole message is at the front, and its parts are at the places of the extent
 pub record IsMessageAt (bytes : List ℕ) (headers : List HeaderSpan) (e : Extent) : Type 0 where
   pub message : stream.Message
   pub valid : IsMessage message
@@ -56,7 +56,7 @@ pub record IsWaiting (bytes : List ℕ) (pending : Pending) : Type 0 where
   pub room : length bytes < 73728
   pub pends : Pends bytes pending
 
--- the front of the bytes is so: the fault holds whatever follows
+-- what is at the front of the bytes: a message; a fault that holds whatever follows; or neither yet
 abbrev pub IsFront : List ℕ → List HeaderSpan → Front → Type 0
 IsFront bytes headers (Message e) = IsMessageAt bytes headers e
 IsFront bytes headers (Fault fault) = (more : List ℕ) → HasFault (bytes ++ more) fault

@@ -1,4 +1,4 @@
--- What reading on comes to.
+-- When bytes that wait are to be looked at anew, and what reading on comes to. (this project's own)
 use Rattle.std.specs.Prelude.{◌≡◌, ◌⊎◌, ℕ, ◌+◌, ◌<◌, ◌≤◌, ◌==◌, ◌||◌, Bool, true, false, List, [], ◌∷◌, length, take, Option}
 use Rattle.std.specs.List.{ends_with, list_all}
 use Rattle.std.specs.Io.KnownBytes.{IsAtEnd}

@@ -24,7 +24,7 @@ pub struct Extent {
     pub head: RequestSpans,
     /// The length of the body.
     pub body: usize,
-    /// Whether the stream ends after the reply.
+    /// The stream ends after the reply.
     pub ends: bool,
 }
 
@@ -66,7 +66,7 @@ pub enum Front {
     Open(Pending),
 }
 
-/// The bytes in which a head is sought.
+/// Returns the bytes in which a head is sought.
 pub fn window_of(bytes: &[u8]) -> &[u8]
     ensures { result.now ≡ take 8192 bytes.now }
 {
@@ -77,7 +77,7 @@ pub fn window_of(bytes: &[u8]) -> &[u8]
     }
 }
 
-/// What comes of a head and of the bytes behind it.
+/// Tells what is at the front of bytes that begin with a head.
 fn after_head(bytes: &[u8], window: &[u8], headers: &[HeaderSpan], head: RequestSpans) -> Front
     requires window { window.now ≡ take 8192 bytes.now }
     requires within { IsRequestWithin window.now headers.now head }
@@ -97,7 +97,7 @@ fn after_head(bytes: &[u8], window: &[u8], headers: &[HeaderSpan], head: Request
     }
 }
 
-/// What comes of bytes that have no head yet.
+/// Tells what is at the front of bytes that have no head yet.
 fn without_head(bytes: &[u8], pending: Pending) -> Front
     requires some { 0 < length bytes.now }
     requires none { length bytes.now < 8192 → HasNoHead bytes.now × Pends bytes.now pending × (end_of pending ≡ End.Bad StreamFault.BadHead) }
@@ -111,7 +111,7 @@ fn without_head(bytes: &[u8], pending: Pending) -> Front
     }
 }
 
-/// What bytes wait for that may become a head.
+/// Tells what bytes wait for that may become a head.
 fn awaited(bytes: &[u8]) -> Pending
     ensures pends { HasNoHead bytes.now → Pends bytes.now result }
     ensures ends { end_of result ≡ End.Bad StreamFault.BadHead }
@@ -137,7 +137,7 @@ fn is_newline(byte: u8) -> bool
     byte == b'\r' || byte == b'\n'
 }
 
-/// What is at the front of the bytes.
+/// Tells what is at the front of the bytes.
 pub fn look_at(bytes: &[u8], headers: &mut [HeaderSpan]) -> Front
     requires lines { length headers.old ≡ 32 }
     ensures { IsFront bytes.now headers.new result }
@@ -156,7 +156,7 @@ pub fn look_at(bytes: &[u8], headers: &mut [HeaderSpan]) -> Front
     }
 }
 
-/// The request of the message at the front.
+/// Lends the request of the message at the front.
 pub fn request_at<'a>(bytes: &'a [u8], headers: &'a [HeaderSpan], extent: &Extent) -> Request<'a>
     requires { IsMessageAt bytes.now headers.now extent.now }
     ensures asks { (at : IsMessageAt bytes.now headers.now extent.now) → asked_of result ≡ asked_by at.message }

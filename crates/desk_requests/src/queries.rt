@@ -184,7 +184,7 @@ fn are_named(action: Action, parameters: &[Parameter]) -> bool
     named
 }
 
-/// Reads the query of an action. `None` if it does not read.
+/// Reads the query of an action. `None` if it cannot be read.
 pub(crate) fn query_for<'a>(
     alloc: Global,
     action: Action,
