@@ -52,18 +52,19 @@ Replies old (m ∷ messages) (text ∷ texts) new =
 Replies old [] (text ∷ texts) new = ⊥
 Replies old (m ∷ messages) [] new = ⊥
 
-module _ {S : Type 0} (good : S → Type 0) (stands : S → History → History → Type 0) where
-  -- a desk after one request, which wrote the text of its reply; ends says that the stream ends after it
-  abbrev pub AnswersAsked : S → Asked → Bool → List ℕ → S → Type 0
-  AnswersAsked old asked ends text new = GivesText good stands (Answered asked) ends old text new
+-- a desk after one request, which wrote the text of its reply; ends says that the stream ends after it
+abbrev pub AnswersAsked : {S : Type 0} → (S → Type 0) → (S → History → History → Type 0) → S → Asked → Bool → List ℕ → S → Type 0
+AnswersAsked good stands old asked ends text new = GivesText good stands (Answered asked) ends old text new
 
-  -- a desk after one message
-  abbrev pub AnswersMessage : S → Message → List ℕ → S → Type 0
-  AnswersMessage old m text new = AnswersAsked old (asked_by m) (ends_stream m.head) text new
+-- a desk after one message, which wrote the text of its reply
+abbrev pub AnswersMessage : {S : Type 0} → (S → Type 0) → (S → History → History → Type 0) → S → Message → List ℕ → S → Type 0
+AnswersMessage good stands old m text new = AnswersAsked good stands old (asked_by m) (ends_stream m.head) text new
 
-  -- A desk after several messages: no fault of its disk is forgotten, and on a good disk, wherever it stood, the texts are the replies
-  -- by that history, and it stands at the history after them.
-  pub record Serves (old : S) (messages : List Message) (texts : List (List ℕ)) (new : S) : Type 0 where
-    pub disk : good new → good old
-    pub step : good new → (history pending : History) → stands old history pending
-        → (after left : History) × Replies history messages texts after × stands new after left
+-- A desk after several messages: no fault of its disk is forgotten, and on a good disk, wherever it stood, the texts are the replies
+-- by that history, and it stands at the history after them.
+pub record Serves {S : Type 0} (good : S → Type 0) (stands : S → History → History → Type 0)
+    (old : S) (messages : List Message) (texts : List (List ℕ)) (new : S)
+    : Type 0 where
+  pub disk : good new → good old
+  pub step : good new → (history pending : History) → stands old history pending
+      → (after left : History) × Replies history messages texts after × stands new after left

@@ -48,16 +48,16 @@ refused_body other = refusal_data (refused_name other) (refused_number other)
 abbrev pub refused_reply : Refused → Reply
 refused_reply why = reply_with (refused_status why) (refused_body why)
 
--- What a desk does at a call that has a reply. The words on a desk are desk_store's: that its disk is good, and that it stands at a
--- history with revisions of which a crash may bring one to light.
-module _ {S : Type 0} (good : S → Type 0) (stands : S → History → History → Type 0) where
-  -- A desk after a call of which this is the reply: no fault of its disk is forgotten, and on a good disk, wherever it stood, the
-  -- reply is an answer by that history, and it stands at the history after it.
-  pub record Gives (answered : History → Reply → History → Type 0) (old : S) (reply : Reply) (new : S) : Type 0 where
-    pub disk : good new → good old
-    pub step : good new → (history pending : History) → stands old history pending
-        → (after left : History) × answered history reply after × stands new after left
+-- A desk after a call of which this is the reply: no fault of its disk is forgotten, and on a good disk, wherever it stood, the
+-- reply is an answer by that history, and it stands at the history after it. What is said of a desk is what desk_store says: that its
+-- disk is good, and that it stands at a history with revisions of which a crash may bring one to light.
+pub record Gives {S : Type 0} (good : S → Type 0) (stands : S → History → History → Type 0)
+    (answered : History → Reply → History → Type 0) (old : S) (reply : Reply) (new : S)
+    : Type 0 where
+  pub disk : good new → good old
+  pub step : good new → (history pending : History) → stands old history pending
+      → (after left : History) × answered history reply after × stands new after left
 
-  -- a desk after a call that wrote this text, which is its reply; ends says that the stream ends after it
-  abbrev pub GivesText : (History → Reply → History → Type 0) → Bool → S → List ℕ → S → Type 0
-  GivesText answered ends old text new = (reply : Reply) × Gives answered old reply new × (text ≡ print_reply ends reply)
+-- a desk after a call that wrote this text, which is its reply; ends says that the stream ends after it
+abbrev pub GivesText : {S : Type 0} → (S → Type 0) → (S → History → History → Type 0) → (History → Reply → History → Type 0) → Bool → S → List ℕ → S → Type 0
+GivesText good stands answered ends old text new = (reply : Reply) × Gives good stands answered old reply new × (text ≡ print_reply ends reply)
