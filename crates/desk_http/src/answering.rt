@@ -61,7 +61,8 @@ fn answer_action<S: Alter + Drop, V: PolicyView + Drop>(
         headers: request.headers,
         body: request.body,
     };
-    match read_call(alloc, action, &here, &parameters)? {
+    let call = read_call(alloc, action, &here, &parameters)?;
+    match call {
         Call::Refused(fault) => request_fault_text(alloc, fault, ends),
         Call::Asks(question) => answer_question(alloc, desk, &question, ends),
         Call::Edits(edit) => answer_edit(alloc, desk, &edit, ends),

@@ -3,15 +3,15 @@ use Rattle.std.proofs.Common.{◌≡◌, ◌+◌, refl}
 use Rattle.std.specs.String.{string_bytes}
 use Rattle.desk_core.specs.Edit.{asked}
 use Rattle.desk_store.specs.Desk.{HasGoodDisk, StandsAt}
-use Rattle.desk_http.proofs.AnswerLemmas.{memory_of_edit}
+use Rattle.desk_http.proofs.AnswerLemmas.{unasked_edit}
 use Rattle.desk_http.proofs.EditLemmas.{failed_err, failed_text, put_ok}
 use Rattle.desk_http.proofs.edits.answer_edit.Goals as goal
 
 pub returns-in_err-accepted-clause-err : goal.returns-in_err-accepted-clause-err
-returns-in_err-accepted-clause-err g c = memory_of_edit (HasGoodDisk g.S.Store) (StandsAt g.S.Store) (asked c.args.edit.now) c.args.desk.now
+returns-in_err-accepted-clause-err g c = unasked_edit (HasGoodDisk g.S.Store) (StandsAt g.S.Store) c.from_residual.result (asked c.args.edit.now) c.args.desk.now
 
 pub returns-in_err-already-clause-err : goal.returns-in_err-already-clause-err
-returns-in_err-already-clause-err g c = memory_of_edit (HasGoodDisk g.S.Store) (StandsAt g.S.Store) (asked c.args.edit.now) c.args.desk.now
+returns-in_err-already-clause-err g c = unasked_edit (HasGoodDisk g.S.Store) (StandsAt g.S.Store) c.from_residual-in_err-already.result (asked c.args.edit.now) c.args.desk.now
 
 pub returns-in-Ok-clause-ok : goal.returns-in-Ok-clause-ok
 returns-in-Ok-clause-ok g c =
