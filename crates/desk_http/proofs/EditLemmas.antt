@@ -1,17 +1,17 @@
 -- The reply to an edit, by what a desk answered.
-use Rattle.std.proofs.Common.{◌≡◌, ◌⊎◌, ◌+◌, ◌++◌, ℕ, Bool, true, false, IfOk, List, None, Option, OnErr, Result, Ok, Err, Some, [], ap, ◌∙◌, append-nil, arith, inl, inr, refl, subst, sym}
+use Rattle.std.proofs.Common.{◌≡◌, ◌⊎◌, ◌+◌, ◌++◌, ℕ, Bool, true, false, IfOk, List, Option, OnErr, Result, Ok, Err, Some, [], ap, ◌∙◌, append-nil, arith, inl, inr, refl, subst, sym}
 use Rattle.std.specs.Prelude.{if◌then◌else◌}
 use Rattle.sqlite.specs.Held.{state}
 use Rattle.sqlite_trees.specs.declared.store.Store.{Ghosts}
 use Rattle.desk_core.specs.Edit.{Already, Answer, Edit, Refused, Stored}
 use Rattle.desk_core.specs.History.{IsAnswered, added_if}
-use Rattle.desk_store.specs.Desk.{HasGoodDisk, History, IsEdited, Shown, StandsAt, pending_after, told}
+use Rattle.desk_store.specs.Desk.{HasGoodDisk, IsEdited, Shown, StandsAt, pending_after, told}
 use Rattle.desk_store.specs.Rows.{IsOfTask}
 use Rattle.desk_store.specs.declared.desk.Done.{Done}
 use Rattle.desk_store.specs.declared.error.DeskError.{DeskError}
 use Rattle.desk_store.specs.declared.error.DeskError.TheVariants as error
 use Rattle.desk_store.specs.declared.error.Task.{Task}
-use Rattle.desk_service.specs.Edits.{PutsBy, reply_to}
+use Rattle.desk_service.specs.Edits.{PutsBy}
 use Rattle.desk_service.specs.Refused.{refused_by}
 use Rattle.desk_service.specs.declared.edits.Replies.{Replies}
 use Rattle.desk_messages.specs.Replies.{Reply, memory_reply, print_reply, reply_with}
@@ -38,9 +38,12 @@ module _ {S V : Type 0} (g : Ghosts S) (old new : Shown S V) (e : Edit) where
     disk = λ clean. omega (arith, clean, edited.crash.clean);
     step = λ clean history pending at.
         let it = edited.step clean history pending at in
-        let right : IsAnswered history e (Some answer) = subst (IsAnswered history e) is it.answered in
-        (history ++ added_if e (told result), pending_after pending e (told result),
-        inl (answer, right, ap (λ (a : Option Answer). history ++ added_if e a) is, refl), it.stands);
+        let right : IsAnswered history e (Some answer) = subst (IsAnswered history e) is it.answered in (
+          history ++ added_if e (told result),
+          pending_after pending e (told result),
+          inl (answer, right, ap (λ (a : Option Answer). history ++ added_if e a) is, refl),
+          it.stands,
+        );
   }
 
   -- an edit that added nothing, and is not replied by its answer
@@ -49,9 +52,12 @@ module _ {S V : Type 0} (g : Ghosts S) (old new : Shown S V) (e : Edit) where
     disk = λ clean. omega (arith, clean, edited.crash.clean);
     step = λ clean history pending at.
         let it = edited.step clean history pending at in
-        let same : history ++ added_if e (told result) ≡ history = ap (λ l. history ++ l) none ∙ append-nil history in
-        (history, pending_after pending e (told result), inr (which, refl),
-        subst (λ h. StandsAt g new h (pending_after pending e (told result))) same it.stands);
+        let same : history ++ added_if e (told result) ≡ history = ap (λ l. history ++ l) none ∙ append-nil history in (
+          history,
+          pending_after pending e (told result),
+          inr (which, refl),
+          subst (λ h. StandsAt g new h (pending_after pending e (told result))) same it.stands,
+        );
   }
 
   -- an edit that is stored, or was

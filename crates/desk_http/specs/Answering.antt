@@ -8,7 +8,7 @@ use Rattle.desk_messages.specs.Replies.{Reply, memory_reply, print_reply}
 use Rattle.desk_messages.specs.Stream.{Message}
 use Rattle.desk_requests.specs.Calls.{Asks, Puts, Query, edit_in, first_fault, query_asked}
 use Rattle.desk_requests.specs.declared.faults.RequestFault.{RequestFault}
-use Rattle.desk_http.specs.Replies.{Gives, GivesText, request_fault_reply}
+use Rattle.desk_http.specs.Replies.{GivesText, request_fault_reply}
 use Rattle.desk_http.specs.Questions.{QuestionReply, asks_tables, store_reply}
 use Rattle.desk_http.specs.Edits.{EditReply}
 

@@ -133,7 +133,13 @@ fn found_text(
 {
     let body = match answer {
         FileAnswer::Text(text) => {
-            file_body(alloc, name, text.rev, text.author.as_str(), text.body.as_str())?
+            file_body(
+                alloc,
+                name,
+                text.rev,
+                text.author.as_str(),
+                text.body.as_str(),
+            )?
         }
         FileAnswer::Revisions(revisions) => revisions_body(alloc, name, revisions.as_slice())?,
         FileAnswer::NoRevision => return refused_text(alloc, &Refused::NoRevision, ends),

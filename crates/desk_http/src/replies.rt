@@ -27,9 +27,21 @@ pub(crate) fn request_fault_text(
     match fault {
         RequestFault::NoRoute => refusal_text(alloc, StatusCode::NOT_FOUND, "NoRoute", 106, ends),
         RequestFault::BadMethod => {
-            refusal_text(alloc, StatusCode::METHOD_NOT_ALLOWED, "BadMethod", 107, ends)
+            refusal_text(
+                alloc,
+                StatusCode::METHOD_NOT_ALLOWED,
+                "BadMethod",
+                107,
+                ends,
+            )
         }
-        RequestFault::BadQuery => refusal_text(alloc, StatusCode::BAD_REQUEST, "BadQuery", 108, ends),
+        RequestFault::BadQuery => refusal_text(
+            alloc,
+            StatusCode::BAD_REQUEST,
+            "BadQuery",
+            108,
+            ends,
+        ),
         RequestFault::BadHeader => {
             refusal_text(alloc, StatusCode::BAD_REQUEST, "BadHeader", 109, ends)
         }
@@ -51,11 +63,7 @@ pub(crate) fn done_text(
 }
 
 /// Writes the reply where a desk does not answer. Of want of memory there is none: that is an error here, too.
-pub(crate) fn failed_text(
-    alloc: Global,
-    error: DeskError,
-    ends: bool,
-) -> Result<String, AllocError>
+pub(crate) fn failed_text(alloc: Global, error: DeskError, ends: bool) -> Result<String, AllocError>
     ensures { IfOk result (λ text. string_bytes text ≡ print_reply ends (spec.refused_reply (refused_by error))) }
 {
     match Refused::by(error) {
@@ -77,7 +85,13 @@ pub(crate) fn refused_text(
             let body = refusal_body(alloc, refusal)?;
             reply_text(alloc, edit_status(refusal), body.as_str(), ends)
         }
-        other => refusal_text(alloc, refused_status(other), other.name(), other.number(), ends),
+        other => refusal_text(
+            alloc,
+            refused_status(other),
+            other.name(),
+            other.number(),
+            ends,
+        ),
     }
 }
 

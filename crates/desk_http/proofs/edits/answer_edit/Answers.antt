@@ -1,5 +1,5 @@
 -- Before the desk is asked it is as it was; then the reply is that to its answer.
-use Rattle.std.proofs.Common.{◌≡◌, ◌+◌, refl}
+use Rattle.std.proofs.Common.{◌+◌, refl}
 use Rattle.std.specs.String.{string_bytes}
 use Rattle.desk_core.specs.Edit.{asked}
 use Rattle.desk_store.specs.Desk.{HasGoodDisk, StandsAt}

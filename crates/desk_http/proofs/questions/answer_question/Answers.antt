@@ -1,5 +1,5 @@
 -- Each question is answered by the history: on the policy by the view of the desk, and else by the function that it is handed to.
-use Rattle.std.proofs.Common.{◌≡◌, ap, refl, subst, sym, IfOk, OnErr}
+use Rattle.std.proofs.Common.{ap, refl, subst, sym, IfOk, OnErr}
 use Rattle.std.specs.String.{string_bytes}
 use Rattle.desk_text.specs.Address.{number_of}
 use Rattle.desk_policy.specs.Listings.{listing_of}
@@ -7,7 +7,7 @@ use Rattle.desk_policy.specs.Verdict.{verdict_of}
 use Rattle.desk_store.specs.Desk.{HasGoodDisk, StandsAt}
 use Rattle.desk_service.specs.Questions.{ByPolicy, ListingIs, VerdictIs}
 use Rattle.desk_messages.specs.Replies.{memory_reply, reply_with}
-use Rattle.desk_requests.specs.Calls.{Exports, File, Mount, Question, Revisions, question_of}
+use Rattle.desk_requests.specs.Calls.{Exports, Mount, Question, question_of}
 use Rattle.desk_bodies.specs.Exports.{exports_data}
 use Rattle.desk_bodies.specs.Verdicts.{verdict_data}
 use Rattle.desk_http.specs.Questions.{QuestionAnswered}

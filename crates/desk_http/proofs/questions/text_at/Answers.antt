@@ -1,5 +1,5 @@
 -- What the desk answers is the answer by its history; where a look at the tables failed, that is replied.
-use Rattle.std.proofs.Common.{◌≡◌, arith, inl, inr, refl}
+use Rattle.std.proofs.Common.{arith, inl, inr, refl}
 use Rattle.std.specs.String.{string_bytes}
 use Rattle.desk_store.specs.Desk.{HasGoodDisk, StandsAt}
 use Rattle.desk_store.specs.declared.error.Task.TheVariants as tasks
@@ -20,7 +20,7 @@ returns-in-Ok-clause-ok g c =
     let looks = c.answer_by_desk.ensures.looks in
     told_text (HasGoodDisk g.S.Store) (StandsAt g.S.Store) string_bytes c.found_text.result q c.args.ends c.args.desk.now c.answer_by_desk.new.desk reply
     (told (HasGoodDisk g.S.Store) (StandsAt g.S.Store) q c.args.desk.now c.answer_by_desk.new.desk reply (λ clean. omega (arith, looks.0.disk, clean)) looks.0.stands
-        (λ clean history pending at. inl (ByFile c.in-Ok.answer, c.in-Ok.ensures.answered clean history pending at, refl)))
+    (λ clean history pending at. inl (ByFile c.in-Ok.answer, c.in-Ok.ensures.answered clean history pending at, refl)))
     c.found_text.ensures
 
 pub returns-in-Ok-clause-err : goal.returns-in-Ok-clause-err
@@ -37,7 +37,7 @@ returns-in-Err-clause-ok g c =
     let reply = refused_reply (refused_by c.in-Err.error) in
     told_text (HasGoodDisk g.S.Store) (StandsAt g.S.Store) string_bytes c.failed_text.result q c.args.ends c.args.desk.now c.answer_by_desk.new.desk reply
     (told (HasGoodDisk g.S.Store) (StandsAt g.S.Store) q c.args.desk.now c.answer_by_desk.new.desk reply (λ clean. omega (arith, looks.0.disk, clean)) looks.0.stands
-        (λ clean history pending at. inr (failed_look tasks.ReadRevisions c.in-Err.error c.in-Err.ensures.errors)))
+    (λ clean history pending at. inr (failed_look tasks.ReadRevisions c.in-Err.error c.in-Err.ensures.errors)))
     c.failed_text.ensures
 
 pub returns-in-Err-clause-err : goal.returns-in-Err-clause-err

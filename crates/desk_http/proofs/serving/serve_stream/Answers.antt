@@ -1,8 +1,8 @@
 -- Each arm of the loop keeps what was done so far, or ends it.
 use Rattle.std.proofs.Common.{◌≡◌, ◌+◌, ◌-◌, ◌∙◌, [], ap, append-nil, arith, drop, inl, inr, length, length-drop, refl, subst, sym}
 use Rattle.desk_messages.specs.declared.framing.Front.TheVariants.{Fault}
-use Rattle.desk_messages.specs.declared.requests.End.TheVariants.{Bad, Closed}
-use Rattle.desk_messages.specs.Front.{IsFront, end_of}
+use Rattle.desk_messages.specs.declared.requests.End.TheVariants.{Closed}
+use Rattle.desk_messages.specs.Front.{IsFront}
 use Rattle.desk_messages.specs.Reading.{ReadOn}
 use Rattle.desk_messages.specs.Stream.{EndsSo, HasFault}
 use Rattle.desk_store.specs.Desk.{HasGoodDisk, StandsAt}
@@ -10,7 +10,7 @@ use Rattle.desk_http.specs.Answering.{AnswersAsked}
 use Rattle.desk_http.specs.Serving.{AnswersAll}
 use Rattle.desk_http.proofs.KnownBytes.{Keeps-same}
 use Rattle.desk_http.proofs.Progress.{Progress}
-use Rattle.desk_http.proofs.RunLemmas.{Progress-more, Progress-next, Progress-none, before, closed, ended, refused, reply_cut, told_by}
+use Rattle.desk_http.proofs.RunLemmas.{Progress-more, Progress-next, Progress-none, before, closed, refused, reply_cut, told_by}
 use Rattle.desk_http.proofs.serving.serve_stream.Goals as goal
 
 pub loop-extent-init : goal.loop-extent-init
@@ -45,7 +45,7 @@ returns-then-extent-clause-session g c =
     let answers = subst (λ a. AnswersAsked (HasGoodDisk g.S.Store) (StandsAt g.S.Store) l.desk a c.in-Message.extent.ends said.0 c.reply_to.new.desk) (c.request_at-request.ensures.asks at) said.1 in
     told_by (HasGoodDisk g.S.Store) (StandsAt g.S.Store) c.ended-then-extent.result _ _ _ c.ended-then-extent.ensures _ _ _ _ _ _
     (subst (λ n. AnswersAll (HasGoodDisk g.S.Store) (StandsAt g.S.Store) Closed c.args.desk.now c.reply_to.new.desk (g.R.Source.left c.args.reader.now) (g.R.Source.left l.reader) (g.W.Sink.held c.args.writer.now) (g.W.Sink.held c.reply_to.new.writer) (l.replies + 1) (l.written + n)) (sym said.3)
-        (closed (HasGoodDisk g.S.Store) (StandsAt g.S.Store) _ _ _ _ _ _ _ _ _ p _ _ at _ said.0 _ answers c.if-extent.true said.2))
+    (closed (HasGoodDisk g.S.Store) (StandsAt g.S.Store) _ _ _ _ _ _ _ _ _ p _ _ at _ said.0 _ answers c.if-extent.true said.2))
 
 pub loop-extent-preserved-else-extent : goal.loop-extent-preserved-else-extent
 loop-extent-preserved-else-extent g c =
