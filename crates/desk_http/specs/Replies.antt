@@ -12,13 +12,33 @@ use Rattle.desk_requests.specs.declared.faults.RequestFault.{RequestFault}
 use Rattle.desk_requests.specs.declared.faults.RequestFault.TheVariants as fault
 use Rattle.desk_bodies.specs.Edits.{refused_data}
 
--- the reply to a request that calls for nothing
+-- the number of the fault of a request
+abbrev pub request_fault_number : RequestFault → ℕ
+request_fault_number fault.NoRoute = 106
+request_fault_number fault.BadMethod = 107
+request_fault_number fault.BadQuery = 108
+request_fault_number fault.BadHeader = 109
+request_fault_number fault.BadBody = 110
+
+-- the name of the fault of a request
+abbrev pub request_fault_name : RequestFault → List ℕ
+request_fault_name fault.NoRoute = codes "NoRoute"
+request_fault_name fault.BadMethod = codes "BadMethod"
+request_fault_name fault.BadQuery = codes "BadQuery"
+request_fault_name fault.BadHeader = codes "BadHeader"
+request_fault_name fault.BadBody = codes "BadBody"
+
+-- the status of the reply to a request with this fault
+abbrev pub request_fault_status : RequestFault → ℕ
+request_fault_status fault.NoRoute = 404
+request_fault_status fault.BadMethod = 405
+request_fault_status fault.BadQuery = 400
+request_fault_status fault.BadHeader = 400
+request_fault_status fault.BadBody = 400
+
+-- the reply to a request with this fault, which calls for nothing
 abbrev pub request_fault_reply : RequestFault → Reply
-request_fault_reply fault.NoRoute = refusal_reply 404 (codes "NoRoute") 106
-request_fault_reply fault.BadMethod = refusal_reply 405 (codes "BadMethod") 107
-request_fault_reply fault.BadQuery = refusal_reply 400 (codes "BadQuery") 108
-request_fault_reply fault.BadHeader = refusal_reply 400 (codes "BadHeader") 109
-request_fault_reply fault.BadBody = refusal_reply 400 (codes "BadBody") 110
+request_fault_reply found = refusal_reply (request_fault_status found) (request_fault_name found) (request_fault_number found)
 
 -- the status of the reply to an edit that is refused
 abbrev pub edit_status : Refusal → ℕ

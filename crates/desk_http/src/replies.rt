@@ -16,7 +16,7 @@ use desk_store::DeskError;
 use http::StatusCode;
 use std::alloc::{AllocError, Global};
 
-/// Writes the reply to a request that calls for nothing.
+/// Writes the reply to a request with this fault, which calls for nothing.
 pub(crate) fn request_fault_text(
     alloc: Global,
     fault: RequestFault,
@@ -24,28 +24,47 @@ pub(crate) fn request_fault_text(
 ) -> Result<String, AllocError>
     ensures { IfOk result (λ text. string_bytes text ≡ print_reply ends (spec.request_fault_reply fault)) }
 {
+    let status = request_fault_status(fault);
+    let name = request_fault_name(fault);
+    refusal_text(alloc, status, name, request_fault_number(fault), ends)
+}
+
+/// Returns the status of the reply to a request with this fault.
+fn request_fault_status(fault: RequestFault) -> StatusCode
+    ensures { result ≡ spec.request_fault_status fault }
+{
     match fault {
-        RequestFault::NoRoute => refusal_text(alloc, StatusCode::NOT_FOUND, "NoRoute", 106, ends),
-        RequestFault::BadMethod => {
-            refusal_text(
-                alloc,
-                StatusCode::METHOD_NOT_ALLOWED,
-                "BadMethod",
-                107,
-                ends,
-            )
+        RequestFault::NoRoute => StatusCode::NOT_FOUND,
+        RequestFault::BadMethod => StatusCode::METHOD_NOT_ALLOWED,
+        RequestFault::BadQuery | RequestFault::BadHeader | RequestFault::BadBody => {
+            StatusCode::BAD_REQUEST
         }
-        RequestFault::BadQuery => refusal_text(
-            alloc,
-            StatusCode::BAD_REQUEST,
-            "BadQuery",
-            108,
-            ends,
-        ),
-        RequestFault::BadHeader => {
-            refusal_text(alloc, StatusCode::BAD_REQUEST, "BadHeader", 109, ends)
-        }
-        RequestFault::BadBody => refusal_text(alloc, StatusCode::BAD_REQUEST, "BadBody", 110, ends),
+    }
+}
+
+/// Returns the name of the fault of a request.
+fn request_fault_name(fault: RequestFault) -> &'static str
+    ensures { result.now ≡ spec.request_fault_name fault }
+{
+    match fault {
+        RequestFault::NoRoute => "NoRoute",
+        RequestFault::BadMethod => "BadMethod",
+        RequestFault::BadQuery => "BadQuery",
+        RequestFault::BadHeader => "BadHeader",
+        RequestFault::BadBody => "BadBody",
+    }
+}
+
+/// Returns the number of the fault of a request.
+fn request_fault_number(fault: RequestFault) -> u32
+    ensures { result ≡ spec.request_fault_number fault }
+{
+    match fault {
+        RequestFault::NoRoute => 106,
+        RequestFault::BadMethod => 107,
+        RequestFault::BadQuery => 108,
+        RequestFault::BadHeader => 109,
+        RequestFault::BadBody => 110,
     }
 }
 
@@ -62,7 +81,7 @@ pub(crate) fn done_text(
     reply_text(alloc, StatusCode::OK, body.as_str(), ends)
 }
 
-/// Writes the reply where a desk does not answer. Of want of memory there is none: that is an error here, too.
+/// Writes the reply where a desk answers this error. If it is out of memory, so is this.
 pub(crate) fn failed_text(alloc: Global, error: DeskError, ends: bool) -> Result<String, AllocError>
     ensures { IfOk result (λ text. string_bytes text ≡ print_reply ends (spec.refused_reply (refused_by error))) }
 {
