@@ -65,11 +65,7 @@ fn stale_value(alloc: Global, refusal: &Refusal, current: u32) -> Result<Value, 
 }
 
 /// Makes the value of a refusal with the fault of the site.
-fn fault_value(
-    alloc: Global,
-    refusal: &Refusal,
-    fault: &SiteFault,
-) -> Result<Value, AllocError>
+fn fault_value(alloc: Global, refusal: &Refusal, fault: &SiteFault) -> Result<Value, AllocError>
     ensures { IfOk result (λ value. view value ≡ fault_data refusal.now fault.now) }
 {
     match fault.address {
@@ -105,11 +101,7 @@ fn located_fault(
 }
 
 /// Makes the value of a fault without an address.
-fn plain_fault(
-    alloc: Global,
-    refusal: &Refusal,
-    fault: &SiteFault,
-) -> Result<Value, AllocError>
+fn plain_fault(alloc: Global, refusal: &Refusal, fault: &SiteFault) -> Result<Value, AllocError>
     ensures { IfOk result (λ value. view value ≡ fault_entries refusal.now fault.now None) }
 {
     let error = refusal.name();

@@ -42,11 +42,7 @@ fn exports_value(
 }
 
 /// Makes the values of what is shown of each file system.
-fn system_values(
-    alloc: Global,
-    policy: &Policy,
-    shown: &[Shown],
-) -> Result<Vec<Value>, AllocError>
+fn system_values(alloc: Global, policy: &Policy, shown: &[Shown]) -> Result<Vec<Value>, AllocError>
     ensures { IfOk result (λ values. map data_of values.items ≡ map (system_data policy.now) shown.now) }
 {
     let mut values = Vec::new(alloc);

@@ -80,7 +80,15 @@ fn granted_value(
     let map = terms.map.get();
     let mapped = cred_text(alloc, mapped_cred(&map))?;
     match own {
-        None => plain_grant(alloc, fs, line, terms, flavours, map_word(&map), mapped.as_str()),
+        None => plain_grant(
+            alloc,
+            fs,
+            line,
+            terms,
+            flavours,
+            map_word(&map),
+            mapped.as_str(),
+        ),
         Some(own) => {
             let acts = cred_text(alloc, &act_as(terms, own))?;
             acting_grant(
