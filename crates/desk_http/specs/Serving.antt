@@ -1,4 +1,4 @@
--- What one connection did: what it read, what it wrote, and what the desk became.
+-- What one connection did: what it read, what it wrote, and what the desk became. (this project's own)
 use Rattle.std.specs.Prelude.{◌≡◌, ℕ, ◌+◌, ◌<◌, ◌⊎◌, true, List, [], ◌∷◌, ◌++◌, length, take, Option}
 use Rattle.std.specs.Io.KnownBytes.{Consumes, Appends, Keeps, IsAtEnd}
 use Rattle.desk_messages.specs.declared.requests.End.{End}

@@ -2,6 +2,10 @@
 //!
 //! Its promise: the bytes written are the replies to the bytes read, however they are cut, and the desk stands at the history
 //! after them. What is answered is desk_service's; this crate prints it.
+//!
+//! ```text
+//! serve(alloc, &mut desk, &mut reader, &mut writer)    // Served { replies: 1, written: 187, end: End::Input }
+//! ```
 #![tactic(auto)]
 
 pub mod answering;
