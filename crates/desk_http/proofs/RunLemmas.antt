@@ -1,0 +1,290 @@
+-- How a connection goes on, and how it ends.
+use Rattle.std.proofs.Common.{◌≡◌, ℕ, ◌+◌, ◌<◌, ◌⊎◌, inl, inr, Bool, true, false, List, [], ◌∷◌, ◌++◌, length, take, drop, Option, refl, sym, ap, ◌∙◌, subst, arith, append_assoc, append-nil, length-append}
+use Rattle.std.specs.List.{flat_map}
+use Rattle.std.specs.Io.KnownBytes.{Consumes, Appends, Keeps, IsAtEnd}
+use Rattle.std.proofs.lemmas.List.{length_push}
+use Rattle.std.proofs.lemmas.List.Concat.{flat_map-append}
+use Rattle.std.proofs.lemmas.List.Elements.{All-push, All-nil}
+use Rattle.httparse.specs.declared.spans.HeaderSpan.{HeaderSpan}
+use Rattle.desk_messages.specs.declared.framing.Extent.{Extent}
+use Rattle.desk_messages.specs.declared.requests.StreamFault.{StreamFault}
+use Rattle.desk_messages.specs.declared.requests.End.{End}
+use Rattle.desk_messages.specs.declared.requests.End.TheVariants.{Input, Closed, Bad, ReadFault, WriteFault, Memory}
+use Rattle.desk_messages.specs.declared.requests.Served.{Served}
+use Rattle.desk_messages.specs.Head.{ends_stream}
+use Rattle.desk_messages.specs.Stream.{Message, IsMessage, print_message, Splits, GoesOn, ClosesAfter, HasFault, EndsSo, IsOpen, IsUnfaulted}
+use Rattle.desk_messages.specs.Front.{IsMessageAt}
+use Rattle.desk_store.specs.Desk.{History}
+use Rattle.desk_messages.specs.Asked.{asked_by}
+use Rattle.desk_messages.specs.Replies.{Reply, print_reply, fault_reply, joined}
+use Rattle.desk_http.specs.Answering.{Answered, Replies, AnswersAsked, AnswersMessage, Serves}
+use Rattle.desk_http.specs.Serving.{IsReplyTo, AnswersAll, AnswersBefore, AnswersInPart, CutReply, SessionOf, Refuses}
+use Rattle.desk_http.proofs.KnownBytes.{Appends-append, Appends-none, Consumes-append, Consumes-none, Consumes-keeps}
+use Rattle.desk_http.proofs.Progress.{Progress}
+
+pub joined-push : (texts : List (List ℕ)) (text : List ℕ) → joined (texts ++ text ∷ []) ≡ joined texts ++ text
+joined-push texts text = flat_map-append (λ (t : List ℕ). t) texts (text ∷ []) ∙ ap (λ l. joined texts ++ l) (append-nil text)
+
+-- one more message, and what follows it
+pub printed-push : (messages : List Message) (m : Message) (rest : List ℕ) → flat_map print_message (messages ++ m ∷ []) ++ rest ≡ flat_map print_message messages ++ (print_message m ++ rest)
+printed-push messages m rest =
+    ap (λ l. l ++ rest) (flat_map-append print_message messages (m ∷ []) ∙ ap (λ l. flat_map print_message messages ++ l) (append-nil (print_message m)))
+    ∙ append_assoc (flat_map print_message messages) (print_message m) rest
+
+-- replies go on by one
+pub Replies-push : (old mid new : History) (messages : List Message) (texts : List (List ℕ)) (m : Message) (text : List ℕ) (reply : Reply) → Replies old messages texts mid → Answered (asked_by m) mid reply new → text ≡ print_reply (ends_stream m.head) reply → Replies old (messages ++ m ∷ []) (texts ++ text ∷ []) new
+Replies-push old mid new [] [] m text reply run answered is = (new, reply, subst (λ h. Answered (asked_by m) h reply new) run answered, is, refl)
+Replies-push old mid new (k ∷ messages) (t ∷ texts) m text reply run answered is = (run.0, run.1, run.2, run.3, Replies-push run.0 mid new messages texts m text reply run.4 answered is)
+Replies-push old mid new [] (t ∷ texts) m text reply run answered is = absurd run
+Replies-push old mid new (k ∷ messages) [] m text reply run answered is = absurd run
+
+-- replies of two runs, one after the other
+pub Replies-append : (old mid new : History) (messages others : List Message) (texts more : List (List ℕ)) → Replies old messages texts mid → Replies mid others more new → Replies old (messages ++ others) (texts ++ more) new
+Replies-append old mid new [] others [] more run next = subst (λ h. Replies h others more new) run next
+Replies-append old mid new (k ∷ messages) others (t ∷ texts) more run next = (run.0, run.1, run.2, run.3, Replies-append run.0 mid new messages others texts more run.4 next)
+Replies-append old mid new [] others (t ∷ texts) more run next = absurd run
+Replies-append old mid new (k ∷ messages) others [] more run next = absurd run
+
+module _ {S : Type 0} (good : S → Type 0) (stands : S → History → History → Type 0) where
+  -- a desk that is left alone
+  pub Serves-none : (desk : S) → Serves good stands desk [] [] desk
+  Serves-none desk = record { disk = λ clean. clean; step = λ clean history pending at. (history, pending, refl, at) }
+
+  -- what was served goes on by one message
+  pub Serves-push : (old mid new : S) (messages : List Message) (texts : List (List ℕ)) (m : Message) (text : List ℕ) → Serves good stands old messages texts mid → AnswersMessage good stands mid m text new → Serves good stands old (messages ++ m ∷ []) (texts ++ text ∷ []) new
+  Serves-push old mid new messages texts m text run answers = record {
+    disk = λ clean. run.disk (answers.1.disk clean);
+    step = λ clean history pending at.
+        let before = run.step (answers.1.disk clean) history pending at in
+        let next = answers.1.step clean before.0 before.1 before.3 in
+        (next.0, next.1, Replies-push history before.0 next.0 messages texts m text answers.0 before.2 next.2 answers.2, next.3);
+  }
+
+  -- what was served twice is served in one
+  pub Serves-append : (old mid new : S) (messages others : List Message) (texts more : List (List ℕ)) → Serves good stands old messages texts mid → Serves good stands mid others more new → Serves good stands old (messages ++ others) (texts ++ more) new
+  Serves-append old mid new messages others texts more run next = record {
+    disk = λ clean. run.disk (next.disk clean);
+    step = λ clean history pending at.
+        let before = run.step (next.disk clean) history pending at in
+        let after = next.step clean before.0 before.1 before.3 in
+        (after.0, after.1, Replies-append history before.0 after.0 messages others texts more before.2 after.2, after.3);
+  }
+
+  module _ (old new : S) (left left' held held' : Option (List ℕ)) (waiting : List ℕ) (replied written : ℕ) (p : Progress good stands old new left left' held held' waiting replied written) where
+    -- more bytes came
+    pub Progress-read : (left'' : Option (List ℕ)) (bytes : List ℕ) → Consumes left' left'' bytes → Progress good stands old new left left'' held held' (waiting ++ bytes) replied written
+    Progress-read left'' bytes c = record {
+      messages = p.messages;
+      texts = p.texts;
+      read = subst (Consumes left left'') (append_assoc (flat_map print_message p.messages) waiting bytes) (Consumes-append left left' left'' _ bytes p.read c);
+      sent = p.sent;
+      each = p.each;
+      goes_on = p.goes_on;
+      run = p.run;
+      replied_is = p.replied_is;
+      written_is = p.written_is;
+    }
+
+    pub Progress-more : (left'' : Option (List ℕ)) (bytes now : List ℕ) → now ≡ waiting ++ bytes → Consumes left' left'' bytes → Progress good stands old new left left'' held held' now replied written
+    Progress-more left'' bytes now is c = subst (λ b. Progress good stands old new left left'' held held' b replied written) (sym is) (Progress-read left'' bytes c)
+
+    -- a message was answered, and the stream goes on
+    pub Progress-next : (headers : List HeaderSpan) (e : Extent) (at : IsMessageAt waiting headers e) (held'' : Option (List ℕ)) (text : List ℕ) (newer : S) → AnswersAsked good stands new (asked_by at.message) e.ends text newer → e.ends ≡ false → Appends held' held'' text → Progress good stands old newer left left' held held'' (drop (e.head.len + e.body) waiting) (replied + 1) (written + length text)
+    Progress-next headers e at held'' text newer answers on sent =
+        let m = at.message in
+        let answered : AnswersMessage good stands new m text newer = subst (λ b. AnswersAsked good stands new (asked_by m) b text newer) at.ends answers in
+        record {
+          messages = p.messages ++ m ∷ [];
+          texts = p.texts ++ text ∷ [];
+          read = subst (Consumes left left') (ap (λ l. flat_map print_message p.messages ++ l) at.at_front ∙ sym (printed-push p.messages m (drop (e.head.len + e.body) waiting))) p.read;
+          sent = subst (Appends held held'') (sym (joined-push p.texts text)) (Appends-append held held' held'' _ text p.sent sent);
+          each = All-push IsMessage p.messages m p.each at.valid;
+          goes_on = All-push (λ (k : Message). ends_stream k.head ≡ false) p.messages m p.goes_on (sym at.ends ∙ on);
+          run = Serves-push old new newer p.messages p.texts m text p.run answered;
+          replied_is = ap (λ n. n + 1) p.replied_is ∙ sym (length_push p.texts text);
+          written_is = ap (λ n. n + length text) p.written_is ∙ sym (ap length (joined-push p.texts text) ∙ length-append (joined p.texts) text);
+        }
+
+    -- the bytes so far, with more behind them, are the messages and a rest
+    pub splits_more : (more : List ℕ) → Splits ((flat_map print_message p.messages ++ waiting) ++ more) p.messages (waiting ++ more)
+    splits_more more = record { whole = append_assoc (flat_map print_message p.messages) waiting more; each = p.each }
+
+    pub splits_now : Splits (flat_map print_message p.messages ++ waiting) p.messages waiting
+    splits_now = record { whole = refl; each = p.each }
+
+    -- a read failed
+    pub before : IsOpen waiting → IsUnfaulted waiting → (left'' : Option (List ℕ)) → Keeps left' left'' → AnswersBefore good stands old new left left'' held held' replied written
+    before is_open unfaulted left'' kept = record {
+      received = flat_map print_message p.messages ++ waiting;
+      messages = p.messages;
+      rest = waiting;
+      texts = p.texts;
+      read = Consumes-keeps left left' left'' _ p.read kept;
+      sent = p.sent;
+      splits = splits_now;
+      goes_on = p.goes_on;
+      is_open = is_open;
+      unfaulted = unfaulted;
+      run = p.run;
+      replied_is = p.replied_is;
+      written_is = p.written_is;
+    }
+
+    -- the input ended between messages
+    pub at_input : waiting ≡ [] → IsAtEnd left' → AnswersAll good stands Input old new left left' held held' replied written
+    at_input none end = record {
+      received = flat_map print_message p.messages ++ waiting;
+      texts = p.texts;
+      read = p.read;
+      sent = p.sent;
+      answers = record {
+        messages = p.messages;
+        rest = waiting;
+        replies = p.texts;
+        splits = splits_now;
+        ends = (p.goes_on, none);
+        run = p.run;
+        texts_are = sym (append-nil p.texts);
+      };
+      final = inl end;
+      replied_is = p.replied_is;
+      written_is = p.written_is;
+    }
+
+    -- the reply to a fault ends the stream
+    pub refused : (fault : StreamFault) → HasFault waiting fault → (IsAtEnd left' ⊎ ((more : List ℕ) → HasFault (waiting ++ more) fault)) → (held'' : Option (List ℕ)) (served : Served) → Refuses fault held' held'' replied written served → SessionOf good stands served.end old new left left' held held'' served.replies served.written
+    refused fault has final held'' served (inl whole) =
+        let text = print_reply true (fault_reply fault) in
+        let received = flat_map print_message p.messages ++ waiting in
+        let texts = p.texts ++ text ∷ [] in
+        let reply : (rest bytes : List ℕ) → Splits bytes p.messages rest → HasFault rest fault → IsReplyTo good stands old bytes texts (Bad fault) new
+        = λ rest bytes splits faulty. record { messages = p.messages; rest = rest; replies = p.texts; splits = splits; ends = (p.goes_on, faulty); run = p.run; texts_are = refl } in
+        subst (λ end. SessionOf good stands end old new left left' held held'' served.replies served.written) (sym whole.0) (record {
+          received = received;
+          texts = texts;
+          read = p.read;
+          sent = subst (Appends held held'') (sym (joined-push p.texts text)) (Appends-append held held' held'' _ text p.sent whole.1);
+          answers = reply waiting received splits_now has;
+          final = elim final as (λ f. IsAtEnd left' ⊎ ((more : List ℕ) → IsReplyTo good stands old (received ++ more) texts (Bad fault) new)) [ inl end ↦ inl end | inr always ↦ inr (λ more. reply (waiting ++ more) (received ++ more) (splits_more more) (always more)) ];
+          replied_is = whole.2 ∙ ap (λ n. n + 1) p.replied_is ∙ sym (length_push p.texts text);
+          written_is = whole.3 ∙ ap (λ n. n + length text) p.written_is ∙ sym (ap length (joined-push p.texts text) ∙ length-append (joined p.texts) text);
+        })
+    refused fault has final held'' served (inr cut) =
+        let text = print_reply true (fault_reply fault) in
+        subst (λ end. SessionOf good stands end old new left left' held held'' served.replies served.written) (sym cut.1) (record {
+          received = flat_map print_message p.messages ++ waiting;
+          messages = p.messages;
+          rest = waiting;
+          whole = p.texts;
+          cut = text;
+          part = cut.0;
+          read = p.read;
+          splits = splits_now;
+          answers = inr (fault, p.run, p.goes_on, refl, has, final);
+          sent = Appends-append held held' held'' _ _ p.sent cut.3;
+          shorter = cut.2;
+          replied_is = cut.4 ∙ p.replied_is;
+          written_is = cut.5 ∙ ap (λ n. n + cut.0) p.written_is;
+        })
+
+  -- the first moment
+  pub Progress-none : (old : S) (left held : Option (List ℕ)) (waiting : List ℕ) → waiting ≡ [] → Progress good stands old old left left held held waiting 0 0
+  Progress-none old left held waiting none = record {
+    messages = [];
+    texts = [];
+    read = subst (Consumes left left) (sym none) (Consumes-none left);
+    sent = Appends-none held;
+    each = All-nil IsMessage;
+    goes_on = All-nil (λ (k : Message). ends_stream k.head ≡ false);
+    run = Serves-none old;
+    replied_is = refl;
+    written_is = refl;
+  }
+
+  module _ (old new : S) (left left' held held' : Option (List ℕ)) (waiting : List ℕ) (replied written : ℕ) (p : Progress good stands old new left left' held held' waiting replied written) where
+    -- the last request asked to end the stream
+    pub closed : (headers : List HeaderSpan) (e : Extent) (at : IsMessageAt waiting headers e) (held'' : Option (List ℕ)) (text : List ℕ) (newer : S) → AnswersAsked good stands new (asked_by at.message) e.ends text newer → e.ends ≡ true → Appends held' held'' text → AnswersAll good stands Closed old newer left left' held held'' (replied + 1) (written + length text)
+    closed headers e at held'' text newer answers last sent =
+        let m = at.message in
+        let rest = drop (e.head.len + e.body) waiting in
+        let messages = p.messages ++ m ∷ [] in
+        let texts = p.texts ++ text ∷ [] in
+        let received = flat_map print_message p.messages ++ waiting in
+        let answered : AnswersMessage good stands new m text newer = subst (λ b. AnswersAsked good stands new (asked_by m) b text newer) at.ends answers in
+        let whole : received ≡ flat_map print_message messages ++ rest = ap (λ l. flat_map print_message p.messages ++ l) at.at_front ∙ sym (printed-push p.messages m rest) in
+        let reply : (bytes behind : List ℕ) → bytes ≡ flat_map print_message messages ++ behind → IsReplyTo good stands old bytes texts Closed newer
+        = λ bytes behind is. record {
+          messages = messages;
+          rest = behind;
+          replies = texts;
+          splits = record { whole = is; each = All-push IsMessage p.messages m p.each at.valid };
+          ends = (p.messages, m, refl, p.goes_on, sym at.ends ∙ last);
+          run = Serves-push old new newer p.messages p.texts m text p.run answered;
+          texts_are = sym (append-nil texts);
+        } in
+        record {
+          received = received;
+          texts = texts;
+          read = p.read;
+          sent = subst (Appends held held'') (sym (joined-push p.texts text)) (Appends-append held held' held'' _ text p.sent sent);
+          answers = reply received rest whole;
+          final = inr (λ more. reply (received ++ more) (rest ++ more) (ap (λ l. l ++ more) whole ∙ append_assoc (flat_map print_message messages) rest more));
+          replied_is = ap (λ n. n + 1) p.replied_is ∙ sym (length_push p.texts text);
+          written_is = ap (λ n. n + length text) p.written_is ∙ sym (ap length (joined-push p.texts text) ∙ length-append (joined p.texts) text);
+        }
+
+    -- a write of a reply failed
+    pub reply_cut : (headers : List HeaderSpan) (e : Extent) (at : IsMessageAt waiting headers e) (held'' : Option (List ℕ)) (text : List ℕ) (newer : S) (part : ℕ) → AnswersAsked good stands new (asked_by at.message) e.ends text newer → Appends held' held'' (take part text) → part < length text → AnswersInPart good stands old newer left left' held held'' replied (written + part)
+    reply_cut headers e at held'' text newer part answers sent short =
+        let m = at.message in
+        let rest = drop (e.head.len + e.body) waiting in
+        let messages = p.messages ++ m ∷ [] in
+        let answered : AnswersMessage good stands new m text newer = subst (λ b. AnswersAsked good stands new (asked_by m) b text newer) at.ends answers in
+        let last : (b : Bool) → ends_stream m.head ≡ b → GoesOn messages ⊎ ClosesAfter messages
+        = elim [ true ↦ λ e. inr (p.messages, m, refl, p.goes_on, e) | false ↦ λ e. inl (All-push (λ (k : Message). ends_stream k.head ≡ false) p.messages m p.goes_on e) ] in
+        record {
+          received = flat_map print_message p.messages ++ waiting;
+          messages = messages;
+          rest = rest;
+          whole = p.texts;
+          cut = text;
+          part = part;
+          read = p.read;
+          splits = record { whole = ap (λ l. flat_map print_message p.messages ++ l) at.at_front ∙ sym (printed-push p.messages m rest); each = All-push IsMessage p.messages m p.each at.valid };
+          answers = inl (Serves-push old new newer p.messages p.texts m text p.run answered, last (ends_stream m.head) refl);
+          sent = Appends-append held held' held'' _ _ p.sent sent;
+          shorter = short;
+          replied_is = p.replied_is;
+          written_is = ap (λ n. n + part) p.written_is;
+        }
+
+    -- the input ended, and no fault is left to answer
+    pub ended : (end : End) → EndsSo [] waiting end → ((fault : StreamFault) → end ≡ Bad fault → ⊥) → IsAtEnd left' → SessionOf good stands end old new left left' held held' replied written
+    ended Input ends other at = at_input old new left left' held held' waiting replied written p ends.1 at
+    ended Closed ends other at = absurd (omega (arith, ap length ends.2 ∙ length_push ends.0 ends.1))
+    ended (Bad fault) ends other at = absurd (other fault refl)
+    ended ReadFault ends other at = absurd ends
+    ended WriteFault ends other at = absurd ends
+    ended Memory ends other at = absurd ends
+
+  -- what a connection did, as it is told
+  pub told_by : (served : Served) (replied written : ℕ) (end : End) → served ≡ record { replies = replied; written = written; end = end } → (old new : S) (left left' held held' : Option (List ℕ)) → SessionOf good stands end old new left left' held held' replied written → SessionOf good stands served.end old new left left' held held' served.replies served.written
+  told_by served replied written end is old new left left' held held' did = subst (λ s. SessionOf good stands s.end old new left left' held held' s.replies s.written) (sym is) did
+
+  -- a desk after some messages: what its replies were
+  abbrev pub SomeRun : S → S → Type 0
+  SomeRun old new = (messages : List Message) × (texts : List (List ℕ)) × Serves good stands old messages texts new
+
+  -- what a cut reply leaves
+  run_of_cut : (old new : S) (messages : List Message) (rest : List ℕ) (whole : List (List ℕ)) (cut : List ℕ) (left' : Option (List ℕ)) → CutReply good stands old new messages rest whole cut left' → SomeRun old new
+  run_of_cut old new messages rest whole cut left' (inl run) = (messages, whole ++ cut ∷ [], run.0)
+  run_of_cut old new messages rest whole cut left' (inr run) = (messages, whole, run.1)
+
+  -- however a connection ended, the desk is one after a run
+  pub run_of : (end : End) (old new : S) (left left' held held' : Option (List ℕ)) (replied written : ℕ) → SessionOf good stands end old new left left' held held' replied written → SomeRun old new
+  run_of Input old new left left' held held' replied written did = (did.answers.messages, did.answers.replies, did.answers.run)
+  run_of Closed old new left left' held held' replied written did = (did.answers.messages, did.answers.replies, did.answers.run)
+  run_of (Bad fault) old new left left' held held' replied written did = (did.answers.messages, did.answers.replies, did.answers.run)
+  run_of ReadFault old new left left' held held' replied written did = (did.messages, did.texts, did.run)
+  run_of WriteFault old new left left' held held' replied written did = run_of_cut old new did.messages did.rest did.whole did.cut left' did.answers
+  run_of Memory old new left left' held held' replied written did = ([], [], subst (λ desk. Serves good stands old [] [] desk) (sym did.0) (Serves-none old))

@@ -1,0 +1,60 @@
+-- Each question is answered by the history: on the policy by the view of the desk, and else by the function that it is handed to.
+use Rattle.std.proofs.Common.{ap, refl, subst, sym, IfOk, OnErr}
+use Rattle.std.specs.String.{string_bytes}
+use Rattle.desk_text.specs.Address.{number_of}
+use Rattle.desk_policy.specs.Listings.{listing_of}
+use Rattle.desk_policy.specs.Verdict.{verdict_of}
+use Rattle.desk_store.specs.Desk.{HasGoodDisk, StandsAt}
+use Rattle.desk_service.specs.Questions.{ByPolicy, ListingIs, VerdictIs}
+use Rattle.desk_messages.specs.Replies.{memory_reply, reply_with}
+use Rattle.desk_requests.specs.Calls.{Exports, Mount, Question, question_of}
+use Rattle.desk_bodies.specs.Exports.{exports_data}
+use Rattle.desk_bodies.specs.Verdicts.{verdict_data}
+use Rattle.desk_http.specs.Questions.{QuestionAnswered}
+use Rattle.desk_http.specs.Replies.{Gives, GivesText}
+use Rattle.desk_http.proofs.AnswerLemmas.{looked_err, looked_text}
+use Rattle.desk_http.proofs.questions.answer_question.Goals as goal
+
+pub returns-in-Mount-clause-ok : goal.returns-in-Mount-clause-ok
+returns-in-Mount-clause-ok g c =
+    let content = g.V.PolicyView.in_force c.view.result.now in
+    let verdict = verdict_of content (number_of c.in-Mount.address) c.in-Mount.path in
+    looked_text (HasGoodDisk g.S.Store) (StandsAt g.S.Store) string_bytes c.mount_text.result (question_of c.args.question.now) (Mount (number_of c.in-Mount.address) c.in-Mount.path c.in-Mount.own) c.args.ends c.args.desk.now
+    (reply_with 200 (verdict_data content c.in-Mount.own verdict)) (ap question_of c.in-Mount.is)
+    (λ history pending at. (ByPolicy (VerdictIs content verdict), (content, c.view.ensures.stood_at history pending at, refl), refl)) c.mount_text.ensures
+
+pub returns-in-Mount-clause-err : goal.returns-in-Mount-clause-err
+returns-in-Mount-clause-err g c =
+    looked_err (HasGoodDisk g.S.Store) (StandsAt g.S.Store) c.mount_text.result (question_of c.args.question.now) c.args.desk.now
+
+pub returns-in-Exports-clause-ok : goal.returns-in-Exports-clause-ok
+returns-in-Exports-clause-ok g c =
+    let content = g.V.PolicyView.in_force c.view-in-Exports.result.now in
+    let listing = listing_of content (number_of c.in-Exports.address) in
+    looked_text (HasGoodDisk g.S.Store) (StandsAt g.S.Store) string_bytes c.exports_text.result (question_of c.args.question.now) (Exports (number_of c.in-Exports.address)) c.args.ends c.args.desk.now
+    (reply_with 200 (exports_data content (number_of c.in-Exports.address) listing)) (ap question_of c.in-Exports.is)
+    (λ history pending at. (ByPolicy (ListingIs content listing), (content, c.view-in-Exports.ensures.stood_at history pending at, refl), refl)) c.exports_text.ensures
+
+pub returns-in-Exports-clause-err : goal.returns-in-Exports-clause-err
+returns-in-Exports-clause-err g c =
+    looked_err (HasGoodDisk g.S.Store) (StandsAt g.S.Store) c.exports_text.result (question_of c.args.question.now) c.args.desk.now
+
+pub returns-in-File-clause-ok : goal.returns-in-File-clause-ok
+returns-in-File-clause-ok g c =
+    subst (λ (q : Question). IfOk c.text_at.result (λ text. GivesText (HasGoodDisk g.S.Store) (StandsAt g.S.Store) (QuestionAnswered q) c.args.ends c.args.desk.now (string_bytes text) c.text_at.new.desk)) (sym (ap question_of c.in-File.is))
+    c.text_at.ensures.ok
+
+pub returns-in-File-clause-err : goal.returns-in-File-clause-err
+returns-in-File-clause-err g c =
+    subst (λ (q : Question). OnErr c.text_at.result (Gives (HasGoodDisk g.S.Store) (StandsAt g.S.Store) (QuestionAnswered q) c.args.desk.now memory_reply c.text_at.new.desk)) (sym (ap question_of c.in-File.is))
+    c.text_at.ensures.err
+
+pub returns-in-Revisions-clause-ok : goal.returns-in-Revisions-clause-ok
+returns-in-Revisions-clause-ok g c =
+    subst (λ (q : Question). IfOk c.revisions_text.result (λ text. GivesText (HasGoodDisk g.S.Store) (StandsAt g.S.Store) (QuestionAnswered q) c.args.ends c.args.desk.now (string_bytes text) c.revisions_text.new.desk)) (sym (ap question_of c.in-Revisions.is))
+    c.revisions_text.ensures.ok
+
+pub returns-in-Revisions-clause-err : goal.returns-in-Revisions-clause-err
+returns-in-Revisions-clause-err g c =
+    subst (λ (q : Question). OnErr c.revisions_text.result (Gives (HasGoodDisk g.S.Store) (StandsAt g.S.Store) (QuestionAnswered q) c.args.desk.now memory_reply c.revisions_text.new.desk)) (sym (ap question_of c.in-Revisions.is))
+    c.revisions_text.ensures.err

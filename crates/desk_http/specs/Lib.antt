@@ -1,0 +1,6 @@
+pub mod Replies
+pub mod Questions
+pub mod Edits
+pub mod Answering
+pub mod Serving
+pub mod Laws

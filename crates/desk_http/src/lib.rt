@@ -1,0 +1,19 @@
+//! The service of a desk over HTTP/1.1: questions and edits, answered with JSON. (this project's own, over RFC 9110 and RFC 9112)
+//!
+//! Its promise: the bytes written are the replies to the bytes read, however they are cut, and the desk stands at the history
+//! after them. What is answered is desk_service's; this crate prints it.
+//!
+//! ```text
+//! serve(alloc, &mut desk, &mut reader, &mut writer)    // Served { replies: 1, written: 187, end: End::Input }
+//! ```
+#![tactic(auto)]
+
+pub mod answering;
+pub mod edits;
+pub mod laws;
+pub mod questions;
+pub mod replies;
+pub mod serving;
+
+pub use laws::runs_follow;
+pub use serving::serve;

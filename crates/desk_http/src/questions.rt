@@ -1,0 +1,148 @@
+//! The replies to questions.
+
+ghost use Rattle.std.specs.Prelude.{◌≡◌, IfOk, OnErr};
+ghost use Rattle.std.specs.String.{string_bytes};
+ghost use Rattle.desk_text.specs.Address.{number_of};
+ghost use Rattle.desk_policy.specs.Listings.{listing_of};
+ghost use Rattle.desk_policy.specs.Verdict.{verdict_of};
+ghost use Rattle.desk_store.specs.Desk.{HasGoodDisk, StandsAt};
+ghost use Rattle.desk_messages.specs.Replies.{memory_reply, print_reply, reply_with};
+ghost use Rattle.desk_requests.specs.Calls as calls;
+ghost use Rattle.desk_requests.specs.Calls.{question_of};
+ghost use Rattle.desk_bodies.specs.Exports.{exports_data};
+ghost use Rattle.desk_bodies.specs.Verdicts.{verdict_data};
+ghost use Rattle.desk_http.specs.Questions.{QuestionAnswered, file_reply};
+ghost use Rattle.desk_http.specs.Replies.{Gives, GivesText};
+
+use crate::replies::{failed_text, refused_text};
+use desk_bodies::{exports_body, file_body, revisions_body, verdict_body};
+use desk_messages::reply_text;
+use desk_policy::PolicyView;
+use desk_requests::Question;
+use desk_service::{
+    FileAnswer, FileQuestion, PolicyAnswer, PolicyQuestion, Refused, answer_by_desk, answer_by_view,
+};
+use desk_store::Desk;
+use desk_tables::Cred;
+use desk_text::{Addr, Path};
+use http::StatusCode;
+use sqlite::Alter;
+use std::alloc::{AllocError, Global};
+
+/// Writes the reply to a question. The error is that there is no memory.
+pub(crate) fn answer_question<S: Alter + Drop, V: PolicyView + Drop>(
+    alloc: Global,
+    desk: &mut Desk<S, V>,
+    question: &Question<'_>,
+    ends: bool,
+) -> Result<String, AllocError>
+    ensures ok { IfOk result (λ text. GivesText (HasGoodDisk S.Store) (StandsAt S.Store) (QuestionAnswered (question_of question.now)) ends desk.old (string_bytes text) desk.new) }
+    ensures err { OnErr result (Gives (HasGoodDisk S.Store) (StandsAt S.Store) (QuestionAnswered (question_of question.now)) desk.old memory_reply desk.new) }
+{
+    match question {
+        Question::Mount(address, path, own) => {
+            mount_text(alloc, desk.view(), *address, path, own, ends)
+        }
+        Question::Exports(address) => exports_text(alloc, desk.view(), *address, ends),
+        Question::File(name, rev) => text_at(alloc, desk, name, *rev, ends),
+        Question::Revisions(name) => revisions_text(alloc, desk, name, ends),
+    }
+}
+
+/// Writes the verdict on a mount.
+fn mount_text<V: PolicyView>(
+    alloc: Global,
+    view: &V,
+    address: Addr,
+    path: &Path,
+    own: &Option<Cred>,
+    ends: bool,
+) -> Result<String, AllocError>
+    ensures { let content = V.in_force view.now in
+        IfOk result (λ text. string_bytes text ≡ print_reply ends (reply_with 200 (verdict_data content own.now (verdict_of content (number_of address) path.now)))) }
+{
+    match answer_by_view(alloc, view, PolicyQuestion::Mount(address, path))? {
+        PolicyAnswer::Verdict(policy, verdict) => {
+            let body = verdict_body(alloc, policy, &verdict, own)?;
+            reply_text(alloc, StatusCode::OK, body.as_str(), ends)
+        }
+        PolicyAnswer::Listing(..) | PolicyAnswer::Exports(_) => unreachable!(),
+    }
+}
+
+/// Writes what a client may mount.
+fn exports_text<V: PolicyView>(
+    alloc: Global,
+    view: &V,
+    address: Addr,
+    ends: bool,
+) -> Result<String, AllocError>
+    ensures { let content = V.in_force view.now in
+        IfOk result (λ text. string_bytes text ≡ print_reply ends (reply_with 200 (exports_data content (number_of address) (listing_of content (number_of address))))) }
+{
+    match answer_by_view(alloc, view, PolicyQuestion::Listing(address))? {
+        PolicyAnswer::Listing(policy, systems) => {
+            let body = exports_body(alloc, policy, address, systems.as_slice())?;
+            reply_text(alloc, StatusCode::OK, body.as_str(), ends)
+        }
+        PolicyAnswer::Verdict(..) | PolicyAnswer::Exports(_) => unreachable!(),
+    }
+}
+
+/// Writes a text of a file.
+fn text_at<S: Alter + Drop, V: PolicyView + Drop>(
+    alloc: Global,
+    desk: &mut Desk<S, V>,
+    name: &str,
+    rev: Option<u32>,
+    ends: bool,
+) -> Result<String, AllocError>
+    ensures ok { IfOk result (λ text. GivesText (HasGoodDisk S.Store) (StandsAt S.Store) (QuestionAnswered (calls.File name.now rev)) ends desk.old (string_bytes text) desk.new) }
+    ensures err { OnErr result (Gives (HasGoodDisk S.Store) (StandsAt S.Store) (QuestionAnswered (calls.File name.now rev)) desk.old memory_reply desk.new) }
+{
+    match answer_by_desk(alloc, desk, FileQuestion::Text(name, rev)) {
+        Ok(answer) => found_text(alloc, name, &answer, ends),
+        Err(error) => failed_text(alloc, error, ends),
+    }
+}
+
+/// Writes the list of a file's revisions.
+fn revisions_text<S: Alter + Drop, V: PolicyView + Drop>(
+    alloc: Global,
+    desk: &mut Desk<S, V>,
+    name: &str,
+    ends: bool,
+) -> Result<String, AllocError>
+    ensures ok { IfOk result (λ text. GivesText (HasGoodDisk S.Store) (StandsAt S.Store) (QuestionAnswered (calls.Revisions name.now)) ends desk.old (string_bytes text) desk.new) }
+    ensures err { OnErr result (Gives (HasGoodDisk S.Store) (StandsAt S.Store) (QuestionAnswered (calls.Revisions name.now)) desk.old memory_reply desk.new) }
+{
+    match answer_by_desk(alloc, desk, FileQuestion::Revisions(name)) {
+        Ok(answer) => found_text(alloc, name, &answer, ends),
+        Err(error) => failed_text(alloc, error, ends),
+    }
+}
+
+/// Writes the answer to a question on the revisions of a file.
+fn found_text(
+    alloc: Global,
+    name: &str,
+    answer: &FileAnswer,
+    ends: bool,
+) -> Result<String, AllocError>
+    ensures { IfOk result (λ text. string_bytes text ≡ print_reply ends (file_reply name.now answer.now)) }
+{
+    let body = match answer {
+        FileAnswer::Text(text) => {
+            file_body(
+                alloc,
+                name,
+                text.rev,
+                text.author.as_str(),
+                text.body.as_str(),
+            )?
+        }
+        FileAnswer::Revisions(revisions) => revisions_body(alloc, name, revisions.as_slice())?,
+        FileAnswer::NoRevision => return refused_text(alloc, &Refused::NoRevision, ends),
+    };
+    reply_text(alloc, StatusCode::OK, body.as_str(), ends)
+}
