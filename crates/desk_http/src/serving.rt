@@ -14,8 +14,8 @@ ghost use Rattle.desk_http.specs.PrivateServing.{EndsBy, Refuses};
 
 use crate::answering::answer;
 use desk_messages::{
-    Buffer, End, Front, Outcome, Pending, Request, Served, Sink, Source, StreamFault, fault_text, look_at,
-    memory_text, read_on, request_at, write_whole,
+    Buffer, End, Front, Outcome, Pending, Request, Served, Sink, Source, StreamFault, fault_text,
+    look_at, memory_text, read_on, request_at, write_whole,
 };
 use desk_policy::PolicyView;
 use desk_requests::Routes;

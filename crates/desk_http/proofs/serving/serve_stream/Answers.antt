@@ -1,5 +1,5 @@
 -- Each arm of the loop keeps what was done so far, or ends it.
-use Rattle.std.proofs.Common.{◌≡◌, ◌+◌, ◌-◌, ◌∙◌, [], ap, append-nil, arith, drop, inl, inr, length, length-drop, refl, subst, sym}
+use Rattle.std.proofs.Common.{◌≡◌, ◌+◌, ◌-◌, ◌∙◌, [], ap, append-nil, arith, drop, inr, length, length-drop, refl, subst, sym}
 use Rattle.desk_messages.specs.declared.framing.Front.TheVariants.{Fault}
 use Rattle.desk_messages.specs.declared.requests.End.TheVariants.{Closed}
 use Rattle.desk_messages.specs.Front.{IsFront, end_of}
