@@ -16,9 +16,10 @@ use Rattle.desk_service.specs.Refused.{refused_by}
 use Rattle.desk_service.specs.declared.edits.Replies.{Replies}
 use Rattle.desk_messages.specs.Replies.{Reply, memory_reply, print_reply, reply_with}
 use Rattle.desk_bodies.specs.Edits.{done_data}
-use Rattle.desk_http.specs.Edits.{EditAnswered, answer_reply}
+use Rattle.desk_http.specs.Edits.{answer_reply}
 use Rattle.desk_http.specs.Questions.{store_reply}
-use Rattle.desk_http.specs.Replies.{Gives, GivesText, refused_reply}
+use Rattle.desk_http.specs.Replies.{refused_reply}
+use Rattle.desk_http.specs.PrivateAnswering.{EditAnswered, Gives, GivesText}
 
 -- the reply where a look at the tables failed
 pub failed_look : (task : Task) (e : DeskError) → IsOfTask task e → (refused_reply (refused_by e) ≡ memory_reply) ⊎ ((true ≡ true) × (refused_reply (refused_by e) ≡ store_reply))

@@ -17,9 +17,11 @@ use Rattle.desk_messages.specs.Front.{IsMessageAt}
 use Rattle.desk_store.specs.Desk.{History}
 use Rattle.desk_messages.specs.Asked.{asked_by}
 use Rattle.desk_messages.specs.Replies.{Reply, print_reply, fault_reply, joined}
-use Rattle.desk_http.specs.Answering.{Answered, Replies, AnswersAsked, AnswersMessage, Serves}
-use Rattle.desk_http.specs.Serving.{IsReplyTo, AnswersAll, AnswersBefore, AnswersInPart, CutReply, SessionOf, Refuses}
-use Rattle.desk_http.proofs.KnownBytes.{Appends-append, Appends-none, Consumes-append, Consumes-none, Consumes-keeps}
+use Rattle.desk_http.specs.Answering.{Answered, Replies, Serves}
+use Rattle.desk_http.specs.Serving.{IsReplyTo, AnswersAll, AnswersBefore, AnswersInPart, CutReply, SessionOf}
+use Rattle.desk_http.specs.PrivateAnswering.{AnswersAsked, AnswersMessage}
+use Rattle.desk_http.specs.PrivateServing.{EndsBy, Refuses}
+use Rattle.desk_http.proofs.KnownBytes.{Appends-append, Appends-keeps, Appends-none, Consumes-append, Consumes-none, Consumes-keeps}
 use Rattle.desk_http.proofs.Progress.{Progress}
 
 pub joined-push : (texts : List (List ℕ)) (text : List ℕ) → joined (texts ++ text ∷ []) ≡ joined texts ++ text
@@ -131,12 +133,12 @@ module _ {S : Type 0} (good : S → Type 0) (stands : S → History → History 
     }
 
     -- the input ended between messages
-    pub at_input : waiting ≡ [] → IsAtEnd left' → AnswersAll good stands Input old new left left' held held' replied written
-    at_input none end = record {
+    at_input : waiting ≡ [] → IsAtEnd left' → (held'' : Option (List ℕ)) → Keeps held' held'' → AnswersAll good stands Input old new left left' held held'' replied written
+    at_input none end held'' kept = record {
       received = flat_map print_message p.messages ++ waiting;
       texts = p.texts;
       read = p.read;
-      sent = p.sent;
+      sent = Appends-keeps held held' held'' _ p.sent kept;
       answers = record {
         messages = p.messages;
         rest = waiting;
@@ -258,15 +260,6 @@ module _ {S : Type 0} (good : S → Type 0) (stands : S → History → History 
           written_is = ap (λ n. n + part) p.written_is;
         }
 
-    -- the input ended, and no fault is left to answer
-    pub ended : (end : End) → EndsSo [] waiting end → ((fault : StreamFault) → end ≡ Bad fault → ⊥) → IsAtEnd left' → SessionOf good stands end old new left left' held held' replied written
-    ended Input ends other at = at_input old new left left' held held' waiting replied written p ends.1 at
-    ended Closed ends other at = absurd (omega (arith, ap length ends.2 ∙ length_push ends.0 ends.1))
-    ended (Bad fault) ends other at = absurd (other fault refl)
-    ended ReadFault ends other at = absurd ends
-    ended WriteFault ends other at = absurd ends
-    ended Memory ends other at = absurd ends
-
   -- what a connection did, as it is told
   pub told_by : (served : Served) (replied written : ℕ) (end : End) → served ≡ record { replies = replied; written = written; end = end } → (old new : S) (left left' held held' : Option (List ℕ)) → SessionOf good stands end old new left left' held held' replied written → SessionOf good stands served.end old new left left' held held' served.replies served.written
   told_by served replied written end is old new left left' held held' did = subst (λ s. SessionOf good stands s.end old new left left' held held' s.replies s.written) (sym is) did
@@ -288,3 +281,16 @@ module _ {S : Type 0} (good : S → Type 0) (stands : S → History → History 
   run_of ReadFault old new left left' held held' replied written did = (did.messages, did.texts, did.run)
   run_of WriteFault old new left left' held held' replied written did = run_of_cut old new did.messages did.rest did.whole did.cut left' did.answers
   run_of Memory old new left left' held held' replied written did = ([], [], subst (λ desk. Serves good stands old [] [] desk) (sym did.0) (Serves-none old))
+
+  -- the input ended
+  pub ended_by : (old new : S) (left left' held held' : Option (List ℕ)) (waiting : List ℕ) (replied written : ℕ) → Progress good stands old new left left' held held' waiting replied written
+      → (end : End) → EndsSo [] waiting end → IsAtEnd left' → (held'' : Option (List ℕ)) (served : Served) → EndsBy end held' held'' replied written served
+      → SessionOf good stands served.end old new left left' held held'' served.replies served.written
+  ended_by old new left left' held held' waiting replied written p Input ends at held'' served (is, kept) =
+      told_by served replied written Input is old new left left' held held'' (at_input old new left left' held held' waiting replied written p ends.1 at held'' kept)
+  ended_by old new left left' held held' waiting replied written p Closed ends at held'' served by = absurd (omega (arith, ap length ends.2 ∙ length_push ends.0 ends.1))
+  ended_by old new left left' held held' waiting replied written p (Bad fault) ends at held'' served by =
+      refused old new left left' held held' waiting replied written p fault ends.1 (inl at) held'' served by
+  ended_by old new left left' held held' waiting replied written p ReadFault ends at held'' served by = absurd ends
+  ended_by old new left left' held held' waiting replied written p WriteFault ends at held'' served by = absurd ends
+  ended_by old new left left' held held' waiting replied written p Memory ends at held'' served by = absurd ends

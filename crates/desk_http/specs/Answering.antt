@@ -8,7 +8,7 @@ use Rattle.desk_messages.specs.Replies.{Reply, memory_reply, print_reply}
 use Rattle.desk_messages.specs.Stream.{Message}
 use Rattle.desk_requests.specs.Calls.{Asks, Puts, Query, edit_in, first_fault, query_asked}
 use Rattle.desk_requests.specs.declared.faults.RequestFault.{RequestFault}
-use Rattle.desk_http.specs.Replies.{GivesText, request_fault_reply}
+use Rattle.desk_http.specs.Replies.{request_fault_reply}
 use Rattle.desk_http.specs.Questions.{QuestionReply, asks_tables, store_reply}
 use Rattle.desk_http.specs.Edits.{EditReply}
 
@@ -52,16 +52,9 @@ Replies old (m ∷ messages) (text ∷ texts) new =
 Replies old [] (text ∷ texts) new = ⊥
 Replies old (m ∷ messages) [] new = ⊥
 
--- a desk after one request, which wrote the text of its reply; ends says that the stream ends after it
-abbrev pub AnswersAsked : {S : Type 0} → (S → Type 0) → (S → History → History → Type 0) → S → Asked → Bool → List ℕ → S → Type 0
-AnswersAsked good stands old asked ends text new = GivesText good stands (Answered asked) ends old text new
-
--- a desk after one message, which wrote the text of its reply
-abbrev pub AnswersMessage : {S : Type 0} → (S → Type 0) → (S → History → History → Type 0) → S → Message → List ℕ → S → Type 0
-AnswersMessage good stands old m text new = AnswersAsked good stands old (asked_by m) (ends_stream m.head) text new
-
 -- A desk after several messages: no fault of its disk is forgotten, and on a good disk, wherever it stood, the texts are the replies
--- by that history, and it stands at the history after them.
+-- by that history, and it stands at the history after them. What is said of a desk is what desk_store says: that its disk is good,
+-- and that it stands at a history with revisions of which a crash may bring one to light.
 pub record Serves {S : Type 0} (good : S → Type 0) (stands : S → History → History → Type 0)
     (old : S) (messages : List Message) (texts : List (List ℕ)) (new : S)
     : Type 0 where

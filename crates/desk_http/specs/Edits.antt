@@ -1,14 +1,13 @@
 -- The replies to edits. (this project's own)
-use Rattle.std.specs.Prelude.{◌≡◌, ◌⊎◌, ◌++◌, true, false}
+use Rattle.std.specs.Prelude.{◌≡◌, ◌++◌, true, false}
 use Rattle.desk_core.specs.Edit.{Already, Answer, Edit, Refused, Stored}
 use Rattle.desk_core.specs.History.{added_by, newest_of}
 use Rattle.desk_core.specs.Judging.{Answers}
 use Rattle.desk_store.specs.Desk.{History}
 use Rattle.desk_service.specs.declared.refused.Refused.TheVariants as refused
-use Rattle.desk_messages.specs.Replies.{Reply, memory_reply, reply_with}
+use Rattle.desk_messages.specs.Replies.{Reply, reply_with}
 use Rattle.desk_bodies.specs.Edits.{done_data}
 use Rattle.desk_http.specs.Replies.{refused_reply}
-use Rattle.desk_http.specs.Questions.{store_reply}
 
 -- the reply to an edit, by its answer
 abbrev pub answer_reply : Answer → Reply
@@ -19,7 +18,3 @@ answer_reply (Refused why) = refused_reply (refused.Edit why)
 -- An edit is answered by the history before it; if it is stored, its revision is added, and nothing else changes.
 abbrev pub EditReply : History → Edit → Reply → History → Type 0
 EditReply old e reply new = (answer : Answer) × Answers (newest_of old) e answer × (new ≡ old ++ added_by e answer) × (reply ≡ answer_reply answer)
-
--- An edit is replied by the history; or that there is no memory or that the store refused a statement, and then nothing changes.
-abbrev pub EditAnswered : Edit → History → Reply → History → Type 0
-EditAnswered e old reply new = EditReply old e reply new ⊎ (((reply ≡ memory_reply) ⊎ (reply ≡ store_reply)) × (new ≡ old))

@@ -4,3 +4,5 @@ pub mod Edits
 pub mod Answering
 pub mod Serving
 pub mod Laws
+pub mod PrivateAnswering
+pub mod PrivateServing

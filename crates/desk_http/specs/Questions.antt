@@ -1,12 +1,12 @@
 -- The replies to questions: what desk_service answers, printed. (this project's own)
-use Rattle.std.specs.Prelude.{◌≡◌, ◌⊎◌, ℕ, Bool, true, false, List}
+use Rattle.std.specs.Prelude.{◌≡◌, ℕ, Bool, true, false, List}
 use Rattle.desk_store.specs.Desk.{History}
 use Rattle.desk_service.specs.Questions.{Answer, AnswersByHistory, ByFile, ByPolicy, Listing, ListingIs, OnFile, OnPolicy, Text, VerdictIs}
 use Rattle.desk_service.specs.Questions as service
 use Rattle.desk_service.specs.declared.questions.FileAnswer.{FileAnswer}
 use Rattle.desk_service.specs.declared.questions.FileAnswer.TheVariants as found
 use Rattle.desk_service.specs.declared.refused.Refused.TheVariants as refused
-use Rattle.desk_messages.specs.Replies.{Reply, memory_reply, reply_with}
+use Rattle.desk_messages.specs.Replies.{Reply, reply_with}
 use Rattle.desk_requests.specs.Calls.{Exports, File, Mount, Question, Revisions}
 use Rattle.desk_bodies.specs.Exports.{exports_data}
 use Rattle.desk_bodies.specs.Revisions.{file_data, revisions_data}
@@ -49,9 +49,3 @@ asks_tables (Revisions name) = true
 -- the reply where the store refused a statement
 abbrev pub store_reply : Reply
 store_reply = refused_reply refused.Store
-
--- A question is replied by the history, or that there is no memory, or, if the tables are asked, that the store refused a statement;
--- and nothing changes.
-abbrev pub QuestionAnswered : Question → History → Reply → History → Type 0
-QuestionAnswered question old reply new =
-    (QuestionReply old question reply ⊎ ((reply ≡ memory_reply) ⊎ ((asks_tables question ≡ true) × (reply ≡ store_reply)))) × (new ≡ old)

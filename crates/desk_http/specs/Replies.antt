@@ -1,13 +1,12 @@
--- What a refusal is replied, and what a desk does at a call that has a reply. (this project's own)
-use Rattle.std.specs.Prelude.{◌≡◌, ℕ, Bool, List, codes}
+-- The replies to requests that call for nothing, and to refusals. (this project's own)
+use Rattle.std.specs.Prelude.{ℕ, List, codes}
 use Rattle.serde_json.specs.Data.{Data}
 use Rattle.desk_core.specs.declared.edit.Refusal.{Refusal}
 use Rattle.desk_core.specs.declared.edit.Refusal.TheVariants as refusal
-use Rattle.desk_store.specs.Desk.{History}
 use Rattle.desk_service.specs.Refused.{refused_name, refused_number}
 use Rattle.desk_service.specs.declared.refused.Refused.{Refused}
 use Rattle.desk_service.specs.declared.refused.Refused.TheVariants as refused
-use Rattle.desk_messages.specs.Replies.{Reply, print_reply, refusal_data, refusal_reply, reply_with}
+use Rattle.desk_messages.specs.Replies.{Reply, refusal_data, refusal_reply, reply_with}
 use Rattle.desk_requests.specs.declared.faults.RequestFault.{RequestFault}
 use Rattle.desk_requests.specs.declared.faults.RequestFault.TheVariants as fault
 use Rattle.desk_bodies.specs.Edits.{refused_data}
@@ -67,17 +66,3 @@ refused_body other = refusal_data (refused_name other) (refused_number other)
 -- the reply to a question or an edit that is refused
 abbrev pub refused_reply : Refused → Reply
 refused_reply why = reply_with (refused_status why) (refused_body why)
-
--- A desk after a call of which this is the reply: no fault of its disk is forgotten, and on a good disk, wherever it stood, the
--- reply is an answer by that history, and it stands at the history after it. What is said of a desk is what desk_store says: that its
--- disk is good, and that it stands at a history with revisions of which a crash may bring one to light.
-pub record Gives {S : Type 0} (good : S → Type 0) (stands : S → History → History → Type 0)
-    (answered : History → Reply → History → Type 0) (old : S) (reply : Reply) (new : S)
-    : Type 0 where
-  pub disk : good new → good old
-  pub step : good new → (history pending : History) → stands old history pending
-      → (after left : History) × answered history reply after × stands new after left
-
--- a desk after a call that wrote this text, which is its reply; ends says that the stream ends after it
-abbrev pub GivesText : {S : Type 0} → (S → Type 0) → (S → History → History → Type 0) → (History → Reply → History → Type 0) → Bool → S → List ℕ → S → Type 0
-GivesText good stands answered ends old text new = (reply : Reply) × Gives good stands answered old reply new × (text ≡ print_reply ends reply)

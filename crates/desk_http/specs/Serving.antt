@@ -3,7 +3,6 @@ use Rattle.std.specs.Prelude.{◌≡◌, ℕ, ◌+◌, ◌<◌, ◌⊎◌, true,
 use Rattle.std.specs.Io.KnownBytes.{Consumes, Appends, Keeps, IsAtEnd}
 use Rattle.desk_messages.specs.declared.requests.End.{End}
 use Rattle.desk_messages.specs.declared.requests.End.TheVariants.{Input, Closed, Bad, ReadFault, WriteFault, Memory}
-use Rattle.desk_messages.specs.declared.requests.Served.{Served}
 use Rattle.desk_messages.specs.declared.requests.StreamFault.{StreamFault}
 use Rattle.desk_messages.specs.Stream.{Message, Splits, GoesOn, ClosesAfter, HasFault, EndsSo, IsOpen, IsUnfaulted}
 use Rattle.desk_store.specs.Desk.{History}
@@ -90,12 +89,3 @@ SessionOf good stands ReadFault old new left left' held held' replied written = 
 SessionOf good stands WriteFault old new left left' held held' replied written = AnswersInPart good stands old new left left' held held' replied written
 SessionOf good stands Memory old new left left' held held' replied written =
     (new ≡ old) × Keeps left left' × Keeps held held' × (replied ≡ 0) × (written ≡ 0)
-
--- the reply to a fault was written after so many replies and bytes, or a part of it
-abbrev pub Refuses : StreamFault → Option (List ℕ) → Option (List ℕ) → ℕ → ℕ → Served → Type 0
-Refuses fault held held' replied written served =
-    let text = print_reply true (fault_reply fault) in
-    ((served.end ≡ Bad fault) × Appends held held' text
-    × (served.replies ≡ replied + 1) × (served.written ≡ written + length text))
-    ⊎ ((part : ℕ) × (served.end ≡ WriteFault) × (part < length text) × Appends held held' (take part text)
-    × (served.replies ≡ replied) × (served.written ≡ written + part))

@@ -7,8 +7,8 @@ ghost use Rattle.desk_store.specs.Desk.{HasGoodDisk, StandsAt};
 ghost use Rattle.desk_messages.specs.Asked.{asked_of};
 ghost use Rattle.desk_messages.specs.Replies.{memory_reply};
 ghost use Rattle.desk_requests.specs.Calls as calls;
-ghost use Rattle.desk_http.specs.Answering.{Answered, AnswersAsked};
-ghost use Rattle.desk_http.specs.Replies.{Gives};
+ghost use Rattle.desk_http.specs.Answering.{Answered};
+ghost use Rattle.desk_http.specs.PrivateAnswering.{AnswersAsked, Gives};
 
 use crate::edits::answer_edit;
 use crate::questions::answer_question;

@@ -6,8 +6,7 @@ ghost use Rattle.desk_core.specs.Edit.{asked};
 ghost use Rattle.desk_core.specs.Head.{last_revision};
 ghost use Rattle.desk_store.specs.Desk.{HasGoodDisk, StandsAt};
 ghost use Rattle.desk_messages.specs.Replies.{memory_reply};
-ghost use Rattle.desk_http.specs.Edits.{EditAnswered};
-ghost use Rattle.desk_http.specs.Replies.{Gives, GivesText};
+ghost use Rattle.desk_http.specs.PrivateAnswering.{EditAnswered, Gives, GivesText};
 
 use crate::replies::{done_text, failed_text};
 use desk_core::Edit;

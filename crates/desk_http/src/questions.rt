@@ -11,8 +11,8 @@ ghost use Rattle.desk_requests.specs.Calls as calls;
 ghost use Rattle.desk_requests.specs.Calls.{question_of};
 ghost use Rattle.desk_bodies.specs.Exports.{exports_data};
 ghost use Rattle.desk_bodies.specs.Verdicts.{verdict_data};
-ghost use Rattle.desk_http.specs.Questions.{QuestionAnswered, file_reply};
-ghost use Rattle.desk_http.specs.Replies.{Gives, GivesText};
+ghost use Rattle.desk_http.specs.Questions.{file_reply};
+ghost use Rattle.desk_http.specs.PrivateAnswering.{Gives, GivesText, QuestionAnswered};
 
 use crate::replies::{failed_text, refused_text};
 use desk_bodies::{exports_body, file_body, revisions_body, verdict_body};

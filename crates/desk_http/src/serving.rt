@@ -5,14 +5,17 @@ ghost use Rattle.std.specs.Io.KnownBytes.{Appends};
 ghost use Rattle.httparse.specs.Spans.{IsHeaderWithin};
 ghost use Rattle.desk_store.specs.Desk.{HasGoodDisk, StandsAt};
 ghost use Rattle.desk_messages.specs.Asked.{asked_of};
+ghost use Rattle.desk_messages.specs.Front.{end_of};
 ghost use Rattle.desk_messages.specs.Stream.{Message};
-ghost use Rattle.desk_http.specs.Answering.{AnswersAsked, Serves};
-ghost use Rattle.desk_http.specs.Serving.{Refuses, SessionOf};
+ghost use Rattle.desk_http.specs.Answering.{Serves};
+ghost use Rattle.desk_http.specs.Serving.{SessionOf};
+ghost use Rattle.desk_http.specs.PrivateAnswering.{AnswersAsked};
+ghost use Rattle.desk_http.specs.PrivateServing.{EndsBy, Refuses};
 
 use crate::answering::answer;
 use desk_messages::{
-    Buffer, End, Front, Outcome, Request, Served, Sink, Source, StreamFault, fault_text, look_at,
-    memory_text, read_on, request_at, write_whole,
+    Buffer, End, Front, Outcome, Pending, Request, Served, Sink, Source, StreamFault, fault_text,
+    look_at, memory_text, read_on, request_at, write_whole,
 };
 use desk_policy::PolicyView;
 use desk_requests::Routes;
@@ -113,12 +116,7 @@ fn serve_stream<S: Alter + Drop, V: PolicyView + Drop, R: Source, W: Sink>(
                 reads += made;
                 match outcome {
                     Outcome::More => {}
-                    Outcome::AtEnd => {
-                        return match pending.end() {
-                            End::Bad(fault) => refuse(writer, fault, replies, written),
-                            end => ended(replies, written, end),
-                        };
-                    }
+                    Outcome::AtEnd => return end_input(writer, pending, replies, written),
                     Outcome::Failed => return ended(replies, written, End::ReadFault),
                     Outcome::Bound => return ended(replies, written, End::ReadFault),
                 }
@@ -173,6 +171,22 @@ fn reply_to<S: Alter + Drop, V: PolicyView + Drop, W: Sink>(
                 Err(part) => Err(part),
             }
         }
+    }
+}
+
+/// Ends a connection whose input has ended while its bytes waited so: with the reply to a fault, if that is one.
+fn end_input<W: Sink>(writer: &mut W, pending: Pending, replies: u64, written: u128) -> Served
+    requires good { W.has_failed writer.old ≡ false }
+    requires few { replies + 1 < 2 ^ 64 }
+    requires short { written + 1024 < 2 ^ 128 }
+    ensures ends { EndsBy (end_of pending) (W.held writer.old) (W.held writer.new) replies written result }
+    ensures read { result.end ≡ End.ReadFault → ⊥ }
+    ensures memory { result.end ≡ End.Memory → ⊥ }
+    ensures write_fault { (result.end ≡ End.WriteFault) ↔ (W.has_failed writer.new ≡ true) }
+{
+    match pending.end() {
+        End::Bad(fault) => refuse(writer, fault, replies, written),
+        end => ended(replies, written, end),
     }
 }
 

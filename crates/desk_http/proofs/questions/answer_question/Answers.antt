@@ -10,8 +10,7 @@ use Rattle.desk_messages.specs.Replies.{memory_reply, reply_with}
 use Rattle.desk_requests.specs.Calls.{Exports, Mount, Question, question_of}
 use Rattle.desk_bodies.specs.Exports.{exports_data}
 use Rattle.desk_bodies.specs.Verdicts.{verdict_data}
-use Rattle.desk_http.specs.Questions.{QuestionAnswered}
-use Rattle.desk_http.specs.Replies.{Gives, GivesText}
+use Rattle.desk_http.specs.PrivateAnswering.{Gives, GivesText, QuestionAnswered}
 use Rattle.desk_http.proofs.AnswerLemmas.{looked_err, looked_text}
 use Rattle.desk_http.proofs.questions.answer_question.Goals as goal
 

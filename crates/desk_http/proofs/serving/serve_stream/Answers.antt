@@ -1,16 +1,16 @@
 -- Each arm of the loop keeps what was done so far, or ends it.
-use Rattle.std.proofs.Common.{◌≡◌, ◌+◌, ◌-◌, ◌∙◌, [], ap, append-nil, arith, drop, inl, inr, length, length-drop, refl, subst, sym}
+use Rattle.std.proofs.Common.{◌≡◌, ◌+◌, ◌-◌, ◌∙◌, [], ap, append-nil, arith, drop, inr, length, length-drop, refl, subst, sym}
 use Rattle.desk_messages.specs.declared.framing.Front.TheVariants.{Fault}
 use Rattle.desk_messages.specs.declared.requests.End.TheVariants.{Closed}
-use Rattle.desk_messages.specs.Front.{IsFront}
+use Rattle.desk_messages.specs.Front.{IsFront, end_of}
 use Rattle.desk_messages.specs.Reading.{ReadOn}
-use Rattle.desk_messages.specs.Stream.{EndsSo, HasFault}
+use Rattle.desk_messages.specs.Stream.{HasFault}
 use Rattle.desk_store.specs.Desk.{HasGoodDisk, StandsAt}
-use Rattle.desk_http.specs.Answering.{AnswersAsked}
 use Rattle.desk_http.specs.Serving.{AnswersAll}
+use Rattle.desk_http.specs.PrivateAnswering.{AnswersAsked}
 use Rattle.desk_http.proofs.KnownBytes.{Keeps-same}
 use Rattle.desk_http.proofs.Progress.{Progress}
-use Rattle.desk_http.proofs.RunLemmas.{Progress-more, Progress-next, Progress-none, before, closed, refused, reply_cut, told_by}
+use Rattle.desk_http.proofs.RunLemmas.{Progress-more, Progress-next, Progress-none, before, closed, ended_by, refused, reply_cut, told_by}
 use Rattle.desk_http.proofs.serving.serve_stream.Goals as goal
 
 pub loop-extent-init : goal.loop-extent-init
@@ -81,13 +81,12 @@ returns-in-Fault-clause-session g c =
     let has = subst (λ b. HasFault b c.in-Fault.fault) (append-nil c.loop-extent.buffer) (always []) in
     refused (HasGoodDisk g.S.Store) (StandsAt g.S.Store) _ _ _ _ _ _ _ _ _ c.loop-extent.invariant.progress c.in-Fault.fault has (inr always) _ c.refuse.result c.refuse.ensures.refuses
 
-pub returns-in-Bad-clause-session : goal.returns-in-Bad-clause-session
-returns-in-Bad-clause-session g c =
+pub returns-in-AtEnd-clause-session : goal.returns-in-AtEnd-clause-session
+returns-in-AtEnd-clause-session g c =
     let got = c.read_on-made.ensures.read in
     let p = Progress-more (HasGoodDisk g.S.Store) (StandsAt g.S.Store) _ _ _ _ _ _ _ _ _ c.loop-extent.invariant.progress _ got.0 _ got.1 got.2 in
     let waits = subst (λ o. ReadOn c.in-Open.pending o (length c.loop-extent.buffer) c.read_on-made.new.buffer c.read_on-made.result.0 (1000000 - c.loop-extent.reads) (g.R.Source.has_failed c.read_on-made.new.reader) (g.R.Source.left c.read_on-made.new.reader)) c.in-AtEnd.is c.read_on-made.ensures.outcome in
-    let ends = subst (λ end. EndsSo [] c.read_on-made.new.buffer end) (sym c.in-Bad.ensures) waits.0.ends in
-    refused (HasGoodDisk g.S.Store) (StandsAt g.S.Store) _ _ _ _ _ _ _ _ _ p c.in-Bad.fault ends.1 (inl waits.1) _ c.refuse-in-Bad.result c.refuse-in-Bad.ensures.refuses
+    ended_by (HasGoodDisk g.S.Store) (StandsAt g.S.Store) _ _ _ _ _ _ _ _ _ p (end_of c.in-Open.pending) waits.0.ends waits.1 _ c.end_input.result c.end_input.ensures.ends
 
 pub returns-in-Failed-clause-session : goal.returns-in-Failed-clause-session
 returns-in-Failed-clause-session g c =

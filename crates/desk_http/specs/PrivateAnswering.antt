@@ -1,0 +1,43 @@
+-- What a desk does at one call that has a reply. (this project's own)
+use Rattle.std.specs.Prelude.{◌≡◌, ◌⊎◌, ℕ, Bool, true, List}
+use Rattle.desk_core.specs.Edit.{Edit}
+use Rattle.desk_store.specs.Desk.{History}
+use Rattle.desk_messages.specs.Asked.{Asked, asked_by}
+use Rattle.desk_messages.specs.Head.{ends_stream}
+use Rattle.desk_messages.specs.Replies.{Reply, memory_reply, print_reply}
+use Rattle.desk_messages.specs.Stream.{Message}
+use Rattle.desk_requests.specs.Calls.{Question}
+use Rattle.desk_http.specs.Questions.{QuestionReply, asks_tables, store_reply}
+use Rattle.desk_http.specs.Edits.{EditReply}
+use Rattle.desk_http.specs.Answering.{Answered}
+
+-- A desk after a call of which this is the reply: no fault of its disk is forgotten, and on a good disk, wherever it stood, the
+-- reply is an answer by that history, and it stands at the history after it.
+pub record Gives {S : Type 0} (good : S → Type 0) (stands : S → History → History → Type 0)
+    (answered : History → Reply → History → Type 0) (old : S) (reply : Reply) (new : S)
+    : Type 0 where
+  pub disk : good new → good old
+  pub step : good new → (history pending : History) → stands old history pending
+      → (after left : History) × answered history reply after × stands new after left
+
+-- a desk after a call that wrote this text, which is its reply; ends says that the stream ends after it
+abbrev pub GivesText : {S : Type 0} → (S → Type 0) → (S → History → History → Type 0) → (History → Reply → History → Type 0) → Bool → S → List ℕ → S → Type 0
+GivesText good stands answered ends old text new = (reply : Reply) × Gives good stands answered old reply new × (text ≡ print_reply ends reply)
+
+-- A question is replied by the history, or that there is no memory, or, if the tables are asked, that the store refused a statement;
+-- and nothing changes.
+abbrev pub QuestionAnswered : Question → History → Reply → History → Type 0
+QuestionAnswered question old reply new =
+    (QuestionReply old question reply ⊎ ((reply ≡ memory_reply) ⊎ ((asks_tables question ≡ true) × (reply ≡ store_reply)))) × (new ≡ old)
+
+-- An edit is replied by the history; or that there is no memory or that the store refused a statement, and then nothing changes.
+abbrev pub EditAnswered : Edit → History → Reply → History → Type 0
+EditAnswered e old reply new = EditReply old e reply new ⊎ (((reply ≡ memory_reply) ⊎ (reply ≡ store_reply)) × (new ≡ old))
+
+-- a desk after one request, which wrote the text of its reply; ends says that the stream ends after it
+abbrev pub AnswersAsked : {S : Type 0} → (S → Type 0) → (S → History → History → Type 0) → S → Asked → Bool → List ℕ → S → Type 0
+AnswersAsked good stands old asked ends text new = GivesText good stands (Answered asked) ends old text new
+
+-- a desk after one message, which wrote the text of its reply
+abbrev pub AnswersMessage : {S : Type 0} → (S → Type 0) → (S → History → History → Type 0) → S → Message → List ℕ → S → Type 0
+AnswersMessage good stands old m text new = AnswersAsked good stands old (asked_by m) (ends_stream m.head) text new
