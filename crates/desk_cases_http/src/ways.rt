@@ -65,7 +65,7 @@ fn serve_in_pieces(
     let mut reader = Of::new(first.chain(second));
     let mut writer = Bytes::new(Vec::new(alloc), step, None);
     let served = serve(alloc, desk, &mut reader, &mut writer);
-    session(alloc, served, &writer)
+    session_of(alloc, served, &writer)
 }
 
 /// Serves a stream that comes byte by byte.
@@ -77,10 +77,10 @@ fn serve_by_bytes(
     let mut reader = Bytes::new(stream.to_vec(alloc)?, 1, None);
     let mut writer = Bytes::new(Vec::new(alloc), 1, None);
     let served = serve(alloc, desk, &mut reader, &mut writer);
-    session(alloc, served, &writer)
+    session_of(alloc, served, &writer)
 }
 
-fn session(alloc: Global, served: Served, writer: &Bytes) -> Result<Session, AllocError> {
+fn session_of(alloc: Global, served: Served, writer: &Bytes) -> Result<Session, AllocError> {
     Ok(Session {
         served,
         written: writer.as_slice().to_vec(alloc)?,
