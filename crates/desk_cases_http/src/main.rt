@@ -2,8 +2,8 @@
 //! texts of the site at which they are tried.
 //!
 //! Each case is tried in three ways: the stream comes in one piece, it comes byte by byte, and it comes in two pieces, cut behind
-//! each of its bytes. A stream of more than 256 bytes is cut behind every k-th byte, where k is its length divided by 256, and one
-//! more. So the program stays far below a minute.
+//! every k-th of its bytes, where k is its length divided by 6, and one more. (A cut behind every byte of each of the streams would
+//! take minutes.) Cases of like form are cut in different places.
 #![tactic(auto)]
 
 mod cases;

@@ -8,8 +8,8 @@ use desk_cases_store::Subject;
 use std::alloc::{AllocError, Global};
 use std::str;
 
-/// The most places at which a stream is cut.
-const CUTS: usize = 256;
+/// About how often a stream is cut.
+const CUTS: usize = 6;
 
 /// Tries the cases of a text at the site of these texts.
 pub fn try_text(
@@ -100,7 +100,8 @@ fn wrong_of(alloc: Global, subject: &mut Subject, case: &Case) -> Result<String,
     Ok(wrong)
 }
 
-/// Tries a case in two pieces, cut at most so often.
+/// Tries a case in two pieces, cut behind every k-th byte. Where the first cut is depends on the line of the case, so that those of
+/// like cases differ.
 fn try_cuts(
     alloc: Global,
     subject: &mut Subject,
@@ -110,7 +111,7 @@ fn try_cuts(
     let length = case.stream.len();
     let each = length / CUTS + 1;
     for count in 1..length {
-        if count % each == 0 {
+        if count % each == case.line % each {
             try_way(alloc, subject, wrong, case, Way::CutAfter(count))?;
         }
     }
