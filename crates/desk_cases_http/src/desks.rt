@@ -53,13 +53,21 @@ pub fn ask(
     subject: &mut Subject,
     questions: &[String],
 ) -> Result<String, AllocError> {
-    let mut found = String::new(alloc);
+    let mut answers = String::new(alloc);
     for question in questions {
-        let (question, text) = split(question.as_str());
-        if !desk_cases_store::answer(alloc, subject, &mut found, question, text)? {
-            found.push_str("cannot be asked")?;
-        }
-        found.push('\n')?;
+        let answer = answer_to(alloc, subject, question.as_str())?;
+        answers.push_str(answer.as_str())?;
+        answers.push('\n')?;
+    }
+    Ok(answers)
+}
+
+/// Asks the desk a question. Each has a text of its own: a list puts `; ` before an item if the text is not empty.
+fn answer_to(alloc: Global, subject: &mut Subject, question: &str) -> Result<String, AllocError> {
+    let mut found = String::new(alloc);
+    let (question, text) = split(question);
+    if !desk_cases_store::answer(alloc, subject, &mut found, question, text)? {
+        found.push_str("cannot be asked")?;
     }
     Ok(found)
 }
