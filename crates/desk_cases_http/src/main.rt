@@ -1,0 +1,65 @@
+//! Tries the worked cases of the service over HTTP. Each file of `data/` whose name ends in `.cases` holds cases; `site` holds the
+//! texts of the site at which they are tried.
+//!
+//! Each case is tried in three ways: the stream comes in one piece, it comes byte by byte, and it comes in two pieces, cut behind
+//! every k-th of its bytes, where k is its length divided by 6, and one more. (A cut behind every byte of each of the streams would
+//! take minutes.) Cases of like form are cut in different places.
+#![tactic(auto)]
+
+mod cases;
+mod desks;
+mod report;
+mod trials;
+mod ways;
+
+use crate::report::Report;
+use std::alloc::{AllocError, Global};
+use std::process::ExitCode;
+use std::{fs, io};
+
+/// Prints for each file of cases how many there are and each that differs. The exit status is 0 if every case of every
+/// file has its replies, and no file is without cases.
+fn main(rt: HostRuntime) -> io::Result<ExitCode> {
+    let site = fs::read_to_string(&rt, "site")?;
+    let names = file_names(&rt)?;
+    let mut is_right = !names.is_empty();
+    if names.is_empty() {
+        println!(rt; "no files of cases")?;
+    }
+    for name in &names {
+        let text = fs::read_to_string(&rt, name.as_str())?;
+        let report = report_of(rt.alloc(), site.as_str(), text.as_str())?;
+        is_right = is_right && report.is_right();
+        println!(rt; "{name}: {report}")?;
+    }
+    Ok(if is_right {
+        ExitCode::SUCCESS
+    } else {
+        ExitCode::FAILURE
+    })
+}
+
+/// Returns the names of the files of cases where the program runs, in byte order.
+fn file_names(rt: &HostRuntime) -> io::Result<Vec<String>> {
+    let mut names = Vec::new(rt.alloc());
+    for entry in fs::read_dir(rt, ".")? {
+        add_name(rt.alloc(), &mut names, entry?.file_name())?;
+    }
+    names.sort_unstable();
+    Ok(names)
+}
+
+/// Adds the name of a file, if it has cases.
+fn add_name(alloc: Global, names: &mut Vec<String>, name: &str) -> Result<(), AllocError> {
+    if name.ends_with(".cases") {
+        names.push(String::from_str(alloc, name)?)?;
+    }
+    Ok(())
+}
+
+/// Tries the cases of a text at the site of these texts.
+fn report_of(alloc: Global, site: &str, text: &str) -> Result<Report, AllocError> {
+    let mut report = Report::new(alloc);
+    trials::try_text(alloc, &mut report, site, text)?;
+    Ok(report)
+}
