@@ -21,6 +21,8 @@ pub enum Obstacle {
     Log,
     /// There is a log, and no database: it was moved or removed without it. A new database would write over the log.
     LeftLog,
+    /// There is a log, and the database is empty: something emptied it. A new database would write over the log.
+    LogOfEmpty,
 }
 
 impl fmt::Display for Obstacle {
@@ -39,6 +41,9 @@ impl fmt::Display for Obstacle {
             }
             Obstacle::LeftLog => {
                 "it is missing, but not its log (DB-wal): if DB was moved, move the log to it; if it was removed, remove the log too"
+            }
+            Obstacle::LogOfEmpty => {
+                "it is empty, but not its log (DB-wal): if DB was emptied by mistake, keep the log, which may hold what was stored; else remove it"
             }
         })
     }
@@ -65,19 +70,21 @@ pub fn find_obstacle(rt: &HostRuntime, db: &str) -> io::Result<Option<Obstacle>>
 pub fn find_obstacle_to_make(rt: &HostRuntime, db: &str) -> io::Result<Option<Obstacle>> {
     match find_obstacle(rt, db)? {
         Some(found) => Ok(Some(found)),
-        None if has_left_log(rt, db)? => Ok(Some(Obstacle::LeftLog)),
-        None => Ok(None),
+        None => find_left_log(rt, db),
     }
 }
 
-/// Tests whether a database is missing, and a log with a page stands where its log would be.
-fn has_left_log(rt: &HostRuntime, db: &str) -> io::Result<bool> {
-    match fs::canonicalize(rt, db) {
-        Ok(_) => Ok(false),
-        Err(error) if error.kind() == io::ErrorKind::NotFound => {
-            let log = format!(in rt.alloc(); "{db}-wal")?;
-            Ok(!has_no_page(rt, log.as_str()))
-        }
+/// Finds a log with a page that stands beside a database which is missing or empty. SQLite takes one byte for none.
+fn find_left_log(rt: &HostRuntime, db: &str) -> io::Result<Option<Obstacle>> {
+    let real = real_path(rt, db)?;
+    let log = format!(in rt.alloc(); "{real}-wal")?;
+    if has_no_page(rt, log.as_str()) {
+        return Ok(None);
+    }
+    match fs::symlink_metadata(rt, real.as_str()) {
+        Ok(found) if found.len() > 1 => Ok(None),
+        Ok(_) => Ok(Some(Obstacle::LogOfEmpty)),
+        Err(error) if error.kind() == io::ErrorKind::NotFound => Ok(Some(Obstacle::LeftLog)),
         Err(error) => Err(error),
     }
 }
