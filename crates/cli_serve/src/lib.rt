@@ -1,0 +1,13 @@
+//! A desk behind a TCP listener: connections are accepted and served one after another.
+//!
+//! Its promise: whatever the peers and the network did, the desk is one after a run over some messages. How long a peer is waited
+//! for is not promised.
+//!
+//! ```text
+//! serve_on(&rt, &mut desk, &listener, 2, Some(Duration::from_secs(30)));    // two connections, one after the other
+//! ```
+#![tactic(auto)]
+
+pub mod serving;
+
+pub use serving::serve_on;
