@@ -1,5 +1,7 @@
 //! The ways in which the bytes of a stream come.
 
+ghost use Rattle.std.specs.Prelude.{◌<◌};
+
 use desk_http::serve;
 use desk_messages::{Bytes, End, Of, Served, StreamFault};
 use desk_policy::Plain;
