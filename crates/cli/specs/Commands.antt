@@ -18,7 +18,7 @@ use Rattle.cli_texts.specs.SplitCommand.{AnswersSplit}
 use Rattle.cli_texts.specs.TryCommand.{AnswersTry}
 use Rattle.cli_output.specs.declared.output.Output.{Output}
 use Rattle.cli_output.specs.declared.output.Output.TheVariants.{Help}
-use Rattle.cli_database.specs.AskCommand.{AnswersAsk, AnswersCat, AnswersExports, AnswersLog, AnswersShow}
+use Rattle.cli_database.specs.QuestionCommands.{AnswersAsk, AnswersCat, AnswersExports, AnswersLog, AnswersShow}
 use Rattle.cli_database.specs.InitCommand.{AnswersInit}
 use Rattle.cli_database.specs.PutCommand.{AnswersPut}
 

@@ -8,11 +8,9 @@ ghost use Rattle.cli.specs.Commands.{AnswersCommand, AnswersFirstLine, AnswersFo
 
 use clap::ArgMatches;
 use clap::error::ErrorKind;
-use cli_database::ask_command::run_ask;
 use cli_database::init_command::run_init;
-use cli_database::log_command::{run_cat, run_log};
 use cli_database::put_command::run_put;
-use cli_database::show_command::{run_exports, run_show};
+use cli_database::question_commands::{run_ask, run_cat, run_exports, run_log, run_show};
 use cli_files::failure::{Failure, ReadFailure};
 use cli_files::input::{first_line, read_line};
 use cli_line::command;

@@ -1,4 +1,4 @@
--- A word of `ask` that cannot be parsed, for `ask_command`.
+-- A word of `ask` that cannot be parsed, for `run_ask`.
 use Rattle.std.proofs.Common.{◌≡◌, ℕ, List, Option, Some, None, Result, Ok, Err, refl, subst, sym}
 use Rattle.desk_text.specs.declared.address.AddrFault.{AddrFault}
 use Rattle.desk_text.specs.declared.path.PathFault.{PathFault}
@@ -10,7 +10,7 @@ use Rattle.cli_files.specs.declared.bad_argument.Argument.TheVariants as name
 use Rattle.cli_files.specs.declared.bad_argument.ArgumentFault.TheVariants as fault
 use Rattle.cli_files.specs.declared.failure.Failure.{Failure}
 use Rattle.cli_files.specs.declared.failure.Failure.TheVariants.{Memory}
-use Rattle.cli_database.specs.AskCommand.{AnswersAskBy}
+use Rattle.cli_database.specs.QuestionCommands.{AnswersAskBy}
 
 own_memory : (word : Option (List ℕ)) (bad : CredFault) → IsBadOwn word (Some (Err bad)) Memory
 own_memory None bad = refl

@@ -26,7 +26,7 @@ use Rattle.cli_output.specs.declared.output.Output.TheVariants.{Refused}
 use Rattle.cli_output.specs.declared.refused.Refused.{Refused as Why}
 use Rattle.cli_output.specs.declared.refused.Refused.TheVariants as refused
 use Rattle.cli_database.specs.InitCommand.{AnswersInitBy, AnswersInitOf, AnswersInitSite, AnswersInitSplit, AnswersInitTexts, AnswersInitWith, ComesTo, IsRefusedFor, SplitsExports, Stores, TellsSplitFault, part_of}
-use Rattle.cli_database.specs.ToldRefusal.{IsRefusedAs, IsRefusedByDesk}
+use Rattle.cli_database.specs.RefusedOutputs.{IsRefusedAs, IsRefusedByDesk}
 use Rattle.cli_database.specs.declared.init_command.NotMade.{NotMade}
 use Rattle.cli_database.specs.declared.init_command.NotMade.TheVariants as not_made
 

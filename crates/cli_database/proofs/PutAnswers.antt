@@ -28,7 +28,7 @@ use Rattle.cli_output.specs.declared.output.Output.TheVariants.{Done as Prints}
 use Rattle.cli_output.specs.declared.refused.Refused.{Refused as Why}
 use Rattle.cli_output.specs.declared.refused.Refused.TheVariants as refused
 use Rattle.cli_database.specs.PutCommand.{AnswersEdit, AnswersPutFiles, AnswersPutKey, GivesKeyBy, HasReplies, PutsFrom, TellsAnswer, TellsReply, key_file_in, key_in, put_files, with_first}
-use Rattle.cli_database.specs.ToldRefusal.{IsRefusedByDesk, TellsError}
+use Rattle.cli_database.specs.RefusedOutputs.{IsRefusedByDesk, TellsError}
 use Rattle.cli_database.specs.declared.put_command.KeySource.{KeySource}
 use Rattle.cli_database.specs.declared.put_command.KeySource.TheVariants.{InFile, Word}
 

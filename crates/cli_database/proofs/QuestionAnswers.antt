@@ -29,7 +29,7 @@ use Rattle.cli_output.specs.declared.refused.Refused.{Refused as Why}
 use Rattle.cli_output.specs.declared.refused.Refused.TheVariants as refused
 use Rattle.cli_database.specs.Questions.{AnswersByDatabase, AnswersQuestion, Prints, PrintsAnswer, TellsByHistory}
 use Rattle.cli_database.specs.Copy.{is_out_of_memory}
-use Rattle.cli_database.specs.ToldRefusal.{IsRefusedByDesk, TellsError, copy_error}
+use Rattle.cli_database.specs.RefusedOutputs.{IsRefusedByDesk, TellsError, copy_error}
 
 -- a database at a path answers
 pub at_path : (path : List ℕ) (db : Database) (q : Question) (own : Option Cred) (result : Result Output Failure) → AnswersByDatabase db q own result → AnswersQuestion path q own result

@@ -1,6 +1,6 @@
-pub mod AskCommand
 pub mod Copy
 pub mod InitCommand
 pub mod PutCommand
+pub mod QuestionCommands
 pub mod Questions
-pub mod ToldRefusal
+pub mod RefusedOutputs

@@ -30,7 +30,7 @@ use Rattle.cli_output.specs.declared.output.Output.{Output}
 use Rattle.cli_output.specs.declared.output.Output.TheVariants.{Refused}
 use Rattle.cli_output.specs.declared.output.Output.TheVariants.{Done as Prints}
 use Rattle.cli_output.specs.declared.refused.Refused.TheVariants as refused
-use Rattle.cli_database.specs.ToldRefusal.{IsRefusedByDesk, TellsError}
+use Rattle.cli_database.specs.RefusedOutputs.{IsRefusedByDesk, TellsError}
 use Rattle.cli_database.specs.declared.put_command.KeySource.{KeySource}
 use Rattle.cli_database.specs.declared.put_command.KeySource.TheVariants.{InFile, Word}
 

@@ -10,7 +10,7 @@ ghost use Rattle.desk_policy.specs.Site.{texts_of};
 ghost use Rattle.cli_output.specs.SiteFolder.{AreShortFiles, site_list};
 ghost use Rattle.cli_output.specs.declared.refused.Refused.TheVariants as refused;
 ghost use Rattle.cli_database.specs.InitCommand.{AnswersInit, AnswersInitSite, AnswersInitTexts, AnswersInitWith, AreParts, ComesTo, Creates, IsReadyText, IsRefusedFor, IsSiteWith, SplitsExports, Stores, ready_text, warning_line};
-ghost use Rattle.cli_database.specs.ToldRefusal.{IsRefusedAs, IsRefusedByDesk};
+ghost use Rattle.cli_database.specs.RefusedOutputs.{IsRefusedAs, IsRefusedByDesk};
 ghost use Rattle.desk_service.specs.declared.refused.Refused.TheVariants as by_desk;
 ghost use Rattle.desk_core.specs.declared.edit.Refusal.TheVariants.{Fault as SiteRefusal};
 ghost use Rattle.cli_words.specs.Words.{given_init};
@@ -18,7 +18,7 @@ ghost use Rattle.cli_words.specs.Words.{given_init};
 use crate::View;
 use crate::new_files::{NewFiles, is_blank};
 use crate::obstacles::{Obstacle, find_obstacle_to_make};
-use crate::told_refusal::{
+use crate::refused_outputs::{
     not_opened_at, not_writable, obstructed, refused_by_store, refused_by_table, too_large_told,
 };
 use cli_files::failure::Failure;

@@ -8,18 +8,16 @@
 //! ```
 #![tactic(auto)]
 
-pub mod ask_command;
 mod copy;
 mod database_file;
 pub mod init_command;
-pub mod log_command;
 mod log_file;
 mod new_files;
 mod obstacles;
 pub mod put_command;
+pub mod question_commands;
 mod questions;
-pub mod show_command;
-mod told_refusal;
+mod refused_outputs;
 
 use desk_policy::Plain;
 

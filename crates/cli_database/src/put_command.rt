@@ -12,13 +12,13 @@ ghost use Rattle.desk_core.specs.Edit.{asked};
 ghost use Rattle.desk_service.specs.declared.refused.Refused.TheVariants as by_desk;
 ghost use Rattle.cli_words.specs.Words.{given_put};
 ghost use Rattle.cli_database.specs.PutCommand.{AnswersEdit, AnswersKeyFile, AnswersPut, AnswersPutFiles, GivesKey, HasReplies, IsKeyIn, PutsFrom, TellsPut, TellsReply, edit_of, key_in, key_file_in};
-ghost use Rattle.cli_database.specs.ToldRefusal.{IsRefusedByDesk};
+ghost use Rattle.cli_database.specs.RefusedOutputs.{IsRefusedByDesk};
 
 use crate::View;
 use crate::copy::unread;
 use crate::database_file::{CANNOT_OPEN, is_plain, plain_path};
 use crate::log_file::{log_to_make, remove_log};
-use crate::told_refusal::{
+use crate::refused_outputs::{
     not_opened_at, not_writable, refusal_told, refused_by_desk, refused_by_schema,
 };
 use cli_files::bad_argument::Argument;

@@ -10,7 +10,7 @@ ghost use Rattle.cli_database.specs.Questions.{AnswersByDatabase, AnswersQuestio
 
 use crate::View;
 use crate::copy::{Unopened, open_copy};
-use crate::told_refusal::{no_revision, not_opened_at, refused_by_copy};
+use crate::refused_outputs::{no_revision, not_opened_at, refused_by_copy};
 use cli_files::failure::Failure;
 use cli_output::output::Output;
 use desk_check::try_text::printed_verdict;

@@ -18,7 +18,7 @@ use Rattle.cli_words.specs.declared.arguments.Request.{Request}
 use Rattle.cli_files.specs.declared.failure.Failure.{Failure}
 use Rattle.cli_files.specs.declared.failure.Failure.TheVariants.{Memory}
 use Rattle.cli_texts.specs.SplitCommand.{TellsSplit}
-use Rattle.cli_texts.specs.ToldFault.{IsTold, IsToldFaulty, IsToldNotSplit}
+use Rattle.cli_texts.specs.FaultyOutputs.{IsTold, IsToldFaulty, IsToldNotSplit}
 use Rattle.cli_texts.specs.TryCommand.{Tells, TellsAs, TellsFault, TellsWith}
 use Rattle.cli_output.specs.declared.output.Output.{Output}
 use Rattle.cli_output.specs.declared.output.Output.TheVariants.{Faulty, NotSplit}

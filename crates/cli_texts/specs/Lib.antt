@@ -1,5 +1,5 @@
 pub mod CheckCommand
+pub mod FaultyOutputs
 pub mod SplitCommand
 pub mod TableFiles
-pub mod ToldFault
 pub mod TryCommand

@@ -11,7 +11,7 @@ use Rattle.cli_files.specs.declared.failure.Failure.{Failure}
 use Rattle.cli_files.specs.declared.failure.Failure.TheVariants.{InputTwice}
 use Rattle.cli_files.specs.declared.files.FileArgument.TheVariants.{File, FileSystems}
 use Rattle.cli_files.specs.declared.input.TextFault.{TextFault}
-use Rattle.cli_texts.specs.ToldFault.{IsToldSplit}
+use Rattle.cli_texts.specs.FaultyOutputs.{IsToldSplit}
 use Rattle.cli_output.specs.declared.output.Output.{Output}
 use Rattle.cli_output.specs.declared.output.Output.TheVariants.{NotSplit, Split}
 

@@ -22,7 +22,7 @@ use Rattle.cli_files.specs.declared.failure.Failure.{Failure}
 use Rattle.cli_files.specs.declared.failure.Failure.TheVariants.{InputTwice, Memory}
 use Rattle.cli_texts.specs.CheckCommand.{given_path, paths_in, texts_in}
 use Rattle.cli_texts.specs.TableFiles.{whole_files}
-use Rattle.cli_texts.specs.ToldFault.{IsTold}
+use Rattle.cli_texts.specs.FaultyOutputs.{IsTold}
 use Rattle.cli_output.specs.declared.output.Output.{Output}
 use Rattle.cli_output.specs.declared.output.Output.TheVariants.{Faulty, Tried}
 

@@ -11,7 +11,7 @@
 
 pub mod check_command;
 mod check_site_files;
+mod faulty_outputs;
 pub mod split_command;
 mod table_files;
-mod told_fault;
 pub mod try_command;

@@ -5,7 +5,7 @@ ghost use Rattle.cli_words.specs.Words.{given_split};
 ghost use Rattle.cli_files.specs.declared.failure.Failure.TheVariants.{Memory};
 ghost use Rattle.cli_texts.specs.SplitCommand.{AnswersSplit, AnswersSplitFiles, TellsSplit, names_input_twice};
 
-use crate::told_fault::not_split;
+use crate::faulty_outputs::not_split;
 use cli_files::failure::Failure;
 use cli_files::files::{FileArgument, is_input, read_text};
 use cli_output::output::Output;

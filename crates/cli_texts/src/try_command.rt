@@ -7,12 +7,12 @@ ghost use Rattle.cli_files.specs.Files.{name_input_twice};
 ghost use Rattle.cli_words.specs.Words.{given_try};
 ghost use Rattle.cli_texts.specs.CheckCommand.{texts_in};
 ghost use Rattle.cli_texts.specs.TableFiles.{whole_files};
-ghost use Rattle.cli_texts.specs.ToldFault.{IsTold, tables_in};
+ghost use Rattle.cli_texts.specs.FaultyOutputs.{IsTold, tables_in};
 ghost use Rattle.cli_texts.specs.TryCommand.{AnswersFilesIf, AnswersTexts, AnswersTry, TellsWith};
 
 use crate::check_command::sources_of;
+use crate::faulty_outputs::faulty;
 use crate::table_files::{names_input_twice, read_whole_texts};
-use crate::told_fault::faulty;
 use cli_files::failure::Failure;
 use cli_output::output::Output;
 use cli_words::arguments::{Request, read_credential, read_request};

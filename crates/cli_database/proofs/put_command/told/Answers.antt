@@ -2,7 +2,7 @@
 use Rattle.std.proofs.Common.{Global, Result, String, subst, sym}
 use Rattle.desk_store.specs.declared.error.DeskError.{DeskError}
 use Rattle.cli_database.specs.PutCommand.{TellsReply}
-use Rattle.cli_database.specs.ToldRefusal.{TellsError}
+use Rattle.cli_database.specs.RefusedOutputs.{TellsError}
 use Rattle.cli_database.proofs.put_command.told.Goals as goal
 
 pub returns-in-Err-Refused : goal.returns-in-Err-Refused

@@ -1,7 +1,7 @@
 -- A fault of the exports text is told with the same file systems.
 use Rattle.std.proofs.Common.{IfOk, List, subst}
 use Rattle.desk_tables.specs.declared.filesystems.Mount.{Mount}
-use Rattle.cli_texts.specs.ToldFault.{IsTold}
+use Rattle.cli_texts.specs.FaultyOutputs.{IsTold}
 use Rattle.cli_texts.proofs.ToldFindings.{told_of}
 use Rattle.cli_texts.proofs.try_command.answer_with.Goals as goal
 

@@ -6,9 +6,9 @@ use Rattle.desk_text.specs.Path.{read_path}
 use Rattle.desk_text.specs.declared.address.AddrFault.{AddrFault}
 use Rattle.desk_text.specs.declared.path.PathFault.{PathFault}
 use Rattle.cli_words.specs.Words.{given_ask}
-use Rattle.cli_database.specs.AskCommand.{AnswersAskBy, own_of}
+use Rattle.cli_database.specs.QuestionCommands.{AnswersAskBy, own_of}
 use Rattle.cli_database.proofs.AskAnswers.{bad_host, bad_own, bad_path}
-use Rattle.cli_database.proofs.ask_command.run_ask.Goals as goal
+use Rattle.cli_database.proofs.question_commands.run_ask.Goals as goal
 
 pub returns-in_err-address : goal.returns-in_err-address
 returns-in_err-address c =

@@ -2,7 +2,7 @@
 
 ghost use Rattle.std.specs.Prelude.{◌≡◌};
 ghost use Rattle.desk_service.specs.declared.refused.Refused.TheVariants as by_desk;
-ghost use Rattle.cli_database.specs.ToldRefusal.{IsRefusedByDesk, TellsError, copy_error};
+ghost use Rattle.cli_database.specs.RefusedOutputs.{IsRefusedByDesk, TellsError, copy_error};
 
 use crate::copy::is_out_of_memory;
 use crate::obstacles::{Obstacle, find_obstacle};

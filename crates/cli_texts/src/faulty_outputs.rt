@@ -3,7 +3,7 @@
 ghost use Rattle.std.specs.Prelude.{◌≡◌, ◌≤◌, MatchResult, length};
 ghost use Rattle.desk_check.specs.CheckFaults.{AreReadable};
 ghost use Rattle.cli_files.specs.declared.failure.Failure.TheVariants.{Memory};
-ghost use Rattle.cli_texts.specs.ToldFault.{IsToldFaulty, IsToldNotSplit};
+ghost use Rattle.cli_texts.specs.FaultyOutputs.{IsToldFaulty, IsToldNotSplit};
 
 use cli_files::failure::Failure;
 use cli_output::output::Output;
