@@ -7,7 +7,7 @@ use crate::sample::{EDITS, names};
 use desk_core::Edit;
 use desk_policy::{Plain, Site};
 use desk_store::{CreateError, Desk, DeskError};
-use sqlite::{Connection, Error, FileStore, Files, Options};
+use sqlite::{Alter, Connection, Error, FileStore, Files, Options};
 use sqlite_disk::Disk;
 use std::alloc::{AllocError, Global};
 
@@ -282,9 +282,9 @@ fn reopened<D: Disk + Drop>(
 
 /// Tells the revisions of each file of the site: its name, the number, the author, and in the next lines the text. Of a file
 /// that is not edited only the newest is told.
-fn tell<D: Disk + Drop>(
+pub fn tell<S: Alter + Drop>(
     alloc: Global,
-    desk: &mut Desk<FileStore<D>, Plain>,
+    desk: &mut Desk<S, Plain>,
     out: &mut String,
 ) -> Result<(), AllocError> {
     for name in names(alloc)?.as_slice() {
@@ -303,8 +303,8 @@ fn is_edited(name: &str) -> bool {
 }
 
 /// Tells the newest revision of a file.
-fn tell_newest<D: Disk + Drop>(
-    desk: &Desk<FileStore<D>, Plain>,
+fn tell_newest<S: Alter + Drop>(
+    desk: &Desk<S, Plain>,
     name: &str,
     out: &mut String,
 ) -> Result<(), AllocError> {
@@ -316,9 +316,9 @@ fn tell_newest<D: Disk + Drop>(
 }
 
 /// Tells all revisions of a file.
-fn tell_revisions<D: Disk + Drop>(
+fn tell_revisions<S: Alter + Drop>(
     alloc: Global,
-    desk: &mut Desk<FileStore<D>, Plain>,
+    desk: &mut Desk<S, Plain>,
     name: &str,
     out: &mut String,
 ) -> Result<(), AllocError> {
@@ -334,9 +334,9 @@ fn tell_revisions<D: Disk + Drop>(
 }
 
 /// Tells the text of a revision.
-fn tell_body<D: Disk + Drop>(
+fn tell_body<S: Alter + Drop>(
     alloc: Global,
-    desk: &mut Desk<FileStore<D>, Plain>,
+    desk: &mut Desk<S, Plain>,
     name: &str,
     rev: u32,
     out: &mut String,

@@ -1,8 +1,9 @@
-//! Tries the commands at readers and writers that fail, and desks on files that fail. What is answered while they work is
-//! in the worked cases.
+//! Tries the commands at readers and writers that fail, desks on files that fail, and connections whose reader or writer fails
+//! or has no end. What is answered while they work is in the worked cases.
 #![tactic(auto)]
 
 mod commands;
+mod connections;
 mod desks;
 mod failing;
 mod full;
@@ -38,6 +39,10 @@ fn main(rt: HostRuntime) -> io::Result<ExitCode> {
     )?;
     for trial in &trials::TRIALS {
         let wrong = trials::try_all(rt.alloc(), trial)?;
+        report(&rt, &mut tally, trial.name, wrong.as_str())?;
+    }
+    for trial in &connections::TRIALS {
+        let wrong = connections::try_all(rt.alloc(), trial)?;
         report(&rt, &mut tally, trial.name, wrong.as_str())?;
     }
     let (passed, failed) = (tally.passed, tally.failed);
