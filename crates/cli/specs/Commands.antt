@@ -3,7 +3,7 @@ use Rattle.std.specs.Prelude.{◌≡◌, ◌≢◌, ◌⊎◌, ℕ, List, [], �
 use Rattle.std.specs.Io.BufRead.{take_through}
 use Rattle.clap.specs.declared.error.ErrorKind.{ErrorKind}
 use Rattle.clap.specs.declared.error.ErrorKind.TheVariants.{DisplayHelp, DisplayVersion, OutOfMemory}
-use Rattle.cli_line.specs.CommandLine.{Ask, AskForHelp, Cat, Check, CommandWords, Exports, Init, Log, Put, Show, Split, Try, command_found, faults_of}
+use Rattle.cli_line.specs.CommandLine.{Ask, AskForHelp, Cat, Check, CommandWords, Exports, Init, Log, Put, Serve, Show, Split, Try, command_found, faults_of}
 use Rattle.cli_files.specs.Files.{IsUnreadLine}
 use Rattle.cli_files.specs.Input.{first_line}
 use Rattle.cli_words.specs.LineWords.{IsBadWord, words_of}
@@ -21,6 +21,7 @@ use Rattle.cli_output.specs.declared.output.Output.TheVariants.{Help}
 use Rattle.cli_database.specs.QuestionCommands.{AnswersAsk, AnswersCat, AnswersExports, AnswersLog, AnswersShow}
 use Rattle.cli_database.specs.InitCommand.{AnswersInit}
 use Rattle.cli_database.specs.PutCommand.{AnswersPut}
+use Rattle.cli_serve.specs.ServeCommand.{AnswersServe}
 
 -- an error of clap is help for the two kinds that are asked for, and else a failure; out of memory says nothing
 abbrev pub IsSaid : ErrorKind → Result Output Failure → Type 0
@@ -49,6 +50,7 @@ AnswersGiven (Exports words) known result = AnswersExports words result
 AnswersGiven (Put words) known result = AnswersPut words known result
 AnswersGiven (Log words) known result = AnswersLog words result
 AnswersGiven (Cat words) known result = AnswersCat words result
+AnswersGiven (Serve words) known result = AnswersServe words result
 
 -- the answer to what clap finds: that to the command, or that a word is missing
 abbrev pub AnswersFound : Option CommandWords → Option (List ℕ) → Result Output Failure → Type 0

@@ -4,6 +4,7 @@ ghost use Rattle.std.specs.Prelude.{map};
 ghost use Rattle.clap.specs.Words.{kind_of, subcommand_rows_of};
 ghost use Rattle.cli_line.specs.CommandLine.{command_of};
 ghost use Rattle.cli_files.specs.Input as spec;
+ghost use Rattle.cli_serve.specs.ServeCommand.{told};
 ghost use Rattle.cli.specs.Commands.{AnswersCommand, AnswersFirstLine, AnswersFound, AnswersLine, IsSaid};
 
 use clap::ArgMatches;
@@ -15,6 +16,7 @@ use cli_files::failure::{Failure, ReadFailure};
 use cli_files::input::{first_line, read_line};
 use cli_line::command;
 use cli_output::output::Output;
+use cli_serve::serve_command::{Outcome, run_serve};
 use cli_texts::check_command::run_check;
 use cli_texts::split_command::run_split;
 use cli_texts::try_command::run_try;
@@ -25,8 +27,8 @@ use std::convert::AsSlice;
 use std::io::BufRead;
 
 /// Runs the command on the first line of standard input.
-pub fn run_first_line<I: BufRead>(rt: &HostRuntime, input: &mut I) -> Result<Output, Failure>
-    ensures { AnswersFirstLine (I.remaining input.old) result }
+pub fn run_first_line<I: BufRead>(rt: &HostRuntime, input: &mut I) -> Result<Outcome, Failure>
+    ensures { AnswersFirstLine (I.remaining input.old) (told result) }
 {
     match read_line(rt.alloc(), input) {
         Ok(bytes) => run_line(rt, bytes.as_slice(), input),
@@ -35,8 +37,12 @@ pub fn run_first_line<I: BufRead>(rt: &HostRuntime, input: &mut I) -> Result<Out
 }
 
 /// Runs the command whose words a first line has.
-fn run_line<I: BufRead>(rt: &HostRuntime, bytes: &[u8], input: &mut I) -> Result<Output, Failure>
-    ensures { AnswersLine (spec.first_line bytes.now) (I.remaining input.old) result }
+fn run_line<I: BufRead>(
+    rt: &HostRuntime,
+    bytes: &[u8],
+    input: &mut I,
+) -> Result<Outcome, Failure>
+    ensures { AnswersLine (spec.first_line bytes.now) (I.remaining input.old) (told result) }
 {
     let line = match first_line(bytes) {
         Ok(line) => line,
@@ -53,26 +59,26 @@ pub fn run_words<S: AsSlice<u8>, I: BufRead>(
     rt: &HostRuntime,
     words: &[S],
     input: &mut I,
-) -> Result<Output, Failure>
-    ensures { AnswersCommand (map S.items words.now) (I.remaining input.old) result }
+) -> Result<Outcome, Failure>
+    ensures { AnswersCommand (map S.items words.now) (I.remaining input.old) (told result) }
 {
     let alloc = rt.alloc();
     let line = command_words(alloc, words)?;
     match command(alloc)?.try_get_matches_from(line.as_slice()) {
         Ok(matches) => run_found(rt, &matches, input),
-        Err(error) => clap_output(alloc, &error),
+        Err(error) => Ok(Outcome::printed(clap_output(alloc, &error)?)),
     }
 }
 
-/// Runs the command that `clap` found.
+/// Runs the command that `clap` found; of `serve`, up to its line.
 fn run_found<I: BufRead>(
     rt: &HostRuntime,
     matches: &ArgMatches<'_>,
     input: &mut I,
-) -> Result<Output, Failure>
-    ensures { AnswersFound (command_of (subcommand_rows_of matches.now)) (I.remaining input.old) result }
+) -> Result<Outcome, Failure>
+    ensures { AnswersFound (command_of (subcommand_rows_of matches.now)) (I.remaining input.old) (told result) }
 {
-    match found_command(matches)? {
+    let output = match found_command(matches)? {
         CommandWords::Try(words) => run_try(rt, words, input),
         CommandWords::Split(words) => run_split(rt, words, input),
         CommandWords::Check(words) => run_check(rt, words, input),
@@ -83,7 +89,9 @@ fn run_found<I: BufRead>(
         CommandWords::Put(words) => run_put(rt, words, input),
         CommandWords::Log(words) => run_log(rt, words),
         CommandWords::Cat(words) => run_cat(rt, words),
-    }
+        CommandWords::Serve(words) => return run_serve(rt, words),
+    };
+    Ok(Outcome::printed(output?))
 }
 
 /// Returns what `clap` says in place of a command: help or the version, or what is wrong with the words.

@@ -27,6 +27,7 @@ use Rattle.cli_output.specs.declared.output.Output.TheVariants.{Refused}
 use Rattle.cli_output.specs.declared.output.Output.TheVariants.{Done as Prints}
 use Rattle.cli_output.specs.declared.refused.Refused.{Refused as Why}
 use Rattle.cli_output.specs.declared.refused.Refused.TheVariants as refused
+use Rattle.cli_database.specs.Opening.{TellsNoDesk}
 use Rattle.cli_database.specs.PutCommand.{AnswersEdit, AnswersPutFiles, AnswersPutKey, GivesKeyBy, HasReplies, PutsFrom, TellsAnswer, TellsReply, key_file_in, key_in, put_files, with_first}
 use Rattle.cli_database.specs.RefusedOutputs.{IsRefusedByDesk, TellsError}
 use Rattle.cli_database.specs.declared.put_command.KeySource.{KeySource}
@@ -45,15 +46,21 @@ tells_answer e replies (Ok done) (Ok output) has number tells = absurd tells
 tells_answer e replies (Ok done) (Err failure) has number tells = absurd tells
 tells_answer e replies (Err failed) result has number tells = tells
 
+-- a database that is not opened for edits has no answer to an edit
+pub no_desk : (path : List ℕ) (e : Edit) (output : Output) → TellsNoDesk output → AnswersEdit path e (Ok output)
+no_desk path e (Refused (refused.Desk by_desk.Store) told) tells = tt
+no_desk path e (Refused (refused.Desk by_desk.Schema) told) tells = tt
+no_desk path e output tells = absurd tells
+
 -- a database is not one of this project
-pub foreign : (path : List ℕ) (e : Edit) (result : Result Output Failure) → IsRefusedByDesk by_desk.Schema result → AnswersEdit path e result
+foreign : (path : List ℕ) (e : Edit) (result : Result Output Failure) → IsRefusedByDesk by_desk.Schema result → AnswersEdit path e result
 foreign path e (Ok (Refused why told)) is = subst (λ (w : Why). AnswersEdit path e (Ok (Refused w told))) (sym is) tt
 foreign path e (Ok output) is = absurd is
 foreign path e (Err Memory) is = tt
 foreign path e (Err failure) is = absurd is
 
 -- SQLite does not open a database, or refused a statement
-pub not_stored : (path : List ℕ) (e : Edit) (result : Result Output Failure) → IsRefusedByDesk by_desk.Store result → AnswersEdit path e result
+not_stored : (path : List ℕ) (e : Edit) (result : Result Output Failure) → IsRefusedByDesk by_desk.Store result → AnswersEdit path e result
 not_stored path e (Ok (Refused why told)) is = subst (λ (w : Why). AnswersEdit path e (Ok (Refused w told))) (sym is) tt
 not_stored path e (Ok output) is = absurd is
 not_stored path e (Err Memory) is = tt

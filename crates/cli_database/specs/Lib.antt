@@ -1,5 +1,6 @@
 pub mod Copy
 pub mod InitCommand
+pub mod Opening
 pub mod PutCommand
 pub mod QuestionCommands
 pub mod Questions

@@ -1,7 +1,7 @@
 //! The commands on a database: `init` makes one, `put` makes an edit, and `ask`, `show`, `exports`, `log` and `cat` ask.
 //!
 //! Its promise: each answers by what its database holds, a question over a copy, which changes nothing; and what is reported as
-//! done is stored. What only the system decides, as whether a database can be opened, is left open.
+//! done is stored. `serve` opens its database as `put` does. What only the system decides, as whether a database can be opened, is left open.
 //!
 //! ```text
 //! run_exports(&rt, ExportsWords { db: "desk.db" }) // Output::Done: the directories of all exports lines
@@ -9,15 +9,16 @@
 #![tactic(auto)]
 
 mod copy;
-mod database_file;
+pub mod database_file;
 pub mod init_command;
-mod log_file;
+pub mod log_file;
 mod new_files;
 mod obstacles;
+pub mod opening;
 pub mod put_command;
 pub mod question_commands;
 mod questions;
-mod refused_outputs;
+pub mod refused_outputs;
 
 use desk_policy::Plain;
 

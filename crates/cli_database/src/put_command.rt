@@ -1,8 +1,4 @@
 //! The command `put`: an edit of a file.
-//!
-//! DB is opened by its path three times: for reading, for writing, and by SQLite. SQLite reports a DB that it may not read, or
-//! not write, as CannotOpen alone, so the system is asked for each first, and then DB is closed at once. An empty DB is refused
-//! before SQLite opens it, which would write a database into it.
 
 ghost use Rattle.std.specs.Prelude.{◌≡◌, ◌+◌, false, IfOk};
 ghost use Rattle.sqlite_wal.specs.Files.{image_at};
@@ -15,12 +11,10 @@ ghost use Rattle.cli_database.specs.PutCommand.{AnswersEdit, AnswersKeyFile, Ans
 ghost use Rattle.cli_database.specs.RefusedOutputs.{IsRefusedByDesk};
 
 use crate::View;
-use crate::copy::unread;
-use crate::database_file::{CANNOT_OPEN, is_plain, plain_path};
+use crate::database_file::plain_path;
 use crate::log_file::{log_to_make, remove_log};
-use crate::refused_outputs::{
-    not_opened_at, not_writable, refusal_told, refused_by_desk, refused_by_schema,
-};
+use crate::opening::{FilesFrom, open_connection, refused_early};
+use crate::refused_outputs::{refusal_told, refused_by_desk};
 use cli_files::bad_argument::Argument;
 use cli_files::failure::Failure;
 use cli_files::files::{FileArgument, is_input, read_if_given};
@@ -33,11 +27,9 @@ use desk_core::{Edit, Refusal};
 use desk_policy::SiteFile;
 use desk_service::{Refused as ByDesk, Replies, put_over};
 use desk_store::{Desk, DeskError};
-use sqlite::{Alter, Connection, FileFrom, FileStore, Start, Wary};
+use sqlite::{Alter, Connection, Start, Wary};
 use std::alloc::{AllocError, Global};
-use std::fs::OpenOptions;
 use std::io::BufRead;
-use std::{fs, io};
 
 /// Where the key of an edit is.
 #[derive(Clone, Copy)]
@@ -91,7 +83,7 @@ fn read_texts<I: BufRead>(
 {
     let text = read_if_given(rt, FileArgument::File, Some(words.file), input)?;
     match key {
-        KeySource::Word(key) => refuse_odd_file(
+        KeySource::Word(key) => put_edit(
             rt,
             words,
             edit_of(words, base, key, text.as_str()),
@@ -113,7 +105,7 @@ fn read_key_file<I: BufRead>(
 {
     let key_text = read_if_given(rt, FileArgument::KeyFile, Some(file), input)?;
     let key = key_of(key_text.as_str());
-    refuse_odd_file(rt, words, edit_of(words, base, key, text))
+    put_edit(rt, words, edit_of(words, base, key, text))
 }
 
 /// Returns the first line of a key's file, without its line end.
@@ -139,46 +131,14 @@ fn edit_of<'a>(words: PutWords<'a>, base: u32, key: &'a str, text: &'a str) -> E
     }
 }
 
-/// Refuses a DB that does not lead to a regular file with one name; else puts the edit into it.
-fn refuse_odd_file(rt: &HostRuntime, words: PutWords<'_>, edit: Edit<'_>) -> Result<Output, Failure>
+/// Puts an edit into a database, if its file can be opened for edits.
+fn put_edit(rt: &HostRuntime, words: PutWords<'_>, edit: Edit<'_>) -> Result<Output, Failure>
     ensures { AnswersEdit words.entry.db.now (asked edit.entry) result }
 {
-    match leads_to_plain(rt, words.db) {
-        Ok(true) => refuse_empty_file(rt, words, &edit),
-        Ok(false) => not_opened_at(rt, words.db, CANNOT_OPEN),
-        Err(error) => Err(unread(rt.alloc(), words.db, error)),
+    match refused_early(rt, words.db)? {
+        Some(output) => Ok(output),
+        None => remove_new_log(rt, words, &edit),
     }
-}
-
-/// Tests whether a path leads to a regular file with one name. To open another, as a FIFO, may wait for ever.
-fn leads_to_plain(rt: &HostRuntime, path: &str) -> io::Result<bool> {
-    let real = fs::canonicalize(rt, path)?;
-    is_plain(rt, real.as_str())
-}
-
-/// Refuses a file that cannot be read, or not be written, or is empty; else puts the edit into it.
-fn refuse_empty_file(
-    rt: &HostRuntime,
-    words: PutWords<'_>,
-    edit: &Edit<'_>,
-) -> Result<Output, Failure>
-    ensures { AnswersEdit words.entry.db.now (asked edit.now) result }
-{
-    if let Err(error) = fs::open(rt, words.db) {
-        return Err(unread(rt.alloc(), words.db, error));
-    }
-    match is_empty_file(rt, words.db) {
-        Ok(true) => refused_by_schema(rt.alloc(), words.db),
-        Ok(false) => remove_new_log(rt, words, edit),
-        Err(error) => not_writable(rt.alloc(), words.db, &error),
-    }
-}
-
-/// Tests whether a file that can be written is empty or has one byte. SQLite would take it for an empty database, and write
-/// one into it.
-fn is_empty_file(rt: &HostRuntime, path: &str) -> io::Result<bool> {
-    let file = OpenOptions::new().read(true).write(true).open(rt, path)?;
-    Ok(file.metadata()?.len() <= 1)
 }
 
 /// Puts an edit into a database, and then removes its log if that was made for nothing. What may be printed of the edit is made
@@ -207,9 +167,6 @@ fn replies_of(alloc: Global, rev: u64) -> Result<Replies<String>, AllocError>
     Ok(Replies { accepted, already })
 }
 
-/// A connection to files, where `S` stands for what they held.
-type FilesFrom<S> = Connection<FileStore<FileFrom<S>>>;
-
 /// Opens the database at a path, and puts an edit into it. Beside the answer is the connection, if there is one.
 fn open_files<S: Start>(
     rt: &HostRuntime,
@@ -222,18 +179,13 @@ fn open_files<S: Start>(
 ) -> (Result<Output, Failure>, Option<FilesFrom<S>>)
     ensures { PutsFrom over_files (image_at S.Start) (asked edit.now) replies result.0 result.1 }
 {
-    match Connection::open_from(rt, path, false, start) {
-        Ok(conn) => {
+    match open_connection(rt, words.db, path, log, start) {
+        Ok(Ok(conn)) => {
             let (answer, left) = over_connection(rt.alloc(), words, conn, edit, replies);
             (answer, Some(left))
         }
-        Err((error, left)) => {
-            if left.is_some() {
-                remove_log(rt, log);
-            }
-            drop(left);
-            (not_opened_at(rt, words.db, error), None)
-        }
+        Ok(Err(output)) => (Ok(output), None),
+        Err(failure) => (Err(failure), None),
     }
 }
 

@@ -39,7 +39,9 @@ pub fn not_opened(alloc: Global, db: &str, error: Error) -> Result<Output, Failu
     let told = match error {
         Error::SqliteFailure(ErrorCode::OutOfMemory) => return Err(Failure::Memory),
         Error::SqliteFailure(ErrorCode::DatabaseBusy) => {
-            format!(in alloc; "exportdesk: DB {db:?}: another process is using it: try again\n")?
+            format!(in alloc;
+                "exportdesk: DB {db:?}: another process is using it: if that is exportdesk serve, ask over HTTP (docs/HTTP.md), else try again\n"
+            )?
         }
         Error::SqliteFailure(ErrorCode::NotADatabase) => {
             format!(in alloc; "exportdesk: DB {db:?}: it is not a database of SQLite\n")?

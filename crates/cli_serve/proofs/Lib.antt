@@ -1,1 +1,2 @@
 pub mod NoMessages
+pub mod ServeAnswers

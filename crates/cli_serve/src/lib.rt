@@ -1,4 +1,5 @@
-//! A desk behind a TCP listener: connections are accepted and served one after another.
+//! A desk behind a TCP listener: connections are accepted and served one after another. And the command `serve`, which does so with
+//! the desk of a database.
 //!
 //! Its promise: whatever the peers and the network did, the desk is one after a run over some messages. How long a peer is waited
 //! for is not promised.
@@ -8,6 +9,7 @@
 //! ```
 #![tactic(auto)]
 
+pub mod serve_command;
 pub mod serving;
 
 pub use serving::serve_on;

@@ -1,0 +1,2 @@
+pub mod PrivateServe
+pub mod ServeCommand

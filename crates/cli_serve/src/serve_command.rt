@@ -1,0 +1,229 @@
+//! The command `serve`: a desk over HTTP on the loopback address.
+//!
+//! It ends in two steps: what it prints is known once its port is bound, and nothing is accepted before that is printed.
+
+ghost use Rattle.std.specs.Prelude.{◌≡◌, ℕ, false, IfOk, List, MatchResult, None, Some};
+ghost use Rattle.std.specs.Option.{option_map};
+ghost use Rattle.std.specs.String.{string_bytes};
+ghost use Rattle.sqlite_wal.specs.Files.{image_at};
+ghost use Rattle.sqlite.specs.Files.{over_files};
+ghost use Rattle.sqlite.specs.Held.{state};
+ghost use Rattle.desk_store.specs.Desk.{HasGoodDisk};
+ghost use Rattle.desk_store.specs.Open.{OpensAt};
+ghost use Rattle.cli_words.specs.Words.{given_serve};
+ghost use Rattle.cli_database.specs.Opening.{OpensOr, TellsNoDesk};
+ghost use Rattle.cli_serve.specs.PrivateServe.{OpensDesk, Starts};
+ghost use Rattle.cli_serve.specs.ServeCommand.{AnswersServe, IsAsked, IsBadLimit, IsUnbound, ReadsAsked, RunsAs, limit_number, listening_line, told};
+
+use crate::serving::serve_on;
+use cli_database::View;
+use cli_database::database_file::plain_path;
+use cli_database::log_file::{log_to_make, remove_log};
+use cli_database::opening::{open_connection, refused_early};
+use cli_database::refused_outputs::refused_by_desk;
+use cli_files::bad_argument::Argument;
+use cli_files::failure::Failure;
+use cli_output::output::Output;
+use cli_words::arguments::{read_count, read_port};
+use cli_words::database_words::ServeWords;
+use desk_store::Desk;
+use sqlite::{Alter, Connection, FileFrom, FileStore, Start, Wary};
+use std::alloc::{AllocError, Global};
+use std::io;
+use std::io::ErrorKind;
+use std::net::{Ipv4Addr, TcpListener};
+use std::time::Duration;
+
+/// How long a read or a write of a connection waits, in seconds, if the words do not say it.
+const DEFAULT_SECONDS: u32 = 30;
+
+/// What `serve` is asked.
+#[derive(Clone, Copy)]
+pub struct Asked {
+    /// The TCP port of 127.0.0.1.
+    pub port: u16,
+    /// How many connections are served.
+    pub connections: u32,
+    /// How long a read or a write of a connection waits, in seconds; 0 for no limit.
+    pub seconds: u32,
+}
+
+/// What a command comes to: what it prints, and the service that runs behind it, if it has one.
+#[derive(Drop)]
+pub struct Outcome {
+    pub output: Output,
+    pub service: Option<Service>,
+}
+
+/// A service whose desk is open and whose port is bound. Nothing is accepted yet.
+#[derive(Drop)]
+pub struct Service {
+    desk: Desk<FileStore<FileFrom<Wary>>, View>,
+    listener: TcpListener,
+    asked: Asked,
+    /// The path of the log of its database, if the log was made for it.
+    log: Option<String>,
+}
+
+impl Outcome {
+    /// Returns the outcome of a command that only prints.
+    pub fn printed(output: Output) -> Outcome
+        ensures { (result.output ≡ output) × (result.service ≡ None) }
+    {
+        Outcome {
+            output,
+            service: None,
+        }
+    }
+}
+
+impl Service {
+    /// Serves its connections, one after another.
+    pub fn run(&mut self, rt: &HostRuntime) {
+        let limit = Duration::from_secs(u64::from(self.asked.seconds));
+        let connections = self.asked.connections;
+        serve_on(rt, &mut self.desk, &self.listener, connections, Some(limit));
+    }
+
+    /// Ends. A log that was made for nothing goes before the lock goes with the desk: behind that, another process may write it.
+    pub fn close(self, rt: &HostRuntime) {
+        remove_log(rt, &self.log);
+        drop(self);
+    }
+}
+
+/// Answers `serve DB --port N --connections M [--timeout SECONDS]`. The numbers are parsed from left to right, then the database
+/// is opened, and then the port is bound.
+pub fn run_serve(rt: &HostRuntime, words: ServeWords<'_>) -> Result<Outcome, Failure>
+    ensures answered { AnswersServe (given_serve words.entry) (told result) }
+    ensures asked { RunsAs (IsAsked (given_serve words.entry)) result }
+{
+    let asked = read_asked(rt.alloc(), words)?;
+    start(rt, words.db, asked)
+}
+
+/// Parses the numbers, from left to right.
+fn read_asked(alloc: Global, words: ServeWords<'_>) -> Result<Asked, Failure>
+    ensures { ReadsAsked (given_serve words.entry) result }
+{
+    let port = read_port(alloc, words.port)?;
+    let connections = read_count(alloc, Argument::Connections, words.connections)?;
+    let seconds = read_limit(alloc, words.timeout)?;
+    Ok(Asked {
+        port,
+        connections,
+        seconds,
+    })
+}
+
+/// Parses the time limit, if it is given.
+fn read_limit(alloc: Global, word: Option<&str>) -> Result<u32, Failure>
+    ensures { let given = option_map (λ word. word.now) word.entry in
+        MatchResult result (λ number. limit_number given ≡ Some number) (λ failure. (limit_number given ≡ None) × IsBadLimit given failure) }
+{
+    match word {
+        Some(word) => read_count(alloc, Argument::Timeout, word),
+        None => Ok(DEFAULT_SECONDS),
+    }
+}
+
+/// Opens the database and binds the port. What allocates comes before the log is made.
+fn start(rt: &HostRuntime, db: &str, asked: Asked) -> Result<Outcome, Failure>
+    ensures { Starts db.now asked result }
+{
+    if let Some(output) = refused_early(rt, db)? {
+        return Ok(Outcome::printed(output));
+    }
+    let line = listening_line(rt.alloc(), asked.port)?;
+    let path = plain_path(rt.alloc(), db)?;
+    let log = log_to_make(rt, db)?;
+    match open_desk(rt, db, path.as_str(), &log, Wary)? {
+        Ok(desk) => listen(rt, desk, asked, log, line),
+        Err(output) => Ok(Outcome::printed(output)),
+    }
+}
+
+/// Writes the line that tells where the service is.
+fn listening_line(alloc: Global, port: u16) -> Result<String, AllocError>
+    ensures { IfOk result (λ text. string_bytes text ≡ listening_line port) }
+{
+    format!(in alloc; "listening 127.0.0.1:{port}\n")
+}
+
+/// Opens a desk on the database DB, at this path of SQLite's.
+fn open_desk<S: Start>(
+    rt: &HostRuntime,
+    db: &str,
+    path: &str,
+    log: &Option<String>,
+    start: S,
+) -> Result<Result<Desk<FileStore<FileFrom<S>>, View>, Output>, Failure>
+    ensures { OpensOr (OpensDesk over_files (image_at S.Start)) TellsNoDesk result }
+{
+    match open_connection(rt, db, path, log, start)? {
+        Ok(conn) => desk_over(rt, db, log, conn),
+        Err(output) => Ok(Err(output)),
+    }
+}
+
+/// Opens a desk on the database of a connection. If there is none, a log that was made for it goes.
+fn desk_over<S: Alter + Drop>(
+    rt: &HostRuntime,
+    db: &str,
+    log: &Option<String>,
+    conn: Connection<S>,
+) -> Result<Result<Desk<S, View>, Output>, Failure>
+    requires { (state S.Store conn).in_transaction ≡ false }
+    ensures { OpensOr (λ desk. HasGoodDisk S.Store desk → OpensAt S.Store (state S.Store conn).committed desk) TellsNoDesk result }
+{
+    match Desk::open(rt.alloc(), conn) {
+        Ok(desk) => Ok(Ok(desk)),
+        Err((error, conn)) => {
+            remove_log(rt, log);
+            drop(conn);
+            Ok(Err(refused_by_desk(rt.alloc(), db, error)?))
+        }
+    }
+}
+
+/// Binds the port for a desk.
+fn listen(
+    rt: &HostRuntime,
+    desk: Desk<FileStore<FileFrom<Wary>>, View>,
+    asked: Asked,
+    log: Option<String>,
+    line: String,
+) -> Result<Outcome, Failure>
+    requires { string_bytes line ≡ listening_line asked.port }
+    ensures { (path : List ℕ) → Starts path asked result }
+{
+    match TcpListener::bind(rt, (Ipv4Addr::LOCALHOST, asked.port)) {
+        Ok(listener) => {
+            let service = Service {
+                desk,
+                listener,
+                asked,
+                log,
+            };
+            Ok(Outcome {
+                output: Output::Done(line),
+                service: Some(service),
+            })
+        }
+        Err(error) => {
+            remove_log(rt, &log);
+            drop(desk);
+            Err(unbound(asked.port, error))
+        }
+    }
+}
+
+/// Returns the failure to bind a port.
+fn unbound(port: u16, error: io::Error) -> Failure
+    ensures { IsUnbound port result }
+{
+    match error.kind() {
+        ErrorKind::OutOfMemory => Failure::Memory,
+        _ => Failure::Unbound(port, error),
+    }
+}
