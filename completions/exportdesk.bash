@@ -5,7 +5,7 @@ _exportdesk()
     local command=${COMP_WORDS[1]} count=0 is_value=no place
     COMPREPLY=()
     if [ "$COMP_CWORD" -eq 1 ]; then
-        choices='try split check init ask show exports put log cat --help --version'
+        choices='try split check init ask show exports put log cat serve --help --version'
         mapfile -t COMPREPLY < <(compgen -W "$choices" -- "$word")
         return
     fi
@@ -15,6 +15,7 @@ _exportdesk()
         case $is_value:${COMP_WORDS[place]} in
         no:--hosts | no:--networks | no:--passwd | no:--group | no:--netgroup | no:--site | no:--as) is_value=yes ;;
         no:--base | no:--caller | no:--key | no:--key-file | no:--rev) is_value=yes ;;
+        no:--port | no:--connections | no:--timeout) is_value=yes ;;
         yes:=) ;;
         yes:*) is_value=no ;;
         no::) count=$((count - 1)) ;;
@@ -28,6 +29,7 @@ _exportdesk()
     ask) choices='--as --help' ;;
     put) choices='--base --caller --key-file --key --help' ;;
     cat) choices='--rev --help' ;;
+    serve) choices='--port --connections --timeout --help' ;;
     esac
     # Behind `exports:` stands a mount point.
     if [ "$word" = : ] || [ "$before" = : ]; then
@@ -52,6 +54,7 @@ _exportdesk()
         mapfile -t COMPREPLY < <(compgen -d -- "$word")
         ;;
     try:--as:* | ask:--as:* | put:--base:* | put:--caller:* | put:--key:* | cat:--rev:*) ;;
+    serve:--port:* | serve:--connections:* | serve:--timeout:*) ;;
     *:-?*) mapfile -t COMPREPLY < <(compgen -W "$choices" -- "$word") ;;
     *)
         case $command:$count in
@@ -65,7 +68,7 @@ _exportdesk()
         compopt -o filenames
         case $command:$count in
         try:0 | check:0 | split:[01] | put:[02]) mapfile -t COMPREPLY < <(compgen -f -- "$word") ;;
-        init:0 | ask:0 | show:0 | exports:0 | log:0 | cat:0) mapfile -t COMPREPLY < <(compgen -f -- "$word") ;;
+        init:0 | ask:0 | show:0 | exports:0 | log:0 | cat:0 | serve:0) mapfile -t COMPREPLY < <(compgen -f -- "$word") ;;
         try:1 | ask:1) ;;
         try:* | check:* | init:1 | ask:2) mapfile -t COMPREPLY < <(compgen -d -- "$word") ;;
         esac

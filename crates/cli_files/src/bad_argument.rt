@@ -16,6 +16,12 @@ pub enum Argument {
     Base,
     /// The number of a revision.
     Rev,
+    /// The port that connections are accepted on.
+    Port,
+    /// How many connections are served.
+    Connections,
+    /// How many seconds a read or a write of a connection waits.
+    Timeout,
 }
 
 impl Argument {
@@ -28,6 +34,9 @@ impl Argument {
             Argument::Credential => "--as",
             Argument::Base => "--base",
             Argument::Rev => "--rev",
+            Argument::Port => "--port",
+            Argument::Connections => "--connections",
+            Argument::Timeout => "--timeout",
         }
     }
 }
@@ -38,8 +47,8 @@ pub enum ArgumentFault {
     Address(AddrFault),
     Path(PathFault),
     Credential(CredFault),
-    /// It is not a number of 0 to 2,147,483,647.
-    Number,
+    /// It is not a number from the first to the second.
+    Number(u32, u32),
 }
 
 /// An argument that cannot be parsed.
@@ -65,7 +74,9 @@ impl fmt::Display for ArgumentFault {
             ArgumentFault::Address(fault) => write!(f, "{fault:?}: {fault}"),
             ArgumentFault::Path(fault) => write!(f, "{fault:?}: {fault}"),
             ArgumentFault::Credential(fault) => write!(f, "{fault:?}: {fault}"),
-            ArgumentFault::Number => f.write_str("it is not a number from 0 to 2147483647"),
+            ArgumentFault::Number(least, most) => {
+                write!(f, "it is not a number from {least} to {most}")
+            }
         }
     }
 }

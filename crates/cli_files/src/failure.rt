@@ -45,6 +45,8 @@ pub enum Failure {
     NoKey,
     /// The file that this word names cannot be read.
     File(FileArgument, String, ReadFailure),
+    /// The port cannot be bound.
+    Unbound(u16, io::Error),
     Memory,
 }
 
@@ -167,6 +169,12 @@ impl fmt::Display for Failure {
             Failure::File(argument, word, failure) => {
                 let name = argument.name();
                 write!(f, "{name} {word:?}: {failure}")
+            }
+            Failure::Unbound(port, error) => {
+                write!(
+                    f,
+                    "--port {port}: 127.0.0.1:{port} cannot be bound: {error}"
+                )
             }
             Failure::Memory => f.write_str("out of memory"),
         }

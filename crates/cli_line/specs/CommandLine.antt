@@ -108,6 +108,11 @@ log_command = with_rule (with_rule (new_app (codes "log")) (word (codes "DB"))) 
 abbrev pub cat_command : App
 cat_command = with_rule (with_rule (with_rule (new_app (codes "cat")) (word (codes "DB"))) (word (codes "NAME"))) (option (codes "rev"))
 
+-- `serve DB --port N --connections M [--timeout SECONDS]`
+abbrev pub serve_command : App
+serve_command =
+    with_rule (with_rule (with_rule (with_rule (new_app (codes "serve")) (word (codes "DB"))) (required_option (codes "port"))) (required_option (codes "connections"))) (option (codes "timeout"))
+
 -- a program with the commands that make a database and ask it for its policy
 abbrev pub with_desk_commands : App → App
 with_desk_commands app = with_subcommand (with_subcommand (with_subcommand (with_subcommand app init_command.top) ask_command.top) show_command.top) exports_command.top
@@ -118,7 +123,7 @@ with_file_commands app = with_subcommand (with_subcommand (with_subcommand app p
 
 -- the program's command line: its subcommands
 abbrev pub command_line : App
-command_line = with_file_commands (with_desk_commands text_commands)
+command_line = with_subcommand (with_file_commands (with_desk_commands text_commands)) serve_command.top
 
 -- the words behind the program's name, as clap is given them
 abbrev pub line_of : List (List ℕ) → List (List ℕ)
@@ -279,6 +284,16 @@ pub record CatWords : Type 0 where
 abbrev pub words_of_cat : List ℕ → List ℕ → Option (List ℕ) → CatWords
 words_of_cat db name rev = record { db = db; name = name; rev = rev }
 
+-- the words of `serve`
+pub record ServeWords : Type 0 where
+  pub db : List ℕ
+  pub port : List ℕ
+  pub connections : List ℕ
+  pub timeout : Option (List ℕ)
+
+abbrev pub words_of_serve : List ℕ → List ℕ → List ℕ → Option (List ℕ) → ServeWords
+words_of_serve db port connections timeout = record { db = db; port = port; connections = connections; timeout = timeout }
+
 -- the words of each command by those of its arguments, if none is missing, and by those of its options
 abbrev pub init_words_from : Option (List ℕ) → Option (List ℕ) → Option InitWords
 init_words_from (Some db) (Some dir) = Some (words_of_init db dir)
@@ -304,6 +319,10 @@ abbrev pub cat_words_from : Option (List ℕ) → Option (List ℕ) → Option (
 cat_words_from (Some db) (Some name) rev = Some (words_of_cat db name rev)
 cat_words_from db name rev = None
 
+abbrev pub serve_words_from : Option (List ℕ) → Option (List ℕ) → Option (List ℕ) → Option (List ℕ) → Option ServeWords
+serve_words_from (Some db) (Some port) (Some connections) timeout = Some (words_of_serve db port connections timeout)
+serve_words_from db port connections timeout = None
+
 -- the words of each command among the arguments that clap finds
 abbrev pub init_words_in : List Row → Option InitWords
 init_words_in rows = init_words_from (first_of (codes "DB") rows) (first_of (codes "DIR") rows)
@@ -328,6 +347,10 @@ log_words_in rows = log_words_from (first_of (codes "DB") rows) (first_of (codes
 abbrev pub cat_words_in : List Row → Option CatWords
 cat_words_in rows = cat_words_from (first_of (codes "DB") rows) (first_of (codes "NAME") rows) (first_of (codes "rev") rows)
 
+abbrev pub serve_words_in : List Row → Option ServeWords
+serve_words_in rows =
+    serve_words_from (first_of (codes "DB") rows) (first_of (codes "port") rows) (first_of (codes "connections") rows) (first_of (codes "timeout") rows)
+
 -- a command with its words
 pub data CommandWords : Type 0 where
   Try : TryWords → CommandWords
@@ -340,6 +363,7 @@ pub data CommandWords : Type 0 where
   Put : PutWords → CommandWords
   Log : LogWords → CommandWords
   Cat : CatWords → CommandWords
+  Serve : ServeWords → CommandWords
 
 -- the command of this name on a database, with its words among the arguments that clap finds, if none is missing
 abbrev pub desk_command_in : List ℕ → List Row → Option CommandWords
@@ -351,7 +375,8 @@ desk_command_in name rows =
     else (if bytes_eq name (codes "put") then option_map Put (put_words_in rows)
     else (if bytes_eq name (codes "log") then option_map Log (log_words_in rows)
     else (if bytes_eq name (codes "cat") then option_map Cat (cat_words_in rows)
-    else None))))))
+    else (if bytes_eq name (codes "serve") then option_map Serve (serve_words_in rows)
+    else None)))))))
 
 -- the command of this name with its words among the arguments that clap finds, if none is missing
 abbrev pub command_in : List ℕ → List Row → Option CommandWords

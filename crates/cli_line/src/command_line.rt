@@ -22,6 +22,7 @@ pub enum Subcommand {
     Put,
     Log,
     Cat,
+    Serve,
 }
 
 /// Makes the program's command line: its subcommands.
@@ -42,6 +43,7 @@ pub fn command<'a>(alloc: Global) -> Result<Command<'a>, AllocError>
             Subcommand::Put,
             Subcommand::Log,
             Subcommand::Cat,
+            Subcommand::Serve,
         ],
     )
 }
@@ -76,6 +78,7 @@ fn command_of<'a>(alloc: Global, subcommand: Subcommand) -> Result<Command<'a>, 
         Subcommand::Put => put_command(alloc),
         Subcommand::Log => log_command(alloc),
         Subcommand::Cat => cat_command(alloc),
+        Subcommand::Serve => serve_command(alloc),
     }
 }
 
@@ -515,6 +518,49 @@ fn cat_command<'a>(alloc: Global) -> Result<Command<'a>, AllocError>
                 name: "rev",
                 kind: Kind::Valued("N"),
                 help: "The number of the revision; the newest without it",
+            },
+        ],
+    )
+}
+
+/// Makes the command line of `serve DB`, with its options.
+fn serve_command<'a>(alloc: Global) -> Result<Command<'a>, AllocError>
+    ensures { IsMade spec.serve_command result }
+{
+    let title = Title {
+        name: "serve",
+        about: "Answers questions and takes edits over HTTP on the loopback address",
+        usage: None,
+        help: Some(
+            "It prints `listening 127.0.0.1:N`, and then serves one connection after another, until it has\n\
+             served M of them. While it runs, every other command on DB is refused: ask and edit over HTTP\n\
+             instead, as docs/HTTP.md says. There is no TLS, and a question needs no key: whoever reaches the\n\
+             port may ask.",
+        ),
+    };
+    made(
+        alloc,
+        title,
+        &[
+            Argument {
+                name: "DB",
+                kind: Kind::Word,
+                help: "The file of the database",
+            },
+            Argument {
+                name: "port",
+                kind: Kind::Needed("N"),
+                help: "The TCP port of 127.0.0.1, from 1 to 65535",
+            },
+            Argument {
+                name: "connections",
+                kind: Kind::Needed("M"),
+                help: "How many connections are served before it ends, up to 4294967295",
+            },
+            Argument {
+                name: "timeout",
+                kind: Kind::Valued("SECONDS"),
+                help: "How long a read or a write of a connection waits before the connection ends: 30 if it is not given, 0 for no limit",
             },
         ],
     )

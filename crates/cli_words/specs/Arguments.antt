@@ -1,6 +1,6 @@
 -- What the words of a command stand for: an address, a path, the mount points of the file systems, a credential, a number.
 -- (this project's own)
-use Rattle.std.specs.Prelude.{◌≡◌, ℕ, Bool, not, List, Option, Some, None, Result, Ok, Err, find, is_ok}
+use Rattle.std.specs.Prelude.{◌≡◌, ℕ, ◌==◌, Bool, not, List, Option, Some, None, Result, Ok, Err, find, is_ok, if◌then◌else◌, option_and_then}
 use Rattle.std.specs.List.{filter_map}
 use Rattle.std.specs.Result.{result_ok}
 use Rattle.std.specs.String.{string_bytes}
@@ -72,7 +72,23 @@ revision_number word = read_decimal 2147483647 word
 
 -- the failure names this argument, which is not such a number; out of memory says nothing
 abbrev pub IsBadNumber : Argument → List ℕ → Failure → Type 0
-IsBadNumber argument word other = IsRefusal argument word fault.Number other
+IsBadNumber argument word other = IsRefusal argument word (fault.Number 0 2147483647) other
+
+-- the number of a port that a word writes: a decimal up to 65535 that is not 0
+abbrev pub port_number : List ℕ → Option ℕ
+port_number word = option_and_then (λ number. if number == 0 then None else Some number) (read_decimal 65535 word)
+
+-- the failure names `--port`, which is not such a number; out of memory says nothing
+abbrev pub IsBadPort : List ℕ → Failure → Type 0
+IsBadPort word other = IsRefusal name.Port word (fault.Number 1 65535) other
+
+-- how many connections or seconds a word writes
+abbrev pub count_number : List ℕ → Option ℕ
+count_number word = read_decimal 4294967295 word
+
+-- the failure names this argument, which is not such a number; out of memory says nothing
+abbrev pub IsBadCount : Argument → List ℕ → Failure → Type 0
+IsBadCount argument word other = IsRefusal argument word (fault.Number 0 4294967295) other
 
 -- the request that these words of HOST, DIR and MOUNT write
 pub record IsRequest (host dir : List ℕ) (mounts : List (List ℕ)) (request : Request) : Type 0 where

@@ -9,6 +9,7 @@ use Rattle.cli_words.specs.declared.database_words.ExportsWords.{ExportsWords as
 use Rattle.cli_words.specs.declared.database_words.InitWords.{InitWords as LentInitWords}
 use Rattle.cli_words.specs.declared.database_words.LogWords.{LogWords as LentLogWords}
 use Rattle.cli_words.specs.declared.database_words.PutWords.{PutWords as LentPutWords}
+use Rattle.cli_words.specs.declared.database_words.ServeWords.{ServeWords as LentServeWords}
 use Rattle.cli_words.specs.declared.database_words.ShowWords.{ShowWords as LentShowWords}
 use Rattle.cli_files.specs.declared.failure.Failure.{Failure}
 use Rattle.cli_files.specs.declared.failure.Failure.TheVariants.{Missing}
@@ -72,6 +73,9 @@ given_log words = line.words_of_log words.db.now words.name.now
 abbrev pub given_cat : LentCatWords → line.CatWords
 given_cat words = line.words_of_cat words.db.now words.name.now (option_map (λ word. word.now) words.rev)
 
+abbrev pub given_serve : LentServeWords → line.ServeWords
+given_serve words = line.words_of_serve words.db.now words.port.now words.connections.now (option_map (λ word. word.now) words.timeout)
+
 abbrev pub given : LentCommandWords → CommandWords
 given (lent.Try words) = AsksTry (given_try words)
 given (lent.Split words) = AsksSplit (given_split words)
@@ -83,6 +87,7 @@ given (lent.Exports words) = line.Exports (given_exports words)
 given (lent.Put words) = line.Put (given_put words)
 given (lent.Log words) = line.Log (given_log words)
 given (lent.Cat words) = line.Cat (given_cat words)
+given (lent.Serve words) = line.Serve (given_serve words)
 
 -- the failure says that a word is missing
 abbrev pub IsMissing : Failure → Type 0

@@ -1,4 +1,4 @@
-//! Parses the words of a command that are more than texts: HOST, DIR, MOUNT, CRED and the numbers of revisions.
+//! Parses the words of a command that are more than texts: HOST, DIR, MOUNT, CRED, and numbers.
 
 ghost use Rattle.std.specs.Prelude.{◌≡◌, ◌≤◌, MatchResult, None, Ok, Some, length, map};
 ghost use Rattle.std.specs.Option.{option_map};
@@ -8,7 +8,7 @@ ghost use Rattle.desk_tables.specs.CredentialText.{read_credential as read_cred}
 ghost use Rattle.desk_tables.specs.FileSystems.{IsTableOf};
 ghost use Rattle.desk_tables.specs.Groups.{read_groups};
 ghost use Rattle.desk_tables.specs.Users.{read_users};
-ghost use Rattle.cli_words.specs.Arguments.{AnswersArgument, AnswersOwn, IsBadArgument, IsBadMount, IsBadNumber, IsNoTable, IsRequest, first_bad_path, own_answer, paths_of, revision_number};
+ghost use Rattle.cli_words.specs.Arguments.{AnswersArgument, AnswersOwn, IsBadArgument, IsBadCount, IsBadMount, IsBadNumber, IsBadPort, IsNoTable, IsRequest, count_number, first_bad_path, own_answer, paths_of, port_number, revision_number};
 ghost use Rattle.cli_files.specs.declared.bad_argument.Argument.TheVariants.{Host};
 ghost use Rattle.cli_files.specs.declared.bad_argument.ArgumentFault.TheVariants as fault;
 
@@ -79,7 +79,44 @@ pub fn read_number(alloc: Global, argument: Argument, word: &str) -> Result<u32,
 {
     match read_decimal(word, 2_147_483_647) {
         Some(number) => Ok(number),
-        None => Err(Failure::of_argument(alloc, argument, word, ArgumentFault::Number)),
+        None => Err(Failure::of_argument(
+            alloc,
+            argument,
+            word,
+            ArgumentFault::Number(0, 2_147_483_647),
+        )),
+    }
+}
+
+/// Parses the number of a port: from 1 to 65,535.
+pub fn read_port(alloc: Global, word: &str) -> Result<u16, Failure>
+    ensures { MatchResult result (λ number. port_number word.now ≡ Some number)
+        (λ failure. (port_number word.now ≡ None) × IsBadPort word.now failure) }
+{
+    match read_decimal(word, 65_535) {
+        Some(number) if number > 0 => Ok(number as u16),
+        _ => Err(Failure::of_argument(
+            alloc,
+            Argument::Port,
+            word,
+            ArgumentFault::Number(1, 65_535),
+        )),
+    }
+}
+
+/// Parses how many connections or seconds there are, which may be none.
+pub fn read_count(alloc: Global, argument: Argument, word: &str) -> Result<u32, Failure>
+    ensures { MatchResult result (λ number. count_number word.now ≡ Some number)
+        (λ failure. (count_number word.now ≡ None) × IsBadCount argument word.now failure) }
+{
+    match read_decimal(word, u32::MAX) {
+        Some(number) => Ok(number),
+        None => Err(Failure::of_argument(
+            alloc,
+            argument,
+            word,
+            ArgumentFault::Number(0, u32::MAX),
+        )),
     }
 }
 

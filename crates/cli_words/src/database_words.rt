@@ -3,8 +3,8 @@
 ghost use Rattle.std.specs.Prelude.{◌≡◌};
 ghost use Rattle.std.specs.Option.{option_map};
 ghost use Rattle.clap.specs.Words.{found_of, rows_of};
-ghost use Rattle.cli_line.specs.CommandLine.{ask_words_in, cat_words_in, exports_words_in, init_words_in, log_words_in, put_words_in, show_words_in};
-ghost use Rattle.cli_words.specs.Words.{given_ask, given_cat, given_exports, given_init, given_log, given_put, given_show};
+ghost use Rattle.cli_line.specs.CommandLine.{ask_words_in, cat_words_in, exports_words_in, init_words_in, log_words_in, put_words_in, serve_words_in, show_words_in};
+ghost use Rattle.cli_words.specs.Words.{given_ask, given_cat, given_exports, given_init, given_log, given_put, given_serve, given_show};
 
 use crate::words::word;
 use clap::ArgMatches;
@@ -158,6 +158,32 @@ impl<'a> CatWords<'a> {
             db,
             name,
             rev: word(found, "rev"),
+        })
+    }
+}
+
+/// The words of `serve`.
+#[derive(Clone, Copy)]
+pub struct ServeWords<'a> {
+    pub db: &'a str,
+    pub port: &'a str,
+    pub connections: &'a str,
+    pub timeout: Option<&'a str>,
+}
+
+impl<'a> ServeWords<'a> {
+    /// Takes the words of `serve` from what `clap` found, if it found each that it requires.
+    pub fn find(found: &ArgMatches<'a>) -> Option<ServeWords<'a>>
+        ensures { option_map given_serve result ≡ serve_words_in (rows_of (found_of found.now)) }
+    {
+        let db = word(found, "DB")?;
+        let port = word(found, "port")?;
+        let connections = word(found, "connections")?;
+        Some(ServeWords {
+            db,
+            port,
+            connections,
+            timeout: word(found, "timeout"),
         })
     }
 }

@@ -8,7 +8,7 @@ ghost use Rattle.cli_words.specs.PrivateWords.{file_command_in};
 ghost use Rattle.cli_words.specs.Words.{Finds, given};
 
 use crate::database_words::{
-    AskWords, CatWords, ExportsWords, InitWords, LogWords, PutWords, ShowWords,
+    AskWords, CatWords, ExportsWords, InitWords, LogWords, PutWords, ServeWords, ShowWords,
 };
 use crate::text_words::{CheckWords, SplitWords, TryWords};
 use clap::ArgMatches;
@@ -27,6 +27,7 @@ pub enum CommandWords<'m, 'a> {
     Put(PutWords<'a>),
     Log(LogWords<'a>),
     Cat(CatWords<'a>),
+    Serve(ServeWords<'a>),
 }
 
 /// Takes the command that `clap` found.
@@ -67,7 +68,8 @@ fn found_desk_words<'m, 'a>(name: &str, words: &'m ArgMatches<'a>) -> Option<Com
     }
 }
 
-/// Takes the words of the command of this name that is on one file of a database, if there is one and none is missing.
+/// Takes the words of the command of this name that is on one file of a database or serves it, if there is one and none is
+/// missing.
 fn found_file_words<'m, 'a>(name: &str, words: &'m ArgMatches<'a>) -> Option<CommandWords<'m, 'a>>
     ensures { option_map given result ≡ file_command_in name.now (rows_of (found_of words.now)) }
 {
@@ -75,6 +77,7 @@ fn found_file_words<'m, 'a>(name: &str, words: &'m ArgMatches<'a>) -> Option<Com
         "put" => Some(CommandWords::Put(PutWords::find(words)?)),
         "log" => Some(CommandWords::Log(LogWords::find(words)?)),
         "cat" => Some(CommandWords::Cat(CatWords::find(words)?)),
+        "serve" => Some(CommandWords::Serve(ServeWords::find(words)?)),
         _ => None,
     }
 }
