@@ -1,5 +1,6 @@
-//! Commands that run while a database is held: `reading DB COMMAND` while a question reads it, `editing DB COMMAND` while
-//! an edit has it open. The command is one of `exportdesk` without an input of its own.
+//! Commands that run while something is held: `reading DB COMMAND` while a question reads a database, `editing DB COMMAND`
+//! while an edit has it open, and `bound PORT COMMAND` while a socket has a port of 127.0.0.1. The command is one of
+//! `exportdesk` without an input of its own.
 //!
 //! One program can hold a database against itself: the locks are those of an open file, and not of a process.
 
@@ -8,15 +9,17 @@ use desk_cases_texts::answers::Asked;
 use os::RangeLock;
 use sqlite::Connection;
 use std::fs;
+use std::net::{Ipv4Addr, TcpListener};
 use std::os::fd::AsRawFd;
 
-/// Runs a command while a database is held. Tells whether it is such a command, and the database can be held.
+/// Runs a command while something is held. Tells whether it is such a command, and this can be held.
 pub fn run(rt: &HostRuntime, shown: &mut String, line: &str) -> Asked {
     let (how, rest) = line.split_once(' ').unwrap_or((line, ""));
-    let (db, command) = rest.split_once(' ').unwrap_or((rest, ""));
+    let (held, command) = rest.split_once(' ').unwrap_or((rest, ""));
     match how {
-        "reading" => run_reading(rt, shown, db, command),
-        "editing" => run_editing(rt, shown, db, command),
+        "reading" => run_reading(rt, shown, held, command),
+        "editing" => run_editing(rt, shown, held, command),
+        "bound" => run_bound(rt, shown, held, command),
         _ => Ok(false),
     }
 }
@@ -41,5 +44,18 @@ fn run_editing(rt: &HostRuntime, shown: &mut String, db: &str, command: &str) ->
     };
     let asked = terminal::run(rt, shown, command, "");
     drop(conn);
+    asked
+}
+
+/// Runs a command while a socket has a port of the loopback address.
+fn run_bound(rt: &HostRuntime, shown: &mut String, port: &str, command: &str) -> Asked {
+    let Ok(port) = port.parse::<u16>() else {
+        return Ok(false);
+    };
+    let Ok(listener) = TcpListener::bind(rt, (Ipv4Addr::LOCALHOST, port)) else {
+        return Ok(false);
+    };
+    let asked = terminal::run(rt, shown, command, "");
+    drop(listener);
     asked
 }
