@@ -37,11 +37,7 @@ pub fn run_first_line<I: BufRead>(rt: &HostRuntime, input: &mut I) -> Result<Out
 }
 
 /// Runs the command whose words a first line has.
-fn run_line<I: BufRead>(
-    rt: &HostRuntime,
-    bytes: &[u8],
-    input: &mut I,
-) -> Result<Outcome, Failure>
+fn run_line<I: BufRead>(rt: &HostRuntime, bytes: &[u8], input: &mut I) -> Result<Outcome, Failure>
     ensures { AnswersLine (spec.first_line bytes.now) (I.remaining input.old) (told result) }
 {
     let line = match first_line(bytes) {

@@ -83,11 +83,7 @@ fn read_texts<I: BufRead>(
 {
     let text = read_if_given(rt, FileArgument::File, Some(words.file), input)?;
     match key {
-        KeySource::Word(key) => put_edit(
-            rt,
-            words,
-            edit_of(words, base, key, text.as_str()),
-        ),
+        KeySource::Word(key) => put_edit(rt, words, edit_of(words, base, key, text.as_str())),
         KeySource::InFile(file) => read_key_file(rt, words, base, text.as_str(), file, input),
     }
 }
