@@ -1,5 +1,5 @@
-//! Tries the commands at readers and writers that fail, desks on files that fail, and connections whose reader or writer fails
-//! or has no end. What is answered while they work is in the worked cases.
+//! Tries the commands at readers and writers that fail, desks on files that fail, and connections
+//! whose reader or writer fails, ends after each byte, or has no end. What is answered while they work is in the worked cases.
 #![tactic(auto)]
 
 mod commands;
