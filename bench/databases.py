@@ -39,9 +39,9 @@ def make(program, database):
         fail(f"`init` ended with status 0 and did not say `ready`, but: {out!r}")
 
 
-def put_words(database, name, path, base, caller):
-    """The words of an edit, whose text is in a file."""
-    return ["put", database, name, path, "--base", base, "--caller", caller, "--key", KEYS[caller]]
+def put_words(database, name, path, base, caller, key=None):
+    """The words of an edit, whose text is in a file. The key is the caller's, unless it is given."""
+    return ["put", database, name, path, "--base", base, "--caller", caller, "--key", key or KEYS[caller]]
 
 
 def revisions(program, database, name):
