@@ -30,6 +30,7 @@ use Rattle.cli_output.specs.declared.refused.Refused.TheVariants as refused
 use Rattle.cli_database.specs.Opening.{TellsNoDesk}
 use Rattle.cli_database.specs.PutCommand.{AnswersEdit, AnswersPutFiles, AnswersPutKey, GivesKeyBy, HasReplies, PutsFrom, TellsAnswer, TellsReply, key_file_in, key_in, put_files, with_first}
 use Rattle.cli_database.specs.RefusedOutputs.{IsRefusedByDesk, TellsError}
+use Rattle.cli_database.proofs.NoDesk.{by_opening, by_store}
 use Rattle.cli_database.specs.declared.put_command.KeySource.{KeySource}
 use Rattle.cli_database.specs.declared.put_command.KeySource.TheVariants.{InFile, Word}
 
@@ -46,34 +47,12 @@ tells_answer e replies (Ok done) (Ok output) has number tells = absurd tells
 tells_answer e replies (Ok done) (Err failure) has number tells = absurd tells
 tells_answer e replies (Err failed) result has number tells = tells
 
--- a database that is not opened for edits has no answer to an edit
-pub no_desk : (path : List ℕ) (e : Edit) (output : Output) → TellsNoDesk output → AnswersEdit path e (Ok output)
-no_desk path e (Refused (refused.Desk by_desk.Store) told) tells = tt
-no_desk path e (Refused (refused.Desk by_desk.Schema) told) tells = tt
-no_desk path e output tells = absurd tells
-
--- a database is not one of this project
-foreign : (path : List ℕ) (e : Edit) (result : Result Output Failure) → IsRefusedByDesk by_desk.Schema result → AnswersEdit path e result
-foreign path e (Ok (Refused why told)) is = subst (λ (w : Why). AnswersEdit path e (Ok (Refused w told))) (sym is) tt
-foreign path e (Ok output) is = absurd is
-foreign path e (Err Memory) is = tt
-foreign path e (Err failure) is = absurd is
-
--- SQLite does not open a database, or refused a statement
-not_stored : (path : List ℕ) (e : Edit) (result : Result Output Failure) → IsRefusedByDesk by_desk.Store result → AnswersEdit path e result
-not_stored path e (Ok (Refused why told)) is = subst (λ (w : Why). AnswersEdit path e (Ok (Refused w told))) (sym is) tt
-not_stored path e (Ok output) is = absurd is
-not_stored path e (Err Memory) is = tt
-not_stored path e (Err failure) is = absurd is
-
--- no desk is opened on a database
-not_put : (path : List ℕ) (e : Edit) (failed : DeskError) (result : Result Output Failure) → IsOfOpening failed → TellsError failed result → AnswersEdit path e result
-not_put path e error.Schema result look tells = foreign path e result tells
-not_put path e (error.Store fault) result look tells = not_stored path e result tells
-not_put path e error.Memory result look tells = subst (λ (r : Result Output Failure). AnswersEdit path e r) (sym tells) tt
-not_put path e (error.Refused refusal) result (inl schema) tells = absurd (cc)
-not_put path e (error.Refused refusal) result (inr (inl memory)) tells = absurd (cc)
-not_put path e (error.Refused refusal) result (inr (inr (fault, look, known, is))) tells = absurd (cc)
+-- of a database that has no desk nothing is said
+pub no_desk : (path : List ℕ) (e : Edit) (result : Result Output Failure) → TellsNoDesk path result → AnswersEdit path e result
+no_desk path e (Ok (Refused (refused.Desk by_desk.Store) told)) tells = tt
+no_desk path e (Ok (Refused (refused.Desk by_desk.Schema) told)) tells = tt
+no_desk path e (Ok output) tells = absurd tells
+no_desk path e (Err failure) tells = tells
 
 -- of an edit that has no revision, only out of memory is a failure
 failed_so : (path : List ℕ) (e : Edit) (answer : Result Done DeskError) (failure : Failure) → TellsAnswer answer (Err failure) → AnswersEdit path e (Err failure)
@@ -101,8 +80,8 @@ answered path old new e answer (Ok output) put tells = record {
 -- an edit is put into the files that a path leads to
 pub answers : {S A : Type 0} (g : Ghosts S) (image : Image) (path : List ℕ) (e : Edit) (replies : Replies (String A)) (result : Result Output Failure) (left : Option (Held S)) → HasReplies (e.base + 1) replies
     → PutsFrom g image e replies result left → AnswersEdit path e result
-answers g image path e replies result None has is = not_stored path e result is
-answers g image path e replies result (Some left) has (conn, opened, inl (failed, none, tells)) = not_put path e failed result none.opening tells
+answers g image path e replies result None has is = no_desk path e result (by_store path result is)
+answers g image path e replies result (Some left) has (conn, opened, inl (failed, none, tells)) = no_desk path e result (by_opening path failed result none.opening tells)
 answers g image path e replies result (Some left) has (conn, opened, inr (answer, put, tells)) =
     answered path (state g conn) (state g left) e answer result put (tells_answer e replies answer result has put.number tells)
 

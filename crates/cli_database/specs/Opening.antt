@@ -1,35 +1,30 @@
--- Why a database is not opened for edits. (this project's own)
-use Rattle.std.specs.Prelude.{◌≡◌, ℕ, List, Option, Some, None, Result, Ok, Err}
+-- How a database is opened for edits, and why it is not. (this project's own)
+use Rattle.std.specs.Prelude.{ℕ, List, Result, Ok, Err}
+use Rattle.sqlite_wal.specs.Recovery.{Image}
+use Rattle.sqlite_trees.specs.declared.store.Store.{Ghosts}
+use Rattle.sqlite.specs.Held.{Held, state}
+use Rattle.sqlite.specs.Start.{FindsIn}
+use Rattle.sqlite.specs.State.{HasCleanDisk, Opens}
+use Rattle.desk_store.specs.Desk.{HasGoodDisk, Shown}
+use Rattle.desk_store.specs.Open.{OpensAt}
 use Rattle.desk_service.specs.declared.refused.Refused.TheVariants as by_desk
 use Rattle.cli_files.specs.Files.{IsUnread}
 use Rattle.cli_files.specs.declared.failure.Failure.{Failure}
-use Rattle.cli_files.specs.declared.failure.Failure.TheVariants.{Memory}
 use Rattle.cli_files.specs.declared.files.FileArgument.TheVariants.{Database}
 use Rattle.cli_output.specs.declared.output.Output.{Output}
 use Rattle.cli_output.specs.declared.output.Output.TheVariants.{Refused}
 use Rattle.cli_output.specs.declared.refused.Refused.TheVariants as refused
-use Rattle.cli_database.specs.RefusedOutputs.{IsRefusedByDesk}
 
--- the output tells that there is no desk: SQLite does not open the database, or refused a statement, or the database is not one of
--- this project
-abbrev pub TellsNoDesk : Output → Type 0
-TellsNoDesk (Refused (refused.Desk by_desk.Store) told) = Unit {0}
-TellsNoDesk (Refused (refused.Desk by_desk.Schema) told) = Unit {0}
-TellsNoDesk output = ⊥
+-- The output tells that there is no desk at this path: SQLite does not open the database or refused a statement, or the database is not
+-- one of this project; or it cannot be read, of which out of memory says nothing.
+abbrev pub TellsNoDesk : List ℕ → Result Output Failure → Type 0
+TellsNoDesk path (Ok (Refused (refused.Desk by_desk.Store) told)) = Unit {0}
+TellsNoDesk path (Ok (Refused (refused.Desk by_desk.Schema) told)) = Unit {0}
+TellsNoDesk path (Ok output) = ⊥
+TellsNoDesk path (Err failure) = IsUnread Database path failure
 
--- why the database at this path is not opened for edits, if that shows before SQLite opens it; or that it cannot be read, of which out
--- of memory says nothing
-abbrev pub IsRefusedEarly : List ℕ → Result (Option Output) Failure → Type 0
-IsRefusedEarly path (Ok None) = Unit {0}
-IsRefusedEarly path (Ok (Some output)) = TellsNoDesk output
-IsRefusedEarly path (Err failure) = IsUnread Database path failure
-
--- what is opened is as it should be; else the output tells this, and a failure is out of memory
-abbrev pub OpensOr : {T : Type 0} → (T → Type 0) → (Output → Type 0) → Result (Result T Output) Failure → Type 0
-OpensOr IsGood Tells (Ok (Ok opened)) = IsGood opened
-OpensOr IsGood Tells (Ok (Err output)) = Tells output
-OpensOr IsGood Tells (Err failure) = failure ≡ Memory
-
--- the output tells that SQLite does not open the database, or refused a statement
-abbrev pub TellsStore : Output → Type 0
-TellsStore output = IsRefusedByDesk by_desk.Store (Ok output)
+-- a desk that is opened on files that held this image stands at the history of the database that was found in them
+pub record OpensDesk {S V : Type 0} (g : Ghosts S) (image : Image) (desk : Shown S V) : Type 0 where
+  pub conn : Held S
+  pub found : HasCleanDisk (state g conn) → Opens (state g conn) × FindsIn image (state g conn)
+  pub stands : HasGoodDisk g desk → OpensAt g (state g conn).committed desk

@@ -4,35 +4,42 @@
 //! not write, as CannotOpen alone, so the system is asked for each first, and then DB is closed at once. An empty DB is refused
 //! before SQLite opens it, which would write a database into it.
 
-ghost use Rattle.std.specs.Prelude.{IfErr, IfOk};
+ghost use Rattle.std.specs.Prelude.{◌≡◌, false, IfErr, IfOk};
 ghost use Rattle.sqlite_wal.specs.Files.{image_at};
-ghost use Rattle.sqlite.specs.Files.{file_state};
+ghost use Rattle.sqlite.specs.Files.{file_state, over_files};
+ghost use Rattle.sqlite.specs.Held.{state};
 ghost use Rattle.sqlite.specs.Start.{FindsIn};
 ghost use Rattle.sqlite.specs.State.{HasCleanDisk, Opens};
-ghost use Rattle.cli_database.specs.Opening.{IsRefusedEarly, OpensOr, TellsStore};
+ghost use Rattle.desk_store.specs.Desk.{HasGoodDisk};
+ghost use Rattle.desk_store.specs.Open.{OpensAt};
+ghost use Rattle.desk_service.specs.declared.refused.Refused.TheVariants as by_desk;
+ghost use Rattle.cli_database.specs.Opening.{OpensDesk, TellsNoDesk};
+ghost use Rattle.cli_database.specs.RefusedOutputs.{IsRefusedByDesk};
 
+use crate::View;
 use crate::copy::unread;
 use crate::database_file::{CANNOT_OPEN, is_plain};
 use crate::log_file::remove_log;
-use crate::refused_outputs::{not_opened_at, not_writable, refused_by_schema};
+use crate::refused_outputs::{not_opened_at, not_writable, refused_by_desk, refused_by_schema};
 use cli_files::failure::Failure;
 use cli_output::output::Output;
-use sqlite::{Connection, FileFrom, FileStore, Start};
+use desk_store::Desk;
+use sqlite::{Alter, Connection, FileFrom, FileStore, Start};
 use std::fs::OpenOptions;
 use std::{fs, io};
 
 /// A connection to files, where `S` stands for what they held.
 pub type FilesFrom<S> = Connection<FileStore<FileFrom<S>>>;
 
-/// Answers why a database is not opened for edits, if that shows before SQLite opens it: it is not a regular file with one name, it
-/// cannot be read or written, or it is empty.
-pub fn refused_early(rt: &HostRuntime, db: &str) -> Result<Option<Output>, Failure>
-    ensures { IsRefusedEarly db.now result }
+/// Looks at the file of a database before SQLite opens it for edits. Answers why it is not opened, if that shows: it is not a regular
+/// file with one name, it cannot be read or written, or it is empty.
+pub fn check_file(rt: &HostRuntime, db: &str) -> Result<(), Result<Output, Failure>>
+    ensures { IfErr result (TellsNoDesk db.now) }
 {
     match leads_to_plain(rt, db) {
-        Ok(true) => refused_as_file(rt, db),
-        Ok(false) => Ok(Some(not_opened_at(rt, db, CANNOT_OPEN)?)),
-        Err(error) => Err(unread(rt.alloc(), db, error)),
+        Ok(true) => check_plain_file(rt, db),
+        Ok(false) => Err(not_opened_at(rt, db, CANNOT_OPEN)),
+        Err(error) => Err(Err(unread(rt.alloc(), db, error))),
     }
 }
 
@@ -42,17 +49,27 @@ fn leads_to_plain(rt: &HostRuntime, path: &str) -> io::Result<bool> {
     is_plain(rt, real.as_str())
 }
 
-/// Answers why a regular file is not opened for edits, if that shows: it cannot be read, or not be written, or is empty.
-fn refused_as_file(rt: &HostRuntime, db: &str) -> Result<Option<Output>, Failure>
-    ensures { IsRefusedEarly db.now result }
+/// Looks at a regular file: whether it can be read and written, and is not empty.
+fn check_plain_file(rt: &HostRuntime, db: &str) -> Result<(), Result<Output, Failure>>
+    ensures { IfErr result (TellsNoDesk db.now) }
 {
-    if let Err(error) = fs::open(rt, db) {
-        return Err(unread(rt.alloc(), db, error));
+    match fs::open(rt, db) {
+        Ok(file) => {
+            drop(file);
+            check_readable_file(rt, db)
+        }
+        Err(error) => Err(Err(unread(rt.alloc(), db, error))),
     }
+}
+
+/// Looks at a regular file that can be read: whether it can be written, and is not empty.
+fn check_readable_file(rt: &HostRuntime, db: &str) -> Result<(), Result<Output, Failure>>
+    ensures { IfErr result (TellsNoDesk db.now) }
+{
     match is_empty_file(rt, db) {
-        Ok(true) => Ok(Some(refused_by_schema(rt.alloc(), db)?)),
-        Ok(false) => Ok(None),
-        Err(error) => Ok(Some(not_writable(rt.alloc(), db, &error)?)),
+        Ok(true) => Err(refused_by_schema(rt.alloc(), db)),
+        Ok(false) => Ok(()),
+        Err(error) => Err(not_writable(rt.alloc(), db, &error)),
     }
 }
 
@@ -63,24 +80,66 @@ fn is_empty_file(rt: &HostRuntime, path: &str) -> io::Result<bool> {
     Ok(file.metadata()?.len() <= 1)
 }
 
-/// Opens a connection to the database DB, at this path of SQLite's. If it is not opened, a log that was made for it goes.
+/// Opens a connection to the database DB, at this path of SQLite's; else answers why it is not opened, and a log that was made for it
+/// goes.
 pub fn open_connection<S: Start>(
     rt: &HostRuntime,
     db: &str,
     path: &str,
     log: &Option<String>,
     start: S,
-) -> Result<Result<FilesFrom<S>, Output>, Failure>
-    ensures { OpensOr (λ conn. HasCleanDisk (file_state conn) → Opens (file_state conn) × FindsIn (image_at S.Start) (file_state conn)) TellsStore result }
+) -> Result<FilesFrom<S>, Result<Output, Failure>>
+    ensures settled { IfOk result (λ conn. (file_state conn).in_transaction ≡ false) }
+    ensures opened { IfOk result (λ conn. HasCleanDisk (file_state conn) → Opens (file_state conn)) }
+    ensures found { IfOk result (λ conn. HasCleanDisk (file_state conn) → FindsIn (image_at S.Start) (file_state conn)) }
+    ensures refused { IfErr result (IsRefusedByDesk by_desk.Store) }
 {
     match Connection::open_from(rt, path, false, start) {
-        Ok(conn) => Ok(Ok(conn)),
+        Ok(conn) => Ok(conn),
         Err((error, left)) => {
             if left.is_some() {
                 remove_log(rt, log);
             }
             drop(left);
-            Ok(Err(not_opened_at(rt, db, error)?))
+            Err(not_opened_at(rt, db, error))
+        }
+    }
+}
+
+/// Opens a desk on the database DB, at this path of SQLite's; else answers why there is none.
+pub fn open_desk<S: Start>(
+    rt: &HostRuntime,
+    db: &str,
+    path: &str,
+    log: &Option<String>,
+    start: S,
+) -> Result<Desk<FileStore<FileFrom<S>>, View>, Result<Output, Failure>>
+    ensures opened { IfOk result (OpensDesk over_files (image_at S.Start)) }
+    ensures refused { IfErr result (TellsNoDesk db.now) }
+{
+    match open_connection(rt, db, path, log, start) {
+        Ok(conn) => desk_over(rt, db, log, conn),
+        Err(answer) => Err(answer),
+    }
+}
+
+/// Opens a desk on the database of a connection. If there is none, it answers why, and a log that was made for it goes.
+fn desk_over<S: Alter + Drop>(
+    rt: &HostRuntime,
+    db: &str,
+    log: &Option<String>,
+    conn: Connection<S>,
+) -> Result<Desk<S, View>, Result<Output, Failure>>
+    requires { (state S.Store conn).in_transaction ≡ false }
+    ensures opened { IfOk result (λ desk. HasGoodDisk S.Store desk → OpensAt S.Store (state S.Store conn).committed desk) }
+    ensures refused { IfErr result (TellsNoDesk db.now) }
+{
+    match Desk::open(rt.alloc(), conn) {
+        Ok(desk) => Ok(desk),
+        Err((error, conn)) => {
+            remove_log(rt, log);
+            drop(conn);
+            Err(refused_by_desk(rt.alloc(), db, error))
         }
     }
 }

@@ -13,7 +13,7 @@ ghost use Rattle.cli_database.specs.RefusedOutputs.{IsRefusedByDesk};
 use crate::View;
 use crate::database_file::plain_path;
 use crate::log_file::{log_to_make, remove_log};
-use crate::opening::{FilesFrom, open_connection, refused_early};
+use crate::opening::{FilesFrom, check_file, open_connection};
 use crate::refused_outputs::{refusal_told, refused_by_desk};
 use cli_files::bad_argument::Argument;
 use cli_files::failure::Failure;
@@ -131,9 +131,9 @@ fn edit_of<'a>(words: PutWords<'a>, base: u32, key: &'a str, text: &'a str) -> E
 fn put_edit(rt: &HostRuntime, words: PutWords<'_>, edit: Edit<'_>) -> Result<Output, Failure>
     ensures { AnswersEdit words.entry.db.now (asked edit.entry) result }
 {
-    match refused_early(rt, words.db)? {
-        Some(output) => Ok(output),
-        None => remove_new_log(rt, words, &edit),
+    match check_file(rt, words.db) {
+        Ok(()) => remove_new_log(rt, words, &edit),
+        Err(answer) => answer,
     }
 }
 
@@ -176,12 +176,11 @@ fn open_files<S: Start>(
     ensures { PutsFrom over_files (image_at S.Start) (asked edit.now) replies result.0 result.1 }
 {
     match open_connection(rt, words.db, path, log, start) {
-        Ok(Ok(conn)) => {
+        Ok(conn) => {
             let (answer, left) = over_connection(rt.alloc(), words, conn, edit, replies);
             (answer, Some(left))
         }
-        Ok(Err(output)) => (Ok(output), None),
-        Err(failure) => (Err(failure), None),
+        Err(answer) => (answer, None),
     }
 }
 

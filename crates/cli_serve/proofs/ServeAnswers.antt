@@ -1,22 +1,14 @@
 -- What `serve` comes to is what its words ask for, for `serve_command`.
-use Rattle.std.proofs.Common.{◌≡◌, ℕ, List, inl, inr, Option, Some, None, Result, Ok, Err, subst, sym}
-use Rattle.desk_store.specs.Open.{IsOfOpening}
-use Rattle.desk_store.specs.declared.error.DeskError.{DeskError}
-use Rattle.desk_store.specs.declared.error.DeskError.TheVariants as error
-use Rattle.desk_service.specs.declared.refused.Refused.{Refused as ByDesk}
-use Rattle.desk_service.specs.declared.refused.Refused.TheVariants as by_desk
+use Rattle.std.specs.Prelude.{IfOk}
+use Rattle.std.proofs.Common.{◌≡◌, ℕ, List, inl, Option, Some, None, Result, Ok, Err, subst, sym}
 use Rattle.cli_line.specs.CommandLine.{ServeWords}
 use Rattle.cli_files.specs.declared.failure.Failure.{Failure}
-use Rattle.cli_files.specs.declared.failure.Failure.TheVariants.{Memory}
 use Rattle.cli_words.specs.Arguments.{count_number, port_number}
 use Rattle.cli_output.specs.declared.output.Output.{Output}
-use Rattle.cli_output.specs.declared.output.Output.TheVariants.{Done, Refused}
-use Rattle.cli_output.specs.declared.refused.Refused.{Refused as Why}
-use Rattle.cli_output.specs.declared.refused.Refused.TheVariants as refused
+use Rattle.cli_output.specs.declared.output.Output.TheVariants.{Done}
 use Rattle.cli_database.specs.Opening.{TellsNoDesk}
-use Rattle.cli_database.specs.RefusedOutputs.{IsRefusedByDesk, TellsError}
 use Rattle.cli_serve.specs.PrivateServe.{Starts}
-use Rattle.cli_serve.specs.ServeCommand.{AnswersServe, AnswersServeBy, AnswersService, IsAsked, IsBadAsked, RunsAs, RunsBehind, limit_number}
+use Rattle.cli_serve.specs.ServeCommand.{AnswersServe, AnswersServeBy, AnswersService, IsAsked, IsBadAsked, RunsAs, RunsBehind, limit_number, told}
 use Rattle.cli_serve.specs.declared.serve_command.Asked.{Asked}
 use Rattle.cli_serve.specs.declared.serve_command.Outcome.{Outcome}
 use Rattle.cli_serve.specs.declared.serve_command.Service.{Service}
@@ -42,40 +34,25 @@ behind words asked (Done text) None is same = absurd same
 behind words asked output (Some service) is same = absurd same
 behind words asked output None is same = tt
 
--- there is no desk, and nothing runs
-pub no_desk : (path : List ℕ) (port : ℕ) (output : Output) → TellsNoDesk output → AnswersService path port (Ok output)
-no_desk path port (Done text) tells = absurd tells
-no_desk path port output tells = tells
+-- there is no desk
+told_no_desk : (path : List ℕ) (port : ℕ) (result : Result Output Failure) → TellsNoDesk path result → AnswersService path port result
+told_no_desk path port (Ok (Done text)) tells = absurd tells
+told_no_desk path port (Ok output) tells = tells
+told_no_desk path port (Err failure) tells = inl tells
 
-pub nothing_runs : (Asks : Asked → Type 0) (output : Output) → TellsNoDesk output → RunsBehind Asks output None
-nothing_runs Asks (Done text) tells = absurd tells
-nothing_runs Asks output tells = tt
+-- and nothing runs
+nothing_runs : (Asks : Asked → Type 0) (path : List ℕ) (output : Output) → TellsNoDesk path (Ok output) → RunsBehind Asks output None
+nothing_runs Asks path (Done text) tells = absurd tells
+nothing_runs Asks path output tells = tt
 
--- that the store refused, or the database is not one of this project, tells that there is no desk
-pub told_no_desk : (output : Output) → IsRefusedByDesk by_desk.Store (Ok output) → TellsNoDesk output
-told_no_desk (Refused why told) is = subst (λ (w : Why). TellsNoDesk (Refused w told)) (sym is) tt
-told_no_desk output is = absurd is
+runs_as : (Asks : Asked → Type 0) (path : List ℕ) (result : Result Outcome Failure) → TellsNoDesk path (told result) → IfOk result (λ outcome. outcome.service ≡ None) → RunsAs Asks result
+runs_as Asks path (Ok outcome) tells none = subst (λ (service : Option Service). RunsBehind Asks outcome.output service) (sym none) (nothing_runs Asks path outcome.output tells)
+runs_as Asks path (Err failure) tells none = tt
 
-foreign : (output : Output) → IsRefusedByDesk by_desk.Schema (Ok output) → TellsNoDesk output
-foreign (Refused why told) is = subst (λ (w : Why). TellsNoDesk (Refused w told)) (sym is) tt
-foreign output is = absurd is
-
--- why no desk is opened is told
-pub not_opened : (failed : DeskError) (output : Output) → IsOfOpening failed → TellsError failed (Ok output) → TellsNoDesk output
-not_opened error.Schema output look tells = foreign output tells
-not_opened (error.Store fault) output look tells = told_no_desk output tells
-not_opened error.Memory output look tells = absurd (let e = tells in cc)
-not_opened (error.Refused refusal) output (inl schema) tells = absurd (cc)
-not_opened (error.Refused refusal) output (inr (inl memory)) tells = absurd (cc)
-not_opened (error.Refused refusal) output (inr (inr (fault, look, known, is))) tells = absurd (cc)
-
--- a desk that cannot be told of is out of memory
-out_of_memory : (why : ByDesk) (failure : Failure) → IsRefusedByDesk why (Err failure) → failure ≡ Memory
-out_of_memory why Memory is = refl
-out_of_memory why failure is = absurd is
-
-pub failed : (e : DeskError) (failure : Failure) → TellsError e (Err failure) → failure ≡ Memory
-failed error.Memory failure tells = let e = tells in cc
-failed error.Schema failure tells = out_of_memory by_desk.Schema failure tells
-failed (error.Store fault) failure tells = out_of_memory by_desk.Store failure tells
-failed (error.Refused refusal) failure tells = out_of_memory (by_desk.Edit refusal) failure tells
+pub starts_nothing : (path : List ℕ) (asked : Asked) (answer : Result Output Failure) (result : Result Outcome Failure) → TellsNoDesk path answer → told result ≡ answer → IfOk result (λ outcome. outcome.service ≡ None) → Starts path asked result
+starts_nothing path asked answer result tells same none =
+    let tells_it : TellsNoDesk path (told result) = subst (λ (r : Result Output Failure). TellsNoDesk path r) (sym same) tells in
+    record {
+      answered = told_no_desk path asked.port (told result) tells_it;
+      asked = runs_as (λ found. found ≡ asked) path result tells_it none;
+    }

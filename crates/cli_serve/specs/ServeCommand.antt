@@ -58,7 +58,7 @@ IsUnbound port failure = ⊥
 -- read, or the port not be bound. Out of memory says nothing.
 abbrev pub AnswersService : List ℕ → ℕ → Result Output Failure → Type 0
 AnswersService path port (Ok (Done text)) = string_bytes text ≡ listening_line port
-AnswersService path port (Ok output) = TellsNoDesk output
+AnswersService path port (Ok output) = TellsNoDesk path (Ok output)
 AnswersService path port (Err failure) = IsUnread Database path failure ⊎ IsUnbound port failure
 
 -- the output by what N, M and SECONDS are read as

@@ -2,32 +2,25 @@
 //!
 //! It ends in two steps: what it prints is known once its port is bound, and nothing is accepted before that is printed.
 
-ghost use Rattle.std.specs.Prelude.{◌≡◌, ℕ, false, IfOk, List, MatchResult, None, Some};
+ghost use Rattle.std.specs.Prelude.{◌≡◌, ℕ, IfOk, List, MatchResult, None, Some};
 ghost use Rattle.std.specs.Option.{option_map};
 ghost use Rattle.std.specs.String.{string_bytes};
-ghost use Rattle.sqlite_wal.specs.Files.{image_at};
-ghost use Rattle.sqlite.specs.Files.{over_files};
-ghost use Rattle.sqlite.specs.Held.{state};
-ghost use Rattle.desk_store.specs.Desk.{HasGoodDisk};
-ghost use Rattle.desk_store.specs.Open.{OpensAt};
 ghost use Rattle.cli_words.specs.Words.{given_serve};
-ghost use Rattle.cli_database.specs.Opening.{OpensOr, TellsNoDesk};
-ghost use Rattle.cli_serve.specs.PrivateServe.{OpensDesk, Starts};
+ghost use Rattle.cli_serve.specs.PrivateServe.{Starts};
 ghost use Rattle.cli_serve.specs.ServeCommand.{AnswersServe, IsAsked, IsBadLimit, IsUnbound, ReadsAsked, RunsAs, limit_number, listening_line, told};
 
 use crate::serving::serve_on;
 use cli_database::View;
 use cli_database::database_file::plain_path;
 use cli_database::log_file::{log_to_make, remove_log};
-use cli_database::opening::{open_connection, refused_early};
-use cli_database::refused_outputs::refused_by_desk;
+use cli_database::opening::{check_file, open_desk};
 use cli_files::bad_argument::Argument;
 use cli_files::failure::Failure;
 use cli_output::output::Output;
 use cli_words::arguments::{read_count, read_port};
 use cli_words::database_words::ServeWords;
 use desk_store::Desk;
-use sqlite::{Alter, Connection, FileFrom, FileStore, Start, Wary};
+use sqlite::{FileFrom, FileStore, Wary};
 use std::alloc::{AllocError, Global};
 use std::io;
 use std::io::ErrorKind;
@@ -127,19 +120,37 @@ fn read_limit(alloc: Global, word: Option<&str>) -> Result<u32, Failure>
     }
 }
 
-/// Opens the database and binds the port. What allocates comes before the log is made.
+/// Opens the database and binds the port, if its file can be opened for edits.
 fn start(rt: &HostRuntime, db: &str, asked: Asked) -> Result<Outcome, Failure>
     ensures { Starts db.now asked result }
 {
-    if let Some(output) = refused_early(rt, db)? {
-        return Ok(Outcome::printed(output));
+    match check_file(rt, db) {
+        Ok(()) => start_on(rt, db, asked),
+        Err(answer) => printed(answer),
     }
+}
+
+/// Opens the database and binds the port. What allocates comes before the log is made.
+fn start_on(rt: &HostRuntime, db: &str, asked: Asked) -> Result<Outcome, Failure>
+    ensures { Starts db.now asked result }
+{
     let line = listening_line(rt.alloc(), asked.port)?;
     let path = plain_path(rt.alloc(), db)?;
     let log = log_to_make(rt, db)?;
-    match open_desk(rt, db, path.as_str(), &log, Wary)? {
+    match open_desk(rt, db, path.as_str(), &log, Wary) {
         Ok(desk) => listen(rt, desk, asked, log, line),
-        Err(output) => Ok(Outcome::printed(output)),
+        Err(answer) => printed(answer),
+    }
+}
+
+/// Returns the outcome of a command that only prints, or why it has no answer.
+fn printed(answer: Result<Output, Failure>) -> Result<Outcome, Failure>
+    ensures told { told result ≡ answer }
+    ensures nothing_runs { IfOk result (λ outcome. outcome.service ≡ None) }
+{
+    match answer {
+        Ok(output) => Ok(Outcome::printed(output)),
+        Err(failure) => Err(failure),
     }
 }
 
@@ -148,42 +159,6 @@ fn listening_line(alloc: Global, port: u16) -> Result<String, AllocError>
     ensures { IfOk result (λ text. string_bytes text ≡ listening_line port) }
 {
     format!(in alloc; "listening 127.0.0.1:{port}\n")
-}
-
-/// Opens a desk on the database DB, at this path of SQLite's.
-fn open_desk<S: Start>(
-    rt: &HostRuntime,
-    db: &str,
-    path: &str,
-    log: &Option<String>,
-    start: S,
-) -> Result<Result<Desk<FileStore<FileFrom<S>>, View>, Output>, Failure>
-    ensures { OpensOr (OpensDesk over_files (image_at S.Start)) TellsNoDesk result }
-{
-    match open_connection(rt, db, path, log, start)? {
-        Ok(conn) => desk_over(rt, db, log, conn),
-        Err(output) => Ok(Err(output)),
-    }
-}
-
-/// Opens a desk on the database of a connection. If there is none, a log that was made for it goes.
-fn desk_over<S: Alter + Drop>(
-    rt: &HostRuntime,
-    db: &str,
-    log: &Option<String>,
-    conn: Connection<S>,
-) -> Result<Result<Desk<S, View>, Output>, Failure>
-    requires { (state S.Store conn).in_transaction ≡ false }
-    ensures { OpensOr (λ desk. HasGoodDisk S.Store desk → OpensAt S.Store (state S.Store conn).committed desk) TellsNoDesk result }
-{
-    match Desk::open(rt.alloc(), conn) {
-        Ok(desk) => Ok(Ok(desk)),
-        Err((error, conn)) => {
-            remove_log(rt, log);
-            drop(conn);
-            Ok(Err(refused_by_desk(rt.alloc(), db, error)?))
-        }
-    }
 }
 
 /// Binds the port for a desk.

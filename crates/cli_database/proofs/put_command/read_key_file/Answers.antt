@@ -18,6 +18,6 @@ returns g c = record {
   answers = (
     c.key_of-key.result.now,
     subst (λ (text : List ℕ). IsKeyIn text c.key_of-key.result.now) c.as_str.ensures.value c.key_of-key.ensures,
-    subst (λ (e : Edit). AnswersEdit c.args.words.db.now e c.refuse_odd_file.result) c.edit_of.ensures c.refuse_odd_file.ensures,
+    subst (λ (e : Edit). AnswersEdit c.args.words.db.now e c.put_edit.result) c.edit_of.ensures c.put_edit.ensures,
   );
 }

@@ -16,11 +16,11 @@ returns-in_err-text g c =
 
 pub returns-in-Word : goal.returns-in-Word
 returns-in-Word g c =
-    subst (λ (source : KeySource). AnswersPutFiles (given_put c.args.words) c.args.base (key_in source) (key_file_in source) (g.I.Read.remaining c.args.input.now) c.refuse_odd_file.result) (sym c.in-Word.is) (record {
+    subst (λ (source : KeySource). AnswersPutFiles (given_put c.args.words) c.args.base (key_in source) (key_file_in source) (g.I.Read.remaining c.args.input.now) c.put_edit.result) (sym c.in-Word.is) (record {
       read = Ok (string_bytes c.in_ok-text.text ∷ []);
       reads = (c.in_ok-text.ensures.text, (g.I.Read.remaining c.read_if_given.new.input, (c.read_if_given.ensures.left, refl)));
-      answers = subst (λ (e : Edit). AnswersEdit c.args.words.db.now e c.refuse_odd_file.result)
-          (c.edit_of.ensures ∙ ap (edit_of (given_put c.args.words) c.args.base c.in-Word.key.now) c.as_str.ensures.value) c.refuse_odd_file.ensures;
+      answers = subst (λ (e : Edit). AnswersEdit c.args.words.db.now e c.put_edit.result)
+          (c.edit_of.ensures ∙ ap (edit_of (given_put c.args.words) c.args.base c.in-Word.key.now) c.as_str.ensures.value) c.put_edit.ensures;
     })
 
 pub returns : goal.returns

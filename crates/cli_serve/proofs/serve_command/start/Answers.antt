@@ -1,0 +1,6 @@
+-- A database that is not opened is not served.
+use Rattle.cli_serve.proofs.ServeAnswers.{starts_nothing}
+use Rattle.cli_serve.proofs.serve_command.start.Goals as goal
+
+pub returns-in-Err : goal.returns-in-Err
+returns-in-Err c = starts_nothing c.args.db.now c.args.asked c.in-Err.answer c.printed.result c.in-Err.ensures c.printed.ensures.told c.printed.ensures.nothing_runs
