@@ -28,7 +28,7 @@ unread words (Some port) (Some connections) None failure bad = bad
 unread words (Some port) (Some connections) (Some seconds) failure bad = absurd bad
 
 -- a service that is as another is asked is as the words ask
-pub behind : (words : ServeWords) (asked : Asked) (output : Output) (service : Option Service) → IsAsked words asked → RunsBehind (λ found. found ≡ asked) output service → RunsBehind (IsAsked words) output service
+behind : (words : ServeWords) (asked : Asked) (output : Output) (service : Option Service) → IsAsked words asked → RunsBehind (λ found. found ≡ asked) output service → RunsBehind (IsAsked words) output service
 behind words asked (Done text) (Some service) is same = subst (λ (a : Asked). IsAsked words a) (sym same) is
 behind words asked (Done text) None is same = absurd same
 behind words asked output (Some service) is same = absurd same
@@ -54,5 +54,10 @@ starts_nothing path asked answer result tells same none =
     let tells_it : TellsNoDesk path (told result) = subst (λ (r : Result Output Failure). TellsNoDesk path r) (sym same) tells in
     record {
       answered = told_no_desk path asked.port (told result) tells_it;
-      asked = runs_as (λ found. found ≡ asked) path result tells_it none;
+      runs = runs_as (λ found. found ≡ asked) path result tells_it none;
     }
+
+-- a service that is as it is asked is as the words ask
+pub as_words : (words : ServeWords) (asked : Asked) (result : Result Outcome Failure) → IsAsked words asked → RunsAs (λ found. found ≡ asked) result → RunsAs (IsAsked words) result
+as_words words asked (Ok outcome) is runs = behind words asked outcome.output outcome.service is runs
+as_words words asked (Err failure) is runs = tt

@@ -8,4 +8,4 @@ use Rattle.cli_serve.specs.declared.serve_command.Outcome.{Outcome}
 -- what is printed of a service that is asked so, and the service behind it
 pub record Starts (path : List ℕ) (asked : Asked) (result : Result Outcome Failure) : Type 0 where
   pub answered : AnswersService path asked.port (told result)
-  pub asked : RunsAs (λ found. found ≡ asked) result
+  pub runs : RunsAs (λ found. found ≡ asked) result
