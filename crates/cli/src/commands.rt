@@ -1,6 +1,6 @@
 //! From words to what the program prints.
 
-ghost use Rattle.std.specs.Prelude.{map};
+ghost use Rattle.std.specs.Prelude.{◌≡◌, map};
 ghost use Rattle.clap.specs.Words.{kind_of, subcommand_rows_of};
 ghost use Rattle.cli_line.specs.CommandLine.{command_of};
 ghost use Rattle.cli_files.specs.Input as spec;
@@ -62,7 +62,7 @@ pub fn run_words<S: AsSlice<u8>, I: BufRead>(
     let line = command_words(alloc, words)?;
     match command(alloc)?.try_get_matches_from(line.as_slice()) {
         Ok(matches) => run_found(rt, &matches, input),
-        Err(error) => Ok(Outcome::printed(clap_output(alloc, &error)?)),
+        Err(error) => printing(clap_output(alloc, &error)),
     }
 }
 
@@ -74,20 +74,29 @@ fn run_found<I: BufRead>(
 ) -> Result<Outcome, Failure>
     ensures { AnswersFound (command_of (subcommand_rows_of matches.now)) (I.remaining input.old) (told result) }
 {
-    let output = match found_command(matches)? {
-        CommandWords::Try(words) => run_try(rt, words, input),
-        CommandWords::Split(words) => run_split(rt, words, input),
-        CommandWords::Check(words) => run_check(rt, words, input),
-        CommandWords::Init(words) => run_init(rt, words, input),
-        CommandWords::Ask(words) => run_ask(rt, words),
-        CommandWords::Show(words) => run_show(rt, words),
-        CommandWords::Exports(words) => run_exports(rt, words),
-        CommandWords::Put(words) => run_put(rt, words, input),
-        CommandWords::Log(words) => run_log(rt, words),
-        CommandWords::Cat(words) => run_cat(rt, words),
-        CommandWords::Serve(words) => return run_serve(rt, words),
-    };
-    Ok(Outcome::printed(output?))
+    match found_command(matches)? {
+        CommandWords::Try(words) => printing(run_try(rt, words, input)),
+        CommandWords::Split(words) => printing(run_split(rt, words, input)),
+        CommandWords::Check(words) => printing(run_check(rt, words, input)),
+        CommandWords::Init(words) => printing(run_init(rt, words, input)),
+        CommandWords::Ask(words) => printing(run_ask(rt, words)),
+        CommandWords::Show(words) => printing(run_show(rt, words)),
+        CommandWords::Exports(words) => printing(run_exports(rt, words)),
+        CommandWords::Put(words) => printing(run_put(rt, words, input)),
+        CommandWords::Log(words) => printing(run_log(rt, words)),
+        CommandWords::Cat(words) => printing(run_cat(rt, words)),
+        CommandWords::Serve(words) => run_serve(rt, words),
+    }
+}
+
+/// Returns what a command comes to that only prints, or why it has no answer.
+fn printing(answer: Result<Output, Failure>) -> Result<Outcome, Failure>
+    ensures { told result ≡ answer }
+{
+    match answer {
+        Ok(output) => Ok(Outcome::printed(output)),
+        Err(failure) => Err(failure),
+    }
 }
 
 /// Returns what `clap` says in place of a command: help or the version, or what is wrong with the words.

@@ -24,7 +24,7 @@ ghost use Rattle.cli.specs.Commands.{Runs};
 use crate::commands::{run_first_line, run_words};
 use cli_files::failure::{Failure, Origin};
 pub use cli_output::output::print_memory;
-use cli_output::output::report;
+use cli_output::output::{Output, report};
 use cli_serve::serve_command::{Outcome, Service};
 use std::convert::AsSlice;
 use std::io::{BufRead, Write};
@@ -60,15 +60,22 @@ fn finish<O: Write, E: Write>(
     ensures status { (result ≡ status_of (told outcome)) ⊎ (result ≡ 4) }
     ensures printed { result ≢ 4 → Appends (O.contents out.old) (O.contents out.new) (printed (told outcome)) }
 {
-    let (answer, service) = match outcome {
-        Ok(outcome) => (Ok(outcome.output), outcome.service),
-        Err(failure) => (Err(failure), None),
-    };
+    let (answer, service) = parted(outcome);
     let status = report(rt.alloc(), origin, answer, out, err);
     if let Some(service) = service {
         end(rt, service, status == 0);
     }
     status
+}
+
+/// Parts what a command comes to: what it prints, or why it has no answer, and its service, if it has one.
+fn parted(outcome: Result<Outcome, Failure>) -> (Result<Output, Failure>, Option<Service>)
+    ensures { result.0 ≡ told outcome }
+{
+    match outcome {
+        Ok(outcome) => (Ok(outcome.output), outcome.service),
+        Err(failure) => (Err(failure), None),
+    }
 }
 
 /// Runs a service, if its line is printed, and ends it.

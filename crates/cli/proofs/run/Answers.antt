@@ -2,6 +2,7 @@
 use Rattle.std.proofs.Common.{◌<◌, ℕ, List, [], ◌∷◌, length, map, rules, Option, Result, arith}
 use Rattle.cli_files.specs.declared.failure.Failure.{Failure}
 use Rattle.cli_output.specs.declared.output.Output.{Output}
+use Rattle.cli_serve.specs.ServeCommand.{told}
 use Rattle.cli.specs.Commands.{AnswersCommand, AnswersProgram}
 use Rattle.cli.proofs.run.Goals as goal
 
@@ -13,8 +14,8 @@ pub returns-else-is_empty : goal.returns-else-is_empty
 returns-else-is_empty g c =
     let some : 0 < length c.args.words.now = search rules in
     record {
-      answer = c.run_words-answer.result;
-      answers = some_words g.S.AsSlice.items c.args.words.now (g.I.Read.remaining c.args.input.now) c.run_words-answer.result some c.run_words-answer.ensures;
-      status = c.report-else-is_empty.ensures.status;
-      prints = c.report-else-is_empty.ensures.printed;
+      answer = told c.run_words-outcome.result;
+      answers = some_words g.S.AsSlice.items c.args.words.now (g.I.Read.remaining c.args.input.now) (told c.run_words-outcome.result) some c.run_words-outcome.ensures;
+      status = c.finish-else-is_empty.ensures.status;
+      prints = c.finish-else-is_empty.ensures.printed;
     }
