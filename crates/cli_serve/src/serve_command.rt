@@ -91,8 +91,10 @@ pub fn run_serve(rt: &HostRuntime, words: ServeWords<'_>) -> Result<Outcome, Fai
     ensures answered { AnswersServe (given_serve words.entry) (told result) }
     ensures asked { RunsAs (IsAsked (given_serve words.entry)) result }
 {
-    let asked = read_asked(rt.alloc(), words)?;
-    start(rt, words.db, asked)
+    match read_asked(rt.alloc(), words) {
+        Ok(asked) => start(rt, words.db, asked),
+        Err(failure) => Err(failure),
+    }
 }
 
 /// Parses the numbers, from left to right.
