@@ -36,7 +36,7 @@ impl<T> Model for Few<T> {
 
 impl<T> Few<T> {
     /// Makes the empty list.
-    pub(crate) fn new() -> Few<T>
+    pub fn new() -> Few<T>
         ensures { result ≡ [] }
     {
         Few {
@@ -72,7 +72,7 @@ impl<T: Drop> Few<T> {
     }
 
     /// Adds a value at the end. If there is no memory for it, the list is lost.
-    pub(crate) fn push(&mut self, alloc: Global, value: T) -> Result<(), AllocError>
+    pub fn push(&mut self, alloc: Global, value: T) -> Result<(), AllocError>
         ensures { OnOk result (self.new ≡ self.old ++ value ∷ []) }
     {
         self.values = match mem::replace(&mut self.values, Values::Nothing) {

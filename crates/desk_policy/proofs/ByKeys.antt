@@ -16,7 +16,8 @@ use Rattle.desk_policy.specs.Policy.{AreAscending}
 use Rattle.desk_policy.specs.Weights.{weight_by, weight_of}
 use Rattle.desk_policy.specs.Contradiction.{Contradicts}
 use Rattle.desk_policy.proofs.Conflicts.{Conflict, IsLeastConflict}
-use Rattle.desk_policy.specs.PrivateFirstLines.{LineKey, Host, Network, Everybody, IsLineKey, key_weight, least_of, same_block, has_key_by, has_key, HasBlock, ClashesAt, IsUpTo, IsLeastClash}
+use Rattle.desk_policy.specs.Keys.{LineKey, Host, Network, Everybody, IsLineKey, key_weight, least_of, same_block, has_key_by, has_key, HasBlock}
+use Rattle.desk_policy.specs.PrivateFirstLines.{ClashesAt, IsUpTo, IsLeastClash}
 use Rattle.desk_policy.proofs.Contradicting.{line_of, lines_rise}
 
 -- ---- keys and weights

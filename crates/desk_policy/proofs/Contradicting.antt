@@ -9,7 +9,7 @@ use Rattle.desk_policy.specs.declared.row.Row.{Row}
 use Rattle.desk_policy.specs.Policy.{AreAscending}
 use Rattle.desk_policy.specs.Contradiction.{MatchAlike, Contradicts, IsLeastIn, IsNotAfter}
 use Rattle.desk_policy.proofs.Conflicts.{Conflict, IsLeastConflict, LeastConflict}
-use Rattle.desk_policy.specs.PrivateFirstLines.{HasBlock}
+use Rattle.desk_policy.specs.Keys.{HasBlock}
 
 abbrev pub line_of : Row → ℕ
 line_of row = row.entry.line

@@ -14,7 +14,8 @@ use Rattle.desk_policy.specs.declared.first_lines.Clash.{Clash}
 use Rattle.desk_policy.specs.declared.row.Row.{Row}
 use Rattle.desk_policy.specs.Contradiction.{AreContradictions, DiffersFromFirst, IsContradictionOf, IsOfLine}
 use Rattle.desk_policy.specs.Policy.{AreAscending}
-use Rattle.desk_policy.specs.PrivateFirstLines.{ClashesAt, contradiction_of, HasBlock, has_key, IsLeastClash, IsLineKey, key_weight, least_of, LineKey}
+use Rattle.desk_policy.specs.Keys.{HasBlock, has_key, IsLineKey, key_weight, least_of, LineKey}
+use Rattle.desk_policy.specs.PrivateFirstLines.{ClashesAt, contradiction_of, IsLeastClash}
 use Rattle.desk_policy.specs.Weights.{weight_of}
 use Rattle.desk_policy.proofs.ByKeys.{first_up_to, found_is, key_is, key_of, least_small, least_up_to, some_is, weight_at_least, weight_from}
 use Rattle.desk_policy.proofs.Contradicting.{ascending_take, Contains_below, Contains_whole, line_of, lines_rise, same_at}

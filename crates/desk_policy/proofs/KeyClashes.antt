@@ -10,7 +10,8 @@ use Rattle.desk_text.specs.Network.{Block}
 use Rattle.desk_exports.specs.declared.entry.Terms.{Terms}
 use Rattle.desk_policy.specs.declared.first_lines.Clash.{Clash}
 use Rattle.desk_policy.specs.declared.row.Row.{Row}
-use Rattle.desk_policy.specs.PrivateFirstLines.{ClashesAt, earlier_clash, Everybody, Host, has_key, IsClashAmong, IsClashWith, IsLineKey, IsUpTo, is_everybody, is_host_among, is_network, LeastClash, least_of, LineKey, Network, same_block}
+use Rattle.desk_policy.specs.Keys.{Everybody, Host, has_key, IsLineKey, is_everybody, is_host_among, is_network, least_of, LineKey, Network, same_block}
+use Rattle.desk_policy.specs.PrivateFirstLines.{ClashesAt, earlier_clash, IsClashAmong, IsClashWith, IsUpTo, LeastClash}
 use Rattle.desk_policy.proofs.Places.{found_there, there_or_past}
 
 pub same_blocks : (net other : Block) → same_block net other ≡ true → net ≡ other

@@ -18,7 +18,8 @@ use Rattle.desk_text.specs.AddrSet.{is_among}
 use Rattle.desk_text.specs.Network.{Block}
 use Rattle.desk_policy.specs.declared.first_lines.FirstLines.{FirstLines}
 use Rattle.desk_policy.specs.declared.row.Row.{Row}
-use Rattle.desk_policy.specs.PrivateFirstLines.{AddsLine, AreFirsts, Everybody, has_key, Host, is_network, LineKey, Network, network_cmp, place_at, same_block}
+use Rattle.desk_policy.specs.Keys.{Everybody, has_key, Host, is_network, LineKey, Network, same_block}
+use Rattle.desk_policy.specs.PrivateFirstLines.{AddsLine, AreFirsts, network_cmp, place_at}
 use Rattle.desk_policy.proofs.Places.{place_more}
 
 pub on_ok : {A E : Type 0} {P Q : Type 0} → (result : Result A E) → (P → Q) → OnOk result P → OnOk result Q

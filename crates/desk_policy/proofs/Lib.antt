@@ -9,6 +9,7 @@ pub mod AscendingRows
 pub mod Conflicts
 pub mod Contradicting
 pub mod ByKeys
+pub mod SelectedByKeys
 pub mod Places
 pub mod KeyClashes
 pub mod KeyPlaces

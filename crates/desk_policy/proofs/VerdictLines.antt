@@ -5,13 +5,13 @@ use Rattle.desk_tables.specs.declared.filesystems.FsId.{FsId}
 use Rattle.desk_policy.specs.declared.row.Row.{Row}
 use Rattle.desk_policy.specs.declared.verdict.Denial.{Denial}
 use Rattle.desk_policy.specs.declared.verdict.Denial.TheVariants as denials
-use Rattle.desk_policy.specs.PrivateWeights.{has_weight, lists_here, IsGreatest}
+use Rattle.desk_policy.specs.PrivateWeights.{has_weight, IsGreatest}
 use Rattle.std.proofs.Math.Bool.{and-true}
 use Rattle.std.proofs.lemmas.Bool.{eq-eqb}
 use Rattle.desk_policy.specs.Policy.{Content}
 use Rattle.desk_tables.specs.FileSystems.{fs_of}
 use Rattle.desk_policy.specs.Weights.{selected}
-use Rattle.desk_policy.specs.Verdict.{Grant, granted_by, verdict_among, lists, is_in, is_directory_among}
+use Rattle.desk_policy.specs.Verdict.{Grant, granted_by, verdict_among, lists, lists_here, is_in, is_directory_among}
 use Rattle.desk_policy.proofs.GreatestWeight.{find-filter, find_front, selected-none, selected-some}
 
 abbrev pub grant : FsId → Row → Grant

@@ -11,6 +11,7 @@ pub mod Prints
 pub mod PrivatePolicy
 pub mod PrivateWeights
 pub mod Contradiction
+pub mod Keys
 pub mod PrivateFirstLines
 pub mod Unlisted
 pub mod SiteFile

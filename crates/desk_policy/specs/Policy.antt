@@ -1,5 +1,5 @@
 -- What a policy has in force: the table of file systems, the lines of each, and what its texts are warned of.
-use Rattle.std.specs.Prelude.{◌≡◌, ℕ, ◌<◌, ◌==◌, List, [], nat_lt, length, map, filter, slice_index_or, if◌then◌else◌}
+use Rattle.std.specs.Prelude.{◌≡◌, ℕ, ◌<◌, ◌==◌, List, [], nat_lt, length, map, filter, slice_index_or, slice_set, if◌then◌else◌}
 use Rattle.std.specs.List.{All, AllPairs, range_with_len}
 use Rattle.desk_tables.specs.declared.filesystems.FsId.{FsId}
 use Rattle.desk_tables.specs.declared.filesystems.Mount.{Mount}
@@ -41,6 +41,10 @@ EachFileAscends placed = AllPairs (λ pair later. pair.0.0 ≡ later.0.0 → pai
 -- so it is with the entries of one text, whose lines ascend as a whole
 abbrev pub AscendingEntriesAscendInEachFile : Type 0
 AscendingEntriesAscendInEachFile = (placed : List (FsId × Entry)) → EntriesAscend placed → EachFileAscends placed
+
+-- other lines for one file system
+abbrev pub with_rows : Content → ℕ → List Row → Content
+with_rows content fs rows = record { table = content.table; rows = slice_set content.rows fs rows; warnings = content.warnings }
 
 -- each file system has the lines of the entries that are placed in it; nothing is warned of
 unfoldable pub content_of : List GroupLine → List HostRow → List Mount → List (FsId × Entry) → Content

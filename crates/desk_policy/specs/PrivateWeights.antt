@@ -1,9 +1,8 @@
 -- What the private contracts of the scan cite.
-use Rattle.std.specs.Prelude.{◌≡◌, ℕ, ◌==◌, ◌||◌, Bool, true, false, List, Option, Some, None, nat_lt, is_none, if◌then◌else◌}
+use Rattle.std.specs.Prelude.{◌≡◌, ℕ, ◌==◌, Bool, true, false, List, Option, Some, None, nat_lt, is_none, if◌then◌else◌}
 use Rattle.std.specs.List.{list_all, list_any}
 use Rattle.desk_policy.specs.declared.row.Row.{Row}
 use Rattle.desk_policy.specs.Weights.{weight_of, is_greatest}
-use Rattle.desk_policy.specs.Verdict.{is_directory_among}
 
 abbrev pub is_same_weight : Option ℕ → ℕ → Bool
 is_same_weight None weight = false
@@ -12,10 +11,6 @@ is_same_weight (Some other) weight = other == weight
 -- the line matches the address with this weight
 abbrev pub has_weight : ℕ → ℕ → Row → Bool
 has_weight address weight row = is_same_weight (weight_of row address) weight
-
--- a line of the path's own file system lists the path
-abbrev pub lists_here : List (List ℕ) → Row → Bool
-lists_here path row = is_directory_among path row.entry.dirs || row.entry.alldirs
 
 -- the greater weight; no match is the least
 abbrev pub greater : Option ℕ → Option ℕ → Option ℕ

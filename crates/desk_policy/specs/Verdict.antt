@@ -33,6 +33,10 @@ is_directory_among path dirs = list_any (λ dir. same_path dir path) dirs
 abbrev pub lists : Content → ℕ → List (List ℕ) → Row → Bool
 lists content fs path row = is_directory_among path row.entry.dirs || (row.entry.alldirs && is_in (fs_of content.table path) fs)
 
+-- a line of the path's own file system lists the path
+abbrev pub lists_here : List (List ℕ) → Row → Bool
+lists_here path row = is_directory_among path row.entry.dirs || row.entry.alldirs
+
 -- the line that was found grants; where none was, the first selected line is named
 abbrev pub granted_by : FsId → Row → Option Row → Result Grant Denial
 granted_by fs first None = Err (NotListed fs first.entry.line)

@@ -11,7 +11,8 @@ ghost use Rattle.std.specs.Option.{option_or};
 ghost use Rattle.std.specs.Ordering.{is_eq, nat_cmp};
 ghost use Rattle.desk_text.specs.Address.{number_of};
 ghost use Rattle.desk_text.specs.AddrSet.{is_among};
-ghost use Rattle.desk_policy.specs.PrivateFirstLines.{AddsLine, AreFirsts, HasBlock, Host, IsClashAmong, IsClashWith, IsLeastClash, earlier_clash, has_key, is_host_among};
+ghost use Rattle.desk_policy.specs.Keys.{HasBlock, Host, has_key, is_host_among};
+ghost use Rattle.desk_policy.specs.PrivateFirstLines.{AddsLine, AreFirsts, IsClashAmong, IsClashWith, IsLeastClash, earlier_clash};
 
 use crate::row::Row;
 use crate::terms::same_terms;

@@ -42,7 +42,7 @@ pub use contradiction::{Contradiction, contradiction_in, contradictions};
 pub use laws::{
     addresses_are_unique, ascending_entries_ascend_in_each_file, each_has_its_lines,
     each_has_its_own_lines, first_faulty_file_is_reported, least_lines_are_named,
-    lines_write_their_own, listed_are_granted, listings_show_their_own,
+    lines_are_selected_by_keys, lines_write_their_own, listed_are_granted, listings_show_their_own,
     listings_show_what_is_granted, warnings_change_no_answer,
 };
 pub use listing_prints::{all_exports, listing_text};
@@ -50,7 +50,7 @@ pub use listings::{Shown, listing};
 pub use names::addresses_of;
 pub use parsing::{SiteTables, parse, parse_whole, parse_whole_with, parse_whole_without_warnings};
 pub use per_table::PerTable;
-pub use policy::Policy;
+pub use policy::{Policy, are_ascending};
 pub use prints::{mount_text, verdict_text};
 pub use row::Row;
 pub use row_addrs::RowAddrs;
@@ -59,5 +59,5 @@ pub use site_fault::{FaultPlace, SiteFault, SiteRule};
 pub use site_file::{SiteFile, exports_file_name, mount_of};
 pub use unlisted::unlisted_line;
 pub use verdict::{Denial, Verdict, decide};
-pub use view::{Plain, PolicyView, compile, least_contradiction};
+pub use view::{Plain, PolicyView, compile, contradiction_of_rows, least_contradiction};
 pub use warning::{Warning, WarningKind, netgroup_warnings, whole_warnings};

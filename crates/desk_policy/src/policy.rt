@@ -1,7 +1,7 @@
 //! A policy: the table of file systems, the lines in force of each, and the warnings of their texts.
 
-ghost use Rattle.std.specs.Prelude.{◌≡◌, All, List, [], IfOk, OnOk, length, replicate};
-ghost use Rattle.desk_policy.specs.Policy.{AreAscending, EachFileAscends, IsContent, content_of, rows_of, with_warnings};
+ghost use Rattle.std.specs.Prelude.{◌≡◌, ◌<◌, All, Decides, List, [], IfOk, OnOk, length, replicate};
+ghost use Rattle.desk_policy.specs.Policy.{AreAscending, EachFileAscends, IsContent, content_of, rows_of, with_rows, with_warnings};
 ghost use Rattle.desk_policy.specs.PrivatePolicy.{with_row};
 
 use crate::row::Row;
@@ -91,6 +91,15 @@ impl Policy {
         }
     }
 
+    /// Puts these lines in the place of those of a file system.
+    pub fn replace(&mut self, fs: FsId, rows: Sequence<Row>)
+        requires fs { fs.0 < length self.old.table }
+        requires ascending { AreAscending rows }
+        ensures { self.new ≡ with_rows self.old fs.0 rows }
+    {
+        self.rows[fs.0 as usize] = rows;
+    }
+
     /// Lends the lines of a file system, none if there is no such file system.
     pub fn rows(&self, fs: FsId) -> &[Row]
         ensures { result.now ≡ rows_of self.now fs.0 }
@@ -134,6 +143,18 @@ fn add_row(lists: &mut Vec<Sequence<Row>>, fs: FsId, row: Row) -> Result<(), All
         list.push(row)?;
     }
     Ok(())
+}
+
+/// Tests whether lines are in the order of their numbers, each number once.
+pub fn are_ascending(rows: &[Row]) -> bool
+    ensures { Decides result (AreAscending rows.now) }
+{
+    for place in 1..rows.len() {
+        if rows[place].entry.line <= rows[place - 1].entry.line {
+            return false;
+        }
+    }
+    true
 }
 
 /// Makes a list without elements for each file system.

@@ -3,12 +3,14 @@
 ghost use Rattle.std.specs.Prelude.{◌≡◌, IfOk};
 ghost use Rattle.desk_policy.specs.Names.{addresses_of_names};
 ghost use Rattle.desk_policy.specs.Row.{names_of, row_of};
+ghost use Rattle.desk_policy.specs.Verdict.{is_directory_among, lists_here};
 
 use crate::names::{addresses_of_names, only_address};
 use crate::row_addrs::RowAddrs;
 use desk_exports::{Boxed, Clients, Entry, Names};
 use desk_netgroup::Netgroups;
 use desk_tables::Hosts;
+use desk_text::Path;
 use std::alloc::{AllocError, Global};
 
 /// A line of an exports file, with the addresses for which its written names stand.
@@ -31,6 +33,19 @@ impl Row {
         let addrs = addresses_of_clients(alloc, netgroups, hosts, &entry.clients)?;
         Ok(Row { entry, addrs })
     }
+
+    /// Tests whether the line lists a path of its own file system, which is all that `-alldirs` needs to know.
+    pub fn lists_here(&self, path: &Path) -> bool
+        ensures { result ≡ lists_here path.now self.now }
+    {
+        is_directory_among(path, self.entry.dirs.as_slice()) || self.entry.alldirs
+    }
+}
+
+fn is_directory_among(path: &Path, dirs: &[Path]) -> bool
+    ensures { result ≡ is_directory_among path.now dirs.now }
+{
+    dirs.iter().any(|dir| *dir == *path)
 }
 
 /// Finds the addresses for which the written names of these clients stand.

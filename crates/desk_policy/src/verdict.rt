@@ -3,8 +3,7 @@
 ghost use Rattle.std.specs.Prelude.{◌≡◌};
 ghost use Rattle.desk_text.specs.Address.{number_of};
 ghost use Rattle.desk_policy.specs.Weights.{selected};
-ghost use Rattle.desk_policy.specs.Verdict.{verdict_result, verdict_among, verdict_of};
-ghost use Rattle.desk_policy.specs.PrivateWeights.{lists_here};
+ghost use Rattle.desk_policy.specs.Verdict.{lists_here, verdict_among, verdict_of, verdict_result};
 
 use crate::policy::Policy;
 use crate::row::Row;

@@ -8,8 +8,8 @@ ghost use Rattle.std.specs.Prelude.{◌≡◌, ◌&&◌, IfOk, filter, find, map
 ghost use Rattle.std.specs.Option.{option_copied};
 ghost use Rattle.desk_text.specs.Address.{number_of};
 ghost use Rattle.desk_policy.specs.Weights.{weight_of};
-ghost use Rattle.desk_policy.specs.Verdict.{is_directory_among};
-ghost use Rattle.desk_policy.specs.PrivateWeights.{has_weight, greater, lists_here, IsGreatest};
+ghost use Rattle.desk_policy.specs.Verdict.{lists_here};
+ghost use Rattle.desk_policy.specs.PrivateWeights.{has_weight, greater, IsGreatest};
 
 use crate::row::Row;
 use desk_exports::Clients;
@@ -92,18 +92,5 @@ pub fn first_listing<'a>(rows: &'a [Row], address: Addr, weight: u8, path: &Path
     ensures { option_copied result
         ≡ find (λ row. has_weight (number_of address) weight row && lists_here path.now row) rows.now }
 {
-    rows.iter().find(|row| weighs(row, address, weight) && lists_here(row, path))
-}
-
-/// Tests whether a line lists a path of its own file system, which is all that `-alldirs` needs to know.
-fn lists_here(row: &Row, path: &Path) -> bool
-    ensures { result ≡ lists_here path.now row.now }
-{
-    is_directory_among(path, row.entry.dirs.as_slice()) || row.entry.alldirs
-}
-
-fn is_directory_among(path: &Path, dirs: &[Path]) -> bool
-    ensures { result ≡ is_directory_among path.now dirs.now }
-{
-    dirs.iter().any(|dir| *dir == *path)
+    rows.iter().find(|row| weighs(row, address, weight) && row.lists_here(path))
 }

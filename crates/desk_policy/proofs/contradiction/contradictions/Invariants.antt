@@ -3,7 +3,8 @@ use Rattle.std.proofs.Common.{take}
 use Rattle.std.specs.List.{All}
 use Rattle.desk_policy.specs.declared.row.Row.{Row}
 use Rattle.desk_policy.specs.Contradiction.{AreContradictions}
-use Rattle.desk_policy.specs.PrivateFirstLines.{AreFirsts, HasBlock}
+use Rattle.desk_policy.specs.Keys.{HasBlock}
+use Rattle.desk_policy.specs.PrivateFirstLines.{AreFirsts}
 use Rattle.desk_policy.proofs.contradiction.contradictions.Given as goal
 
 abbrev pub invariant-loop-place : goal.invariant-loop-place

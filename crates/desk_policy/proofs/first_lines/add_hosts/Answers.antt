@@ -8,7 +8,8 @@ use Rattle.std.proofs.lemmas.List.{get_or-map, length-map, take_more}
 use Rattle.desk_text.specs.Address.{number_of}
 use Rattle.desk_text.specs.AddrSet.{is_among}
 use Rattle.desk_text.specs.declared.address.Addr.{Addr}
-use Rattle.desk_policy.specs.PrivateFirstLines.{Host, IsClashAmong, IsClashWith, is_host_among}
+use Rattle.desk_policy.specs.Keys.{Host, is_host_among}
+use Rattle.desk_policy.specs.PrivateFirstLines.{IsClashAmong, IsClashWith}
 use Rattle.desk_policy.proofs.KeyClashes.{first_there, one_more}
 use Rattle.desk_policy.proofs.KeyPlaces.{adds_more, before_less, not_yet}
 use Rattle.desk_policy.proofs.first_lines.add_hosts.Goals as goal

@@ -5,7 +5,8 @@ use Rattle.std.specs.BTreeMap.{get}
 use Rattle.std.specs.Option.{option_or}
 use Rattle.std.specs.Ordering.{nat_cmp}
 use Rattle.desk_text.specs.AddrSet.{is_among}
-use Rattle.desk_policy.specs.PrivateFirstLines.{IsClashAmong, is_host_among}
+use Rattle.desk_policy.specs.Keys.{is_host_among}
+use Rattle.desk_policy.specs.PrivateFirstLines.{IsClashAmong}
 use Rattle.desk_policy.proofs.first_lines.add_hosts.Given as goal
 
 abbrev pub invariant-loop-address : goal.invariant-loop-address

@@ -4,8 +4,7 @@ use Rattle.desk_tables.specs.FileSystems.{fs_of}
 use Rattle.desk_tables.specs.declared.filesystems.FsId.{FsId}
 use Rattle.desk_policy.specs.Policy.{rows_of}
 use Rattle.desk_policy.specs.Weights.{selected}
-use Rattle.desk_policy.specs.Verdict.{verdict_among, verdict_in, verdict_of, lists}
-use Rattle.desk_policy.specs.PrivateWeights.{lists_here}
+use Rattle.desk_policy.specs.Verdict.{verdict_among, verdict_in, verdict_of, lists, lists_here}
 use Rattle.desk_policy.proofs.VerdictLines.{among_agree, lists_same}
 use Rattle.desk_policy.proofs.verdict.decide.Goals as goal
 

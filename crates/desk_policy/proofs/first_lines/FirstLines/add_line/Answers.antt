@@ -5,7 +5,8 @@ use Rattle.std.proofs.lemmas.Bool.{and_from}
 use Rattle.desk_text.specs.Address.{number_of}
 use Rattle.desk_exports.specs.declared.entry.Entry.{Entry}
 use Rattle.desk_policy.specs.declared.first_lines.FirstLines.{FirstLines}
-use Rattle.desk_policy.specs.PrivateFirstLines.{Everybody, has_key_by, IsClashAmong, IsClashWith, is_everybody, is_network, Network, network_cmp}
+use Rattle.desk_policy.specs.Keys.{Everybody, has_key_by, is_everybody, is_network, Network}
+use Rattle.desk_policy.specs.PrivateFirstLines.{IsClashAmong, IsClashWith, network_cmp}
 use Rattle.desk_policy.proofs.KeyClashes.{at_one_key, first_there, only_everybody, only_network}
 use Rattle.desk_policy.proofs.KeyPlaces.{Adds, adds_network}
 use Rattle.desk_policy.proofs.first_lines.FirstLines.add_line.Goals as goal

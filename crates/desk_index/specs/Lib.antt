@@ -1,0 +1,5 @@
+pub mod Keys
+pub mod PrivateSlot
+pub mod PrivateKeyed
+pub mod PrivateNumbered
+pub mod PrivateSelection

@@ -1,0 +1,217 @@
+//! A policy by keys.
+
+ghost use Rattle.std.specs.Prelude.{◌≡◌, ◌≤◌, IfOk, List};
+ghost use Rattle.std.specs.Option.{option_copied};
+ghost use Rattle.desk_text.specs.Address.{number_of};
+ghost use Rattle.desk_policy.specs.Policy.{rows_of};
+ghost use Rattle.desk_policy.specs.Verdict.{lists_here, verdict_among, verdict_result};
+ghost use Rattle.desk_policy.specs.Weights.{selected};
+ghost use Rattle.desk_index.specs.Keys.{lines_under, listed, numbers};
+ghost use Rattle.desk_index.specs.PrivateKeyed.{AreKeyed};
+
+use crate::index_row::IndexRow;
+use crate::keyed::Keyed;
+use crate::keys::Key;
+use crate::numbered::{first_listing, numbered};
+use crate::selection::{Rows, select};
+use desk_policy::{
+    Denial, Policy, PolicyView, Row, SiteFault, Verdict, contradiction_of_rows,
+    least_contradiction, lines_are_selected_by_keys,
+};
+use desk_tables::FsId;
+use desk_text::{Addr, Path, ReadError, Sequence};
+use std::alloc::{AllocError, Global};
+use std::marker::Model;
+
+/// A policy, with the lines of each file system by key.
+#[derive(Drop)]
+pub struct Index {
+    policy: Policy,
+    parts: Vec<Keyed>,
+}
+
+impl Model for Index {
+    ghost use Rattle.desk_policy.specs.Policy.{Content};
+    ghost use Rattle.desk_index.specs.PrivateKeyed.{AreKeyed};
+
+    ghost Value = { Content };
+
+    ghost view = { λ index. index.policy };
+
+    ghost invariant = { λ index. AreKeyed index.policy index.parts.items };
+}
+
+/// Lines that were made ready to stand for those of a file system, and the same by key.
+#[derive(Drop)]
+pub struct IndexPart {
+    rows: Sequence<Row>,
+    keyed: Keyed,
+}
+
+impl Model for IndexPart {
+    ghost use Rattle.std.specs.Prelude.{List};
+    ghost use Rattle.desk_policy.specs.declared.row.Row.{Row};
+    ghost use Rattle.desk_index.specs.PrivateKeyed.{KeepsRows};
+
+    ghost Value = { List Row };
+
+    ghost view = { λ part. part.rows };
+
+    ghost invariant = { λ part. KeepsRows part.keyed part.rows };
+}
+
+impl Index {
+    /// Finds the lines under a key.
+    fn row(&self, key: &Key) -> Option<&IndexRow>
+        ensures { option_copied result ≡ lines_under self.now key.now }
+    {
+        let place = key.filesystem().0 as usize;
+        if place >= self.parts.len() {
+            return None;
+        }
+        let part = &self.parts[place];
+        part.row(key)
+    }
+
+    /// Finds the numbers of the selected lines of a file system, in at most 35 look-ups.
+    fn selected(&self, fs: FsId, address: Addr) -> Option<&IndexRow>
+        ensures { option_copied result ≡ listed (numbers (selected (rows_of self.now fs.0) (number_of address))) }
+    {
+        // Lines are selected by their heaviest key.
+        lines_are_selected_by_keys();
+        let _number = address.number();
+        let mut probes = Probes::new(self);
+        let _ = &self.policy;
+        select(&mut probes, fs, address)
+    }
+
+    /// Decides on a path of this file system.
+    fn decide_in(&self, fs: FsId, address: Addr, path: &Path) -> Verdict<'_>
+        ensures { verdict_result result ≡ verdict_among fs (lists_here path.now) (selected (rows_of self.now fs.0) (number_of address)) }
+    {
+        let Some(found) = self.selected(fs, address) else {
+            return Verdict::Denied(Denial::NoLine(fs));
+        };
+        let rows = self.policy.rows(fs);
+        let numbers = self.numbers(fs);
+        if let Some(row) = first_listing(rows, numbers, found.lines(), path) {
+            return Verdict::Granted {
+                fs,
+                line: row.entry.line,
+                terms: &row.entry.terms,
+            };
+        }
+        match found.lines().first() {
+            Some(line) => Verdict::Denied(Denial::NotListed(fs, *line)),
+            None => Verdict::Denied(Denial::NoLine(fs)),
+        }
+    }
+
+    /// Lends the numbers of the lines of a file system, none if there is no such file system.
+    fn numbers(&self, fs: FsId) -> &[u32]
+        ensures { result.now ≡ numbers (rows_of self.now fs.0) }
+    {
+        match self.parts.get(fs.0 as usize) {
+            Some(part) => part.numbers(),
+            None => &[],
+        }
+    }
+}
+
+/// Puts the lines of each file system under their keys.
+fn parts_of(alloc: Global, policy: &Policy) -> Result<Vec<Keyed>, AllocError>
+    ensures { IfOk result (λ parts. AreKeyed policy.now parts.items) }
+{
+    let mut parts = Vec::new(alloc);
+    for rows in policy.rows_by_filesystem() {
+        parts.push(Keyed::of_rows(alloc, rows.as_slice())?)?;
+    }
+    Ok(parts)
+}
+
+impl PolicyView for Index {
+    type Part = IndexPart;
+
+    ghost in_force = { λ index. index };
+
+    ghost part_rows = { λ part. part };
+
+    fn build(alloc: Global, policy: Policy) -> Result<Index, ReadError<SiteFault>> {
+        match least_contradiction(alloc, &policy)? {
+            Some(fault) => Err(ReadError::Fault(fault)),
+            None => {
+                let parts = parts_of(alloc, &policy)?;
+                Ok(Index { policy, parts })
+            }
+        }
+    }
+
+    fn policy(&self) -> &Policy {
+        &self.policy
+    }
+
+    fn decide(&self, address: Addr, path: &Path) -> Verdict<'_> {
+        match self.policy.filesystems().of(path) {
+            None => Verdict::Denied(Denial::NoFileSystem),
+            Some(fs) => self.decide_in(fs, address, path),
+        }
+    }
+
+    fn part(
+        &self,
+        alloc: Global,
+        fs: FsId,
+        rows: Sequence<Row>,
+    ) -> Result<IndexPart, ReadError<SiteFault>> {
+        match contradiction_of_rows(alloc, &self.policy, fs, rows.as_slice())? {
+            Some(fault) => Err(ReadError::Fault(fault)),
+            None => {
+                let keyed = Keyed::of_rows(alloc, rows.as_slice())?;
+                Ok(IndexPart { rows, keyed })
+            }
+        }
+    }
+
+    fn set(&mut self, fs: FsId, part: IndexPart) {
+        let IndexPart { rows, keyed } = part;
+        self.policy.replace(fs, rows);
+        self.parts[fs.0 as usize] = keyed;
+    }
+}
+
+/// Look-ups in an index, and their count.
+#[derive(Drop)]
+pub struct Probes<'a> {
+    index: &'a Index,
+    made: u32,
+}
+
+impl<'a> Probes<'a> {
+    /// Begins with no look-up.
+    pub fn new(index: &'a Index) -> Probes<'a>
+        ensures start { result.made ≡ 0 }
+        ensures index { result.index.now ≡ index.now }
+    {
+        Probes { index, made: 0 }
+    }
+
+    /// Returns how many look-ups were made.
+    pub fn count(&self) -> u32
+        ensures { result ≡ self.now.made }
+    {
+        self.made
+    }
+}
+
+impl<'a> Rows<'a> for Probes<'a> {
+    ghost use Rattle.desk_index.specs.Keys.{lines_under};
+
+    ghost lines_under = { λ p. lines_under p.index.now };
+
+    ghost count = { λ p. p.made };
+
+    fn probe(&mut self, key: Key) -> Option<&'a IndexRow> {
+        self.made += 1;
+        self.index.row(&key)
+    }
+}
