@@ -1,4 +1,5 @@
-//! Connections whose reader or writer fails at each of its calls in turn, and connections whose reader has no end.
+//! Connections whose reader or writer fails at each of its calls in turn, those whose input ends after each of its bytes, and those
+//! whose reader has no end.
 
 ghost use Rattle.std.specs.Prelude.{◌≡◌, ℕ, ◌<◌, List, length, None, false};
 
@@ -11,14 +12,32 @@ use desk_store::Desk;
 use sqlite::{Connection, MemStore};
 use std::alloc::{AllocError, Global};
 
+/// An edit, its repeat, and one with a base that is stale by then: 114, 114 and 110 bytes.
+const EDITS: &[u8] =
+    b"PUT /v1/file?name=hosts&base=1 HTTP/1.1\r\nX-Custodian: site\r\nX-Key: abc\r\nContent-Length: 20\r\n\r\n\
+    127.0.0.1 localhost\n\
+    PUT /v1/file?name=hosts&base=1 HTTP/1.1\r\nX-Custodian: site\r\nX-Key: abc\r\nContent-Length: 20\r\n\r\n\
+    127.0.0.1 localhost\n\
+    PUT /v1/file?name=hosts&base=1 HTTP/1.1\r\nX-Custodian: site\r\nX-Key: abc\r\nContent-Length: 16\r\n\r\n\
+    127.0.0.1 other\n";
+
+/// Their replies: 96, 95 and 117 bytes.
+const EDIT_REPLIES: &[u8] =
+    b"HTTP/1.1 200 OK\r\ncontent-type: application/json\r\ncontent-length: 25\r\n\r\n\
+    {\"already\":false,\"rev\":2}\
+    HTTP/1.1 200 OK\r\ncontent-type: application/json\r\ncontent-length: 24\r\n\r\n\
+    {\"already\":true,\"rev\":2}\
+    HTTP/1.1 409 Conflict\r\ncontent-type: application/json\r\ncontent-length: 40\r\n\r\n\
+    {\"current\":2,\"error\":\"Stale\",\"number\":7}";
+
 /// A question, an edit, and a question on what it made: 56, 114 and 41 bytes.
-const REQUESTS: &[u8] = b"GET /v1/mount?host=192.0.2.1&dir=/usr/local HTTP/1.1\r\n\r\n\
+const QUESTIONS: &[u8] = b"GET /v1/mount?host=192.0.2.1&dir=/usr/local HTTP/1.1\r\n\r\n\
     PUT /v1/file?name=hosts&base=1 HTTP/1.1\r\nX-Custodian: site\r\nX-Key: abc\r\nContent-Length: 20\r\n\r\n\
     127.0.0.1 localhost\n\
     GET /v1/revisions?name=hosts HTTP/1.1\r\n\r\n";
 
-/// Their replies.
-const REPLIES: &[u8] =
+/// Their replies: 123, 96 and 153 bytes.
+const QUESTION_REPLIES: &[u8] =
     b"HTTP/1.1 200 OK\r\ncontent-type: application/json\r\ncontent-length: 52\r\n\r\n\
     {\"fs\":\"/usr\",\"line\":3,\"reason\":3,\"verdict\":\"denied\"}\
     HTTP/1.1 200 OK\r\ncontent-type: application/json\r\ncontent-length: 25\r\n\r\n\
@@ -26,11 +45,8 @@ const REPLIES: &[u8] =
     HTTP/1.1 200 OK\r\ncontent-type: application/json\r\ncontent-length: 82\r\n\r\n\
     {\"name\":\"hosts\",\"revisions\":[{\"author\":\"site\",\"rev\":1},{\"author\":\"site\",\"rev\":2}]}";
 
-/// Where each of the replies ends: they have 123, 96 and 153 bytes.
-const REPLY_ENDS: [usize; 3] = [123, 219, 372];
-
 /// A request that is given again and again: 20 bytes.
-const REQUEST: &[u8] = b"GET /xy HTTP/1.1\r\n\r\n";
+const REQUEST: &[u8] = b"GET /v2 HTTP/1.1\r\n\r\n";
 
 /// Its reply: 110 bytes.
 const NO_ROUTE: &[u8] =
@@ -40,17 +56,87 @@ const NO_ROUTE: &[u8] =
 /// A front of a head that has no end.
 const HEAD: &[u8] = &[b'A'; 4096];
 
-/// The reply to it: 131 bytes.
+/// The reply to it, and to a head that is cut: 131 bytes.
 const BAD_HEAD: &[u8] =
     b"HTTP/1.1 400 Bad Request\r\ncontent-type: application/json\r\ncontent-length: 32\r\n\
     connection: close\r\n\r\n\
     {\"error\":\"BadHead\",\"number\":101}";
+
+/// The reply to a body that is cut: 131 bytes.
+const BODY_CUT: &[u8] =
+    b"HTTP/1.1 400 Bad Request\r\ncontent-type: application/json\r\ncontent-length: 32\r\n\
+    connection: close\r\n\r\n\
+    {\"error\":\"BodyCut\",\"number\":105}";
+
+/// Where a request of a stream begins, where its head and its body end, and where its reply ends among the replies.
+#[derive(Clone, Copy)]
+struct Message {
+    start: usize,
+    head_end: usize,
+    end: usize,
+    reply_end: usize,
+}
+
+/// Three requests of one connection with their replies. One of them, from 0, is an edit that is stored.
+#[derive(Clone, Copy)]
+struct Stream {
+    requests: &'static [u8],
+    replies: &'static [u8],
+    messages: [Message; 3],
+    edit: u64,
+}
+
+/// The requests of a connection.
+#[derive(Clone, Copy)]
+enum Requests {
+    Edits,
+    Questions,
+}
+
+impl Requests {
+    /// Returns the stream of these requests.
+    fn stream(self) -> Stream {
+        match self {
+            Requests::Edits => Stream {
+                requests: EDITS,
+                replies: EDIT_REPLIES,
+                messages: [
+                    message_at(0, 94, 114, 96),
+                    message_at(114, 208, 228, 191),
+                    message_at(228, 322, 338, 308),
+                ],
+                edit: 0,
+            },
+            Requests::Questions => Stream {
+                requests: QUESTIONS,
+                replies: QUESTION_REPLIES,
+                messages: [
+                    message_at(0, 56, 56, 123),
+                    message_at(56, 150, 170, 219),
+                    message_at(170, 211, 211, 372),
+                ],
+                edit: 1,
+            },
+        }
+    }
+}
+
+/// Returns a message of these places.
+fn message_at(start: usize, head_end: usize, end: usize, reply_end: usize) -> Message {
+    Message {
+        start,
+        head_end,
+        end,
+        reply_end,
+    }
+}
 
 /// How many bytes a reader gives or a writer takes at a call, at most.
 #[derive(Clone, Copy)]
 enum Pace {
     One,
     Seven,
+    Page,
 }
 
 impl Pace {
@@ -61,21 +147,24 @@ impl Pace {
         match self {
             Pace::One => 1,
             Pace::Seven => 7,
+            Pace::Page => 4096,
         }
     }
 }
 
-/// What fails, or has no end.
+/// What fails, ends early, or has no end.
 #[derive(Clone, Copy)]
 enum Kind {
-    /// The reader fails. Each request is whole after so many reads. One read more finds the end.
-    Reader(Pace, [u64; 3]),
+    /// The reader fails, at each of so many reads and one more, which finds the end.
+    Reader(Requests, Pace, u64),
+    /// The input ends, after each byte.
+    Input(Requests, Pace),
     /// The writer fails. Each reply is whole after so many writes.
-    Writer(Pace, [u64; 3]),
+    Writer(Requests, Pace, [u64; 3]),
     /// The reader gives requests without end.
     Requests,
-    /// The reader gives a head without end.
-    Head,
+    /// The reader gives a head without end. So many reads reach the bound of a head.
+    Head(Pace, u64),
 }
 
 /// A trial of connections.
@@ -85,30 +174,58 @@ pub struct Trial {
     kind: Kind,
 }
 
-pub const TRIALS: [Trial; 6] = [
+pub const TRIALS: [Trial; 13] = [
     Trial {
-        name: "a reader that fails, a byte a read",
-        kind: Kind::Reader(Pace::One, [56, 170, 211]),
+        name: "edits of which a read fails, a byte a read",
+        kind: Kind::Reader(Requests::Edits, Pace::One, 338),
     },
     Trial {
-        name: "a reader that fails, seven bytes a read",
-        kind: Kind::Reader(Pace::Seven, [8, 25, 31]),
+        name: "edits of which a read fails, seven bytes a read",
+        kind: Kind::Reader(Requests::Edits, Pace::Seven, 49),
     },
     Trial {
-        name: "a writer that fails, a byte a write",
-        kind: Kind::Writer(Pace::One, [123, 219, 372]),
+        name: "edits that are cut after each byte, a byte a read",
+        kind: Kind::Input(Requests::Edits, Pace::One),
     },
     Trial {
-        name: "a writer that fails, seven bytes a write",
-        kind: Kind::Writer(Pace::Seven, [18, 32, 54]),
+        name: "edits that are cut after each byte, in one read",
+        kind: Kind::Input(Requests::Edits, Pace::Page),
+    },
+    Trial {
+        name: "edits of which a write fails, a byte a write",
+        kind: Kind::Writer(Requests::Edits, Pace::One, [96, 191, 308]),
+    },
+    Trial {
+        name: "edits of which a write fails, seven bytes a write",
+        kind: Kind::Writer(Requests::Edits, Pace::Seven, [14, 28, 45]),
+    },
+    Trial {
+        name: "questions of which a read fails, seven bytes a read",
+        kind: Kind::Reader(Requests::Questions, Pace::Seven, 31),
+    },
+    Trial {
+        name: "questions that are cut after each byte, in one read",
+        kind: Kind::Input(Requests::Questions, Pace::Page),
+    },
+    Trial {
+        name: "questions of which a write fails, a byte a write",
+        kind: Kind::Writer(Requests::Questions, Pace::One, [123, 219, 372]),
+    },
+    Trial {
+        name: "questions of which a write fails, seven bytes a write",
+        kind: Kind::Writer(Requests::Questions, Pace::Seven, [18, 32, 54]),
     },
     Trial {
         name: "a reader of requests without end",
         kind: Kind::Requests,
     },
     Trial {
-        name: "a reader of a head without end",
-        kind: Kind::Head,
+        name: "a reader of a head without end, a byte a read",
+        kind: Kind::Head(Pace::One, 8192),
+    },
+    Trial {
+        name: "a reader of a head without end, 4,096 bytes a read",
+        kind: Kind::Head(Pace::Page, 2),
     },
 ];
 
@@ -145,10 +262,12 @@ impl Source for Endless {
     }
 }
 
-/// What a connection is to come to, and how many steps of the sample's history its desk is to hold then.
+/// What a connection is to come to, which text it ends with behind the replies to whole messages, and how many steps of the
+/// sample's history its desk is to hold then.
 #[derive(Clone, Copy)]
 struct Wanted {
     served: Served,
+    last: &'static [u8],
     steps: usize,
 }
 
@@ -168,10 +287,17 @@ pub fn try_all(alloc: Global, trial: &Trial) -> Result<String, AllocError> {
         wrong: String::new(alloc),
     };
     match trial.kind {
-        Kind::Reader(pace, ends) => try_reader(alloc, &mut subject, pace, ends)?,
-        Kind::Writer(pace, ends) => try_writer(alloc, &mut subject, pace, ends)?,
+        Kind::Reader(requests, pace, reads) => {
+            try_reader(alloc, &mut subject, &requests.stream(), pace, reads)?;
+        }
+        Kind::Input(requests, pace) => {
+            try_input(alloc, &mut subject, &requests.stream(), pace)?;
+        }
+        Kind::Writer(requests, pace, ends) => {
+            try_writer(alloc, &mut subject, &requests.stream(), pace, ends)?;
+        }
         Kind::Requests => try_requests(alloc, &mut subject)?,
-        Kind::Head => try_head(alloc, &mut subject)?,
+        Kind::Head(pace, reads) => try_head(alloc, &mut subject, pace, reads)?,
     }
     Ok(subject.wrong)
 }
@@ -180,68 +306,130 @@ pub fn try_all(alloc: Global, trial: &Trial) -> Result<String, AllocError> {
 fn try_reader(
     alloc: Global,
     subject: &mut Subject,
+    stream: &Stream,
     pace: Pace,
-    ends: [u64; 3],
+    reads: u64,
 ) -> Result<(), AllocError> {
-    let [_, _, last] = ends;
-    let calls = last.saturating_add(1);
+    let calls = reads.saturating_add(1);
+    let requests = stream.requests;
     for call in 0..calls {
-        let wanted = wanted_of_reader(ends, call);
-        serve_once(alloc, subject, pace, (Some(call), None), &wanted)?;
+        let wanted = wanted_of_reader(stream, pace, call);
+        let fails_at = (Some(call), None);
+        serve_once(alloc, subject, stream, requests, pace, fails_at, &wanted)?;
         if !subject.wrong.is_empty() {
             return write!(subject.wrong, "as read {call} fails");
         }
     }
-    serve_once(alloc, subject, pace, (Some(calls), None), &whole())
+    let wanted = wanted_of_input(stream, requests.len());
+    let fails_at = (Some(calls), None);
+    serve_once(alloc, subject, stream, requests, pace, fails_at, &wanted)
+}
+
+/// Serves the requests cut after each of their bytes. Adds what is wrong.
+fn try_input(
+    alloc: Global,
+    subject: &mut Subject,
+    stream: &Stream,
+    pace: Pace,
+) -> Result<(), AllocError> {
+    let length = stream.requests.len();
+    for count in 0..length {
+        let wanted = wanted_of_input(stream, count);
+        let requests = &stream.requests[..count];
+        serve_once(
+            alloc,
+            subject,
+            stream,
+            requests,
+            pace,
+            (None, None),
+            &wanted,
+        )?;
+        if !subject.wrong.is_empty() {
+            return write!(subject.wrong, "as the input ends after {count} bytes");
+        }
+    }
+    let wanted = wanted_of_input(stream, length);
+    serve_once(
+        alloc,
+        subject,
+        stream,
+        stream.requests,
+        pace,
+        (None, None),
+        &wanted,
+    )
 }
 
 /// Serves the requests to a writer of which each write fails in turn, and to one that does not fail. Adds what is wrong.
 fn try_writer(
     alloc: Global,
     subject: &mut Subject,
+    stream: &Stream,
     pace: Pace,
     ends: [u64; 3],
 ) -> Result<(), AllocError> {
     let [_, _, calls] = ends;
+    let requests = stream.requests;
     for call in 0..calls {
-        let wanted = wanted_of_writer(pace, ends, call);
-        serve_once(alloc, subject, pace, (None, Some(call)), &wanted)?;
+        let wanted = wanted_of_writer(stream, pace, ends, call);
+        let fails_at = (None, Some(call));
+        serve_once(alloc, subject, stream, requests, pace, fails_at, &wanted)?;
         if !subject.wrong.is_empty() {
             return write!(subject.wrong, "as write {call} fails");
         }
     }
-    serve_once(alloc, subject, pace, (None, Some(calls)), &whole())
+    let wanted = wanted_of_input(stream, requests.len());
+    let fails_at = (None, Some(calls));
+    serve_once(alloc, subject, stream, requests, pace, fails_at, &wanted)
 }
 
-/// Returns what a connection comes to at which nothing fails.
-fn whole() -> Wanted {
-    Wanted {
+/// Returns what a connection comes to of which so many bytes came, by how the input ends there: whole messages are answered, then a
+/// head or a body that is cut, and nothing between messages.
+fn wanted_of_input(stream: &Stream, bytes: usize) -> Wanted {
+    let mut wanted = Wanted {
         served: Served {
-            replies: 3,
-            written: 372,
+            replies: 0,
+            written: 0,
             end: End::Input,
         },
-        steps: 2,
+        last: b"",
+        steps: 1,
+    };
+    for message in &stream.messages {
+        if message.end <= bytes {
+            wanted.served.replies = wanted.served.replies.saturating_add(1);
+            wanted.served.written = message.reply_end as u128;
+        } else if message.start < bytes && bytes < message.head_end {
+            wanted.served.end = End::Bad(StreamFault::BadHead);
+            wanted.last = BAD_HEAD;
+        } else if message.start < bytes {
+            wanted.served.end = End::Bad(StreamFault::BodyCut);
+            wanted.last = BODY_CUT;
+        }
     }
+    wanted.steps = steps_after(stream, wanted.served.replies);
+    wanted
+}
+
+/// Returns how many steps of the sample's history a desk holds once so many messages were taken.
+fn steps_after(stream: &Stream, messages: u64) -> usize {
+    if messages > stream.edit { 2 } else { 1 }
 }
 
 /// Returns what a connection comes to as this read fails: the requests that were whole before are answered.
-fn wanted_of_reader(ends: [u64; 3], call: u64) -> Wanted {
-    let (replies, _, written) = last_before(ends, call);
-    Wanted {
-        served: Served {
-            replies,
-            written: written as u128,
-            end: End::ReadFault,
-        },
-        steps: if replies < 2 { 1 } else { 2 },
-    }
+fn wanted_of_reader(stream: &Stream, pace: Pace, call: u64) -> Wanted {
+    let bytes = call.saturating_mul(pace.bytes() as u64);
+    let mut wanted = wanted_of_input(stream, usize::try_from(bytes).unwrap_or(usize::MAX));
+    wanted.served.end = End::ReadFault;
+    wanted.last = b"";
+    wanted
 }
 
 /// Returns what a connection comes to as this write fails: so much is written as the writes before took, and the edit is
 /// stored as its reply is begun.
-fn wanted_of_writer(pace: Pace, ends: [u64; 3], call: u64) -> Wanted {
-    let (replies, writes, written) = last_before(ends, call);
+fn wanted_of_writer(stream: &Stream, pace: Pace, ends: [u64; 3], call: u64) -> Wanted {
+    let (replies, writes, written) = last_before(stream, ends, call);
     let part = call
         .saturating_sub(writes)
         .saturating_mul(pace.bytes() as u64);
@@ -251,16 +439,17 @@ fn wanted_of_writer(pace: Pace, ends: [u64; 3], call: u64) -> Wanted {
             written: (written as u128).saturating_add(part as u128),
             end: End::WriteFault,
         },
-        steps: if replies < 1 { 1 } else { 2 },
+        last: b"",
+        steps: steps_after(stream, replies.saturating_add(1)),
     }
 }
 
-/// Returns how many messages were whole before a call, after how many calls the last of them was, and where its reply ends.
-fn last_before(ends: [u64; 3], call: u64) -> (u64, u64, usize) {
+/// Returns how many replies were whole before a write, after how many writes the last of them was, and where it ends.
+fn last_before(stream: &Stream, ends: [u64; 3], call: u64) -> (u64, u64, usize) {
     let mut last = (0u64, 0, 0);
-    for (end, reply_end) in ends.iter().zip(REPLY_ENDS.iter()) {
+    for (end, message) in ends.iter().zip(stream.messages.iter()) {
         if *end <= call {
-            last = (last.0.saturating_add(1), *end, *reply_end);
+            last = (last.0.saturating_add(1), *end, message.reply_end);
         }
     }
     last
@@ -283,10 +472,12 @@ fn take_desk(
     }
 }
 
-/// Serves the requests to a desk as it was made, while this read or this write fails. Adds what is not as it is wanted.
+/// Serves bytes of a stream to a desk as it was made, while this read or this write fails. Adds what is not as it is wanted.
 fn serve_once(
     alloc: Global,
     subject: &mut Subject,
+    stream: &Stream,
+    bytes: &[u8],
     pace: Pace,
     fails_at: (Option<u64>, Option<u64>),
     wanted: &Wanted,
@@ -294,19 +485,41 @@ fn serve_once(
     let Some(mut desk) = take_desk(alloc, subject)? else {
         return Ok(());
     };
-    let mut reader = Bytes::new(REQUESTS.to_vec(alloc)?, pace.bytes(), fails_at.0);
+    let mut reader = Bytes::new(bytes.to_vec(alloc)?, pace.bytes(), fails_at.0);
     let mut writer = Bytes::new(Vec::new(alloc), pace.bytes(), fails_at.1);
     let served = serve(alloc, &mut desk, &mut reader, &mut writer);
-    check_served(served, wanted.served, &mut subject.wrong)?;
-    let length = usize::try_from(wanted.served.written).unwrap_or(usize::MAX);
-    if Some(writer.as_slice()) != REPLIES.get(..length) {
-        subject.wrong.push_str("other bytes are written\n")?;
-    }
+    check_written(subject, stream, served, writer.as_slice(), wanted)?;
     check_desk(alloc, subject, desk, wanted.steps)
 }
 
+/// Compares what a connection came to and wrote with what is wanted: replies up to some byte, and then the last text. Adds what
+/// differs.
+fn check_written(
+    subject: &mut Subject,
+    stream: &Stream,
+    served: Served,
+    written: &[u8],
+    wanted: &Wanted,
+) -> Result<(), AllocError> {
+    let length = usize::try_from(wanted.served.written).unwrap_or(usize::MAX);
+    let mut all = wanted.served;
+    if !wanted.last.is_empty() {
+        all.replies = all.replies.saturating_add(1);
+        all.written = all.written.saturating_add(wanted.last.len() as u128);
+    }
+    check_served(served, all, &mut subject.wrong)?;
+    let front = written.get(..length);
+    if front.is_none() || front != stream.replies.get(..length) {
+        subject.wrong.push_str("other replies are written\n")?;
+    }
+    if written.get(length..) != Some(wanted.last) {
+        subject.wrong.push_str("another text is written at last\n")?;
+    }
+    Ok(())
+}
+
 /// Compares what a connection came to with what is wanted. Adds what differs.
-fn check_served(found: Served, wanted: Served, wrong: &mut String) -> Result<(), AllocError> {
+pub fn check_served(found: Served, wanted: Served, wrong: &mut String) -> Result<(), AllocError> {
     if found == wanted {
         return Ok(());
     }
@@ -323,6 +536,7 @@ fn end_name(end: End) -> &'static str {
         End::Input => "Input",
         End::Closed => "Closed",
         End::Bad(StreamFault::BadHead) => "Bad(101)",
+        End::Bad(StreamFault::BodyCut) => "Bad(105)",
         End::Bad(_) => "Bad",
         End::ReadFault => "ReadFault",
         End::WriteFault => "WriteFault",
@@ -364,12 +578,17 @@ fn try_requests(alloc: Global, subject: &mut Subject) -> Result<(), AllocError> 
     serve_endless(alloc, subject, reader, 1_000_000, wanted, NO_ROUTE)
 }
 
-/// Serves a head without end, 4,096 bytes a read: the second read reaches the bound of a head. Adds what is wrong.
-fn try_head(alloc: Global, subject: &mut Subject) -> Result<(), AllocError> {
+/// Serves a head without end: so many reads reach the bound of a head. Adds what is wrong.
+fn try_head(
+    alloc: Global,
+    subject: &mut Subject,
+    pace: Pace,
+    reads: u64,
+) -> Result<(), AllocError> {
     let reader = Endless {
         bytes: HEAD,
         at: 0,
-        step: 4096,
+        step: pace.bytes(),
         reads: 0,
     };
     let wanted = Served {
@@ -377,7 +596,7 @@ fn try_head(alloc: Global, subject: &mut Subject) -> Result<(), AllocError> {
         written: 131,
         end: End::Bad(StreamFault::BadHead),
     };
-    serve_endless(alloc, subject, reader, 2, wanted, BAD_HEAD)
+    serve_endless(alloc, subject, reader, reads, wanted, BAD_HEAD)
 }
 
 /// Serves what has no end to a new desk. Adds what is wrong: there are to be so many reads, what the connection comes to, and

@@ -69,7 +69,7 @@ pub fn options(log_pages: usize) -> Options {
 }
 
 /// Opens files, at the second time if need be.
-fn opened<D: Disk + Drop>(
+pub fn opened<D: Disk + Drop>(
     alloc: Global,
     files: Files<D>,
     options: Options,
@@ -105,7 +105,7 @@ fn open_once<D: Disk + Drop>(
 }
 
 /// Gives the files back, with no more in them.
-fn files_of<D: Disk + Drop>(conn: Connection<FileStore<D>>) -> Files<D> {
+pub fn files_of<D: Disk + Drop>(conn: Connection<FileStore<D>>) -> Files<D> {
     conn.into_store().close()
 }
 

@@ -1,5 +1,5 @@
-//! Tries the commands at readers and writers that fail, desks on files that fail, and connections whose reader or writer fails
-//! or has no end. What is answered while they work is in the worked cases.
+//! Tries the commands at readers and writers that fail, desks on files that fail, requests over HTTP to such desks, and connections
+//! whose reader or writer fails, ends after each byte, or has no end. What is answered while they work is in the worked cases.
 #![tactic(auto)]
 
 mod commands;
@@ -7,6 +7,7 @@ mod connections;
 mod desks;
 mod failing;
 mod full;
+mod requests;
 mod sample;
 mod trials;
 
@@ -40,6 +41,12 @@ fn main(rt: HostRuntime) -> io::Result<ExitCode> {
     for trial in &trials::TRIALS {
         let wrong = trials::try_all(rt.alloc(), trial)?;
         report(&rt, &mut tally, trial.name, wrong.as_str())?;
+    }
+    for trial in &trials::TRIALS {
+        let wrong = requests::try_all(rt.alloc(), trial)?;
+        let name = trial.name;
+        let name = format!(in rt.alloc(); "requests, and {name}")?;
+        report(&rt, &mut tally, name.as_str(), wrong.as_str())?;
     }
     for trial in &connections::TRIALS {
         let wrong = connections::try_all(rt.alloc(), trial)?;

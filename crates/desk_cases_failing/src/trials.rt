@@ -5,12 +5,15 @@ use crate::desks::{Answers, look, options, run};
 use crate::full::Full;
 use crate::sample::{history_after, site};
 use desk_policy::Site;
-use sqlite::{Error, ErrorCode, Files};
+use sqlite::{Error, ErrorCode, Files, Options};
 use sqlite_disk::{Crash, Disk, Fuse, Memory};
 use std::alloc::{AllocError, Global};
 use std::io;
 
-type File = Fuse<Full<Memory>>;
+pub type File = Fuse<Full<Memory>>;
+
+/// How many calls or writes are let pass, at most, before a file fails.
+pub const MOST_PASSES: u64 = 1000;
 
 /// How a file fails, once so many calls or writes have passed.
 #[derive(Clone, Copy)]
@@ -81,6 +84,11 @@ pub const TRIALS: [Trial; 6] = [
 ];
 
 impl Trial {
+    /// Returns the options at which its desks are opened.
+    pub fn options(&self) -> Options {
+        options(self.log_pages)
+    }
+
     /// Tests whether the files fail only once.
     fn refuses_one(&self) -> bool {
         matches!(self.log, Failing::RefusesOne) || matches!(self.db, Failing::RefusesOne)
@@ -97,15 +105,23 @@ impl Trial {
     }
 }
 
-/// Makes an empty file.
-fn new_file(alloc: Global, failing: Failing, passes: u64) -> File {
+/// Makes a file of a file in memory, which fails so.
+fn failing_file(inner: Memory, failing: Failing, passes: u64) -> File {
     let (calls, writes, refuses) = match failing {
         Failing::Never => (u64::MAX, u64::MAX, 0),
         Failing::Stops => (passes, u64::MAX, 0),
         Failing::IsFull => (u64::MAX, passes, u64::MAX),
         Failing::RefusesOne => (u64::MAX, passes, 1),
     };
-    Fuse::new(Full::new(Memory::new(alloc), writes, refuses), calls)
+    Fuse::new(Full::new(inner, writes, refuses), calls)
+}
+
+/// Makes the two files of a trial, of which so many calls or writes pass.
+pub fn failing_files(trial: &Trial, files: Files<Memory>, passes: u64) -> Files<File> {
+    Files {
+        log: failing_file(files.log, trial.log, passes),
+        db: failing_file(files.db, trial.db, passes),
+    }
 }
 
 /// Runs the steps on new files, of which so many calls or writes pass.
@@ -117,10 +133,16 @@ fn run_trial(
     answers: &mut Answers,
 ) -> Files<File> {
     let files = Files {
-        log: new_file(alloc, trial.log, passes),
-        db: new_file(alloc, trial.db, passes),
+        log: Memory::new(alloc),
+        db: Memory::new(alloc),
     };
-    run(alloc, files, options(trial.log_pages), site, answers)
+    let files = failing_files(trial, files, passes);
+    run(alloc, files, trial.options(), site, answers)
+}
+
+/// Tests whether one of the files has stopped, or has refused a write.
+pub fn have_failed(files: &mut Files<File>) -> bool {
+    has_failed(&mut files.log) || has_failed(&mut files.db)
 }
 
 /// Tests whether a file has stopped, or has refused a write.
@@ -150,8 +172,16 @@ fn left_of(alloc: Global, mut file: File) -> Result<Left, AllocError> {
     Ok(Left { written, synced })
 }
 
+/// Returns files that hold all that was written to these.
+pub fn written_files(alloc: Global, files: &Files<File>) -> io::Result<Files<Memory>> {
+    Ok(Files {
+        log: file_of(alloc, files.log.inner().inner().bytes())?,
+        db: file_of(alloc, files.db.inner().inner().bytes())?,
+    })
+}
+
 /// Makes a file that holds these bytes.
-fn file_of(alloc: Global, bytes: &[u8]) -> io::Result<Memory> {
+pub fn file_of(alloc: Global, bytes: &[u8]) -> io::Result<Memory> {
     let mut file = Memory::new(alloc);
     file.write_at(0, bytes)?;
     Ok(file)
@@ -233,7 +263,7 @@ pub fn try_all(alloc: Global, trial: &Trial) -> io::Result<String> {
     let site = site(alloc)?;
     let mut wrong = String::new(alloc);
     let mut counts = String::new(alloc);
-    for passes in 0..1000 {
+    for passes in 0..MOST_PASSES {
         let has_failed = try_once(alloc, trial, passes, &site, &mut counts, &mut wrong)?;
         if !wrong.is_empty() {
             write!(wrong, "as {passes} calls or writes pass")?;
@@ -260,7 +290,7 @@ fn try_once(
 ) -> io::Result<bool> {
     let mut answers = Answers::new();
     let mut files = run_trial(alloc, trial, passes, site, &mut answers);
-    let has_failed = has_failed(&mut files.log) || has_failed(&mut files.db);
+    let has_failed = have_failed(&mut files);
     check_answers(trial, &answers, wrong)?;
     if !has_failed && answers.fault.is_some() {
         wrong.push_str("a statement is refused, and no file failed\n")?;
@@ -279,7 +309,7 @@ fn check_counts(trial: &Trial, counts: &str, wrong: &mut String) -> Result<(), A
 }
 
 /// Adds a number of steps, unless it is the last one already.
-fn add_count(counts: &mut String, done: usize) -> Result<(), AllocError> {
+pub fn add_count(counts: &mut String, done: usize) -> Result<(), AllocError> {
     let digit = match done {
         0 => "0",
         1 => "1",

@@ -1,9 +1,9 @@
 //! Tries the worked cases of the service over HTTP. Each file of `data/` whose name ends in `.cases` holds cases; `site` holds the
 //! texts of the site at which they are tried.
 //!
-//! Each case is tried in three ways: the stream comes in one piece, it comes byte by byte, and it comes in two pieces, cut behind
-//! every k-th of its bytes, where k is its length divided by 6, and one more. (A cut behind every byte of each of the streams would
-//! take minutes.) Cases of like form are cut in different places.
+//! Each case is tried in three ways: the stream comes in one piece, it comes byte by byte, and it comes in two pieces, cut after each
+//! of its bytes. A stream of more than 1,024 bytes is cut after each of its first and last 128 bytes, and in about 6 places in between;
+//! cases of like form are cut in different ones.
 #![tactic(auto)]
 
 mod cases;

@@ -8,7 +8,13 @@ use desk_cases_store::Subject;
 use std::alloc::{AllocError, Global};
 use std::str;
 
-/// About how often a stream is cut.
+/// The longest stream that is cut after each of its bytes.
+const SHORT: usize = 1024;
+
+/// How many bytes at either end of a longer stream it is cut after.
+const NEAR: usize = 128;
+
+/// About how often a longer stream is cut in between.
 const CUTS: usize = 6;
 
 /// Tries the cases of a text at the site of these texts.
@@ -100,22 +106,30 @@ fn wrong_of(alloc: Global, subject: &mut Subject, case: &Case) -> Result<String,
     Ok(wrong)
 }
 
-/// Tries a case in two pieces, cut behind every k-th byte. Where the first cut is depends on the line of the case, so that those of
-/// like cases differ.
+/// Tries a case in two pieces, cut in each place.
 fn try_cuts(
     alloc: Global,
     subject: &mut Subject,
     wrong: &mut String,
     case: &Case,
 ) -> Result<(), AllocError> {
-    let length = case.stream.len();
-    let each = length / CUTS + 1;
-    for count in 1..length {
-        if count % each == case.line % each {
+    for count in 1..case.stream.len() {
+        if is_cut(case, count) {
             try_way(alloc, subject, wrong, case, Way::CutAfter(count))?;
         }
     }
     Ok(())
+}
+
+/// Tests whether the stream of a case is cut after this byte. Where a longer stream is cut in between depends on the line of the
+/// case, so that those of like cases differ.
+fn is_cut(case: &Case, count: usize) -> bool {
+    let length = case.stream.len();
+    let each = length / CUTS + 1;
+    length <= SHORT
+        || count <= NEAR
+        || length.saturating_sub(count) <= NEAR
+        || count % each == case.line % each
 }
 
 /// Tries a case in this way, if nothing is wrong yet, and makes a new desk if this one may have changed.

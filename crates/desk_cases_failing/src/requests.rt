@@ -1,0 +1,300 @@
+//! Requests over HTTP to a desk whose files fail, from some call on or once: what takes a statement is answered or refused, all else
+//! is answered, and the connection goes on. Then what is left is opened again, and the same requests get their usual replies.
+
+ghost use Rattle.std.specs.Prelude.{◌≡◌, false};
+
+use crate::connections::check_served;
+use crate::desks::{Answers, files_of, opened, options, tell};
+use crate::sample::{history_after, site};
+use crate::trials::{MOST_PASSES, Trial, failing_files, file_of, have_failed, written_files};
+use desk_http::serve;
+use desk_messages::{Bytes, End, Served};
+use desk_policy::Plain;
+use desk_store::Desk;
+use sqlite::{Connection, FileStore, Files};
+use sqlite_disk::{Disk, Memory};
+use std::alloc::{AllocError, Global};
+use std::io;
+
+/// Three requests that take a statement: an edit, and questions on a first revision and on all revisions; and two that take none: a
+/// question on the policy, and one on a newest text.
+const REQUESTS: &[u8] =
+    b"PUT /v1/file?name=hosts&base=1 HTTP/1.1\r\nX-Custodian: site\r\nX-Key: abc\r\nContent-Length: 20\r\n\r\n\
+    127.0.0.1 localhost\n\
+    GET /v1/file?name=hosts&rev=1 HTTP/1.1\r\n\r\n\
+    GET /v1/revisions?name=hosts HTTP/1.1\r\n\r\n\
+    GET /v1/mount?host=192.0.2.1&dir=/usr/local HTTP/1.1\r\n\r\n\
+    GET /v1/file?name=hosts HTTP/1.1\r\n\r\n";
+
+/// The reply to the edit if it is stored, and if it was stored before.
+const STORED: &[u8] =
+    b"HTTP/1.1 200 OK\r\ncontent-type: application/json\r\ncontent-length: 25\r\n\r\n\
+    {\"already\":false,\"rev\":2}";
+
+const STORED_BEFORE: &[u8] =
+    b"HTTP/1.1 200 OK\r\ncontent-type: application/json\r\ncontent-length: 24\r\n\r\n\
+    {\"already\":true,\"rev\":2}";
+
+/// The replies to the other requests; to the last one before the edit is stored, and afterwards.
+const FIRST: &[u8] =
+    b"HTTP/1.1 200 OK\r\ncontent-type: application/json\r\ncontent-length: 128\r\n\r\n\
+    {\"author\":\"site\",\"body\":\"131.104.48.17 grumpy.example grumpy\\n131.104.48.20 sneezy\\n131.104.48.21 doc\\n\",\
+    \"name\":\"hosts\",\"rev\":1}";
+
+const ONE_REVISION: &[u8] =
+    b"HTTP/1.1 200 OK\r\ncontent-type: application/json\r\ncontent-length: 56\r\n\r\n\
+    {\"name\":\"hosts\",\"revisions\":[{\"author\":\"site\",\"rev\":1}]}";
+
+const TWO_REVISIONS: &[u8] =
+    b"HTTP/1.1 200 OK\r\ncontent-type: application/json\r\ncontent-length: 82\r\n\r\n\
+    {\"name\":\"hosts\",\"revisions\":[{\"author\":\"site\",\"rev\":1},{\"author\":\"site\",\"rev\":2}]}";
+
+const MOUNT: &[u8] =
+    b"HTTP/1.1 200 OK\r\ncontent-type: application/json\r\ncontent-length: 52\r\n\r\n\
+    {\"fs\":\"/usr\",\"line\":3,\"reason\":3,\"verdict\":\"denied\"}";
+
+const EDITED: &[u8] =
+    b"HTTP/1.1 200 OK\r\ncontent-type: application/json\r\ncontent-length: 71\r\n\r\n\
+    {\"author\":\"site\",\"body\":\"127.0.0.1 localhost\\n\",\"name\":\"hosts\",\"rev\":2}";
+
+/// The reply to a request whose statement is refused.
+const REFUSED: &[u8] =
+    b"HTTP/1.1 503 Service Unavailable\r\ncontent-type: application/json\r\ncontent-length: 30\r\n\r\n\
+    {\"error\":\"Store\",\"number\":201}";
+
+/// The bytes of the two files of a desk of the sample site.
+#[derive(Drop)]
+struct Made {
+    log: Vec<u8>,
+    db: Vec<u8>,
+}
+
+impl Made {
+    /// Makes files that hold these bytes.
+    fn files(&self, alloc: Global) -> io::Result<Files<Memory>> {
+        Ok(Files {
+            log: file_of(alloc, self.log.as_slice())?,
+            db: file_of(alloc, self.db.as_slice())?,
+        })
+    }
+}
+
+/// Makes a desk of the sample site on files of which none fails. Returns what they hold then.
+fn made_files(alloc: Global, wrong: &mut String) -> Result<Made, AllocError> {
+    let empty = Files {
+        log: Memory::new(alloc),
+        db: Memory::new(alloc),
+    };
+    let mut answers = Answers::new();
+    let files = match opened(alloc, empty, options(1000), &mut answers) {
+        Ok(conn) => files_of(created(alloc, conn, wrong)?),
+        Err(files) => files,
+    };
+    Ok(Made {
+        log: Vec::from_slice(alloc, files.log.bytes())?,
+        db: Vec::from_slice(alloc, files.db.bytes())?,
+    })
+}
+
+/// Makes a desk of the sample site. If it is refused, that is wrong.
+fn created(
+    alloc: Global,
+    conn: Connection<FileStore<Memory>>,
+    wrong: &mut String,
+) -> Result<Connection<FileStore<Memory>>, AllocError>
+    requires { conn.in_transaction ≡ false }
+{
+    let made: Result<Desk<FileStore<Memory>, Plain>, _> = Desk::create(alloc, conn, &site(alloc)?);
+    match made {
+        Ok(desk) => Ok(desk.into_connection()),
+        Err((_, conn)) => {
+            wrong.push_str("no desk is made\n")?;
+            Ok(conn)
+        }
+    }
+}
+
+/// Serves the requests again and again to a desk as it was made, with one more call or write before a file fails, until none
+/// fails. Returns what is wrong.
+pub fn try_all(alloc: Global, trial: &Trial) -> io::Result<String> {
+    let mut wrong = String::new(alloc);
+    let mut edits = String::new(alloc);
+    let made = made_files(alloc, &mut wrong)?;
+    for passes in 0..MOST_PASSES {
+        let has_failed = try_once(alloc, trial, passes, &made, &mut edits, &mut wrong)?;
+        if !wrong.is_empty() {
+            write!(wrong, "as {passes} calls or writes pass")?;
+            return Ok(wrong);
+        }
+        if !has_failed {
+            check_edits(edits.as_str(), &mut wrong)?;
+            return Ok(wrong);
+        }
+    }
+    wrong.push_str("no run without a failure")?;
+    Ok(wrong)
+}
+
+/// Looks at what the edit came to, in turn: in the end it is stored, and before that it was refused. Adds what is wrong.
+fn check_edits(edits: &str, wrong: &mut String) -> Result<(), AllocError> {
+    if edits.starts_with("refused ") && edits.ends_with("stored ") {
+        return Ok(());
+    }
+    write!(wrong, "the edits are {edits}")
+}
+
+/// Serves the requests to a desk on files of which so many calls or writes pass, and adds what the edit came to. If the files fail
+/// before the desk is opened, nothing is served. Adds what is wrong. Tells whether a file failed.
+fn try_once(
+    alloc: Global,
+    trial: &Trial,
+    passes: u64,
+    made: &Made,
+    edits: &mut String,
+    wrong: &mut String,
+) -> io::Result<bool> {
+    let mut answers = Answers::new();
+    let files = failing_files(trial, made.files(alloc)?, passes);
+    let mut answered = None;
+    let mut files = match opened(alloc, files, trial.options(), &mut answers) {
+        Ok(conn) => files_of(serve_over(alloc, conn, &mut answered, wrong)?),
+        Err(files) => files,
+    };
+    if let Some(is_stored) = answered {
+        edits.push_str(if is_stored { "stored " } else { "refused " })?;
+        check_again(alloc, written_files(alloc, &files)?, is_stored, wrong)?;
+    }
+    Ok(have_failed(&mut files))
+}
+
+/// Opens a desk, if that is not refused, and serves the requests. Tells whether the edit is answered as stored, and adds what is
+/// wrong. Gives the connection back.
+fn serve_over<D: Disk + Drop>(
+    alloc: Global,
+    conn: Connection<FileStore<D>>,
+    answered: &mut Option<bool>,
+    wrong: &mut String,
+) -> Result<Connection<FileStore<D>>, AllocError>
+    requires { conn.in_transaction ≡ false }
+{
+    let opened: Result<Desk<FileStore<D>, Plain>, _> = Desk::open(alloc, conn);
+    match opened {
+        Ok(mut desk) => {
+            let written = served(alloc, &mut desk, wrong)?;
+            *answered = answered_in(written.as_slice(), wrong)?;
+            Ok(desk.into_connection())
+        }
+        Err((_, conn)) => Ok(conn),
+    }
+}
+
+/// Serves the requests on one connection. Returns what is written, and adds what is wrong: there are to be five replies.
+fn served<D: Disk + Drop>(
+    alloc: Global,
+    desk: &mut Desk<FileStore<D>, Plain>,
+    wrong: &mut String,
+) -> Result<Vec<u8>, AllocError> {
+    let mut reader = Bytes::new(REQUESTS.to_vec(alloc)?, 65_536, None);
+    let mut writer = Bytes::new(Vec::new(alloc), 65_536, None);
+    let found = serve(alloc, desk, &mut reader, &mut writer);
+    let wanted = Served {
+        replies: 5,
+        written: writer.as_slice().len() as u128,
+        end: End::Input,
+    };
+    check_served(found, wanted, wrong)?;
+    writer.as_slice().to_vec(alloc)
+}
+
+/// Tells whether these replies have the edit as stored. If they are other ones than there may be, that is wrong.
+fn answered_in(written: &[u8], wrong: &mut String) -> Result<Option<bool>, AllocError> {
+    let (edit, rest) = match written.strip_prefix(STORED) {
+        Some(rest) => (true, rest),
+        None => (false, without(written, &[REFUSED])),
+    };
+    let newest = if edit { EDITED } else { FIRST };
+    let rest = without(rest, &[REFUSED, FIRST]);
+    let rest = if edit {
+        without(rest, &[REFUSED, TWO_REVISIONS])
+    } else {
+        without(rest, &[REFUSED, ONE_REVISION, TWO_REVISIONS])
+    };
+    if without(without(rest, &[MOUNT]), &[newest]).is_empty() {
+        return Ok(Some(edit));
+    }
+    wrong.push_str("other replies are written\n")?;
+    Ok(None)
+}
+
+/// Returns what follows one of these replies; an answer that no reply is, if none of them is there.
+fn without<'a>(written: &'a [u8], replies: &[&[u8]]) -> &'a [u8] {
+    for reply in replies {
+        if let Some(rest) = written.strip_prefix(*reply) {
+            return rest;
+        }
+    }
+    b"?"
+}
+
+/// Returns the replies if no statement is refused, that to the edit being this one.
+fn replies(alloc: Global, edit: &[u8]) -> Result<Vec<u8>, AllocError> {
+    let mut replies = edit.to_vec(alloc)?;
+    for reply in [FIRST, TWO_REVISIONS, MOUNT, EDITED] {
+        replies.extend_from_slice(reply)?;
+    }
+    Ok(replies)
+}
+
+/// Opens what was left, and serves the requests once more. Adds what is wrong.
+fn check_again(
+    alloc: Global,
+    files: Files<Memory>,
+    answered: bool,
+    wrong: &mut String,
+) -> Result<(), AllocError> {
+    let mut answers = Answers::new();
+    match opened(alloc, files, options(1000), &mut answers) {
+        Ok(conn) => check_reopened(alloc, conn, answered, wrong),
+        Err(_) => wrong.push_str("no database is opened again\n"),
+    }
+}
+
+/// Looks whether the tables are as before, or have the revision of the edit: if it was answered as stored, they have it. Then serves
+/// the requests, none of which is refused. Adds what is wrong.
+fn check_reopened(
+    alloc: Global,
+    conn: Connection<FileStore<Memory>>,
+    answered: bool,
+    wrong: &mut String,
+) -> Result<(), AllocError>
+    requires { conn.in_transaction ≡ false }
+{
+    let opened: Result<Desk<FileStore<Memory>, Plain>, _> = Desk::open(alloc, conn);
+    let Ok(mut desk) = opened else {
+        return wrong.push_str("no desk is opened again\n");
+    };
+    let is_stored = holds(alloc, &mut desk, 2)?;
+    if !is_stored && (answered || !holds(alloc, &mut desk, 1)?) {
+        wrong.push_str("the tables are other ones\n")?;
+    }
+    let edit = if is_stored { STORED_BEFORE } else { STORED };
+    let written = served(alloc, &mut desk, wrong)?;
+    if written.as_slice() != replies(alloc, edit)?.as_slice() {
+        wrong.push_str("other replies are written once the files work\n")?;
+    }
+    if !holds(alloc, &mut desk, 2)? {
+        wrong.push_str("the tables are other ones at last\n")?;
+    }
+    Ok(())
+}
+
+/// Tests whether a desk holds the history of so many steps of the sample.
+fn holds(
+    alloc: Global,
+    desk: &mut Desk<FileStore<Memory>, Plain>,
+    steps: usize,
+) -> Result<bool, AllocError> {
+    let mut found = String::new(alloc);
+    tell(alloc, desk, &mut found)?;
+    Ok(found.as_str() == history_after(alloc, steps)?.as_str())
+}

@@ -1,0 +1,321 @@
+//! The trials: what peers write, how many connections are served, and what comes of it.
+
+use crate::desks::{AS_MADE, EDITED, make_desk, tell};
+use crate::peers::{Peer, Receives, Then, check_peer, connect};
+use cli_serve::serve_on;
+use desk_policy::Plain;
+use desk_store::Desk;
+use sqlite::MemStore;
+use std::io;
+use std::net::{Ipv4Addr, SocketAddr, TcpListener, TcpStream};
+use std::time::Duration;
+
+/// An edit.
+const EDIT: &[u8] =
+    b"PUT /v1/file?name=hosts&base=1 HTTP/1.1\r\nX-Custodian: site\r\nX-Key: abc\r\nContent-Length: 20\r\n\r\n\
+    127.0.0.1 localhost\n";
+
+/// Its reply.
+const STORED: &[u8] =
+    b"HTTP/1.1 200 OK\r\ncontent-type: application/json\r\ncontent-length: 25\r\n\r\n\
+    {\"already\":false,\"rev\":2}";
+
+/// The edit, its repeat, and one with a base that is stale by then, which closes.
+const EDITS: &[u8] =
+    b"PUT /v1/file?name=hosts&base=1 HTTP/1.1\r\nX-Custodian: site\r\nX-Key: abc\r\nContent-Length: 20\r\n\r\n\
+    127.0.0.1 localhost\n\
+    PUT /v1/file?name=hosts&base=1 HTTP/1.1\r\nX-Custodian: site\r\nX-Key: abc\r\nContent-Length: 20\r\n\r\n\
+    127.0.0.1 localhost\n\
+    PUT /v1/file?name=hosts&base=1 HTTP/1.1\r\nX-Custodian: site\r\nX-Key: abc\r\nConnection: close\r\nContent-Length: 16\r\n\r\n\
+    127.0.0.1 other\n";
+
+/// Their replies.
+const EDIT_REPLIES: &[u8] =
+    b"HTTP/1.1 200 OK\r\ncontent-type: application/json\r\ncontent-length: 25\r\n\r\n\
+    {\"already\":false,\"rev\":2}\
+    HTTP/1.1 200 OK\r\ncontent-type: application/json\r\ncontent-length: 24\r\n\r\n\
+    {\"already\":true,\"rev\":2}\
+    HTTP/1.1 409 Conflict\r\ncontent-type: application/json\r\ncontent-length: 40\r\nconnection: close\r\n\r\n\
+    {\"current\":2,\"error\":\"Stale\",\"number\":7}";
+
+/// A question on the revisions.
+const QUESTION: &[u8] = b"GET /v1/revisions?name=hosts HTTP/1.1\r\n\r\n";
+
+/// Its reply before the edit, and afterwards.
+const ONE_REVISION: &[u8] =
+    b"HTTP/1.1 200 OK\r\ncontent-type: application/json\r\ncontent-length: 56\r\n\r\n\
+    {\"name\":\"hosts\",\"revisions\":[{\"author\":\"site\",\"rev\":1}]}";
+
+const TWO_REVISIONS: &[u8] =
+    b"HTTP/1.1 200 OK\r\ncontent-type: application/json\r\ncontent-length: 82\r\n\r\n\
+    {\"name\":\"hosts\",\"revisions\":[{\"author\":\"site\",\"rev\":1},{\"author\":\"site\",\"rev\":2}]}";
+
+/// The head of an edit with a body that is too large.
+const TOO_LARGE: &[u8] =
+    b"PUT /v1/file?name=hosts&base=1 HTTP/1.1\r\nX-Custodian: site\r\nX-Key: abc\r\n\
+    Content-Length: 65537\r\n\r\n";
+
+/// Its reply.
+const BODY_TOO_LARGE: &[u8] =
+    b"HTTP/1.1 413 Payload Too Large\r\ncontent-type: application/json\r\ncontent-length: 37\r\n\
+    connection: close\r\n\r\n\
+    {\"error\":\"BodyTooLarge\",\"number\":104}";
+
+/// A head that is cut.
+const CUT_HEAD: &[u8] = b"GET /v2 HT";
+
+/// Its reply.
+const BAD_HEAD: &[u8] =
+    b"HTTP/1.1 400 Bad Request\r\ncontent-type: application/json\r\ncontent-length: 32\r\n\
+    connection: close\r\n\r\n\
+    {\"error\":\"BadHead\",\"number\":101}";
+
+/// The head of an edit whose body is cut, and its reply.
+const CUT_BODY: &[u8] =
+    b"PUT /v1/file?name=hosts&base=1 HTTP/1.1\r\nX-Custodian: site\r\nX-Key: abc\r\nContent-Length: 20\r\n\r\n\
+    127.0";
+
+const BODY_CUT: &[u8] =
+    b"HTTP/1.1 400 Bad Request\r\ncontent-type: application/json\r\ncontent-length: 32\r\n\
+    connection: close\r\n\r\n\
+    {\"error\":\"BodyCut\",\"number\":105}";
+
+/// Peers that connect one after another, how many connections are served then, with a limit of so many milliseconds, and what the
+/// desk holds afterwards. An accept waits for a peer, or fails if there is none.
+#[derive(Clone, Copy)]
+pub struct Trial {
+    pub name: &'static str,
+    peers: &'static [Peer],
+    connections: u32,
+    limit: u64,
+    waits: bool,
+    holds: &'static str,
+}
+
+/// A peer that puts three edits, of which the last closes.
+const CLOSED_BY_DESK: Peer = Peer {
+    sends: EDITS,
+    filler: 0,
+    then: Then::Waits,
+    receives: Receives::Whole(EDIT_REPLIES),
+};
+
+/// One that puts them, and writes no more.
+const EDITOR: Peer = Peer {
+    sends: EDITS,
+    filler: 0,
+    then: Then::EndsWriting,
+    receives: Receives::Whole(EDIT_REPLIES),
+};
+
+/// One that puts an edit.
+const ONE_EDIT: Peer = Peer {
+    sends: EDIT,
+    filler: 0,
+    then: Then::EndsWriting,
+    receives: Receives::Whole(STORED),
+};
+
+/// One that asks for the revisions before the edit, and one that asks afterwards.
+const ASKS_FIRST: Peer = Peer {
+    sends: QUESTION,
+    filler: 0,
+    then: Then::EndsWriting,
+    receives: Receives::Whole(ONE_REVISION),
+};
+
+const ASKS_LATER: Peer = Peer {
+    sends: QUESTION,
+    filler: 0,
+    then: Then::EndsWriting,
+    receives: Receives::Whole(TWO_REVISIONS),
+};
+
+/// One that puts an edit and is not served.
+const NOT_SERVED: Peer = Peer {
+    sends: EDIT,
+    filler: 0,
+    then: Then::EndsWriting,
+    receives: Receives::Nothing,
+};
+
+/// One that closes before it has asked, and one that closes before it is answered.
+const ASKS_NOTHING: Peer = Peer {
+    sends: b"",
+    filler: 0,
+    then: Then::Closes,
+    receives: Receives::Nothing,
+};
+
+const READS_NOTHING: Peer = Peer {
+    sends: EDIT,
+    filler: 0,
+    then: Then::Closes,
+    receives: Receives::Nothing,
+};
+
+/// One whose body is too large. It writes less than half of it.
+const LARGE: Peer = Peer {
+    sends: TOO_LARGE,
+    filler: 30_000,
+    then: Then::EndsWriting,
+    receives: Receives::Whole(BODY_TOO_LARGE),
+};
+
+/// One that ends in a head, one that ends in a body, and one that waits in a head.
+const ENDS_IN_HEAD: Peer = Peer {
+    sends: CUT_HEAD,
+    filler: 0,
+    then: Then::EndsWriting,
+    receives: Receives::Whole(BAD_HEAD),
+};
+
+const ENDS_IN_BODY: Peer = Peer {
+    sends: CUT_BODY,
+    filler: 0,
+    then: Then::EndsWriting,
+    receives: Receives::Whole(BODY_CUT),
+};
+
+const WAITS_IN_HEAD: Peer = Peer {
+    sends: CUT_HEAD,
+    filler: 0,
+    then: Then::Waits,
+    receives: Receives::Whole(b""),
+};
+
+/// How many milliseconds a read or a write may wait, mostly.
+const LIMIT: u64 = 30_000;
+
+pub const TRIALS: [Trial; 9] = [
+    Trial {
+        name: "three edits, of which the last closes",
+        peers: &[CLOSED_BY_DESK],
+        connections: 1,
+        limit: LIMIT,
+        waits: true,
+        holds: EDITED,
+    },
+    Trial {
+        name: "a peer that closes at once, and one behind it",
+        peers: &[ASKS_NOTHING, EDITOR],
+        connections: 2,
+        limit: LIMIT,
+        waits: true,
+        holds: EDITED,
+    },
+    Trial {
+        name: "a peer that closes once it has asked, and one behind it",
+        peers: &[READS_NOTHING, ASKS_LATER],
+        connections: 2,
+        limit: LIMIT,
+        waits: true,
+        holds: EDITED,
+    },
+    Trial {
+        name: "two peers, and a third that is not served",
+        peers: &[ONE_EDIT, ASKS_LATER, NOT_SERVED],
+        connections: 2,
+        limit: LIMIT,
+        waits: true,
+        holds: EDITED,
+    },
+    Trial {
+        name: "a body that is too large and is not read, and a question behind it",
+        peers: &[LARGE, ASKS_FIRST],
+        connections: 2,
+        limit: LIMIT,
+        waits: true,
+        holds: AS_MADE,
+    },
+    Trial {
+        name: "a head and a body that are cut",
+        peers: &[ENDS_IN_HEAD, ENDS_IN_BODY],
+        connections: 2,
+        limit: LIMIT,
+        waits: true,
+        holds: AS_MADE,
+    },
+    Trial {
+        name: "a peer that waits too long, and one behind it",
+        peers: &[WAITS_IN_HEAD, EDITOR],
+        connections: 2,
+        limit: 200,
+        waits: true,
+        holds: EDITED,
+    },
+    Trial {
+        name: "no connection",
+        peers: &[NOT_SERVED],
+        connections: 0,
+        limit: LIMIT,
+        waits: true,
+        holds: AS_MADE,
+    },
+    Trial {
+        name: "accepts that fail",
+        peers: &[],
+        connections: 3,
+        limit: LIMIT,
+        waits: false,
+        holds: AS_MADE,
+    },
+];
+
+/// Serves the peers of a trial from a new desk, at a port that is free. Returns what is wrong.
+pub fn try_one(rt: &HostRuntime, trial: &Trial) -> io::Result<String> {
+    let mut wrong = String::new(rt.alloc());
+    match make_desk(rt.alloc())? {
+        Some(mut desk) => try_peers(rt, trial, &mut desk, &mut wrong)?,
+        None => wrong.push_str("no desk is made")?,
+    }
+    Ok(wrong)
+}
+
+/// Serves the peers of a trial. Adds what is wrong. The listener is closed before they read.
+fn try_peers(
+    rt: &HostRuntime,
+    trial: &Trial,
+    desk: &mut Desk<MemStore, Plain>,
+    wrong: &mut String,
+) -> io::Result<()> {
+    let mut streams = served(rt, trial, desk)?;
+    for (peer, stream) in trial.peers.iter().zip(streams.iter_mut()) {
+        if let Some(stream) = stream {
+            check_peer(rt.alloc(), peer, stream, wrong)?;
+        }
+    }
+    let found = tell(rt.alloc(), desk)?;
+    let found = found.as_str();
+    if found != trial.holds {
+        write!(wrong, "the desk holds {found:?}\n")?;
+    }
+    Ok(())
+}
+
+/// Has the peers of a trial connect and write, and serves so many connections. Returns the connections that the peers keep.
+fn served(
+    rt: &HostRuntime,
+    trial: &Trial,
+    desk: &mut Desk<MemStore, Plain>,
+) -> io::Result<Vec<Option<TcpStream>>> {
+    let listener = TcpListener::bind(rt, SocketAddr::from((Ipv4Addr::LOCALHOST, 0)))?;
+    listener.set_nonblocking(!trial.waits)?;
+    let streams = connected(rt, listener.local_addr()?, trial.peers)?;
+    let limit = Duration::from_millis(trial.limit);
+    serve_on(rt, desk, &listener, trial.connections, Some(limit));
+    Ok(streams)
+}
+
+/// Connects these peers, one after another, and has each write.
+fn connected(
+    rt: &HostRuntime,
+    address: SocketAddr,
+    peers: &[Peer],
+) -> io::Result<Vec<Option<TcpStream>>> {
+    let mut streams = Vec::new(rt.alloc());
+    for peer in peers {
+        streams.push(connect(rt, address, peer)?)?;
+    }
+    Ok(streams)
+}
