@@ -16,7 +16,7 @@ use cli_files::failure::{Failure, ReadFailure};
 use cli_files::input::{first_line, read_line};
 use cli_line::command;
 use cli_output::output::Output;
-use cli_serve::serve_command::{Outcome, run_serve};
+use cli_serve::serve_command::{Outcome, printing, run_serve};
 use cli_texts::check_command::run_check;
 use cli_texts::split_command::run_split;
 use cli_texts::try_command::run_try;
@@ -86,16 +86,6 @@ fn run_found<I: BufRead>(
         CommandWords::Log(words) => printing(run_log(rt, words)),
         CommandWords::Cat(words) => printing(run_cat(rt, words)),
         CommandWords::Serve(words) => run_serve(rt, words),
-    }
-}
-
-/// Returns what a command comes to that only prints, or why it has no answer.
-fn printing(answer: Result<Output, Failure>) -> Result<Outcome, Failure>
-    ensures { told result ≡ answer }
-{
-    match answer {
-        Ok(output) => Ok(Outcome::printed(output)),
-        Err(failure) => Err(failure),
     }
 }
 

@@ -28,7 +28,7 @@ use Rattle.cli_output.specs.declared.output.Output.TheVariants.{Refused}
 use Rattle.cli_output.specs.declared.refused.Refused.{Refused as Why}
 use Rattle.cli_output.specs.declared.refused.Refused.TheVariants as refused
 use Rattle.cli_database.specs.Questions.{AnswersByDatabase, AnswersQuestion, Prints, PrintsAnswer, TellsByHistory}
-use Rattle.cli_database.specs.Copy.{is_out_of_memory}
+use Rattle.cli_database_files.specs.Copy.{is_out_of_memory}
 use Rattle.cli_database.specs.RefusedOutputs.{IsRefusedByDesk, TellsError, copy_error}
 
 -- a database at a path answers

@@ -1,4 +1,3 @@
-pub mod Copy
 pub mod InitCommand
 pub mod Opening
 pub mod PutCommand

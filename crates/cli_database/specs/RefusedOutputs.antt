@@ -10,7 +10,7 @@ use Rattle.cli_output.specs.declared.output.Output.{Output}
 use Rattle.cli_output.specs.declared.output.Output.TheVariants.{Refused as Tells}
 use Rattle.cli_output.specs.declared.refused.Refused.{Refused}
 use Rattle.cli_output.specs.declared.refused.Refused.TheVariants as refused
-use Rattle.cli_database.specs.Copy.{is_out_of_memory}
+use Rattle.cli_database_files.specs.Copy.{is_out_of_memory}
 
 -- the output tells that it is refused so; out of memory says nothing
 abbrev pub IsRefusedAs : Refused → Result Output Failure → Type 0

@@ -8,19 +8,14 @@
 //! ```
 #![tactic(auto)]
 
-mod copy;
-pub mod database_file;
 pub mod init_command;
-pub mod log_file;
-mod new_files;
-mod obstacles;
 pub mod opening;
 pub mod put_command;
 pub mod question_commands;
 mod questions;
 pub mod refused_outputs;
 
-use desk_policy::Plain;
+use desk_index::Index;
 
 /// The view by which the program decides.
-pub type View = Plain;
+pub type View = Index;

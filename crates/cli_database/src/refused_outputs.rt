@@ -4,8 +4,8 @@ ghost use Rattle.std.specs.Prelude.{◌≡◌};
 ghost use Rattle.desk_service.specs.declared.refused.Refused.TheVariants as by_desk;
 ghost use Rattle.cli_database.specs.RefusedOutputs.{IsRefusedByDesk, TellsError, copy_error};
 
-use crate::copy::is_out_of_memory;
-use crate::obstacles::{Obstacle, find_obstacle};
+use cli_database_files::copy::is_out_of_memory;
+use cli_database_files::obstacles::{Obstacle, find_obstacle};
 use cli_files::failure::Failure;
 use cli_files::files::FileArgument;
 use cli_output::output::Output;

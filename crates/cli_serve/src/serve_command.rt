@@ -11,8 +11,8 @@ ghost use Rattle.cli_serve.specs.ServeCommand.{AnswersServe, IsAsked, IsBadLimit
 
 use crate::serving::serve_on;
 use cli_database::View;
-use cli_database::database_file::plain_path;
-use cli_database::log_file::{log_to_make, remove_log};
+use cli_database_files::database_file::plain_path;
+use cli_database_files::log_file::{log_to_make, remove_log};
 use cli_database::opening::{check_file, open_desk};
 use cli_files::bad_argument::Argument;
 use cli_files::failure::Failure;
@@ -128,7 +128,7 @@ fn start(rt: &HostRuntime, db: &str, asked: Asked) -> Result<Outcome, Failure>
 {
     match check_file(rt, db) {
         Ok(()) => start_on(rt, db, asked),
-        Err(answer) => printed(answer),
+        Err(answer) => printing(answer),
     }
 }
 
@@ -141,12 +141,12 @@ fn start_on(rt: &HostRuntime, db: &str, asked: Asked) -> Result<Outcome, Failure
     let log = log_to_make(rt, db)?;
     match open_desk(rt, db, path.as_str(), &log, Wary) {
         Ok(desk) => listen(rt, desk, asked, log, line),
-        Err(answer) => printed(answer),
+        Err(answer) => printing(answer),
     }
 }
 
 /// Returns the outcome of a command that only prints, or why it has no answer.
-fn printed(answer: Result<Output, Failure>) -> Result<Outcome, Failure>
+pub fn printing(answer: Result<Output, Failure>) -> Result<Outcome, Failure>
     ensures told { told result ≡ answer }
     ensures nothing_runs { IfOk result (λ outcome. outcome.service ≡ None) }
 {

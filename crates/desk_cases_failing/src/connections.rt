@@ -7,7 +7,8 @@ use crate::desks::tell;
 use crate::sample::{history_after, site};
 use desk_http::serve;
 use desk_messages::{Bytes, End, Failed, Served, Source, StreamFault};
-use desk_policy::{Plain, Site};
+use desk_index::Index;
+use desk_policy::Site;
 use desk_store::Desk;
 use sqlite::{Connection, MemStore};
 use std::alloc::{AllocError, Global};
@@ -275,7 +276,7 @@ struct Wanted {
 #[derive(Drop)]
 struct Subject {
     site: Site,
-    unused: Option<Desk<MemStore, Plain>>,
+    unused: Option<Desk<MemStore, Index>>,
     wrong: String,
 }
 
@@ -459,7 +460,7 @@ fn last_before(stream: &Stream, ends: [u64; 3], call: u64) -> (u64, u64, usize) 
 fn take_desk(
     alloc: Global,
     subject: &mut Subject,
-) -> Result<Option<Desk<MemStore, Plain>>, AllocError> {
+) -> Result<Option<Desk<MemStore, Index>>, AllocError> {
     if let Some(desk) = subject.unused.take() {
         return Ok(Some(desk));
     }
@@ -548,7 +549,7 @@ fn end_name(end: End) -> &'static str {
 fn check_desk(
     alloc: Global,
     subject: &mut Subject,
-    mut desk: Desk<MemStore, Plain>,
+    mut desk: Desk<MemStore, Index>,
     steps: usize,
 ) -> Result<(), AllocError> {
     let mut found = String::new(alloc);

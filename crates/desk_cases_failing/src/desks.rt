@@ -5,7 +5,8 @@ ghost use Rattle.sqlite.specs.Held.{state};
 
 use crate::sample::{EDITS, names};
 use desk_core::Edit;
-use desk_policy::{Plain, Site};
+use desk_index::Index;
+use desk_policy::Site;
 use desk_store::{CreateError, Desk, DeskError};
 use sqlite::{Alter, Connection, Error, FileStore, Files, Options};
 use sqlite_disk::Disk;
@@ -133,7 +134,7 @@ fn created<D: Disk + Drop>(
     conn: Connection<FileStore<D>>,
     site: &Site,
     answers: &mut Answers,
-) -> Result<Desk<FileStore<D>, Plain>, Connection<FileStore<D>>>
+) -> Result<Desk<FileStore<D>, Index>, Connection<FileStore<D>>>
     requires { conn.in_transaction ≡ false }
 {
     match create_once(alloc, conn, site, answers) {
@@ -148,7 +149,7 @@ fn create_once<D: Disk + Drop>(
     conn: Connection<FileStore<D>>,
     site: &Site,
     answers: &mut Answers,
-) -> Result<Desk<FileStore<D>, Plain>, Connection<FileStore<D>>>
+) -> Result<Desk<FileStore<D>, Index>, Connection<FileStore<D>>>
     requires { conn.in_transaction ≡ false }
     ensures { IfErr result (λ conn. conn.in_transaction ≡ false) }
 {
@@ -168,7 +169,7 @@ fn create_once<D: Disk + Drop>(
 /// Puts the edits, each at the second time if need be, until one is refused twice. Returns how many were answered as done.
 pub fn put_all<D: Disk + Drop>(
     alloc: Global,
-    desk: &mut Desk<FileStore<D>, Plain>,
+    desk: &mut Desk<FileStore<D>, Index>,
     answers: &mut Answers,
 ) -> usize {
     for (place, edit) in EDITS.iter().enumerate() {
@@ -182,7 +183,7 @@ pub fn put_all<D: Disk + Drop>(
 /// Puts an edit, and tells whether it was answered as done. If not, the desk still stands at the revision before it.
 fn put<D: Disk + Drop>(
     alloc: Global,
-    desk: &mut Desk<FileStore<D>, Plain>,
+    desk: &mut Desk<FileStore<D>, Index>,
     edit: &Edit<'_>,
     answers: &mut Answers,
 ) -> bool {
@@ -204,7 +205,7 @@ fn put<D: Disk + Drop>(
 }
 
 /// Returns the number of a file's newest revision, by the desk.
-fn newest_number<D: Disk + Drop>(desk: &Desk<FileStore<D>, Plain>, file: &str) -> u32 {
+fn newest_number<D: Disk + Drop>(desk: &Desk<FileStore<D>, Index>, file: &str) -> u32 {
     match desk.newest(file) {
         Some(head) => head.rev,
         None => 0,
@@ -263,7 +264,7 @@ fn reopened<D: Disk + Drop>(
     conn: Connection<FileStore<D>>,
     site: &Site,
     first: &mut String,
-) -> Option<Desk<FileStore<D>, Plain>>
+) -> Option<Desk<FileStore<D>, Index>>
     requires { conn.in_transaction ≡ false }
 {
     match Desk::open(alloc, conn) {
@@ -284,7 +285,7 @@ fn reopened<D: Disk + Drop>(
 /// that is not edited only the newest is told.
 pub fn tell<S: Alter + Drop>(
     alloc: Global,
-    desk: &mut Desk<S, Plain>,
+    desk: &mut Desk<S, Index>,
     out: &mut String,
 ) -> Result<(), AllocError> {
     for name in names(alloc)?.as_slice() {
@@ -304,7 +305,7 @@ fn is_edited(name: &str) -> bool {
 
 /// Tells the newest revision of a file.
 fn tell_newest<S: Alter + Drop>(
-    desk: &Desk<S, Plain>,
+    desk: &Desk<S, Index>,
     name: &str,
     out: &mut String,
 ) -> Result<(), AllocError> {
@@ -318,7 +319,7 @@ fn tell_newest<S: Alter + Drop>(
 /// Tells all revisions of a file.
 fn tell_revisions<S: Alter + Drop>(
     alloc: Global,
-    desk: &mut Desk<S, Plain>,
+    desk: &mut Desk<S, Index>,
     name: &str,
     out: &mut String,
 ) -> Result<(), AllocError> {
@@ -336,7 +337,7 @@ fn tell_revisions<S: Alter + Drop>(
 /// Tells the text of a revision.
 fn tell_body<S: Alter + Drop>(
     alloc: Global,
-    desk: &mut Desk<S, Plain>,
+    desk: &mut Desk<S, Index>,
     name: &str,
     rev: u32,
     out: &mut String,

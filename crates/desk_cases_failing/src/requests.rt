@@ -9,7 +9,7 @@ use crate::sample::{history_after, site};
 use crate::trials::{MOST_PASSES, Trial, failing_files, file_of, have_failed, written_files};
 use desk_http::serve;
 use desk_messages::{Bytes, End, Served};
-use desk_policy::Plain;
+use desk_index::Index;
 use desk_store::Desk;
 use sqlite::{Connection, FileStore, Files};
 use sqlite_disk::{Disk, Memory};
@@ -104,7 +104,7 @@ fn created(
 ) -> Result<Connection<FileStore<Memory>>, AllocError>
     requires { conn.in_transaction ≡ false }
 {
-    let made: Result<Desk<FileStore<Memory>, Plain>, _> = Desk::create(alloc, conn, &site(alloc)?);
+    let made: Result<Desk<FileStore<Memory>, Index>, _> = Desk::create(alloc, conn, &site(alloc)?);
     match made {
         Ok(desk) => Ok(desk.into_connection()),
         Err((_, conn)) => {
@@ -177,7 +177,7 @@ fn serve_over<D: Disk + Drop>(
 ) -> Result<Connection<FileStore<D>>, AllocError>
     requires { conn.in_transaction ≡ false }
 {
-    let opened: Result<Desk<FileStore<D>, Plain>, _> = Desk::open(alloc, conn);
+    let opened: Result<Desk<FileStore<D>, Index>, _> = Desk::open(alloc, conn);
     match opened {
         Ok(mut desk) => {
             let written = served(alloc, &mut desk, wrong)?;
@@ -191,7 +191,7 @@ fn serve_over<D: Disk + Drop>(
 /// Serves the requests on one connection. Returns what is written, and adds what is wrong: there are to be five replies.
 fn served<D: Disk + Drop>(
     alloc: Global,
-    desk: &mut Desk<FileStore<D>, Plain>,
+    desk: &mut Desk<FileStore<D>, Index>,
     wrong: &mut String,
 ) -> Result<Vec<u8>, AllocError> {
     let mut reader = Bytes::new(REQUESTS.to_vec(alloc)?, 65_536, None);
@@ -269,7 +269,7 @@ fn check_reopened(
 ) -> Result<(), AllocError>
     requires { conn.in_transaction ≡ false }
 {
-    let opened: Result<Desk<FileStore<Memory>, Plain>, _> = Desk::open(alloc, conn);
+    let opened: Result<Desk<FileStore<Memory>, Index>, _> = Desk::open(alloc, conn);
     let Ok(mut desk) = opened else {
         return wrong.push_str("no desk is opened again\n");
     };
@@ -291,7 +291,7 @@ fn check_reopened(
 /// Tests whether a desk holds the history of so many steps of the sample.
 fn holds(
     alloc: Global,
-    desk: &mut Desk<FileStore<Memory>, Plain>,
+    desk: &mut Desk<FileStore<Memory>, Index>,
     steps: usize,
 ) -> Result<bool, AllocError> {
     let mut found = String::new(alloc);

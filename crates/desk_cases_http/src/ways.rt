@@ -4,7 +4,7 @@ ghost use Rattle.std.specs.Prelude.{◌<◌};
 
 use desk_http::serve;
 use desk_messages::{Bytes, End, Of, Served, StreamFault};
-use desk_policy::Plain;
+use desk_index::Index;
 use desk_store::Desk;
 use sqlite::MemStore;
 use std::alloc::{AllocError, Global};
@@ -40,7 +40,7 @@ pub struct Session {
 /// Serves a stream that comes so. Where it comes byte by byte the writer takes a byte a call, and where it is cut, 7.
 pub fn serve_so(
     alloc: Global,
-    desk: &mut Desk<MemStore, Plain>,
+    desk: &mut Desk<MemStore, Index>,
     stream: &[u8],
     way: Way,
 ) -> Result<Session, AllocError> {
@@ -57,7 +57,7 @@ pub fn serve_so(
 /// Serves a stream of two pieces.
 fn serve_in_pieces(
     alloc: Global,
-    desk: &mut Desk<MemStore, Plain>,
+    desk: &mut Desk<MemStore, Index>,
     first: &[u8],
     second: &[u8],
     step: usize,
@@ -73,7 +73,7 @@ fn serve_in_pieces(
 /// Serves a stream that comes byte by byte.
 fn serve_by_bytes(
     alloc: Global,
-    desk: &mut Desk<MemStore, Plain>,
+    desk: &mut Desk<MemStore, Index>,
     stream: &[u8],
 ) -> Result<Session, AllocError> {
     let mut reader = Bytes::new(stream.to_vec(alloc)?, 1, None);

@@ -1,6 +1,7 @@
 //! The desk that is served: its site, and what it holds.
 
-use desk_policy::{Plain, Site};
+use desk_index::Index;
+use desk_policy::Site;
 use desk_store::Desk;
 use desk_text::Text;
 use sqlite::{Connection, MemStore};
@@ -33,7 +34,7 @@ pub const EDITED: &str =
     2 site: 127.0.0.1 localhost\n";
 
 /// Makes a desk in memory; none if it is refused.
-pub fn make_desk(alloc: Global) -> Result<Option<Desk<MemStore, Plain>>, AllocError> {
+pub fn make_desk(alloc: Global) -> Result<Option<Desk<MemStore, Index>>, AllocError> {
     let site = site(alloc)?;
     match Desk::create(alloc, Connection::open_in_memory(alloc)?, &site) {
         Ok(desk) => Ok(Some(desk)),
@@ -62,7 +63,7 @@ fn site(alloc: Global) -> Result<Site, AllocError> {
 
 /// Tells the number of the newest revision of each file, and then each revision of the hosts file: its number, its author and its
 /// text.
-pub fn tell(alloc: Global, desk: &mut Desk<MemStore, Plain>) -> Result<String, AllocError> {
+pub fn tell(alloc: Global, desk: &mut Desk<MemStore, Index>) -> Result<String, AllocError> {
     let mut found = String::new(alloc);
     for name in NAMES {
         let rev = newest_number(desk, name);
@@ -73,7 +74,7 @@ pub fn tell(alloc: Global, desk: &mut Desk<MemStore, Plain>) -> Result<String, A
 }
 
 /// Returns the number of a file's newest revision, or 0.
-fn newest_number(desk: &Desk<MemStore, Plain>, name: &str) -> u32 {
+fn newest_number(desk: &Desk<MemStore, Index>, name: &str) -> u32 {
     match desk.newest(name) {
         Some(head) => head.rev,
         None => 0,
@@ -83,7 +84,7 @@ fn newest_number(desk: &Desk<MemStore, Plain>, name: &str) -> u32 {
 /// Tells each revision of the hosts file.
 fn tell_hosts(
     alloc: Global,
-    desk: &mut Desk<MemStore, Plain>,
+    desk: &mut Desk<MemStore, Index>,
     found: &mut String,
 ) -> Result<(), AllocError> {
     let Ok(revisions) = desk.revisions(alloc, "hosts") else {
@@ -100,7 +101,7 @@ fn tell_hosts(
 /// Tells the text of a revision of the hosts file.
 fn tell_text(
     alloc: Global,
-    desk: &mut Desk<MemStore, Plain>,
+    desk: &mut Desk<MemStore, Index>,
     rev: u32,
     found: &mut String,
 ) -> Result<(), AllocError> {

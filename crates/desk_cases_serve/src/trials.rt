@@ -3,7 +3,7 @@
 use crate::desks::{AS_MADE, EDITED, make_desk, tell};
 use crate::peers::{Peer, Receives, Then, check_peer, connect};
 use cli_serve::serve_on;
-use desk_policy::Plain;
+use desk_index::Index;
 use desk_store::Desk;
 use sqlite::MemStore;
 use std::io;
@@ -276,7 +276,7 @@ pub fn try_one(rt: &HostRuntime, trial: &Trial) -> io::Result<String> {
 fn try_peers(
     rt: &HostRuntime,
     trial: &Trial,
-    desk: &mut Desk<MemStore, Plain>,
+    desk: &mut Desk<MemStore, Index>,
     wrong: &mut String,
 ) -> io::Result<()> {
     let mut streams = served(rt, trial, desk)?;
@@ -297,7 +297,7 @@ fn try_peers(
 fn served(
     rt: &HostRuntime,
     trial: &Trial,
-    desk: &mut Desk<MemStore, Plain>,
+    desk: &mut Desk<MemStore, Index>,
 ) -> io::Result<Vec<Option<TcpStream>>> {
     let listener = TcpListener::bind(rt, SocketAddr::from((Ipv4Addr::LOCALHOST, 0)))?;
     listener.set_nonblocking(!trial.waits)?;

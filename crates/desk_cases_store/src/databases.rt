@@ -1,7 +1,7 @@
 //! Questions on a database in memory, in plain SQL. They are asked of its connection, so not while a desk is open on it.
 
 use desk_cases_texts::answers::{Asked, number, say, say_whether, split};
-use desk_policy::Plain;
+use desk_index::Index;
 use desk_store::{Desk, declares_file_rev, declares_meta};
 use sqlite::{Connection, Error, ErrorCode, MemStore, Row, params};
 use sqlite_value::value::ValueRef;
@@ -12,7 +12,7 @@ use std::str;
 #[derive(Drop)]
 pub struct Database {
     pub conn: Option<Connection<MemStore>>,
-    pub desk: Option<Desk<MemStore, Plain>>,
+    pub desk: Option<Desk<MemStore, Index>>,
 }
 
 impl Database {

@@ -4,7 +4,8 @@ use crate::databases::Database;
 use crate::edits::{add_head, edit_of, in_force};
 use crate::subject::Subject;
 use desk_cases_texts::answers::{Asked, number, say, split};
-use desk_policy::{Plain, PolicyView};
+use desk_index::Index;
+use desk_policy::PolicyView;
 use desk_store::{CreateError, Desk, DeskError, Done, Revision, StoreFault, Task};
 use desk_text::Text;
 use sqlite::{Connection, MemStore};
@@ -43,7 +44,7 @@ pub fn answer(
 /// Answers a question on a desk that is open.
 fn of_desk(
     alloc: Global,
-    desk: &mut Desk<MemStore, Plain>,
+    desk: &mut Desk<MemStore, Index>,
     out: &mut String,
     question: &str,
     text: &str,
@@ -103,7 +104,7 @@ fn open(alloc: Global, database: &mut Database, out: &mut String) -> Asked {
 
 fn keep_desk(
     database: &mut Database,
-    desk: Desk<MemStore, Plain>,
+    desk: Desk<MemStore, Index>,
     out: &mut String,
     said: &str,
 ) -> Asked {
@@ -121,7 +122,7 @@ fn close(database: &mut Database, out: &mut String) -> Asked {
 }
 
 /// `edit FILE BASE CALLER KEY TEXT`: `stored 2`, and the edit is in force; `already 2`; or the refusal.
-fn edit(alloc: Global, desk: &mut Desk<MemStore, Plain>, out: &mut String, text: &str) -> Asked {
+fn edit(alloc: Global, desk: &mut Desk<MemStore, Index>, out: &mut String, text: &str) -> Asked {
     let Some(edit) = edit_of(text) else {
         return Ok(false);
     };
@@ -140,14 +141,14 @@ fn say_done(out: &mut String, done: Done) -> Asked {
 
 /// `heads`: the newest revision of each file, its file, its number and its author, with `; ` between them: those of the seven
 /// files, and those of the exports files of the file systems that are listed, by mount point.
-fn heads(alloc: Global, desk: &Desk<MemStore, Plain>, out: &mut String) -> Asked {
+fn heads(alloc: Global, desk: &Desk<MemStore, Index>, out: &mut String) -> Asked {
     for file in SEVEN {
         add_newest(desk, out, file)?;
     }
     exports_heads(alloc, desk, out)
 }
 
-fn exports_heads(alloc: Global, desk: &Desk<MemStore, Plain>, out: &mut String) -> Asked {
+fn exports_heads(alloc: Global, desk: &Desk<MemStore, Index>, out: &mut String) -> Asked {
     for mount in desk.view().policy().filesystems().as_slice() {
         let mount = mount.path.text();
         let file = format!(in alloc; "exports:{mount}")?;
@@ -157,7 +158,7 @@ fn exports_heads(alloc: Global, desk: &Desk<MemStore, Plain>, out: &mut String) 
 }
 
 fn add_newest(
-    desk: &Desk<MemStore, Plain>,
+    desk: &Desk<MemStore, Index>,
     out: &mut String,
     file: &str,
 ) -> Result<(), AllocError> {
@@ -171,7 +172,7 @@ fn add_newest(
 }
 
 /// `newest FILE`: the number, the author and the text of its newest revision, or `none`.
-fn newest(desk: &Desk<MemStore, Plain>, out: &mut String, file: &str) -> Asked {
+fn newest(desk: &Desk<MemStore, Index>, out: &mut String, file: &str) -> Asked {
     if let Some(head) = desk.newest(file) {
         let (number, author, body) = (head.rev, head.author.as_str(), head.body.as_str());
         write!(out, "{number} {author} {body}")?;
@@ -182,7 +183,7 @@ fn newest(desk: &Desk<MemStore, Plain>, out: &mut String, file: &str) -> Asked {
 /// `revisions FILE`: the number and the author of each, with `; ` between them, or `none`.
 fn revisions(
     alloc: Global,
-    desk: &mut Desk<MemStore, Plain>,
+    desk: &mut Desk<MemStore, Index>,
     out: &mut String,
     file: &str,
 ) -> Asked {
@@ -206,7 +207,7 @@ fn say_revisions(out: &mut String, revisions: &[(u32, Text)]) -> Asked {
 /// `revision FILE REV`: its author and its text, or `none`.
 fn revision(
     alloc: Global,
-    desk: &mut Desk<MemStore, Plain>,
+    desk: &mut Desk<MemStore, Index>,
     out: &mut String,
     text: &str,
 ) -> Asked {

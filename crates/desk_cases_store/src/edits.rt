@@ -5,7 +5,8 @@ use desk_cases_texts::answers::{Asked, number, say, split};
 use desk_cases_texts::policies::say_verdict;
 use desk_cases_texts::sites::say_fault;
 use desk_core::{Edit, Head, Judged, Refusal, State, can_be_kept};
-use desk_policy::{Plain, PolicyView, SiteFault};
+use desk_index::Index;
+use desk_policy::{PolicyView, SiteFault};
 use desk_text::{Addr, Path, ReadError, Text};
 use std::alloc::{AllocError, Global};
 use std::mem;
@@ -14,7 +15,7 @@ use std::mem;
 #[derive(Drop)]
 pub struct Edits {
     heads: Vec<Head>,
-    state: Option<State<Plain>>,
+    state: Option<State<Index>>,
 }
 
 impl Edits {
@@ -48,7 +49,7 @@ pub fn answer(
 /// Answers a question on a state.
 fn of_state(
     alloc: Global,
-    state: &mut State<Plain>,
+    state: &mut State<Index>,
     out: &mut String,
     question: &str,
     text: &str,
@@ -100,7 +101,7 @@ fn start(alloc: Global, edits: &mut Edits, out: &mut String) -> Asked {
 fn set_state(
     edits: &mut Edits,
     out: &mut String,
-    state: Result<State<Plain>, ReadError<SiteFault>>,
+    state: Result<State<Index>, ReadError<SiteFault>>,
 ) -> Asked {
     match state {
         Ok(state) => {
@@ -112,7 +113,7 @@ fn set_state(
 }
 
 /// `edit FILE BASE CALLER KEY TEXT`: `stored 2`, and the edit is in force; `already 2`; or the refusal, as it is printed.
-fn edit(alloc: Global, state: &mut State<Plain>, out: &mut String, text: &str) -> Asked {
+fn edit(alloc: Global, state: &mut State<Index>, out: &mut String, text: &str) -> Asked {
     let Some(edit) = edit_of(text) else {
         return Ok(false);
     };
@@ -129,7 +130,7 @@ fn edit(alloc: Global, state: &mut State<Plain>, out: &mut String, text: &str) -
 /// Puts an edit in force. Returns the number of the newest revision if that is this edit.
 fn put(
     alloc: Global,
-    state: &mut State<Plain>,
+    state: &mut State<Index>,
     edit: &Edit<'_>,
 ) -> Result<Option<u32>, ReadError<Refusal>> {
     match state.judge(alloc, edit)? {
@@ -158,7 +159,7 @@ pub fn edit_of(text: &str) -> Option<Edit<'_>> {
 }
 
 /// Answers with the number of a file's newest revision.
-fn say_stored(state: &State<Plain>, out: &mut String, file: &str) -> Asked {
+fn say_stored(state: &State<Index>, out: &mut String, file: &str) -> Asked {
     for head in state.heads() {
         if head.file.as_str() == file {
             let number = head.rev;
@@ -180,7 +181,7 @@ fn say_refused(out: &mut String, error: ReadError<Refusal>) -> Asked {
 
 /// `heads`: the newest revision of each file, as the state has them: its file, its number and its author, with `; `
 /// between them.
-fn heads(state: &State<Plain>, out: &mut String) -> Asked {
+fn heads(state: &State<Index>, out: &mut String) -> Asked {
     for (place, head) in state.heads().iter().enumerate() {
         if place > 0 {
             out.push_str("; ")?;
@@ -198,7 +199,7 @@ pub fn add_head(out: &mut String, head: &Head) -> Result<(), AllocError> {
 }
 
 /// `in_force CLIENT PATH`: the verdict by the view of the state, or of the desk, as it is printed.
-pub fn in_force(alloc: Global, view: &Plain, out: &mut String, text: &str) -> Asked {
+pub fn in_force(alloc: Global, view: &Index, out: &mut String, text: &str) -> Asked {
     let (client, path) = split(text);
     let Ok(client) = Addr::read(client) else {
         return Ok(false);

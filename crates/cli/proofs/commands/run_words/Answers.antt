@@ -23,6 +23,6 @@ returns g c =
     let command_is : app_of c.in_ok-command.field-0 ≡ command_line = c.in_ok-command.ensures in
     let words_are : map (λ word. word.now) c.as_slice.result.now ≡ line_of (map g.S.AsSlice.items c.args.words.now) =
     ap (map (λ word. word.now)) c.as_slice.ensures.value ∙ c.in_ok-line.ensures in
-    inl (subst (λ (result : Result Output Failure). IsNoCommand (map g.S.AsSlice.items c.args.words.now) result) (sym c.printing.ensures)
+    inl (subst (λ (result : Result Output Failure). IsNoCommand (map g.S.AsSlice.items c.args.words.now) result) (sym c.printing.ensures.told)
     (said (map g.S.AsSlice.items c.args.words.now) (kind_of c.in-Err.error) c.clap_output.result c.clap_output.ensures
     (subst (λ (kinds : Kinds). HasKind kinds c.in-Err.error) (ap₂ fault_of command_is words_are) (c.in-Err.ensures.kinds (ap is_simple_and_free command_is)))))

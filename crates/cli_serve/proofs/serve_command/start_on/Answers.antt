@@ -6,4 +6,4 @@ pub returns-in-Ok : goal.returns-in-Ok
 returns-in-Ok c = c.listen.ensures c.args.db.now
 
 pub returns-in-Err : goal.returns-in-Err
-returns-in-Err c = starts_nothing c.args.db.now c.args.asked c.in-Err.answer c.printed.result c.in-Err.ensures.refused c.printed.ensures.told c.printed.ensures.nothing_runs
+returns-in-Err c = starts_nothing c.args.db.now c.args.asked c.in-Err.answer c.printing.result c.in-Err.ensures.refused c.printing.ensures.told c.printing.ensures.nothing_runs

@@ -9,8 +9,8 @@ use Rattle.sqlite_disk.specs.declared.memory.Memory.{Memory}
 use Rattle.cli_files.specs.Files.{IsUnread}
 use Rattle.cli_files.specs.declared.failure.Failure.TheVariants.{Memory as NoMemory}
 use Rattle.cli_files.specs.declared.files.FileArgument.TheVariants.{Database}
-use Rattle.cli_database.specs.declared.copy.Unopened.{Unopened}
-use Rattle.cli_database.specs.declared.copy.Unopened.TheVariants.{Refused, Unread}
+use Rattle.cli_database_files.specs.declared.copy.Unopened.{Unopened}
+use Rattle.cli_database_files.specs.declared.copy.Unopened.TheVariants.{Refused, Unread}
 
 -- the database at this path cannot be read, or SQLite does not open it; out of memory says nothing
 abbrev pub IsUnopened : List ℕ → Unopened → Type 0

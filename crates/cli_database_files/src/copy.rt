@@ -5,7 +5,7 @@ ghost use Rattle.sqlite_disk.specs.Memory.{memory_is_usable};
 ghost use Rattle.sqlite.specs.Files.{file_state};
 ghost use Rattle.cli_files.specs.Files.{IsUnread};
 ghost use Rattle.cli_files.specs.declared.files.FileArgument.TheVariants.{Database};
-ghost use Rattle.cli_database.specs.Copy.{AreUsable, IsUnopened, copy_unopened, is_out_of_memory};
+ghost use Rattle.cli_database_files.specs.Copy.{AreUsable, IsUnopened, copy_unopened, is_out_of_memory};
 
 use crate::database_file::{CANNOT_OPEN, is_plain, lock};
 use crate::obstacles::is_settled;
