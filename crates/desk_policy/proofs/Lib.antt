@@ -6,6 +6,7 @@ pub mod GreatestWeight
 pub mod VerdictLines
 pub mod LeastLines
 pub mod AscendingRows
+pub mod Steps
 pub mod Conflicts
 pub mod Contradicting
 pub mod ByKeys
