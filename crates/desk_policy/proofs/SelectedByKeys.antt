@@ -1,5 +1,5 @@
 -- The lines that are selected for an address are those that have the heaviest key.
-use Rattle.std.proofs.Common.{◌≡◌, ℕ, zero, suc, ◌<◌, ◌≤◌, ◌^◌, Bool, true, cond, List, [], ◌∷◌, length, get_or, Option, Some, None, IsSome, IfSome, sym, ◌∙◌, ap, subst, refl, inl, inr, arith}
+use Rattle.std.proofs.Common.{◌≡◌, ℕ, zero, suc, ◌<◌, ◌≤◌, ◌^◌, Bool, true, cond, List, [], ◌∷◌, length, get_or, Option, Some, None, IfSome, sym, ◌∙◌, ap, subst, refl, inl, inr, arith}
 use Rattle.std.specs.Prelude.{filter, is_none}
 use Rattle.std.specs.Option.{is_some}
 use Rattle.std.specs.List.{list_any, list_all, All}
@@ -8,7 +8,7 @@ use Rattle.std.proofs.lemmas.List.Elements.{All-head, All-tail}
 use Rattle.desk_policy.specs.declared.row.Row.{Row}
 use Rattle.desk_policy.specs.Weights.{weight_of, is_at_most, selected}
 use Rattle.desk_policy.specs.PrivateWeights.{is_same_weight, has_weight, IsGreatest}
-use Rattle.desk_policy.specs.Keys.{LineKey, IsLineKey, key_weight, has_key, HasBlock, is_used, IsHeaviestKey, HasNoKey, KeysSelect, LinesAreSelectedByKeys}
+use Rattle.desk_policy.specs.Keys.{LineKey, IsLineKey, key_weight, has_key, HasBlock, is_used, IsHeaviestKey, HasNoKey, LinesAreSelectedByKeys}
 use Rattle.desk_policy.proofs.ByKeys.{key_is, key_of, weight_from}
 use Rattle.desk_policy.proofs.GreatestWeight.{selected-none, selected-some}
 

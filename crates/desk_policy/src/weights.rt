@@ -92,5 +92,6 @@ pub fn first_listing<'a>(rows: &'a [Row], address: Addr, weight: u8, path: &Path
     ensures { option_copied result
         ≡ find (λ row. has_weight (number_of address) weight row && lists_here path.now row) rows.now }
 {
-    rows.iter().find(|row| weighs(row, address, weight) && row.lists_here(path))
+    rows.iter()
+        .find(|row| weighs(row, address, weight) && row.lists_here(path))
 }

@@ -4,7 +4,7 @@ use Rattle.std.specs.List.{All}
 use Rattle.desk_policy.specs.declared.row.Row.{Row}
 use Rattle.desk_policy.specs.Contradiction.{Contradicts}
 use Rattle.desk_policy.specs.PrivateFirstLines.{AreFirsts}
-use Rattle.desk_policy.specs.PrivateFirstLines.{HasBlock}
+use Rattle.desk_policy.specs.Keys.{HasBlock}
 use Rattle.desk_policy.proofs.contradiction.contradiction_in.Given as goal
 
 abbrev pub invariant-loop-i : goal.invariant-loop-i
