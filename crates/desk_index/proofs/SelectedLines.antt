@@ -1,13 +1,10 @@
 -- What a search by keys finds is the selected lines, and which line a verdict on them names.
-use Rattle.std.proofs.Common.{◌≡◌, ◌<◌, ◌≤◌, ◌^◌, ◌&&◌, ◌||◌, ℕ, Bool, true, false, cond, eqb, List, [], ◌∷◌, map, filter, Option, Some, None, IsSome, IfSome, Result, Ok, Err, sym, ◌∙◌, ap, subst, refl, inl, inr, ◌⊎◌, arith}
+use Rattle.std.proofs.Common.{◌≡◌, ◌≤◌, ◌&&◌, ◌||◌, ℕ, Bool, false, cond, eqb, List, [], ◌∷◌, filter, Option, Some, None, IsSome, IfSome, Ok, Err, sym, ◌∙◌, ap, subst, refl, inl, inr}
 use Rattle.std.specs.Prelude.{find, slice_get}
 use Rattle.std.specs.Option.{is_some, IfNone, option_copied}
 use Rattle.std.specs.Borrow.{Bor}
-use Rattle.std.specs.List.{list_any, All}
 use Rattle.std.proofs.Math.Bool.{and-true}
-use Rattle.std.proofs.lemmas.Bool.{cases_Bool, cond-true, cond-false, cond_both, eq-eqb, eqb-true, or_left, or_right, true≢false, false_from_ne_true}
-use Rattle.desk_text.specs.Address.{number_of}
-use Rattle.desk_text.specs.declared.address.Addr.{Addr}
+use Rattle.std.proofs.lemmas.Bool.{cases_Bool, cond-true, cond-false, eq-eqb, eqb-true, or_left}
 use Rattle.desk_tables.specs.FileSystems.{fs_of}
 use Rattle.desk_tables.specs.declared.filesystems.FsId.{FsId}
 use Rattle.desk_policy.specs.Keys as lines
@@ -16,7 +13,6 @@ use Rattle.desk_policy.specs.Policy.{AreAscending, Content, rows_of}
 use Rattle.desk_policy.specs.Verdict.{Grant, granted_by, is_directory_among, is_in, lists, verdict_among, lists_here}
 use Rattle.desk_policy.specs.Weights.{selected}
 use Rattle.desk_policy.specs.declared.row.Row.{Row}
-use Rattle.desk_policy.specs.declared.verdict.Denial.{Denial}
 use Rattle.desk_policy.specs.declared.verdict.Denial.TheVariants as denials
 use Rattle.desk_index.specs.Keys.{HasNoMatch, IsHeaviest, fs_of_key, key_weight, line_key, lines_under, lines_with, listed, numbers}
 use Rattle.desk_index.specs.PrivateNumbered.{rows_numbered}

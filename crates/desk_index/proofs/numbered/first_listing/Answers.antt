@@ -1,5 +1,4 @@
 use Rattle.std.proofs.Common.{ℕ, find, sym, ◌∙◌, subst, add-one}
-use Rattle.desk_policy.specs.declared.row.Row.{Row}
 use Rattle.desk_policy.specs.Verdict.{lists_here}
 use Rattle.desk_index.proofs.LinesByNumber.{Fails, is_numbered, next_found, next_none}
 use Rattle.desk_index.proofs.numbered.first_listing.Goals as goal

@@ -1,8 +1,7 @@
-use Rattle.std.proofs.Common.{◌≡◌, ◌∷◌, List, ℕ, sym, ◌∙◌, ap, subst, find}
+use Rattle.std.proofs.Common.{◌≡◌, ◌∷◌, sym, ◌∙◌, ap, subst, find}
 use Rattle.desk_text.specs.Address.{number_of}
 use Rattle.desk_policy.specs.Policy.{AreAscending, Content, rows_of}
 use Rattle.desk_policy.specs.Weights.{selected}
-use Rattle.desk_policy.specs.declared.row.Row.{Row}
 use Rattle.desk_index.specs.Keys.{numbers}
 use Rattle.desk_index.specs.PrivateKeyed.{AreKeyed}
 use Rattle.desk_policy.specs.Verdict.{lists_here}
