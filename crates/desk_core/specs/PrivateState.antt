@@ -26,7 +26,7 @@ pub record IsState (heads : List Head) (content : Content) (custodians : List Cu
   pub kept : All CanBeKept heads
 
 -- the answer of a case, as it is handed out
-abbrev pub AnswersCase : {V : Type 0} → Result (Judged V) (ReadError Refusal) → Answer → Type 0
+abbrev pub AnswersCase : {V : Type 0} → Result (Judged (Ready V)) (ReadError Refusal) → Answer → Type 0
 AnswersCase (Ok (judged.Already number)) answer = answer ≡ Already number
 AnswersCase (Ok (judged.Accepted ready)) answer = ⊥
 AnswersCase (Err (Fault refused)) answer = answer ≡ Refused refused

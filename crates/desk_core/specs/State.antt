@@ -33,7 +33,7 @@ Starts in_force heads (Err Memory) = Unit {0}
 
 -- An accepted edit is answered as stored, and brings its revision and what puts it in force; any other has its answer; and
 -- memory runs out only where none of the first eight cases holds.
-abbrev pub Judges : {V : Type 0} → (V → Content) → Kept V → Edit → Result (Judged V) (ReadError Refusal) → Type 0
+abbrev pub Judges : {V : Type 0} → (V → Content) → Kept V → Edit → Result (Judged (Ready V)) (ReadError Refusal) → Type 0
 Judges in_force state e (Ok (judged.Accepted ready)) =
     Answers (newest_in state.heads) e (Stored (e.base + 1)) × (ready.head ≡ revision_of e) × IsJudged in_force state ready
 Judges in_force state e (Ok (judged.Already number)) = Answers (newest_in state.heads) e (Already number)

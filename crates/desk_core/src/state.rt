@@ -66,11 +66,11 @@ impl<V: PolicyView + Drop> Model for Accepted<V> {
 
 /// What an edit is answered that is not refused.
 #[derive(Drop)]
-pub enum Judged<V: PolicyView + Drop> {
+pub enum Judged<A> {
     /// The newest revision, with this number, is this edit, stored before.
     Already(u32),
     /// It can be put in force by `apply`.
-    Accepted(Accepted<V>),
+    Accepted(A),
 }
 
 impl<V: PolicyView + Drop> State<V> {
@@ -90,7 +90,11 @@ impl<V: PolicyView + Drop> State<V> {
 
     /// Judges an edit by the state as it is, which stays so; an accepted edit is put in force by `apply`. There is no memory
     /// only if none of the cases holds that are checked before the site with the edit's text is.
-    pub fn judge(&self, alloc: Global, edit: &Edit<'_>) -> Result<Judged<V>, ReadError<Refusal>>
+    pub fn judge(
+        &self,
+        alloc: Global,
+        edit: &Edit<'_>,
+    ) -> Result<Judged<Accepted<V>>, ReadError<Refusal>>
         ensures { Judges V.in_force self.now (asked edit.now) result }
     {
         match self.first_case(edit) {
@@ -153,7 +157,11 @@ impl<V: PolicyView + Drop> State<V> {
     }
 
     /// Answers in a case that holds first.
-    fn answer_in(&self, edit: &Edit<'_>, case: Case) -> Result<Judged<V>, ReadError<Refusal>>
+    fn answer_in(
+        &self,
+        edit: &Edit<'_>,
+        case: Case,
+    ) -> Result<Judged<Accepted<V>>, ReadError<Refusal>>
         requires { first_case (newest_in self.now.heads) (asked edit.now) ≡ Some case }
         ensures { AnswersCase result (answer_in (newest_in self.now.heads edit.now.file.now) (asked edit.now) case) }
     {
