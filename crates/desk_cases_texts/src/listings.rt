@@ -1,9 +1,10 @@
-//! Questions on listings, and on texts that are split among file systems.
+//! Questions on listings, and on texts that are split among file systems. A listing is asked of the index too.
 
 ghost use Rattle.std.specs.Prelude.{◌≤◌, length};
 
 use crate::answers::Asked;
 use crate::exports::say_fault;
+use crate::indexes::add_by_keys;
 use crate::site::{InForce, Site};
 use desk_exports::split;
 use desk_policy::{Plain, Policy, PolicyView, all_exports, listing, listing_text};
@@ -17,7 +18,7 @@ pub fn answer(alloc: Global, site: &Site, out: &mut String, question: &str, text
 {
     match (question, &site.filesystems, &site.policy) {
         ("split", Some(table), _) => split_texts(alloc, table, out, text),
-        ("listing", _, Some(InForce::View(view))) => listing_of(alloc, view, out, text),
+        ("listing", _, Some(InForce::View(view))) => listings(alloc, site, view, out, text),
         ("exports", _, Some(in_force)) => exports(alloc, in_force.policy(), out),
         _ => Ok(false),
     }
@@ -42,15 +43,30 @@ fn say_texts(out: &mut String, texts: &[String]) -> Asked {
 }
 
 /// `listing ADDRESS`: the printed listing for an address under the policy in force, with `|` for each line feed.
-fn listing_of(alloc: Global, view: &Plain, out: &mut String, text: &str) -> Asked {
+fn listings(alloc: Global, site: &Site, view: &Plain, out: &mut String, text: &str) -> Asked {
     let Ok(address) = Addr::read(text) else {
         return Ok(false);
     };
+    say_listing(alloc, view, out, address)?;
+    let Some(index) = &site.index else {
+        return Ok(true);
+    };
+    let mut by_keys = String::new(alloc);
+    say_listing(alloc, index, &mut by_keys, address)?;
+    add_by_keys(out, by_keys.as_str())
+}
+
+/// Answers with the listing for an address under a view.
+fn say_listing<V: PolicyView>(alloc: Global, view: &V, out: &mut String, address: Addr) -> Asked {
     let text = text_of_listing(alloc, view, address)?;
     say_lines(out, text.as_str())
 }
 
-fn text_of_listing(alloc: Global, view: &Plain, address: Addr) -> Result<String, AllocError> {
+fn text_of_listing<V: PolicyView>(
+    alloc: Global,
+    view: &V,
+    address: Addr,
+) -> Result<String, AllocError> {
     let shown = listing(alloc, view, address)?;
     listing_text(alloc, view.policy(), shown.as_slice())
 }

@@ -57,7 +57,7 @@ fn network_text(out: &mut String, text: &str) -> Asked {
 }
 
 /// Returns the network that a text with a prefix writes.
-fn read_net(text: &str) -> Option<Net> {
+pub fn read_net(text: &str) -> Option<Net> {
     let written = NetText::read(text).ok()?;
     Some(Net::new(written.addr, written.prefix?))
 }

@@ -1,4 +1,5 @@
-//! Questions on policies and verdicts.
+//! Questions on policies and verdicts. A verdict is that by the lines of the policy. If no two of them contradict each other,
+//! it is asked of the index too; where that gives another one, both are told (`add_by_keys`).
 
 ghost use Rattle.std.specs.Prelude.{◌≤◌, length};
 ghost use Rattle.desk_exports.specs.Files.{EntriesAscend};
@@ -6,12 +7,13 @@ ghost use Rattle.desk_exports.specs.Files.{EntriesAscend};
 use crate::answers::{Asked, end_list, numbers, say, say_whether, split};
 use crate::exports::{say_fault, tables};
 use crate::filesystems::{self, fs_id, mounted};
+use crate::indexes::{add_by_keys, index_of};
 use crate::site::{InForce, Site};
-use desk_exports::{Boxed, Entry, read_whole};
+use desk_exports::{Boxed, Entry, Rule, read_whole};
 use desk_netgroup::Netgroups;
-use desk_policy::{Denial, LONGEST_TEXT, Policy, Row, Verdict, act_as, verdict_text};
+use desk_policy::{Denial, LONGEST_TEXT, Policy, PolicyView, Row, Verdict, act_as, verdict_text};
 use desk_tables::{FileSystems, FsId, Hosts, credential};
-use desk_text::{Addr, Path, ReadError, Sequence};
+use desk_text::{Addr, LineFault, Path, ReadError, Sequence};
 use std::alloc::{AllocError, Global};
 
 /// Answers a question on the policy, or one that sets it.
@@ -21,7 +23,7 @@ pub fn answer(alloc: Global, site: &mut Site, out: &mut String, question: &str, 
     match (question, &site.policy) {
         ("policy", _) => read(alloc, site, out, text),
         ("policy_with", _) => read_with(alloc, site, out, text),
-        ("verdict", Some(in_force)) => verdict(alloc, in_force, out, text),
+        ("verdict", Some(in_force)) => verdict(alloc, site, in_force, out, text),
         ("not_listed", Some(in_force)) => not_listed(alloc, in_force.policy(), out, text),
         ("rows", Some(in_force)) => rows(in_force.policy(), out, text),
         ("row_has", Some(in_force)) => row_has(in_force.policy(), out, text),
@@ -44,7 +46,7 @@ fn read(alloc: Global, site: &mut Site, out: &mut String, text: &str) -> Asked
         return Ok(false);
     };
     let filesystems = filesystems.copy()?;
-    set(alloc, site, out, filesystems, text)
+    set(alloc, site, out, &filesystems, text)
 }
 
 /// `policy_with MOUNTS\nTEXT`: the same, but in the policy the file systems have the mount points of the first line.
@@ -56,38 +58,50 @@ fn read_with(alloc: Global, site: &mut Site, out: &mut String, text: &str) -> As
         return Ok(false);
     }
     match mounted(alloc, mounts) {
-        Ok(Some(filesystems)) => set(alloc, site, out, filesystems, text),
+        Ok(Some(filesystems)) => set(alloc, site, out, &filesystems, text),
         Err(ReadError::Memory) => Err(AllocError),
         _ => Ok(false),
     }
 }
 
-/// Sets the policy of a text, which has these file systems.
+/// Sets the policy of a text, which has these file systems, and the index of that policy.
 fn set(
     alloc: Global,
     site: &mut Site,
     out: &mut String,
-    filesystems: FileSystems,
+    filesystems: &FileSystems,
     text: &str,
 ) -> Asked
     requires { length text.now ≤ 4294967294 }
 {
-    let Some(known) = &site.filesystems else {
-        return Ok(false);
-    };
-    match read_whole(alloc, text, &tables(site, known)) {
-        Ok(entries) => {
-            site.put(InForce::Policy(policy_of(alloc, filesystems, entries)?));
+    match policy_of(alloc, site, filesystems, text) {
+        Ok(policy) => {
+            site.put(InForce::Policy(policy));
+            if let Ok(again) = policy_of(alloc, site, filesystems, text) {
+                site.index = index_of(alloc, again)?;
+            }
             say(out, "read")
         }
-        Err(error) => {
-            drop(filesystems);
-            say_fault(alloc, out, error)
-        }
+        Err(error) => say_fault(alloc, out, error),
     }
 }
 
+/// Reads the policy of a text with the tables that the file read last. It has these file systems, and is without the
+/// groups and the hosts.
 fn policy_of(
+    alloc: Global,
+    site: &Site,
+    filesystems: &FileSystems,
+    text: &str,
+) -> Result<Policy, ReadError<LineFault<Rule>>>
+    requires { length text.now ≤ 4294967294 }
+{
+    let known = site.filesystems.as_ref().unwrap_or(filesystems);
+    let entries = read_whole(alloc, text, &tables(site, known))?;
+    Ok(policy_with(alloc, filesystems.copy()?, entries)?)
+}
+
+fn policy_with(
     alloc: Global,
     filesystems: FileSystems,
     entries: Sequence<(FsId, Boxed<Entry>)>,
@@ -100,20 +114,43 @@ fn policy_of(
 }
 
 /// `verdict CLIENT PATH`: the verdict as it is printed.
-fn verdict(alloc: Global, in_force: &InForce, out: &mut String, text: &str) -> Asked {
+fn verdict(alloc: Global, site: &Site, in_force: &InForce, out: &mut String, text: &str) -> Asked {
     let (client, path) = split(text);
     let Ok(client) = Addr::read(client) else {
         return Ok(false);
     };
     match Path::read(alloc, path) {
-        Ok(path) => say_verdict(
-            alloc,
-            in_force.policy(),
-            out,
-            &in_force.decide(client, &path),
-        ),
+        Ok(path) => say_verdicts(alloc, site, in_force, out, client, &path),
         Err(_) => Ok(false),
     }
+}
+
+/// Answers with the verdict by the lines of the policy, and with that by its keys if it is another.
+fn say_verdicts(
+    alloc: Global,
+    site: &Site,
+    in_force: &InForce,
+    out: &mut String,
+    client: Addr,
+    path: &Path,
+) -> Asked {
+    say_verdict(
+        alloc,
+        in_force.policy(),
+        out,
+        &in_force.decide(client, path),
+    )?;
+    let Some(index) = &site.index else {
+        return Ok(true);
+    };
+    let mut by_keys = String::new(alloc);
+    say_verdict(
+        alloc,
+        index.policy(),
+        &mut by_keys,
+        &index.decide(client, path),
+    )?;
+    add_by_keys(out, by_keys.as_str())
 }
 
 /// Answers with a verdict as it is printed.

@@ -5,8 +5,8 @@ ghost use Rattle.std.specs.Prelude.{◌≤◌, length};
 use crate::answers::Asked;
 use crate::site::Site;
 use crate::{
-    addresses, credentials, custodians, exports, faults, filesystems, hosts, lines, listings,
-    netgroups, nets, networks, paths, policies, sites,
+    addresses, credentials, custodians, exports, faults, filesystems, hosts, indexes, lines,
+    listings, netgroups, nets, networks, parts, paths, policies, sites,
 };
 use desk_policy::LONGEST_TEXT;
 use std::alloc::Global;
@@ -51,6 +51,8 @@ fn of_site(alloc: Global, site: &mut Site, out: &mut String, question: &str, tex
             || exports::answer(alloc, site, out, question, text)?
             || policies::answer(alloc, site, out, question, text)?
             || listings::answer(alloc, site, out, question, text)?
+            || indexes::answer(alloc, site, out, question, text)?
+            || parts::answer(alloc, site, out, question, text)?
             || sites::answer(alloc, site, out, question, text)?
             || faults::answer(alloc, site, out, question, text)?,
     )

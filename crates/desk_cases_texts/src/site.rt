@@ -1,12 +1,13 @@
 //! The tables and the policy that questions are asked of.
 
 use crate::answers::{Asked, say};
+use desk_index::Index;
 use desk_netgroup::Netgroups;
 use desk_policy::{Plain, Policy, PolicyView, Verdict, decide};
 use desk_tables::{Custodians, FileSystems, Groups, Hosts, Networks, TableFault, Users};
 use desk_text::{Addr, Path, ReadError, Text};
 use std::alloc::{AllocError, Global};
-use std::collections::BTreeMap;
+use std::collections::{BTreeMap, BTreeSet};
 
 /// What was read last. Until then a table is without rows, or there is none, and the texts of the site are empty.
 #[derive(Drop)]
@@ -20,6 +21,10 @@ pub struct Site {
     pub custodians: Option<Custodians>,
     pub texts: desk_policy::Site,
     pub policy: Option<InForce>,
+    /// The policy by its keys, unless lines of it contradict each other.
+    pub index: Option<Index>,
+    /// The keys that lines had under these texts, as they are written in questions (`indexes`).
+    pub keys: BTreeSet<String>,
 }
 
 /// A policy, or a view of one.
@@ -72,12 +77,15 @@ impl Site {
             custodians: None,
             texts: no_texts(alloc),
             policy: None,
+            index: None,
+            keys: BTreeSet::new(alloc),
         }
     }
 
-    /// Puts a policy or a view in force.
+    /// Puts a policy or a view in force, which is not known by its keys yet.
     pub fn put(&mut self, in_force: InForce) {
         self.policy = Some(in_force);
+        self.index = None;
     }
 }
 

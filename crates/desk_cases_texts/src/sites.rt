@@ -1,12 +1,18 @@
 //! Questions on sites and whole exports texts: what they are read as, whether they are consistent, and their warnings.
+//! Whether they are consistent is asked twice: of the view that scans the lines, and of the index; if the index says
+//! otherwise, both are told (`add_by_keys`).
 
 ghost use Rattle.std.specs.Prelude.{◌≤◌, length};
 
 use crate::answers::{Asked, say, split};
+use crate::indexes::{add_by_keys, index_of, keep_keys};
 use crate::site::{InForce, Site, no_texts};
+use desk_index::Index;
 use desk_policy::{Plain, Policy, PolicyView, SiteFault, Warning, compile, parse, parse_whole};
+use desk_tables::FileSystems;
 use desk_text::{ReadError, Text};
 use std::alloc::{AllocError, Global};
+use std::collections::BTreeSet;
 
 /// Answers a question on a site or a whole text, or on the warnings of either.
 pub fn answer(alloc: Global, site: &mut Site, out: &mut String, question: &str, text: &str) -> Asked
@@ -22,12 +28,13 @@ pub fn answer(alloc: Global, site: &mut Site, out: &mut String, question: &str, 
     }
 }
 
-/// `site`: `new`. Forgets the texts of the site.
+/// `site`: `new`. Forgets the texts of the site, and the keys of its lines.
 fn new(alloc: Global, site: &mut Site, out: &mut String, text: &str) -> Asked {
     if !text.is_empty() {
         return Ok(false);
     }
     site.texts = no_texts(alloc);
+    site.keys = BTreeSet::new(alloc);
     say(out, "new")
 }
 
@@ -81,10 +88,18 @@ fn of_texts(alloc: Global, site: &mut Site, out: &mut String, question: &str) ->
     }
     if question == "parse" {
         let policy = parse(alloc, &site.texts);
-        set_policy(site, out, policy)
+        set_policy(site, out, policy)?;
+        let again = parse(alloc, &site.texts);
+        set_index_of(alloc, site, again)
     } else {
         let view = compile(alloc, &site.texts);
-        set_view(site, out, view)
+        set_view(site, out, view)?;
+        let index = compile(alloc, &site.texts);
+        set_index(alloc, site, out, index)?;
+        if out.as_str() == "consistent" {
+            keep_keys(alloc, site)?;
+        }
+        Ok(true)
     }
 }
 
@@ -97,23 +112,39 @@ fn of_whole(alloc: Global, site: &mut Site, out: &mut String, question: &str, te
         return Ok(false);
     };
     let filesystems = filesystems.copy()?;
-    let policy = parse_whole(alloc, text, filesystems);
     if question == "whole" {
-        set_policy(site, out, policy)
+        set_policy(site, out, whole(alloc, &filesystems, text))?;
+        set_index_of(alloc, site, whole(alloc, &filesystems, text))
     } else {
-        set_built(alloc, site, out, policy)
+        set_view(site, out, built(alloc, whole(alloc, &filesystems, text)))?;
+        set_index(
+            alloc,
+            site,
+            out,
+            built(alloc, whole(alloc, &filesystems, text)),
+        )
     }
 }
 
-fn set_built(
+/// Reads the policy of a text for all of these file systems.
+fn whole(
     alloc: Global,
-    site: &mut Site,
-    out: &mut String,
+    filesystems: &FileSystems,
+    text: &str,
+) -> Result<Policy, ReadError<SiteFault>>
+    requires { length text.now ≤ 4294967294 }
+{
+    parse_whole(alloc, text, filesystems.copy()?)
+}
+
+/// Builds a view of a policy, if that was read.
+fn built<V: PolicyView>(
+    alloc: Global,
     policy: Result<Policy, ReadError<SiteFault>>,
-) -> Asked {
+) -> Result<V, ReadError<SiteFault>> {
     match policy {
-        Ok(policy) => set_view(site, out, Plain::build(alloc, policy)),
-        Err(error) => say_fault(out, error),
+        Ok(policy) => V::build(alloc, policy),
+        Err(error) => Err(error),
     }
 }
 
@@ -132,6 +163,18 @@ fn set_policy(
     }
 }
 
+/// Sets the index of the policy in force, which was read again for it, unless lines of it contradict each other.
+fn set_index_of(
+    alloc: Global,
+    site: &mut Site,
+    policy: Result<Policy, ReadError<SiteFault>>,
+) -> Asked {
+    if let Ok(policy) = policy {
+        site.index = index_of(alloc, policy)?;
+    }
+    Ok(true)
+}
+
 /// Sets the view that is in force, or answers with the fault.
 fn set_view(site: &mut Site, out: &mut String, view: Result<Plain, ReadError<SiteFault>>) -> Asked {
     match view {
@@ -141,6 +184,26 @@ fn set_view(site: &mut Site, out: &mut String, view: Result<Plain, ReadError<Sit
         }
         Err(error) => say_fault(out, error),
     }
+}
+
+/// Sets the index of the view in force. Tells what the index answers, if that is something else.
+fn set_index(
+    alloc: Global,
+    site: &mut Site,
+    out: &mut String,
+    index: Result<Index, ReadError<SiteFault>>,
+) -> Asked {
+    let mut by_keys = String::new(alloc);
+    match index {
+        Ok(index) => {
+            site.index = Some(index);
+            by_keys.push_str("consistent")?;
+        }
+        Err(error) => {
+            say_fault(&mut by_keys, error)?;
+        }
+    }
+    add_by_keys(out, by_keys.as_str())
 }
 
 /// Answers with a fault: `fault exports:/a line 2 rule 26 Contradiction line 1 address 10.0.0.5`.
