@@ -197,7 +197,7 @@ struct Counts {
 /// `large_part LINES ADDRESSES`: sets lines of the first file system in the index, from 1 to this many, line k with its mount
 /// point `/a` and the network of the address number 2k with prefix 32. Then asks of each address whose number is below
 /// ADDRESSES whether it may mount `/a`, and answers how many may by their own line, line k for the address number 2k, and on
-/// the terms of a line without options, how many have no line, and how many get another answer: `2 granted, 3 NoLine, 0 other`.
+/// the terms of a line without options, how many have no line, and how many get another answer: `set: 2 granted, 3 NoLine, 0 other`.
 fn large_part(alloc: Global, site: &mut Site, out: &mut String, text: &str) -> Asked {
     let (Some((lines, addresses)), Some(index)) = (numbers(text), &mut site.index) else {
         return Ok(false);
