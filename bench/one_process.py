@@ -13,8 +13,8 @@ import tempfile
 from databases import NAMES, answer, fail
 from program import TOP, build
 
-CRATES = ["desk_text", "desk_tables", "desk_netgroup", "desk_exports", "desk_policy", "desk_core", "desk_store"]
-LIBRARIES = "desk_store desk_core desk_policy desk_text sqlite anyhow"
+CRATES = ["desk_text", "desk_tables", "desk_netgroup", "desk_exports", "desk_policy", "desk_index", "desk_core", "desk_store"]
+LIBRARIES = "desk_store desk_core desk_index desk_policy desk_text sqlite anyhow"
 PUTS = 1000
 RUNS = 7
 # (Seconds since 1970, to a millisecond.)
