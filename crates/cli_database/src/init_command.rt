@@ -16,11 +16,11 @@ ghost use Rattle.desk_core.specs.declared.edit.Refusal.TheVariants.{Fault as Sit
 ghost use Rattle.cli_words.specs.Words.{given_init};
 
 use crate::View;
-use cli_database_files::new_files::{NewFiles, is_blank};
-use cli_database_files::obstacles::{Obstacle, find_obstacle_to_make};
 use crate::refused_outputs::{
     not_opened_at, not_writable, obstructed, refused_by_store, refused_by_table, too_large_told,
 };
+use cli_database_files::new_files::{NewFiles, is_blank};
+use cli_database_files::obstacles::{Obstacle, find_obstacle_to_make};
 use cli_files::failure::Failure;
 use cli_files::files::FileArgument;
 use cli_output::output::Output;

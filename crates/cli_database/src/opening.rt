@@ -17,10 +17,10 @@ ghost use Rattle.cli_database.specs.Opening.{OpensDesk, TellsNoDesk};
 ghost use Rattle.cli_database.specs.RefusedOutputs.{IsRefusedByDesk};
 
 use crate::View;
+use crate::refused_outputs::{not_opened_at, not_writable, refused_by_desk, refused_by_schema};
 use cli_database_files::copy::unread;
 use cli_database_files::database_file::{CANNOT_OPEN, is_plain};
 use cli_database_files::log_file::remove_log;
-use crate::refused_outputs::{not_opened_at, not_writable, refused_by_desk, refused_by_schema};
 use cli_files::failure::Failure;
 use cli_output::output::Output;
 use desk_store::Desk;

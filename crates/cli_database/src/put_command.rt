@@ -11,10 +11,10 @@ ghost use Rattle.cli_database.specs.PutCommand.{AnswersEdit, AnswersKeyFile, Ans
 ghost use Rattle.cli_database.specs.RefusedOutputs.{IsRefusedByDesk};
 
 use crate::View;
-use cli_database_files::database_file::plain_path;
-use cli_database_files::log_file::{log_to_make, remove_log};
 use crate::opening::{FilesFrom, check_file, open_connection};
 use crate::refused_outputs::{refusal_told, refused_by_desk};
+use cli_database_files::database_file::plain_path;
+use cli_database_files::log_file::{log_to_make, remove_log};
 use cli_files::bad_argument::Argument;
 use cli_files::failure::Failure;
 use cli_files::files::{FileArgument, is_input, read_if_given};

@@ -9,8 +9,8 @@ ghost use Rattle.desk_service.specs.Questions.{ByFile, ByPolicy, OnFile, OnPolic
 ghost use Rattle.cli_database.specs.Questions.{AnswersByDatabase, AnswersQuestion, PrintsAnswer, TellsByHistory, credential_in, log_text, question_in, revision_line};
 
 use crate::View;
-use cli_database_files::copy::{Unopened, open_copy};
 use crate::refused_outputs::{no_revision, not_opened_at, refused_by_copy};
+use cli_database_files::copy::{Unopened, open_copy};
 use cli_files::failure::Failure;
 use cli_output::output::Output;
 use desk_check::try_text::printed_verdict;

@@ -11,9 +11,9 @@ ghost use Rattle.cli_serve.specs.ServeCommand.{AnswersServe, IsAsked, IsBadLimit
 
 use crate::serving::serve_on;
 use cli_database::View;
+use cli_database::opening::{check_file, open_desk};
 use cli_database_files::database_file::plain_path;
 use cli_database_files::log_file::{log_to_make, remove_log};
-use cli_database::opening::{check_file, open_desk};
 use cli_files::bad_argument::Argument;
 use cli_files::failure::Failure;
 use cli_output::output::Output;

@@ -6,8 +6,8 @@ ghost use Rattle.std.specs.Prelude.{◌≡◌, ℕ, ◌<◌, List, length, None,
 use crate::desks::tell;
 use crate::sample::{history_after, site};
 use desk_http::serve;
-use desk_messages::{Bytes, End, Failed, Served, Source, StreamFault};
 use desk_index::Index;
+use desk_messages::{Bytes, End, Failed, Served, Source, StreamFault};
 use desk_policy::Site;
 use desk_store::Desk;
 use sqlite::{Connection, MemStore};

@@ -3,8 +3,8 @@
 ghost use Rattle.std.specs.Prelude.{◌<◌};
 
 use desk_http::serve;
-use desk_messages::{Bytes, End, Of, Served, StreamFault};
 use desk_index::Index;
+use desk_messages::{Bytes, End, Of, Served, StreamFault};
 use desk_store::Desk;
 use sqlite::MemStore;
 use std::alloc::{AllocError, Global};
