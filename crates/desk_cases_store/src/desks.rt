@@ -1,9 +1,11 @@
 //! Questions on a desk, which is open on the database.
 
 use crate::databases::Database;
-use crate::edits::{add_head, edit_of, in_force};
+use crate::edits::{add_head, edit_of, in_force, keep_head};
 use crate::subject::Subject;
 use desk_cases_texts::answers::{Asked, number, say, split};
+use desk_cases_texts::indexes;
+use desk_cases_texts::site::no_texts;
 use desk_index::Index;
 use desk_policy::PolicyView;
 use desk_store::{CreateError, Desk, DeskError, Done, Revision, StoreFault, Task};
@@ -34,6 +36,7 @@ pub fn answer(
         "create" => create(alloc, &mut subject.database, out, &subject.site.texts),
         "open" => open(alloc, &mut subject.database, out),
         "close" => close(&mut subject.database, out),
+        "keys_in_force" => keys_in_force(alloc, subject, out),
         _ => match &mut subject.database.desk {
             Some(desk) => of_desk(alloc, desk, out, question, text),
             None => Ok(false),
@@ -169,6 +172,49 @@ fn add_newest(
         out.push_str("; ")?;
     }
     add_head(out, head)
+}
+
+/// `keys_in_force`: what `keys` answers, of the view of the desk and its newest texts.
+fn keys_in_force(alloc: Global, subject: &mut Subject, out: &mut String) -> Asked {
+    let Some(desk) = &subject.database.desk else {
+        return Ok(false);
+    };
+    let mut texts = no_texts(alloc);
+    let asked = match keep_all(alloc, desk, &mut texts) {
+        Ok(()) => indexes::compare_keys(alloc, &mut subject.keys, desk.view(), &texts, out),
+        Err(error) => Err(error),
+    };
+    drop(texts);
+    asked
+}
+
+/// Sets the newest text of each of the seven files, and of each exports file of the file systems that are listed.
+fn keep_all(
+    alloc: Global,
+    desk: &Desk<MemStore, Index>,
+    texts: &mut desk_policy::Site,
+) -> Result<(), AllocError> {
+    for file in SEVEN {
+        keep_newest(alloc, desk, texts, file)?;
+    }
+    for mount in desk.view().policy().filesystems().as_slice() {
+        let mount = mount.path.text();
+        let file = format!(in alloc; "exports:{mount}")?;
+        keep_newest(alloc, desk, texts, file.as_str())?;
+    }
+    Ok(())
+}
+
+fn keep_newest(
+    alloc: Global,
+    desk: &Desk<MemStore, Index>,
+    texts: &mut desk_policy::Site,
+    file: &str,
+) -> Result<(), AllocError> {
+    match desk.newest(file) {
+        Some(head) => keep_head(alloc, texts, head),
+        None => Ok(()),
+    }
 }
 
 /// `newest FILE`: the number, the author and the text of its newest revision, or `none`.

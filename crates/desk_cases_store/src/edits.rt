@@ -2,8 +2,10 @@
 
 use crate::subject::Subject;
 use desk_cases_texts::answers::{Asked, number, say, split};
+use desk_cases_texts::indexes;
 use desk_cases_texts::policies::say_verdict;
-use desk_cases_texts::sites::say_fault;
+use desk_cases_texts::site::no_texts;
+use desk_cases_texts::sites::{keep, say_fault};
 use desk_core::{Edit, Head, Judged, Refusal, State, can_be_kept};
 use desk_index::Index;
 use desk_policy::{PolicyView, SiteFault};
@@ -39,6 +41,7 @@ pub fn answer(
     match question {
         "head" => head(alloc, &mut subject.edits, out, text),
         "state" => start(alloc, &mut subject.edits, out),
+        "keys_in_force" => keys_in_force(alloc, subject, out),
         _ => match &mut subject.edits.state {
             Some(state) => of_state(alloc, state, out, question, text),
             None => Ok(false),
@@ -208,4 +211,41 @@ pub fn in_force(alloc: Global, view: &Index, out: &mut String, text: &str) -> As
         Ok(path) => say_verdict(alloc, view.policy(), out, &view.decide(client, &path)),
         Err(_) => Ok(false),
     }
+}
+
+/// `keys_in_force`: what `keys` answers, of the view of the state, or of the desk, and its newest texts.
+fn keys_in_force(alloc: Global, subject: &mut Subject, out: &mut String) -> Asked {
+    let Some(state) = &subject.edits.state else {
+        return Ok(false);
+    };
+    let mut texts = no_texts(alloc);
+    let asked = match keep_heads(alloc, &mut texts, state.heads()) {
+        Ok(()) => indexes::compare_keys(alloc, &mut subject.keys, state.view(), &texts, out),
+        Err(error) => Err(error),
+    };
+    drop(texts);
+    asked
+}
+
+/// Sets the texts of the files of these revisions.
+fn keep_heads(
+    alloc: Global,
+    texts: &mut desk_policy::Site,
+    heads: &[Head],
+) -> Result<(), AllocError> {
+    for head in heads {
+        keep_head(alloc, texts, head)?;
+    }
+    Ok(())
+}
+
+/// Sets the text of the file of a revision.
+pub fn keep_head(
+    alloc: Global,
+    texts: &mut desk_policy::Site,
+    head: &Head,
+) -> Result<(), AllocError> {
+    let body = Text::copy(alloc, head.body.as_str())?;
+    keep(alloc, texts, head.file.as_str(), body)?;
+    Ok(())
 }

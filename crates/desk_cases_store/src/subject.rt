@@ -4,13 +4,16 @@ use crate::databases::Database;
 use crate::edits::Edits;
 use desk_cases_texts::site::Site;
 use std::alloc::Global;
+use std::collections::BTreeSet;
 
-/// What the file read last, the edits that it made, and its database.
+/// What the file read last, the edits that it made, and its database; and the keys of the lines in force whenever they were asked
+/// for.
 #[derive(Drop)]
 pub struct Subject {
     pub site: Site,
     pub edits: Edits,
     pub database: Database,
+    pub keys: BTreeSet<String>,
 }
 
 impl Subject {
@@ -20,6 +23,7 @@ impl Subject {
             site: Site::new(alloc),
             edits: Edits::new(alloc),
             database: Database::new(),
+            keys: BTreeSet::new(alloc),
         }
     }
 }

@@ -15,11 +15,17 @@ use std::alloc::{AllocError, Global};
 use std::collections::BTreeSet;
 
 /// Answers a question on the index.
-pub fn answer(alloc: Global, site: &Site, out: &mut String, question: &str, text: &str) -> Asked {
+pub fn answer(
+    alloc: Global,
+    site: &mut Site,
+    out: &mut String,
+    question: &str,
+    text: &str,
+) -> Asked {
     match (question, &site.index) {
         ("probe", Some(index)) => probe(index, out, text),
         ("select", Some(index)) => selected(index, out, text),
-        ("keys", Some(index)) => keys(alloc, site, index, out),
+        ("keys", Some(index)) => compare_keys(alloc, &mut site.keys, index, &site.texts, out),
         _ => Ok(false),
     }
 }
@@ -110,14 +116,15 @@ fn key_of(text: &str) -> Option<Key> {
     }
 }
 
-/// Keeps the keys of the lines in force.
-pub fn keep_keys(alloc: Global, site: &mut Site) -> Result<(), AllocError> {
-    let Some(in_force) = &site.policy else {
-        return Ok(());
-    };
+/// Adds the keys of the lines of a policy.
+fn add_keys_of_policy(
+    alloc: Global,
+    keys: &mut BTreeSet<String>,
+    policy: &Policy,
+) -> Result<(), AllocError> {
     let mut fs = 0u32;
-    for rows in in_force.policy().rows_by_filesystem() {
-        add_keys(alloc, &mut site.keys, fs, rows.as_slice())?;
+    for rows in policy.rows_by_filesystem() {
+        add_keys(alloc, keys, fs, rows.as_slice())?;
         fs = fs.saturating_add(1);
     }
     Ok(())
@@ -169,15 +176,26 @@ fn add_hosts(
     Ok(())
 }
 
-/// `keys`: how many keys lines had since `site`, and whether under each of them the index has the same lines as one that is
-/// built afresh of the texts of the site: `13 keys, same`, or the first under which it has not.
-fn keys(alloc: Global, site: &Site, index: &Index, out: &mut String) -> Asked {
-    if !site.texts.is_readable() {
+/// `keys`: how many keys the lines in force had whenever this was asked since `site`, and `same` if under each of them the index
+/// has the same lines as one that is built afresh of the texts of the site; or the first under which it has not.
+pub fn compare_keys(
+    alloc: Global,
+    keys: &mut BTreeSet<String>,
+    index: &Index,
+    texts: &desk_policy::Site,
+    out: &mut String,
+) -> Asked {
+    if !texts.is_readable() {
         return Ok(false);
     }
-    let fresh: Result<Index, ReadError<SiteFault>> = compile(alloc, &site.texts);
+    add_keys_of_policy(alloc, keys, index.policy())?;
+    let fresh: Result<Index, ReadError<SiteFault>> = compile(alloc, texts);
     match fresh {
-        Ok(fresh) => say_same(out, &site.keys, index, &fresh),
+        Ok(fresh) => {
+            let asked = say_same(out, keys, index, &fresh);
+            drop(fresh);
+            asked
+        }
         Err(error) => say_fault(out, error),
     }
 }

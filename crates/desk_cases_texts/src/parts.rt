@@ -6,7 +6,7 @@ ghost use Rattle.desk_policy.specs.Site.{HaveReadableLengths, texts_of};
 use crate::answers::{Asked, numbers, say, split};
 use crate::exports;
 use crate::filesystems::fs_id;
-use crate::indexes::{add_by_keys, keep_keys};
+use crate::indexes::add_by_keys;
 use crate::site::{InForce, Site};
 use crate::sites::say_fault;
 use desk_exports::{BoxedMapping, Flavour, Rule, Tables, Terms, read_file};
@@ -68,8 +68,7 @@ fn tables_of(alloc: Global, texts: &desk_policy::Site) -> Result<SiteTables, Rea
     SiteTables::read(alloc, texts)
 }
 
-/// Puts the lines of a text, read with these tables, in the place of those of a file system, and keeps the text and their
-/// keys.
+/// Puts the lines of a text, read with these tables, in the place of those of a file system, and keeps the text.
 fn set_with(
     alloc: Global,
     site: &mut Site,
@@ -83,7 +82,6 @@ fn set_with(
     }
     if out.as_str() == "set" {
         keep_text(alloc, site, fs, text)?;
-        keep_keys(alloc, site)?;
     }
     Ok(true)
 }
@@ -215,14 +213,10 @@ fn large_part(alloc: Global, site: &mut Site, out: &mut String, text: &str) -> A
 
 fn set_large(alloc: Global, index: &mut Index, out: &mut String, lines: u32) -> Asked {
     let text = large_text(alloc, lines)?;
-    set_part(
-        alloc,
-        index,
-        out,
-        &SiteTables::new(alloc),
-        FsId(0),
-        text.as_str(),
-    )
+    let tables = SiteTables::new(alloc);
+    let asked = set_part(alloc, index, out, &tables, FsId(0), text.as_str());
+    drop(tables);
+    asked
 }
 
 /// Returns the text of so many lines.

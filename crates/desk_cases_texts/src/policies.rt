@@ -9,7 +9,7 @@ use crate::exports::{say_fault, tables};
 use crate::filesystems::{self, fs_id, mounted};
 use crate::indexes::{add_by_keys, index_of};
 use crate::site::{InForce, Site};
-use desk_exports::{Boxed, Entry, Rule, read_whole};
+use desk_exports::{Boxed, Entry, Rule, Tables, read_whole};
 use desk_netgroup::Netgroups;
 use desk_policy::{Denial, LONGEST_TEXT, Policy, PolicyView, Row, Verdict, act_as, verdict_text};
 use desk_tables::{FileSystems, FsId, Hosts, credential};
@@ -46,7 +46,9 @@ fn read(alloc: Global, site: &mut Site, out: &mut String, text: &str) -> Asked
         return Ok(false);
     };
     let filesystems = filesystems.copy()?;
-    set(alloc, site, out, &filesystems, text)
+    let asked = set(alloc, site, out, &filesystems, text);
+    drop(filesystems);
+    asked
 }
 
 /// `policy_with MOUNTS\nTEXT`: the same, but in the policy the file systems have the mount points of the first line.
@@ -58,13 +60,17 @@ fn read_with(alloc: Global, site: &mut Site, out: &mut String, text: &str) -> As
         return Ok(false);
     }
     match mounted(alloc, mounts) {
-        Ok(Some(filesystems)) => set(alloc, site, out, &filesystems, text),
+        Ok(Some(filesystems)) => {
+            let asked = set(alloc, site, out, &filesystems, text);
+            drop(filesystems);
+            asked
+        }
         Err(ReadError::Memory) => Err(AllocError),
         _ => Ok(false),
     }
 }
 
-/// Sets the policy of a text, which has these file systems, and the index of that policy.
+/// Sets the policy of a text, which has these file systems, and the index of the same.
 fn set(
     alloc: Global,
     site: &mut Site,
@@ -74,31 +80,53 @@ fn set(
 ) -> Asked
     requires { length text.now ≤ 4294967294 }
 {
-    match policy_of(alloc, site, filesystems, text) {
-        Ok(policy) => {
-            site.put(InForce::Policy(policy));
-            if let Ok(again) = policy_of(alloc, site, filesystems, text) {
-                site.index = index_of(alloc, again)?;
-            }
-            say(out, "read")
-        }
-        Err(error) => say_fault(alloc, out, error),
-    }
+    let Some(known) = &site.filesystems else {
+        return Ok(false);
+    };
+    let written = tables(site, known);
+    let policy = policy_of(alloc, &written, filesystems, text);
+    let again = policy_of(alloc, &written, filesystems, text);
+    set_read(alloc, site, out, policy, again)
 }
 
-/// Reads the policy of a text with the tables that the file read last. It has these file systems, and is without the
-/// groups and the hosts.
+/// Sets the policy, and the index of the same, which was read again for it; or answers with the fault.
+fn set_read(
+    alloc: Global,
+    site: &mut Site,
+    out: &mut String,
+    policy: Result<Policy, ReadError<LineFault<Rule>>>,
+    again: Result<Policy, ReadError<LineFault<Rule>>>,
+) -> Asked {
+    match policy {
+        Ok(policy) => site.put(InForce::Policy(policy)),
+        Err(error) => {
+            drop(again);
+            return say_fault(alloc, out, error);
+        }
+    }
+    if let Ok(policy) = again {
+        site.put_index(index_of(alloc, policy)?);
+    }
+    say(out, "read")
+}
+
+/// Reads the policy of a text. It has these file systems, and is without the groups and the hosts.
 fn policy_of(
     alloc: Global,
-    site: &Site,
+    written: &Tables,
     filesystems: &FileSystems,
     text: &str,
 ) -> Result<Policy, ReadError<LineFault<Rule>>>
     requires { length text.now ≤ 4294967294 }
 {
-    let known = site.filesystems.as_ref().unwrap_or(filesystems);
-    let entries = read_whole(alloc, text, &tables(site, known))?;
-    Ok(policy_with(alloc, filesystems.copy()?, entries)?)
+    let own = filesystems.copy()?;
+    match read_whole(alloc, text, written) {
+        Ok(entries) => Ok(policy_with(alloc, own, entries)?),
+        Err(error) => {
+            drop(own);
+            Err(error)
+        }
+    }
 }
 
 fn policy_with(

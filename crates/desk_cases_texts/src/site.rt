@@ -23,7 +23,7 @@ pub struct Site {
     pub policy: Option<InForce>,
     /// The policy by its keys, unless lines of it contradict each other.
     pub index: Option<Index>,
-    /// The keys that lines had under these texts, as they are written in questions (`indexes`).
+    /// The keys that lines of the site had when they were asked for, as questions write them (`indexes`).
     pub keys: BTreeSet<String>,
 }
 
@@ -86,6 +86,11 @@ impl Site {
     pub fn put(&mut self, in_force: InForce) {
         self.policy = Some(in_force);
         self.index = None;
+    }
+
+    /// Puts the index of that policy beside it, if there is one.
+    pub fn put_index(&mut self, index: Option<Index>) {
+        self.index = index;
     }
 }
 

@@ -5,7 +5,7 @@
 ghost use Rattle.std.specs.Prelude.{◌≤◌, length};
 
 use crate::answers::{Asked, say, split};
-use crate::indexes::{add_by_keys, index_of, keep_keys};
+use crate::indexes::{add_by_keys, index_of};
 use crate::site::{InForce, Site, no_texts};
 use desk_index::Index;
 use desk_policy::{Plain, Policy, PolicyView, SiteFault, Warning, compile, parse, parse_whole};
@@ -49,7 +49,7 @@ fn file(alloc: Global, site: &mut Site, out: &mut String, text: &str) -> Asked {
 }
 
 /// Sets the text of the file with this name. Tells whether there is one.
-fn keep(
+pub fn keep(
     alloc: Global,
     texts: &mut desk_policy::Site,
     name: &str,
@@ -95,11 +95,7 @@ fn of_texts(alloc: Global, site: &mut Site, out: &mut String, question: &str) ->
         let view = compile(alloc, &site.texts);
         set_view(site, out, view)?;
         let index = compile(alloc, &site.texts);
-        set_index(alloc, site, out, index)?;
-        if out.as_str() == "consistent" {
-            keep_keys(alloc, site)?;
-        }
-        Ok(true)
+        set_index(alloc, site, out, index)
     }
 }
 
@@ -112,18 +108,46 @@ fn of_whole(alloc: Global, site: &mut Site, out: &mut String, question: &str, te
         return Ok(false);
     };
     let filesystems = filesystems.copy()?;
-    if question == "whole" {
-        set_policy(site, out, whole(alloc, &filesystems, text))?;
-        set_index_of(alloc, site, whole(alloc, &filesystems, text))
+    let asked = if question == "whole" {
+        set_whole(alloc, site, out, &filesystems, text)
     } else {
-        set_view(site, out, built(alloc, whole(alloc, &filesystems, text)))?;
-        set_index(
-            alloc,
-            site,
-            out,
-            built(alloc, whole(alloc, &filesystems, text)),
-        )
-    }
+        set_built(alloc, site, out, &filesystems, text)
+    };
+    drop(filesystems);
+    asked
+}
+
+/// Sets the policy of a text for all of these file systems.
+fn set_whole(
+    alloc: Global,
+    site: &mut Site,
+    out: &mut String,
+    filesystems: &FileSystems,
+    text: &str,
+) -> Asked
+    requires { length text.now ≤ 4294967294 }
+{
+    set_policy(site, out, whole(alloc, filesystems, text))?;
+    set_index_of(alloc, site, whole(alloc, filesystems, text))
+}
+
+/// Sets both views of that policy.
+fn set_built(
+    alloc: Global,
+    site: &mut Site,
+    out: &mut String,
+    filesystems: &FileSystems,
+    text: &str,
+) -> Asked
+    requires { length text.now ≤ 4294967294 }
+{
+    set_view(site, out, built(alloc, whole(alloc, filesystems, text)))?;
+    set_index(
+        alloc,
+        site,
+        out,
+        built(alloc, whole(alloc, filesystems, text)),
+    )
 }
 
 /// Reads the policy of a text for all of these file systems.
@@ -170,7 +194,7 @@ fn set_index_of(
     policy: Result<Policy, ReadError<SiteFault>>,
 ) -> Asked {
     if let Ok(policy) = policy {
-        site.index = index_of(alloc, policy)?;
+        site.put_index(index_of(alloc, policy)?);
     }
     Ok(true)
 }
@@ -196,7 +220,7 @@ fn set_index(
     let mut by_keys = String::new(alloc);
     match index {
         Ok(index) => {
-            site.index = Some(index);
+            site.put_index(Some(index));
             by_keys.push_str("consistent")?;
         }
         Err(error) => {
