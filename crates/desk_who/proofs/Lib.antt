@@ -1,0 +1,9 @@
+pub mod Chain
+pub mod Existence
+pub mod Going
+pub mod Gathered
+pub mod Steady
+pub mod Discrete
+pub mod WhoLaws
+pub mod Telling
+pub mod Changing

@@ -1,0 +1,30 @@
+//! What the definitions of this crate keep, each as a function that does nothing.
+
+ghost use Rattle.desk_who.specs.Impact.{ImpactsAreUnique, ImpactsTellChanges, ImpactsTellEffects};
+ghost use Rattle.desk_who.specs.Who.{RangesTellVerdicts, ThereIsOneList};
+
+/// Every policy and path have exactly one list of ranges.
+pub fn there_is_one_list()
+    ensures { ThereIsOneList }
+{}
+
+/// The range that holds an address gives the address's own verdict.
+pub fn ranges_tell_verdicts()
+    ensures { RangesTellVerdicts }
+{}
+
+/// A list of changes holds just the addresses of which the two policies say something else.
+pub fn impacts_tell_changes()
+    ensures { ImpactsTellChanges }
+{}
+
+/// Those of the changes that matter hold just the addresses at which a mount is granted by one of the policies alone, or on
+/// other terms.
+pub fn impacts_tell_effects()
+    ensures { ImpactsTellEffects }
+{}
+
+/// Two policies and a path have one list of changes.
+pub fn impacts_are_unique()
+    ensures { ImpactsAreUnique }
+{}

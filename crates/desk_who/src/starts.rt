@@ -1,0 +1,81 @@
+//! The addresses at which the lines that match may change.
+
+ghost use Rattle.std.specs.Prelude.{◌≡◌, ◌++◌, ◌+◌, ◌∷◌, ◌≤◌, ◌^◌, [], IfOk, OnOk, map};
+ghost use Rattle.std.specs.List.{flat_map};
+ghost use Rattle.desk_text.specs.Address.{number_of};
+ghost use Rattle.desk_text.specs.Network.{IsBlock, last_of};
+ghost use Rattle.desk_policy.specs.Keys.{HasBlock};
+ghost use Rattle.desk_who.specs.PrivateWho.{AreStarts, around, kept, starts_of};
+
+use desk_exports::Clients;
+use desk_policy::{Row, RowAddrs};
+use desk_text::laws::{covers_between_first_and_last, sorted_sets_are_unique};
+use desk_text::{Addr, AddrSet, Net};
+use std::alloc::{AllocError, Global};
+
+/// Gathers the addresses at which one of these lines begins or ceases to match, but for the first address of all.
+pub fn starts_among(alloc: Global, rows: &[Row]) -> Result<AddrSet, AllocError>
+    ensures { IfOk result (AreStarts rows.now) }
+{
+    covers_between_first_and_last();
+    sorted_sets_are_unique();
+    let mut starts = Vec::new(alloc);
+    for row in rows {
+        push_row(&mut starts, row)?;
+    }
+    Ok(AddrSet::from_vec(starts))
+}
+
+/// Adds those of a line.
+fn push_row(starts: &mut Vec<Addr>, row: &Row) -> Result<(), AllocError>
+    ensures added { OnOk result (map number_of starts.new.items ≡ map number_of starts.old.items ++ starts_of row.now) }
+    ensures block { HasBlock row.now.entry.clients }
+{
+    match &row.entry.clients {
+        Clients::Hosts(_) => push_hosts(starts, &row.addrs),
+        Clients::Net(net, _) => push_net(starts, *net),
+        Clients::Net6(_) | Clients::World => Ok(()),
+    }
+}
+
+/// Adds each address of a line's names, and the one behind it.
+fn push_hosts(starts: &mut Vec<Addr>, addresses: &RowAddrs) -> Result<(), AllocError>
+    ensures { OnOk result (map number_of starts.new.items ≡ map number_of starts.old.items ++ flat_map around addresses.now) }
+{
+    for address in addresses.as_slice() {
+        let number = address.number();
+        push_both(starts, number, u64::from(number) + 1)?;
+    }
+    Ok(())
+}
+
+/// Adds the first address of a network, and the one behind its last one.
+fn push_net(starts: &mut Vec<Addr>, net: Net) -> Result<(), AllocError>
+    ensures added { OnOk result (map number_of starts.new.items ≡ map number_of starts.old.items ++ kept (net.first ∷ (last_of net + 1) ∷ [])) }
+    ensures block { IsBlock net }
+{
+    push_both(
+        starts,
+        net.first().number(),
+        u64::from(net.last().number()) + 1,
+    )
+}
+
+/// Adds the first address of a range, and the one behind it.
+fn push_both(starts: &mut Vec<Addr>, first: u32, behind: u64) -> Result<(), AllocError>
+    ensures { OnOk result (map number_of starts.new.items ≡ map number_of starts.old.items ++ kept (first ∷ behind ∷ [])) }
+{
+    push_start(starts, u64::from(first))?;
+    push_start(starts, behind)?;
+    Ok(())
+}
+
+/// Adds the address with this number, if there is one, and one before it.
+fn push_start(starts: &mut Vec<Addr>, number: u64) -> Result<(), AllocError>
+    ensures { OnOk result (map number_of starts.new.items ≡ map number_of starts.old.items ++ kept (number ∷ [])) }
+{
+    if 0 < number && number < 1 << 32 {
+        starts.push(Addr::from_number(number as u32))?;
+    }
+    Ok(())
+}
