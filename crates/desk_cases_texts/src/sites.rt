@@ -88,13 +88,13 @@ fn of_texts(alloc: Global, site: &mut Site, out: &mut String, question: &str) ->
     }
     if question == "parse" {
         let policy = parse(alloc, &site.texts);
-        set_policy(site, out, policy)?;
         let again = parse(alloc, &site.texts);
+        set_policy(site, out, policy)?;
         set_index_of(alloc, site, again)
     } else {
         let view = compile(alloc, &site.texts);
-        set_view(site, out, view)?;
         let index = compile(alloc, &site.texts);
+        set_view(site, out, view)?;
         set_index(alloc, site, out, index)
     }
 }
