@@ -388,29 +388,31 @@ fn try_writer(
 /// Returns what a connection comes to of which so many bytes came, by how the input ends there: whole messages are answered, then a
 /// head or a body that is cut, and nothing between messages.
 fn wanted_of_input(stream: &Stream, bytes: usize) -> Wanted {
-    let mut wanted = Wanted {
-        served: Served {
-            replies: 0,
-            written: 0,
-            end: End::Input,
-        },
-        last: b"",
-        steps: 1,
-    };
+    let mut replies = 0u64;
+    let mut written = 0u128;
+    let mut end = End::Input;
+    let mut last: &'static [u8] = b"";
     for message in &stream.messages {
         if message.end <= bytes {
-            wanted.served.replies = wanted.served.replies.saturating_add(1);
-            wanted.served.written = message.reply_end as u128;
+            replies = replies.saturating_add(1);
+            written = message.reply_end as u128;
         } else if message.start < bytes && bytes < message.head_end {
-            wanted.served.end = End::Bad(StreamFault::BadHead);
-            wanted.last = BAD_HEAD;
+            end = End::Bad(StreamFault::BadHead);
+            last = BAD_HEAD;
         } else if message.start < bytes {
-            wanted.served.end = End::Bad(StreamFault::BodyCut);
-            wanted.last = BODY_CUT;
+            end = End::Bad(StreamFault::BodyCut);
+            last = BODY_CUT;
         }
     }
-    wanted.steps = steps_after(stream, wanted.served.replies);
-    wanted
+    Wanted {
+        served: Served {
+            replies,
+            written,
+            end,
+        },
+        last,
+        steps: steps_after(stream, replies),
+    }
 }
 
 /// Returns how many steps of the sample's history a desk holds once so many messages were taken.
@@ -421,10 +423,16 @@ fn steps_after(stream: &Stream, messages: u64) -> usize {
 /// Returns what a connection comes to as this read fails: the requests that were whole before are answered.
 fn wanted_of_reader(stream: &Stream, pace: Pace, call: u64) -> Wanted {
     let bytes = call.saturating_mul(pace.bytes() as u64);
-    let mut wanted = wanted_of_input(stream, usize::try_from(bytes).unwrap_or(usize::MAX));
-    wanted.served.end = End::ReadFault;
-    wanted.last = b"";
-    wanted
+    let whole = wanted_of_input(stream, usize::try_from(bytes).unwrap_or(usize::MAX));
+    Wanted {
+        served: Served {
+            replies: whole.served.replies,
+            written: whole.served.written,
+            end: End::ReadFault,
+        },
+        last: b"",
+        steps: whole.steps,
+    }
 }
 
 /// Returns what a connection comes to as this write fails: so much is written as the writes before took, and the edit is
