@@ -11,7 +11,7 @@ use clap::ArgMatches;
 use clap::error::ErrorKind;
 use cli_database::init_command::run_init;
 use cli_database::put_command::run_put;
-use cli_database::question_commands::{run_ask, run_cat, run_exports, run_log, run_show};
+use cli_database::question_commands::{run_ask, run_cat, run_exports, run_log, run_show, run_who};
 use cli_files::failure::{Failure, ReadFailure};
 use cli_files::input::{first_line, read_line};
 use cli_line::command;
@@ -82,6 +82,7 @@ fn run_found<I: BufRead>(
         CommandWords::Ask(words) => printing(run_ask(rt, words)),
         CommandWords::Show(words) => printing(run_show(rt, words)),
         CommandWords::Exports(words) => printing(run_exports(rt, words)),
+        CommandWords::Who(words) => printing(run_who(rt, words)),
         CommandWords::Put(words) => printing(run_put(rt, words, input)),
         CommandWords::Log(words) => printing(run_log(rt, words)),
         CommandWords::Cat(words) => printing(run_cat(rt, words)),

@@ -1,0 +1,20 @@
+//! What another policy would change, of every directory and for every client.
+//!
+//! Its promise: [`impact_report`] tells, place by place, the addresses of which two policies say something else, and how many
+//! ranges of them matter to a client. Each path is decided on as one of the places is, so nothing is left out.
+//!
+//! ```text
+//! let report = impact_report(alloc, desk.view(), &new, false)?;
+//! report.text         // "== /u2\n- 0.0.0.0-.. denied 2 NoLine /u2\n+ 0.0.0.0-.. granted line 1 ..\n1 change\n"
+//! report.mattering    // 1
+//! ```
+#![tactic(auto)]
+
+pub mod laws;
+pub mod places;
+pub mod report;
+mod unwritten;
+
+pub use laws::places_tell_all;
+pub use places::{LONGEST_TOLD, Place, places_of_both};
+pub use report::{Report, impact_report};

@@ -1,0 +1,201 @@
+//! The places of which two policies may say something: each mount point, each written directory, and all other directories.
+
+ghost use Rattle.std.specs.Prelude.{◌≡◌, ◌++◌, IfOk, OnOk, map};
+ghost use Rattle.desk_text.specs.Path.{is_under, path_text};
+ghost use Rattle.desk_tables.specs.FileSystems.{mount_points};
+ghost use Rattle.desk_policy.specs.Listings.{written};
+ghost use Rattle.desk_impact.specs.Places as spec;
+ghost use Rattle.desk_impact.specs.Places.{AreInOrder, ArePlaces, all_written, dirs_below, has_room, is_home, others_of, place_of, places_at};
+ghost use Rattle.desk_impact.specs.PrivatePlaces.{paths_in};
+
+use desk_policy::{Policy, Row};
+use desk_tables::Mount;
+use desk_text::{Path, ReadError, Sequence};
+use std::alloc::{AllocError, Global};
+
+/// The most bytes that a printed mount point may have whose other directories are told: a path below a longer one is hardly
+/// short enough to be asked for.
+pub const LONGEST_TOLD: usize = 1000;
+
+/// Where policies say one thing.
+#[derive(Clone, Copy)]
+pub enum Place<'a> {
+    /// This directory.
+    Directory(&'a Path),
+    /// All directories of this mount point's file system that no line writes.
+    Others(&'a Path),
+}
+
+/// Lists the places of two policies, by mount point in byte order: the mount point, the directories below it that a line of
+/// either writes, in byte order, and its other directories.
+pub fn places_of_both<'a>(
+    alloc: Global,
+    before: &'a Policy,
+    after: &'a Policy,
+) -> Result<Vec<Place<'a>>, AllocError>
+    ensures { IfOk result (λ places. ArePlaces before.now after.now (map place_of places.items)) }
+{
+    let mounts = mounts_of_both(alloc, before, after)?;
+    let dirs = dirs_of_both(alloc, before, after)?;
+    let mut places = Vec::new(alloc);
+    for mount in &mounts {
+        push_places(
+            alloc,
+            &mut places,
+            mounts.as_slice(),
+            dirs.as_slice(),
+            mount,
+        )?;
+    }
+    Ok(places)
+}
+
+/// Lists the mount points of two policies in byte order, each once.
+pub(crate) fn mounts_of_both<'a>(
+    alloc: Global,
+    before: &'a Policy,
+    after: &'a Policy,
+) -> Result<Vec<&'a Path>, AllocError>
+    ensures { IfOk result (λ mounts. AreInOrder (spec.mounts_of_both before.now after.now) (paths_in mounts.items)) }
+{
+    let mut mounts = Vec::new(alloc);
+    push_mounts(&mut mounts, before.filesystems().as_slice())?;
+    push_mounts(&mut mounts, after.filesystems().as_slice())?;
+    Ok(in_order(mounts))
+}
+
+/// Lists the directories that lines of two policies write, in byte order, each once.
+pub(crate) fn dirs_of_both<'a>(
+    alloc: Global,
+    before: &'a Policy,
+    after: &'a Policy,
+) -> Result<Vec<&'a Path>, AllocError>
+    ensures { IfOk result (λ dirs. AreInOrder (spec.dirs_of_both before.now after.now) (paths_in dirs.items)) }
+{
+    let mut dirs = Vec::new(alloc);
+    push_all_written(&mut dirs, before)?;
+    push_all_written(&mut dirs, after)?;
+    Ok(in_order(dirs))
+}
+
+/// Puts paths in byte order, each once.
+fn in_order(mut paths: Vec<&Path>) -> Vec<&Path>
+    ensures { AreInOrder (paths_in paths.entry.items) (paths_in result.items) }
+{
+    paths.sort_unstable();
+    paths.dedup();
+    paths
+}
+
+/// Adds mount points.
+fn push_mounts<'a>(paths: &mut Vec<&'a Path>, mounts: &'a [Mount]) -> Result<(), AllocError>
+    ensures { OnOk result (paths_in paths.new.items ≡ paths_in paths.old.items ++ mount_points mounts.now) }
+{
+    for mount in mounts {
+        paths.push(&mount.path)?;
+    }
+    Ok(())
+}
+
+/// Adds the directories that lines of a policy write.
+fn push_all_written<'a>(paths: &mut Vec<&'a Path>, policy: &'a Policy) -> Result<(), AllocError>
+    ensures { OnOk result (paths_in paths.new.items ≡ paths_in paths.old.items ++ all_written policy.now) }
+{
+    for rows in policy.rows_by_filesystem() {
+        push_written(paths, rows.as_slice())?;
+    }
+    Ok(())
+}
+
+/// Adds the directories that these lines write.
+fn push_written<'a>(paths: &mut Vec<&'a Path>, rows: &'a [Row]) -> Result<(), AllocError>
+    ensures { OnOk result (paths_in paths.new.items ≡ paths_in paths.old.items ++ written rows.now) }
+{
+    for row in rows {
+        push_paths(paths, row.entry.dirs.as_slice())?;
+    }
+    Ok(())
+}
+
+/// Adds paths.
+fn push_paths<'a>(paths: &mut Vec<&'a Path>, dirs: &'a [Path]) -> Result<(), AllocError>
+    ensures { OnOk result (paths_in paths.new.items ≡ paths_in paths.old.items ++ dirs.now) }
+{
+    for dir in dirs {
+        paths.push(dir)?;
+    }
+    Ok(())
+}
+
+/// Adds the places of a mount point.
+fn push_places<'a>(
+    alloc: Global,
+    places: &mut Vec<Place<'a>>,
+    mounts: &[&'a Path],
+    dirs: &[&'a Path],
+    mount: &'a Path,
+) -> Result<(), AllocError>
+    ensures { OnOk result (map place_of places.new.items
+        ≡ map place_of places.old.items ++ places_at (paths_in mounts.now) (paths_in dirs.now) mount.now) }
+{
+    places.push(Place::Directory(mount))?;
+    push_dirs(places, mounts, dirs, mount)?;
+    push_others(alloc, places, mount)?;
+    Ok(())
+}
+
+/// Adds the directories below a mount point.
+fn push_dirs<'a>(
+    places: &mut Vec<Place<'a>>,
+    mounts: &[&'a Path],
+    dirs: &[&'a Path],
+    mount: &Path,
+) -> Result<(), AllocError>
+    ensures { OnOk result (map place_of places.new.items
+        ≡ map place_of places.old.items ++ map spec.Directory (dirs_below (paths_in mounts.now) (paths_in dirs.now) mount.now)) }
+{
+    for dir in dirs {
+        if is_home(mounts, dir, mount) && **dir != *mount {
+            places.push(Place::Directory(dir))?;
+        }
+    }
+    Ok(())
+}
+
+/// Tests whether a path is under a mount point, and that under each other mount point that the path is under.
+fn is_home(mounts: &[&Path], path: &Path, mount: &Path) -> bool
+    ensures { result ≡ is_home (paths_in mounts.now) path.now mount.now }
+{
+    path.is_under(mount)
+        && mounts
+            .iter()
+            .all(|other| !path.is_under(other) || mount.is_under(other))
+}
+
+/// Adds the other directories of a mount point, unless that is too long.
+fn push_others<'a>(
+    alloc: Global,
+    places: &mut Vec<Place<'a>>,
+    mount: &'a Path,
+) -> Result<(), AllocError>
+    ensures { OnOk result (map place_of places.new.items ≡ map place_of places.old.items ++ others_of mount.now) }
+{
+    if has_room(alloc, mount)? {
+        places.push(Place::Others(mount))?;
+    }
+    Ok(())
+}
+
+/// Tests whether paths below a mount point can be read, if their names are short.
+pub(crate) fn has_room(alloc: Global, mount: &Path) -> Result<bool, AllocError>
+    ensures { IfOk result (λ room. room ≡ has_room mount.now) }
+{
+    if mount.text().len() > LONGEST_TOLD {
+        return Ok(false);
+    }
+    match Path::read(alloc, mount.text()) {
+        Ok(_) => Ok(true),
+        Err(ReadError::Fault(_)) => Ok(false),
+        Err(ReadError::Memory) => Err(AllocError),
+    }
+}
