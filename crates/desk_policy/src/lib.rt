@@ -57,6 +57,7 @@ pub use row_addrs::RowAddrs;
 pub use site::{LONGEST_TEXT, Site};
 pub use site_fault::{FaultPlace, SiteFault, SiteRule};
 pub use site_file::{SiteFile, exports_file_name, mount_of};
+pub use terms::same_terms;
 pub use unlisted::unlisted_line;
 pub use verdict::{Denial, Verdict, decide};
 pub use view::{Plain, PolicyView, compile, contradiction_of_rows, least_contradiction};

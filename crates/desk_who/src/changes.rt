@@ -10,8 +10,7 @@ ghost use Rattle.desk_who.specs.PrivateWho.{AreChangeStarts};
 
 use crate::ranges::{is_same, starts_under};
 use crate::sayings::say_the_same;
-use crate::terms::same_terms;
-use desk_policy::{Policy, PolicyView, Verdict};
+use desk_policy::{Policy, PolicyView, Verdict, same_terms};
 use desk_text::laws::sorted_sets_are_unique;
 use desk_text::{Addr, AddrSet, Path};
 use std::alloc::{AllocError, Global};

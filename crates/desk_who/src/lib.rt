@@ -19,7 +19,6 @@ pub mod range_prints;
 pub mod ranges;
 mod sayings;
 mod starts;
-mod terms;
 
 pub use change_prints::impact_text;
 pub use changes::{Change, impact, those_that_matter};
