@@ -5,8 +5,7 @@ ghost use Rattle.std.specs.Bool.{Decides};
 ghost use Rattle.desk_policy.specs.Verdict.{verdict_result};
 ghost use Rattle.desk_who.specs.Impact.{mount_at, saying};
 
-use crate::terms::same_terms;
-use desk_policy::{Denial, Policy, Verdict};
+use desk_policy::{Denial, Policy, Verdict, same_terms};
 use desk_tables::FsId;
 
 /// Tests whether two verdicts, each under its policy, say the same: the line and the terms of a granted mount; or why it is
