@@ -1,11 +1,9 @@
-//! Tries the commands at readers and writers that fail, desks on files that fail, requests over HTTP to such desks, and connections
-//! whose reader or writer fails, ends after each byte, or has no end. What is answered while they work is in the worked cases.
+//! Tries desks on files that fail, requests over HTTP to such desks, and connections whose reader or writer fails, ends after each
+//! byte, or has no end. What is answered while they work is in the worked cases.
 #![tactic(auto)]
 
-mod commands;
 mod connections;
 mod desks;
-mod failing;
 mod full;
 mod requests;
 mod sample;
@@ -27,17 +25,6 @@ fn main(rt: HostRuntime) -> io::Result<ExitCode> {
         passed: 0,
         failed: 0,
     };
-    for case in &commands::CASES {
-        let wrong = commands::try_case(&rt, case)?;
-        report(&rt, &mut tally, case.name, wrong.as_str())?;
-    }
-    let wrong = commands::try_print_memory(rt.alloc())?;
-    report(
-        &rt,
-        &mut tally,
-        "a refusal that is not printed",
-        wrong.as_str(),
-    )?;
     for trial in &trials::TRIALS {
         let wrong = trials::try_all(rt.alloc(), trial)?;
         report(&rt, &mut tally, trial.name, wrong.as_str())?;
