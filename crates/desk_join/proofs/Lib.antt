@@ -1,0 +1,5 @@
+pub mod LineTexts
+pub mod WholeLines
+pub mod EmptyLines
+pub mod Told
+pub mod Joins
