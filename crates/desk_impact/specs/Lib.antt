@@ -1,0 +1,4 @@
+pub mod Places
+pub mod PrivatePlaces
+pub mod Report
+pub mod PrivateReport

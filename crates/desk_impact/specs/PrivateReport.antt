@@ -1,0 +1,34 @@
+-- What the private contracts of the report cite.
+use Rattle.std.specs.Prelude.{◌≡◌, ℕ, ◌++◌, ◌-◌, All, Bool, List, length, map, true}
+use Rattle.std.specs.List.{flat_map}
+use Rattle.desk_policy.specs.Policy.{Content}
+use Rattle.desk_impact.specs.Places.{Directory, Others, Place, dirs_of_both, has_room, mounts_of_both}
+use Rattle.desk_impact.specs.Report.{AreChangesAt, PlaceChanges, mattering_count, other_count, section}
+use Rattle.desk_impact.specs.declared.report.Told.{Told}
+
+-- the mount points of two policies, and the directories that their lines write
+abbrev pub taken_by : Content → Content → List (List (List ℕ))
+taken_by before after = mounts_of_both before after ++ dirs_of_both before after
+
+-- a mount point whose other directories are told is not too long
+abbrev pub HasRoomIfOthers : Place → Type 0
+HasRoomIfOthers (Directory path) = Unit {0}
+HasRoomIfOthers (Others mount) = has_room mount ≡ true
+
+-- the section of a place was written, and these are the numbers of its changes
+pub record IsTold (before after : Content) (place : Place) (all : Bool) (old new : List ℕ) (told : Told) : Type 0 where
+  pub found : PlaceChanges
+  pub place_is : found.place ≡ place
+  pub changes : AreChangesAt before after found
+  pub text : new ≡ old ++ section before after all found
+  pub mattering : told.mattering ≡ length found.mattering
+  pub others : told.others ≡ length found.changes - length found.mattering
+
+-- the sections of these places were written, and these are the numbers of all their changes
+pub record AreTold (before after : Content) (all : Bool) (places : List Place) (text : List ℕ) (mattering others : ℕ) : Type 0 where
+  pub found : List PlaceChanges
+  pub places_are : map (λ one. one.place) found ≡ places
+  pub changes : All (AreChangesAt before after) found
+  pub written : text ≡ flat_map (section before after all) found
+  pub mattering_is : mattering ≡ mattering_count found
+  pub others_are : others ≡ other_count found
