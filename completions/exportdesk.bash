@@ -5,7 +5,8 @@ _exportdesk()
     local command=${COMP_WORDS[1]} count=0 is_value=no place
     COMPREPLY=()
     if [ "$COMP_CWORD" -eq 1 ]; then
-        choices='try split check init ask show exports put log cat serve --help --version'
+        choices='try split check clients compare init ask show exports who put impact log cat files write serve
+            --help --version'
         mapfile -t COMPREPLY < <(compgen -W "$choices" -- "$word")
         return
     fi
@@ -26,7 +27,10 @@ _exportdesk()
     case $command in
     try) choices='--hosts --networks --passwd --group --netgroup --as --help' ;;
     check) choices='--hosts --networks --passwd --group --netgroup --site --brief --strict --json --help' ;;
+    clients) choices='--hosts --networks --passwd --group --netgroup --help' ;;
+    compare) choices='--hosts --networks --passwd --group --netgroup --all --help' ;;
     ask) choices='--as --help' ;;
+    impact) choices='--all --help' ;;
     put) choices='--base --caller --key-file --key --help' ;;
     cat) choices='--rev --help' ;;
     serve) choices='--port --connections --timeout --help' ;;
@@ -43,9 +47,7 @@ _exportdesk()
         before=${COMP_WORDS[COMP_CWORD - 2]}
     fi
     case $command:$before:$word in
-    try:--hosts:* | try:--networks:* | try:--passwd:* | try:--group:* | try:--netgroup:* | \
-        check:--hosts:* | check:--networks:* | check:--passwd:* | check:--group:* | check:--netgroup:* | \
-        put:--key-file:*)
+    *:--hosts:* | *:--networks:* | *:--passwd:* | *:--group:* | *:--netgroup:* | put:--key-file:*)
         compopt -o filenames
         mapfile -t COMPREPLY < <(compgen -f -- "$word")
         ;;
@@ -58,7 +60,7 @@ _exportdesk()
     *:-?*) mapfile -t COMPREPLY < <(compgen -W "$choices" -- "$word") ;;
     *)
         case $command:$count in
-        put:1 | log:1 | cat:1)
+        put:1 | impact:1 | log:1 | cat:1)
             choices='custodians filesystems hosts networks passwd group netgroup exports:'
             mapfile -t COMPREPLY < <(compgen -W "$choices" -- "$word")
             [ "${COMPREPLY[*]}" != exports: ] || compopt -o nospace
@@ -67,10 +69,14 @@ _exportdesk()
         esac
         compopt -o filenames
         case $command:$count in
-        try:0 | check:0 | split:[01] | put:[02]) mapfile -t COMPREPLY < <(compgen -f -- "$word") ;;
-        init:0 | ask:0 | show:0 | exports:0 | log:0 | cat:0 | serve:0) mapfile -t COMPREPLY < <(compgen -f -- "$word") ;;
+        try:0 | check:0 | clients:0 | compare:[01] | split:[01]) mapfile -t COMPREPLY < <(compgen -f -- "$word") ;;
+        init:0 | ask:0 | show:0 | exports:0 | who:0 | put:[02] | impact:[02] | log:0 | cat:0 | files:0 | write:0 | serve:0)
+            mapfile -t COMPREPLY < <(compgen -f -- "$word")
+            ;;
         try:1 | ask:1) ;;
-        try:* | check:* | init:1 | ask:2) mapfile -t COMPREPLY < <(compgen -d -- "$word") ;;
+        try:* | check:* | clients:* | compare:* | init:1 | ask:2 | who:1 | write:1)
+            mapfile -t COMPREPLY < <(compgen -d -- "$word")
+            ;;
         esac
         ;;
     esac

@@ -3,7 +3,7 @@ use Rattle.std.specs.Prelude.{◌≡◌, ◌≢◌, ◌⊎◌, ℕ, List, [], �
 use Rattle.std.specs.Io.BufRead.{take_through}
 use Rattle.clap.specs.declared.error.ErrorKind.{ErrorKind}
 use Rattle.clap.specs.declared.error.ErrorKind.TheVariants.{DisplayHelp, DisplayVersion, OutOfMemory}
-use Rattle.cli_line.specs.CommandLine.{Ask, AskForHelp, Cat, Check, CommandWords, Exports, Init, Log, Put, Serve, Show, Split, Try, command_found, faults_of}
+use Rattle.cli_line.specs.CommandLine.{Ask, AskForHelp, Cat, Check, Clients, CommandWords, Compare, Exports, Files, Impact, Init, Log, Put, Serve, Show, Split, Try, Who, Write, command_found, faults_of}
 use Rattle.cli_files.specs.Files.{IsUnreadLine}
 use Rattle.cli_files.specs.Input.{first_line}
 use Rattle.cli_words.specs.LineWords.{IsBadWord, words_of}
@@ -13,15 +13,20 @@ use Rattle.cli_files.specs.declared.failure.Failure.TheVariants.{FirstLine, Memo
 use Rattle.cli_files.specs.declared.failure.ReadFailure.TheVariants.{Text}
 use Rattle.cli_files.specs.declared.input.TextFault.{TextFault}
 use Rattle.cli_texts.specs.CheckCommand.{AnswersCheck}
+use Rattle.cli_texts.specs.ClientsCommand.{AnswersClients}
+use Rattle.cli_texts.specs.CompareCommand.{AnswersCompare}
 use Rattle.cli_output.specs.Output.{printed, status_of}
 use Rattle.cli_texts.specs.SplitCommand.{AnswersSplit}
 use Rattle.cli_texts.specs.TryCommand.{AnswersTry}
 use Rattle.cli_output.specs.declared.output.Output.{Output}
 use Rattle.cli_output.specs.declared.output.Output.TheVariants.{Help}
-use Rattle.cli_database.specs.QuestionCommands.{AnswersAsk, AnswersCat, AnswersExports, AnswersLog, AnswersShow}
+use Rattle.cli_database.specs.QuestionCommands.{AnswersAsk, AnswersCat, AnswersExports, AnswersLog, AnswersShow, AnswersWho}
 use Rattle.cli_database.specs.InitCommand.{AnswersInit}
 use Rattle.cli_database.specs.PutCommand.{AnswersPut}
 use Rattle.cli_serve.specs.ServeCommand.{AnswersServe}
+use Rattle.cli_who.specs.ImpactCommand.{AnswersImpact}
+use Rattle.cli_write.specs.FilesCommand.{AnswersFiles}
+use Rattle.cli_write.specs.WriteCommand.{AnswersWrite}
 
 -- an error of clap is help for the two kinds that are asked for, and else a failure; out of memory says nothing
 abbrev pub IsSaid : ErrorKind → Result Output Failure → Type 0
@@ -43,13 +48,19 @@ abbrev pub AnswersGiven : CommandWords → Option (List ℕ) → Result Output F
 AnswersGiven (Try words) known result = AnswersTry words known result
 AnswersGiven (Split words) known result = AnswersSplit words known result
 AnswersGiven (Check words) known result = AnswersCheck words known result
+AnswersGiven (Clients words) known result = AnswersClients words known result
+AnswersGiven (Compare words) known result = AnswersCompare words known result
 AnswersGiven (Init words) known result = AnswersInit words known result
 AnswersGiven (Ask words) known result = AnswersAsk words result
 AnswersGiven (Show words) known result = AnswersShow words result
 AnswersGiven (Exports words) known result = AnswersExports words result
+AnswersGiven (Who words) known result = AnswersWho words result
 AnswersGiven (Put words) known result = AnswersPut words known result
+AnswersGiven (Impact words) known result = AnswersImpact words known result
 AnswersGiven (Log words) known result = AnswersLog words result
 AnswersGiven (Cat words) known result = AnswersCat words result
+AnswersGiven (Files words) known result = AnswersFiles words result
+AnswersGiven (Write words) known result = AnswersWrite words result
 AnswersGiven (Serve words) known result = AnswersServe words result
 
 -- the answer to what clap finds: that to the command, or that a word is missing

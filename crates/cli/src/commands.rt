@@ -11,17 +11,22 @@ use clap::ArgMatches;
 use clap::error::ErrorKind;
 use cli_database::init_command::run_init;
 use cli_database::put_command::run_put;
-use cli_database::question_commands::{run_ask, run_cat, run_exports, run_log, run_show};
+use cli_database::question_commands::{run_ask, run_cat, run_exports, run_log, run_show, run_who};
 use cli_files::failure::{Failure, ReadFailure};
 use cli_files::input::{first_line, read_line};
 use cli_line::command;
 use cli_output::output::Output;
 use cli_serve::serve_command::{Outcome, printing, run_serve};
 use cli_texts::check_command::run_check;
+use cli_texts::clients_command::run_clients;
+use cli_texts::compare_command::run_compare;
 use cli_texts::split_command::run_split;
 use cli_texts::try_command::run_try;
+use cli_who::impact_command::run_impact;
 use cli_words::line_words::{command_words, words_of};
 use cli_words::words::{CommandWords, found_command};
+use cli_write::files_command::run_files;
+use cli_write::write_command::run_write;
 use std::alloc::Global;
 use std::convert::AsSlice;
 use std::io::BufRead;
@@ -78,13 +83,19 @@ fn run_found<I: BufRead>(
         CommandWords::Try(words) => printing(run_try(rt, words, input)),
         CommandWords::Split(words) => printing(run_split(rt, words, input)),
         CommandWords::Check(words) => printing(run_check(rt, words, input)),
+        CommandWords::Clients(words) => printing(run_clients(rt, words, input)),
+        CommandWords::Compare(words) => printing(run_compare(rt, words, input)),
         CommandWords::Init(words) => printing(run_init(rt, words, input)),
         CommandWords::Ask(words) => printing(run_ask(rt, words)),
         CommandWords::Show(words) => printing(run_show(rt, words)),
         CommandWords::Exports(words) => printing(run_exports(rt, words)),
+        CommandWords::Who(words) => printing(run_who(rt, words)),
         CommandWords::Put(words) => printing(run_put(rt, words, input)),
+        CommandWords::Impact(words) => printing(run_impact(rt, words, input)),
         CommandWords::Log(words) => printing(run_log(rt, words)),
         CommandWords::Cat(words) => printing(run_cat(rt, words)),
+        CommandWords::Files(words) => printing(run_files(rt, words)),
+        CommandWords::Write(words) => printing(run_write(rt, words)),
         CommandWords::Serve(words) => run_serve(rt, words),
     }
 }

@@ -15,7 +15,7 @@ use Rattle.desk_store.specs.declared.error.DeskError.{DeskError}
 use Rattle.desk_store.specs.declared.error.DeskError.TheVariants as error
 use Rattle.desk_store.specs.declared.error.StoreFault.{StoreFault}
 use Rattle.desk_store.specs.declared.error.Task.TheVariants as task
-use Rattle.desk_service.specs.Questions.{Answer, AnswersByHistory, ByFile, ByPolicy, ExportsAre, ListingIs, OnlyLooks, Question, VerdictIs}
+use Rattle.desk_service.specs.Questions.{Answer, AnswersByHistory, ByFile, ByPolicy, ExportsAre, ListingIs, OnlyLooks, Question, RangesAre, VerdictIs}
 use Rattle.desk_service.specs.declared.questions.FileAnswer.TheVariants as found
 use Rattle.desk_service.specs.declared.refused.Refused.{Refused as ByDesk}
 use Rattle.desk_service.specs.declared.refused.Refused.TheVariants as by_desk
@@ -78,6 +78,7 @@ not_schema : (own : Option Cred) (answer : Answer) (told : _) → Prints own ans
 not_schema own (ByPolicy (VerdictIs content verdict)) told h = h
 not_schema own (ByPolicy (ListingIs content listing)) told h = h
 not_schema own (ByPolicy (ExportsAre content)) told h = h
+not_schema own (ByPolicy (RangesAre content ranges)) told h = h
 not_schema own (ByFile (found.Text file)) told h = h
 not_schema own (ByFile (found.Revisions revisions)) told h = h
 not_schema own (ByFile found.NoRevision) told h = h

@@ -1,4 +1,4 @@
--- The output of `ask`, `show`, `exports`, `log` and `cat` by their words. (this project's own)
+-- The output of `ask`, `show`, `exports`, `who`, `log` and `cat` by their words. (this project's own)
 use Rattle.std.specs.Prelude.{ℕ, List, [], Option, Some, None, Result, Ok, Err, IsErrAnd}
 use Rattle.desk_text.specs.Address.{read_addr}
 use Rattle.desk_text.specs.Path.{read_path}
@@ -8,10 +8,10 @@ use Rattle.desk_tables.specs.Groups.{read_groups}
 use Rattle.desk_tables.specs.Users.{read_users}
 use Rattle.desk_tables.specs.declared.credential_text.CredFault.{CredFault}
 use Rattle.desk_tables.specs.declared.credentials.Cred.{Cred}
-use Rattle.desk_service.specs.Questions.{Exports, Listing, Mount, OnFile, OnPolicy, Revisions, Text}
+use Rattle.desk_service.specs.Questions.{Exports, Listing, Mount, OnFile, OnPolicy, Revisions, Text, Who}
 use Rattle.cli_files.specs.BadArgument.{IsRefusal}
 use Rattle.cli_words.specs.Arguments.{IsBadNumber, IsBadOwn, good_own, own_answer, revision_number}
-use Rattle.cli_line.specs.CommandLine.{AskWords, CatWords, ExportsWords, LogWords, ShowWords}
+use Rattle.cli_line.specs.CommandLine.{AskWords, CatWords, ExportsWords, LogWords, ShowWords, WhoWords}
 use Rattle.cli_files.specs.declared.bad_argument.Argument.TheVariants as name
 use Rattle.cli_files.specs.declared.bad_argument.ArgumentFault.TheVariants as fault
 use Rattle.cli_files.specs.declared.failure.Failure.{Failure}
@@ -44,6 +44,15 @@ AnswersShow words result = AnswersShowBy words (read_addr words.host) result
 -- the answer of `exports` to its word
 abbrev pub AnswersExports : ExportsWords → Result Output Failure → Type 0
 AnswersExports words result = AnswersQuestion words.db (OnPolicy Exports) None result
+
+-- the answer by what DIR is read as: to the question, or that it cannot be parsed
+abbrev pub AnswersWhoBy : WhoWords → Result (List (List ℕ)) PathFault → Result Output Failure → Type 0
+AnswersWhoBy words (Err bad) result = IsErrAnd result (IsRefusal name.Dir words.dir (fault.Path bad))
+AnswersWhoBy words (Ok path) result = AnswersQuestion words.db (OnPolicy (Who path)) None result
+
+-- the answer of `who` to its words
+abbrev pub AnswersWho : WhoWords → Result Output Failure → Type 0
+AnswersWho words result = AnswersWhoBy words (read_path words.dir) result
 
 -- the answer of `log` to its words
 abbrev pub AnswersLog : LogWords → Result Output Failure → Type 0

@@ -6,9 +6,10 @@ use Rattle.std.specs.String.{string_bytes}
 use Rattle.sqlite.specs.Effect.{Database}
 use Rattle.desk_tables.specs.declared.credentials.Cred.{Cred}
 use Rattle.desk_policy.specs.ListingPrints.{all_exports, listing_text}
+use Rattle.desk_who.specs.WhoPrints.{who_text}
 use Rattle.desk_core.specs.Head.{Revision}
 use Rattle.desk_store.specs.Open.{IsOurs, IsProject}
-use Rattle.desk_service.specs.Questions.{Answer, AnswersByHistory, ByFile, ByPolicy, ExportsAre, ListingIs, OnFile, OnPolicy, Question, VerdictIs, file_question, policy_question}
+use Rattle.desk_service.specs.Questions.{Answer, AnswersByHistory, ByFile, ByPolicy, ExportsAre, ListingIs, OnFile, OnPolicy, Question, RangesAre, VerdictIs, file_question, policy_question}
 use Rattle.desk_service.specs.declared.questions.FileAnswer.TheVariants as found
 use Rattle.desk_service.specs.declared.refused.Refused.TheVariants as by_desk
 use Rattle.desk_check.specs.TryText.{answer_of, answer_on}
@@ -40,11 +41,12 @@ abbrev pub log_text : List (ℕ × List ℕ) → List ℕ
 log_text revisions = flat_map revision_line revisions
 
 -- The output prints an answer: a verdict as `try` does, with as whom the client acts if its credential is given; a text as it is; and
--- a list of revisions in lines.
+-- lists of revisions and of ranges in lines.
 abbrev pub Prints : Option Cred → Answer → Output → Type 0
 Prints own (ByPolicy (VerdictIs content verdict)) (Tried tried) = answer_of tried ≡ answer_on content own verdict
 Prints own (ByPolicy (ListingIs content listing)) (Done text) = string_bytes text ≡ listing_text content listing
 Prints own (ByPolicy (ExportsAre content)) (Done text) = string_bytes text ≡ all_exports content
+Prints own (ByPolicy (RangesAre content ranges)) (Done text) = string_bytes text ≡ who_text content ranges
 Prints own (ByFile (found.Text file)) (Done text) = string_bytes text ≡ file.body
 Prints own (ByFile (found.Revisions revisions)) (Done text) = string_bytes text ≡ log_text revisions
 Prints own (ByFile found.NoRevision) (Refused (refused.Desk by_desk.NoRevision) told) = Unit {0}

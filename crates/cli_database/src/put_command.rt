@@ -223,7 +223,7 @@ fn told<S: Alter + Drop>(
 }
 
 /// Answers by why an edit, whose text is that of the file of this path, is refused.
-fn refused<S: Alter + Drop>(
+pub fn refused<S: Alter + Drop>(
     alloc: Global,
     path: &str,
     desk: &Desk<S, View>,

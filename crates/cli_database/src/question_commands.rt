@@ -1,15 +1,16 @@
-//! The commands that ask a database: `ask`, `show` and `exports` by the policy in force, `log` and `cat` by the revisions of a file.
+//! The commands that ask a database: `ask`, `show`, `exports` and `who` by the policy in force, `log` and `cat` by the revisions of a
+//! file.
 
 ghost use Rattle.std.specs.Prelude.{◌≡◌};
-ghost use Rattle.cli_words.specs.Words.{given_ask, given_cat, given_exports, given_log, given_show};
-ghost use Rattle.cli_database.specs.QuestionCommands.{AnswersAsk, AnswersCat, AnswersExports, AnswersLog, AnswersShow};
+ghost use Rattle.cli_words.specs.Words.{given_ask, given_cat, given_exports, given_log, given_show, given_who};
+ghost use Rattle.cli_database.specs.QuestionCommands.{AnswersAsk, AnswersCat, AnswersExports, AnswersLog, AnswersShow, AnswersWho};
 
 use crate::questions::{SiteQuestion, answer_question};
 use cli_files::bad_argument::Argument;
 use cli_files::failure::Failure;
 use cli_output::output::Output;
 use cli_words::arguments::{read_credential, read_host, read_number, read_path};
-use cli_words::database_words::{AskWords, CatWords, ExportsWords, LogWords, ShowWords};
+use cli_words::database_words::{AskWords, CatWords, ExportsWords, LogWords, ShowWords, WhoWords};
 use desk_service::{FileQuestion, PolicyQuestion};
 
 /// Answers `ask DB HOST DIR [--as CRED]`. The arguments are parsed from left to right, CRED without users and groups.
@@ -38,6 +39,15 @@ pub fn run_exports(rt: &HostRuntime, words: ExportsWords<'_>) -> Result<Output, 
     ensures { AnswersExports (given_exports words.entry) result }
 {
     let question = PolicyQuestion::Exports;
+    answer_question(rt, words.db, SiteQuestion::OnPolicy(question, &None))
+}
+
+/// Answers `who DB DIR`.
+pub fn run_who(rt: &HostRuntime, words: WhoWords<'_>) -> Result<Output, Failure>
+    ensures { AnswersWho (given_who words.entry) result }
+{
+    let path = read_path(rt.alloc(), Argument::Dir, words.dir)?;
+    let question = PolicyQuestion::Who(&path);
     answer_question(rt, words.db, SiteQuestion::OnPolicy(question, &None))
 }
 

@@ -21,6 +21,7 @@ use desk_service::{
 use desk_store::Desk;
 use desk_tables::Cred;
 use desk_text::Text;
+use desk_who::who_text;
 use sqlite::{Alter, Connection};
 use std::alloc::{AllocError, Global};
 
@@ -125,6 +126,9 @@ fn policy_output(
             Ok(Output::Done(listing_text(alloc, policy, listing.as_slice())?))
         }
         PolicyAnswer::Exports(policy) => Ok(Output::Done(all_exports(alloc, policy)?)),
+        PolicyAnswer::Who(policy, ranges) => {
+            Ok(Output::Done(who_text(alloc, policy, ranges.as_slice())?))
+        }
     }
 }
 

@@ -45,6 +45,8 @@ pub enum Failure {
     NoKey,
     /// The file that this word names cannot be read.
     File(FileArgument, String, ReadFailure),
+    /// The file at this path, in the folder that gets the newest texts, cannot be written.
+    Unwritten(String, io::Error),
     /// The port cannot be bound.
     Unbound(u16, io::Error),
     Memory,
@@ -169,6 +171,9 @@ impl fmt::Display for Failure {
             Failure::File(argument, word, failure) => {
                 let name = argument.name();
                 write!(f, "{name} {word:?}: {failure}")
+            }
+            Failure::Unwritten(path, error) => {
+                write!(f, "DIR {path:?}: it cannot be written: {error}")
             }
             Failure::Unbound(port, error) => {
                 write!(

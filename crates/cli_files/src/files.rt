@@ -17,6 +17,10 @@ use std::{fs, io};
 pub enum FileArgument {
     /// The exports text.
     File,
+    /// The exports text before a change.
+    OldFile,
+    /// The exports text after a change.
+    NewFile,
     /// The text of the file systems.
     FileSystems,
     Hosts,
@@ -39,6 +43,8 @@ impl FileArgument {
     pub fn name(self) -> &'static str {
         match self {
             FileArgument::File => "FILE",
+            FileArgument::OldFile => "OLD",
+            FileArgument::NewFile => "NEW",
             FileArgument::FileSystems => "FILESYSTEMS",
             FileArgument::Hosts => "--hosts",
             FileArgument::Networks => "--networks",

@@ -61,6 +61,22 @@ abbrev pub check_command : App
 check_command =
     with_rule (with_rule (with_rule (with_rule (with_tables check_arguments) (option (codes "site"))) (flag (codes "brief"))) (flag (codes "strict"))) (flag (codes "json"))
 
+-- the arguments of `clients FILE DIR MOUNT..`
+abbrev pub clients_arguments : App
+clients_arguments = with_rule (with_rule (with_rule (new_app (codes "clients")) (word (codes "FILE"))) (word (codes "DIR"))) mount_words
+
+-- `clients` with its options
+abbrev pub clients_command : App
+clients_command = with_tables clients_arguments
+
+-- the arguments of `compare OLD NEW MOUNT..`
+abbrev pub compare_arguments : App
+compare_arguments = with_rule (with_rule (with_rule (new_app (codes "compare")) (word (codes "OLD"))) (word (codes "NEW"))) mount_words
+
+-- `compare` with its options
+abbrev pub compare_command : App
+compare_command = with_rule (with_tables compare_arguments) (flag (codes "all"))
+
 -- the program without its subcommands
 abbrev pub program : App
 program = record (new_app (codes "exportdesk")) {
@@ -73,7 +89,8 @@ program = record (new_app (codes "exportdesk")) {
 
 -- the program with the commands on texts
 abbrev pub text_commands : App
-text_commands = with_subcommand (with_subcommand (with_subcommand program try_command.top) split_command.top) check_command.top
+text_commands =
+    with_subcommand (with_subcommand (with_subcommand (with_subcommand (with_subcommand program try_command.top) split_command.top) check_command.top) clients_command.top) compare_command.top
 
 -- `init DB DIR`
 abbrev pub init_command : App
@@ -91,6 +108,10 @@ show_command = with_rule (with_rule (new_app (codes "show")) (word (codes "DB"))
 abbrev pub exports_command : App
 exports_command = with_rule (new_app (codes "exports")) (word (codes "DB"))
 
+-- `who DB DIR`
+abbrev pub who_command : App
+who_command = with_rule (with_rule (new_app (codes "who")) (word (codes "DB"))) (word (codes "DIR"))
+
 -- `put DB NAME FILE` without its options
 abbrev pub put_arguments : App
 put_arguments = with_rule (with_rule (with_rule (new_app (codes "put")) (word (codes "DB"))) (word (codes "NAME"))) (word (codes "FILE"))
@@ -100,6 +121,10 @@ abbrev pub put_command : App
 put_command =
     with_rule (with_rule (with_rule (with_rule put_arguments (required_option (codes "base"))) (required_option (codes "caller"))) (option (codes "key"))) (option (codes "key-file"))
 
+-- `impact DB NAME FILE [--all]`
+abbrev pub impact_command : App
+impact_command = with_rule (with_rule (with_rule (with_rule (new_app (codes "impact")) (word (codes "DB"))) (word (codes "NAME"))) (word (codes "FILE"))) (flag (codes "all"))
+
 -- `log DB NAME`
 abbrev pub log_command : App
 log_command = with_rule (with_rule (new_app (codes "log")) (word (codes "DB"))) (word (codes "NAME"))
@@ -108,6 +133,14 @@ log_command = with_rule (with_rule (new_app (codes "log")) (word (codes "DB"))) 
 abbrev pub cat_command : App
 cat_command = with_rule (with_rule (with_rule (new_app (codes "cat")) (word (codes "DB"))) (word (codes "NAME"))) (option (codes "rev"))
 
+-- `files DB`
+abbrev pub files_command : App
+files_command = with_rule (new_app (codes "files")) (word (codes "DB"))
+
+-- `write DB DIR`
+abbrev pub write_command : App
+write_command = with_rule (with_rule (new_app (codes "write")) (word (codes "DB"))) (word (codes "DIR"))
+
 -- `serve DB --port N --connections M [--timeout SECONDS]`
 abbrev pub serve_command : App
 serve_command =
@@ -115,11 +148,13 @@ serve_command =
 
 -- a program with the commands that make a database and ask it for its policy
 abbrev pub with_desk_commands : App → App
-with_desk_commands app = with_subcommand (with_subcommand (with_subcommand (with_subcommand app init_command.top) ask_command.top) show_command.top) exports_command.top
+with_desk_commands app =
+    with_subcommand (with_subcommand (with_subcommand (with_subcommand (with_subcommand app init_command.top) ask_command.top) show_command.top) exports_command.top) who_command.top
 
--- a program with the commands on one file of a database
+-- a program with the commands on the files of a database
 abbrev pub with_file_commands : App → App
-with_file_commands app = with_subcommand (with_subcommand (with_subcommand app put_command.top) log_command.top) cat_command.top
+with_file_commands app =
+    with_subcommand (with_subcommand (with_subcommand (with_subcommand (with_subcommand (with_subcommand app put_command.top) impact_command.top) log_command.top) cat_command.top) files_command.top) write_command.top
 
 -- the program's command line: its subcommands
 abbrev pub command_line : App
@@ -221,6 +256,46 @@ check_words_in rows = record {
   json = is_set (codes "json") rows;
 }
 
+-- the words of `clients`
+pub record ClientsWords : Type 0 where
+  pub file : List ℕ
+  pub dir : List ℕ
+  pub mounts : List (List ℕ)
+  pub tables : TableWords
+
+abbrev pub words_of_clients : List ℕ → List ℕ → List (List ℕ) → TableWords → ClientsWords
+words_of_clients file dir mounts tables = record { file = file; dir = dir; mounts = mounts; tables = tables }
+
+-- the words of `clients` by those of FILE, DIR and MOUNT.., if none is missing, and by those of its options
+abbrev pub clients_words_from : Option (List ℕ) → Option (List ℕ) → Option (List (List ℕ)) → TableWords → Option ClientsWords
+clients_words_from (Some file) (Some dir) (Some mounts) tables = Some (words_of_clients file dir mounts tables)
+clients_words_from file dir mounts tables = None
+
+-- the words of `clients` among the arguments that clap finds
+abbrev pub clients_words_in : List Row → Option ClientsWords
+clients_words_in rows = clients_words_from (first_of (codes "FILE") rows) (first_of (codes "DIR") rows) (all_of (codes "MOUNT") rows) (table_words_in rows)
+
+-- the words of `compare`
+pub record CompareWords : Type 0 where
+  pub old_file : List ℕ
+  pub new_file : List ℕ
+  pub mounts : List (List ℕ)
+  pub tables : TableWords
+  pub all : Bool
+
+abbrev pub words_of_compare : List ℕ → List ℕ → List (List ℕ) → TableWords → Bool → CompareWords
+words_of_compare old_file new_file mounts tables all = record { old_file = old_file; new_file = new_file; mounts = mounts; tables = tables; all = all }
+
+-- the words of `compare` by those of OLD, NEW and MOUNT.., if none is missing, and by those of its options
+abbrev pub compare_words_from : Option (List ℕ) → Option (List ℕ) → Option (List (List ℕ)) → TableWords → Bool → Option CompareWords
+compare_words_from (Some old_file) (Some new_file) (Some mounts) tables all = Some (words_of_compare old_file new_file mounts tables all)
+compare_words_from old_file new_file mounts tables all = None
+
+-- the words of `compare` among the arguments that clap finds
+abbrev pub compare_words_in : List Row → Option CompareWords
+compare_words_in rows =
+    compare_words_from (first_of (codes "OLD") rows) (first_of (codes "NEW") rows) (all_of (codes "MOUNT") rows) (table_words_in rows) (is_set (codes "all") rows)
+
 -- the words of `init`
 pub record InitWords : Type 0 where
   pub db : List ℕ
@@ -254,6 +329,14 @@ pub record ExportsWords : Type 0 where
 abbrev pub words_of_exports : List ℕ → ExportsWords
 words_of_exports db = record { db = db }
 
+-- the words of `who`
+pub record WhoWords : Type 0 where
+  pub db : List ℕ
+  pub dir : List ℕ
+
+abbrev pub words_of_who : List ℕ → List ℕ → WhoWords
+words_of_who db dir = record { db = db; dir = dir }
+
 -- the words of `put`
 pub record PutWords : Type 0 where
   pub db : List ℕ
@@ -266,6 +349,16 @@ pub record PutWords : Type 0 where
 
 abbrev pub words_of_put : List ℕ → List ℕ → List ℕ → List ℕ → List ℕ → Option (List ℕ) → Option (List ℕ) → PutWords
 words_of_put db name file base caller key key_file = record { db = db; name = name; file = file; base = base; caller = caller; key = key; key_file = key_file }
+
+-- the words of `impact`
+pub record ImpactWords : Type 0 where
+  pub db : List ℕ
+  pub name : List ℕ
+  pub file : List ℕ
+  pub all : Bool
+
+abbrev pub words_of_impact : List ℕ → List ℕ → List ℕ → Bool → ImpactWords
+words_of_impact db name file all = record { db = db; name = name; file = file; all = all }
 
 -- the words of `log`
 pub record LogWords : Type 0 where
@@ -283,6 +376,21 @@ pub record CatWords : Type 0 where
 
 abbrev pub words_of_cat : List ℕ → List ℕ → Option (List ℕ) → CatWords
 words_of_cat db name rev = record { db = db; name = name; rev = rev }
+
+-- the words of `files`
+pub record FilesWords : Type 0 where
+  pub db : List ℕ
+
+abbrev pub words_of_files : List ℕ → FilesWords
+words_of_files db = record { db = db }
+
+-- the words of `write`
+pub record WriteWords : Type 0 where
+  pub db : List ℕ
+  pub dir : List ℕ
+
+abbrev pub words_of_write : List ℕ → List ℕ → WriteWords
+words_of_write db dir = record { db = db; dir = dir }
 
 -- the words of `serve`
 pub record ServeWords : Type 0 where
@@ -307,9 +415,17 @@ abbrev pub show_words_from : Option (List ℕ) → Option (List ℕ) → Option 
 show_words_from (Some db) (Some host) = Some (words_of_show db host)
 show_words_from db host = None
 
+abbrev pub who_words_from : Option (List ℕ) → Option (List ℕ) → Option WhoWords
+who_words_from (Some db) (Some dir) = Some (words_of_who db dir)
+who_words_from db dir = None
+
 abbrev pub put_words_from : Option (List ℕ) → Option (List ℕ) → Option (List ℕ) → Option (List ℕ) → Option (List ℕ) → Option (List ℕ) → Option (List ℕ) → Option PutWords
 put_words_from (Some db) (Some name) (Some file) (Some base) (Some caller) key key_file = Some (words_of_put db name file base caller key key_file)
 put_words_from db name file base caller key key_file = None
+
+abbrev pub impact_words_from : Option (List ℕ) → Option (List ℕ) → Option (List ℕ) → Bool → Option ImpactWords
+impact_words_from (Some db) (Some name) (Some file) all = Some (words_of_impact db name file all)
+impact_words_from db name file all = None
 
 abbrev pub log_words_from : Option (List ℕ) → Option (List ℕ) → Option LogWords
 log_words_from (Some db) (Some name) = Some (words_of_log db name)
@@ -318,6 +434,10 @@ log_words_from db name = None
 abbrev pub cat_words_from : Option (List ℕ) → Option (List ℕ) → Option (List ℕ) → Option CatWords
 cat_words_from (Some db) (Some name) rev = Some (words_of_cat db name rev)
 cat_words_from db name rev = None
+
+abbrev pub write_words_from : Option (List ℕ) → Option (List ℕ) → Option WriteWords
+write_words_from (Some db) (Some dir) = Some (words_of_write db dir)
+write_words_from db dir = None
 
 abbrev pub serve_words_from : Option (List ℕ) → Option (List ℕ) → Option (List ℕ) → Option (List ℕ) → Option ServeWords
 serve_words_from (Some db) (Some port) (Some connections) timeout = Some (words_of_serve db port connections timeout)
@@ -336,16 +456,28 @@ show_words_in rows = show_words_from (first_of (codes "DB") rows) (first_of (cod
 abbrev pub exports_words_in : List Row → Option ExportsWords
 exports_words_in rows = option_map words_of_exports (first_of (codes "DB") rows)
 
+abbrev pub who_words_in : List Row → Option WhoWords
+who_words_in rows = who_words_from (first_of (codes "DB") rows) (first_of (codes "DIR") rows)
+
 abbrev pub put_words_in : List Row → Option PutWords
 put_words_in rows =
     put_words_from (first_of (codes "DB") rows) (first_of (codes "NAME") rows) (first_of (codes "FILE") rows) (first_of (codes "base") rows) (first_of (codes "caller") rows)
     (first_of (codes "key") rows) (first_of (codes "key-file") rows)
+
+abbrev pub impact_words_in : List Row → Option ImpactWords
+impact_words_in rows = impact_words_from (first_of (codes "DB") rows) (first_of (codes "NAME") rows) (first_of (codes "FILE") rows) (is_set (codes "all") rows)
 
 abbrev pub log_words_in : List Row → Option LogWords
 log_words_in rows = log_words_from (first_of (codes "DB") rows) (first_of (codes "NAME") rows)
 
 abbrev pub cat_words_in : List Row → Option CatWords
 cat_words_in rows = cat_words_from (first_of (codes "DB") rows) (first_of (codes "NAME") rows) (first_of (codes "rev") rows)
+
+abbrev pub files_words_in : List Row → Option FilesWords
+files_words_in rows = option_map words_of_files (first_of (codes "DB") rows)
+
+abbrev pub write_words_in : List Row → Option WriteWords
+write_words_in rows = write_words_from (first_of (codes "DB") rows) (first_of (codes "DIR") rows)
 
 abbrev pub serve_words_in : List Row → Option ServeWords
 serve_words_in rows =
@@ -356,14 +488,33 @@ pub data CommandWords : Type 0 where
   Try : TryWords → CommandWords
   Split : SplitWords → CommandWords
   Check : CheckWords → CommandWords
+  Clients : ClientsWords → CommandWords
+  Compare : CompareWords → CommandWords
   Init : InitWords → CommandWords
   Ask : AskWords → CommandWords
   Show : ShowWords → CommandWords
   Exports : ExportsWords → CommandWords
+  Who : WhoWords → CommandWords
   Put : PutWords → CommandWords
+  Impact : ImpactWords → CommandWords
   Log : LogWords → CommandWords
   Cat : CatWords → CommandWords
+  Files : FilesWords → CommandWords
+  Write : WriteWords → CommandWords
   Serve : ServeWords → CommandWords
+
+-- the command of this name on the files of a database, or that serves it, with its words among the arguments that clap finds, if none
+-- is missing
+abbrev pub file_command_in : List ℕ → List Row → Option CommandWords
+file_command_in name rows =
+    if bytes_eq name (codes "put") then option_map Put (put_words_in rows)
+    else (if bytes_eq name (codes "impact") then option_map Impact (impact_words_in rows)
+    else (if bytes_eq name (codes "log") then option_map Log (log_words_in rows)
+    else (if bytes_eq name (codes "cat") then option_map Cat (cat_words_in rows)
+    else (if bytes_eq name (codes "files") then option_map Files (files_words_in rows)
+    else (if bytes_eq name (codes "write") then option_map Write (write_words_in rows)
+    else (if bytes_eq name (codes "serve") then option_map Serve (serve_words_in rows)
+    else None))))))
 
 -- the command of this name on a database, with its words among the arguments that clap finds, if none is missing
 abbrev pub desk_command_in : List ℕ → List Row → Option CommandWords
@@ -372,11 +523,8 @@ desk_command_in name rows =
     else (if bytes_eq name (codes "ask") then option_map Ask (ask_words_in rows)
     else (if bytes_eq name (codes "show") then option_map Show (show_words_in rows)
     else (if bytes_eq name (codes "exports") then option_map Exports (exports_words_in rows)
-    else (if bytes_eq name (codes "put") then option_map Put (put_words_in rows)
-    else (if bytes_eq name (codes "log") then option_map Log (log_words_in rows)
-    else (if bytes_eq name (codes "cat") then option_map Cat (cat_words_in rows)
-    else (if bytes_eq name (codes "serve") then option_map Serve (serve_words_in rows)
-    else None)))))))
+    else (if bytes_eq name (codes "who") then option_map Who (who_words_in rows)
+    else file_command_in name rows))))
 
 -- the command of this name with its words among the arguments that clap finds, if none is missing
 abbrev pub command_in : List ℕ → List Row → Option CommandWords
@@ -384,7 +532,9 @@ command_in name rows =
     if bytes_eq name (codes "try") then option_map Try (try_words_in rows)
     else (if bytes_eq name (codes "split") then option_map Split (split_words_in rows)
     else (if bytes_eq name (codes "check") then Some (Check (check_words_in rows))
-    else desk_command_in name rows))
+    else (if bytes_eq name (codes "clients") then option_map Clients (clients_words_in rows)
+    else (if bytes_eq name (codes "compare") then option_map Compare (compare_words_in rows)
+    else desk_command_in name rows))))
 
 -- the command that clap finds, if it finds one
 abbrev pub command_of : Option (List ℕ × List Row) → Option CommandWords

@@ -6,7 +6,7 @@ use Rattle.clap.specs.Words.{App, Rule, app_of, rule_of, with_rule, with_subcomm
 use Rattle.clap.specs.declared.builder.Arg.{Arg}
 use Rattle.clap.specs.declared.builder.Command.{Command}
 use Rattle.clap.specs.declared.builder.Command.TheViews.{out-Command}
-use Rattle.cli_line.specs.CommandLine.{ask_command, cat_command, check_command, exports_command, flag, init_command, log_command, option, optional_word, put_command, required_option, serve_command, show_command, split_command, try_command, word}
+use Rattle.cli_line.specs.CommandLine.{ask_command, cat_command, check_command, clients_command, compare_command, exports_command, files_command, flag, impact_command, init_command, log_command, option, optional_word, put_command, required_option, serve_command, show_command, split_command, try_command, who_command, word, write_command}
 use Rattle.cli_line.specs.declared.command_line.Subcommand.{Subcommand}
 use Rattle.cli_line.specs.declared.command_line.Subcommand.TheVariants as command
 use Rattle.cli_line.specs.declared.arguments.Argument.{Argument}
@@ -58,13 +58,19 @@ abbrev pub app_for : Subcommand → App
 app_for command.Try = try_command
 app_for command.Split = split_command
 app_for command.Check = check_command
+app_for command.Clients = clients_command
+app_for command.Compare = compare_command
 app_for command.Init = init_command
 app_for command.Ask = ask_command
 app_for command.Show = show_command
 app_for command.Exports = exports_command
+app_for command.Who = who_command
 app_for command.Put = put_command
+app_for command.Impact = impact_command
 app_for command.Log = log_command
 app_for command.Cat = cat_command
+app_for command.Files = files_command
+app_for command.Write = write_command
 app_for command.Serve = serve_command
 
 -- a program with these commands too

@@ -15,13 +15,19 @@ pub enum Subcommand {
     Try,
     Split,
     Check,
+    Clients,
+    Compare,
     Init,
     Ask,
     Show,
     Exports,
+    Who,
     Put,
+    Impact,
     Log,
     Cat,
+    Files,
+    Write,
     Serve,
 }
 
@@ -36,13 +42,19 @@ pub fn command<'a>(alloc: Global) -> Result<Command<'a>, AllocError>
             Subcommand::Try,
             Subcommand::Split,
             Subcommand::Check,
+            Subcommand::Clients,
+            Subcommand::Compare,
             Subcommand::Init,
             Subcommand::Ask,
             Subcommand::Show,
             Subcommand::Exports,
+            Subcommand::Who,
             Subcommand::Put,
+            Subcommand::Impact,
             Subcommand::Log,
             Subcommand::Cat,
+            Subcommand::Files,
+            Subcommand::Write,
             Subcommand::Serve,
         ],
     )
@@ -71,13 +83,19 @@ fn command_of<'a>(alloc: Global, subcommand: Subcommand) -> Result<Command<'a>, 
         Subcommand::Try => try_command(alloc),
         Subcommand::Split => split_command(alloc),
         Subcommand::Check => check_command(alloc),
+        Subcommand::Clients => clients_command(alloc),
+        Subcommand::Compare => compare_command(alloc),
         Subcommand::Init => init_command(alloc),
         Subcommand::Ask => ask_command(alloc),
         Subcommand::Show => show_command(alloc),
         Subcommand::Exports => exports_command(alloc),
+        Subcommand::Who => who_command(alloc),
         Subcommand::Put => put_command(alloc),
+        Subcommand::Impact => impact_command(alloc),
         Subcommand::Log => log_command(alloc),
         Subcommand::Cat => cat_command(alloc),
+        Subcommand::Files => files_command(alloc),
+        Subcommand::Write => write_command(alloc),
         Subcommand::Serve => serve_command(alloc),
     }
 }
@@ -284,6 +302,135 @@ fn check_command<'a>(alloc: Global) -> Result<Command<'a>, AllocError>
     )
 }
 
+/// Makes the command line of `clients FILE DIR MOUNT...`, with its options.
+fn clients_command<'a>(alloc: Global) -> Result<Command<'a>, AllocError>
+    ensures { IsMade spec.clients_command result }
+{
+    let title = Title {
+        name: "clients",
+        about: "Lists who may mount a directory by an exports file",
+        usage: None,
+        help: Some(
+            "Each line is `FIRST-LAST` and the verdict on every client of that range, as try prints it; together\n\
+             they have every address once. A table that is not given is empty. One file may be -, standard input.",
+        ),
+    };
+    made(
+        alloc,
+        title,
+        &[
+            Argument {
+                name: "FILE",
+                kind: Kind::Word,
+                help: "The exports text; - is standard input",
+            },
+            Argument {
+                name: "DIR",
+                kind: Kind::Word,
+                help: "The directory that the clients ask for",
+            },
+            Argument {
+                name: "MOUNT",
+                kind: Kind::Words,
+                help: "The mount points of the file systems",
+            },
+            Argument {
+                name: "hosts",
+                kind: Kind::Valued("FILE"),
+                help: "The addresses of names, as in hosts(5)",
+            },
+            Argument {
+                name: "networks",
+                kind: Kind::Valued("FILE"),
+                help: "The numbers of networks, as in networks(5)",
+            },
+            Argument {
+                name: "passwd",
+                kind: Kind::Valued("FILE"),
+                help: "The users, as in passwd(5)",
+            },
+            Argument {
+                name: "group",
+                kind: Kind::Valued("FILE"),
+                help: "The groups, as in group(5)",
+            },
+            Argument {
+                name: "netgroup",
+                kind: Kind::Valued("FILE"),
+                help: "The netgroups, as in netgroup(5)",
+            },
+        ],
+    )
+}
+
+/// Makes the command line of `compare OLD NEW MOUNT...`, with its options.
+fn compare_command<'a>(alloc: Global) -> Result<Command<'a>, AllocError>
+    ensures { IsMade spec.compare_command result }
+{
+    let title = Title {
+        name: "compare",
+        about: "Tells what another exports file would change",
+        usage: None,
+        help: Some(
+            "For each directory that is affected it prints a line `== DIR`, and below it for each range of\n\
+             addresses the verdict by OLD behind `- ` and that by NEW behind `+ `. The last line counts: a change\n\
+             of a line or a reason alone does not matter to a client. A table that is not given is empty. One\n\
+             file may be -, standard input. Status: 0 nothing changes for a client; 1 something does.",
+        ),
+    };
+    made(
+        alloc,
+        title,
+        &[
+            Argument {
+                name: "OLD",
+                kind: Kind::Word,
+                help: "The exports text before; - is standard input",
+            },
+            Argument {
+                name: "NEW",
+                kind: Kind::Word,
+                help: "The exports text after; - is standard input",
+            },
+            Argument {
+                name: "MOUNT",
+                kind: Kind::Words,
+                help: "The mount points of the file systems",
+            },
+            Argument {
+                name: "hosts",
+                kind: Kind::Valued("FILE"),
+                help: "The addresses of names, as in hosts(5)",
+            },
+            Argument {
+                name: "networks",
+                kind: Kind::Valued("FILE"),
+                help: "The numbers of networks, as in networks(5)",
+            },
+            Argument {
+                name: "passwd",
+                kind: Kind::Valued("FILE"),
+                help: "The users, as in passwd(5)",
+            },
+            Argument {
+                name: "group",
+                kind: Kind::Valued("FILE"),
+                help: "The groups, as in group(5)",
+            },
+            Argument {
+                name: "netgroup",
+                kind: Kind::Valued("FILE"),
+                help: "The netgroups, as in netgroup(5)",
+            },
+            Argument {
+                name: "all",
+                kind: Kind::Flag,
+                help: "Lists the ranges whose line or reason alone changes, too",
+            },
+        ],
+    )
+}
+
 /// Makes the command line of `init DB DIR`.
 fn init_command<'a>(alloc: Global) -> Result<Command<'a>, AllocError>
     ensures { IsMade spec.init_command result }
@@ -403,6 +550,37 @@ fn exports_command<'a>(alloc: Global) -> Result<Command<'a>, AllocError>
     )
 }
 
+/// Makes the command line of `who DB DIR`.
+fn who_command<'a>(alloc: Global) -> Result<Command<'a>, AllocError>
+    ensures { IsMade spec.who_command result }
+{
+    let title = Title {
+        name: "who",
+        about: "Lists who may mount a directory",
+        usage: None,
+        help: Some(
+            "Each line is `FIRST-LAST` and the verdict on every client of that range, as ask prints it; together\n\
+             they have every address once.",
+        ),
+    };
+    made(
+        alloc,
+        title,
+        &[
+            Argument {
+                name: "DB",
+                kind: Kind::Word,
+                help: "The file of the database",
+            },
+            Argument {
+                name: "DIR",
+                kind: Kind::Word,
+                help: "The directory that the clients ask for",
+            },
+        ],
+    )
+}
+
 /// Makes the command line of `put DB NAME FILE`, with its options.
 fn put_command<'a>(alloc: Global) -> Result<Command<'a>, AllocError>
     ensures { IsMade spec.put_command result }
@@ -457,6 +635,49 @@ fn put_command<'a>(alloc: Global) -> Result<Command<'a>, AllocError>
                 name: "key-file",
                 kind: Kind::Valued("FILE"),
                 help: "The file whose first line is the caller's key; - is standard input",
+            },
+        ],
+    )
+}
+
+/// Makes the command line of `impact DB NAME FILE`, with its option.
+fn impact_command<'a>(alloc: Global) -> Result<Command<'a>, AllocError>
+    ensures { IsMade spec.impact_command result }
+{
+    let title = Title {
+        name: "impact",
+        about: "Tells what a new text of a file would change, and stores nothing",
+        usage: None,
+        help: Some(
+            "For each directory that is affected it prints a line `== DIR`, and below it for each range of\n\
+             addresses the verdict now behind `- ` and that with the new text behind `+ `. The last line counts: a\n\
+             change of a line or a reason alone does not matter to a client. No key is asked. Status: 0 nothing\n\
+             changes for a client; 1 something does, or the text is refused; 3 the text has a fault.",
+        ),
+    };
+    made(
+        alloc,
+        title,
+        &[
+            Argument {
+                name: "DB",
+                kind: Kind::Word,
+                help: "The file of the database",
+            },
+            Argument {
+                name: "NAME",
+                kind: Kind::Word,
+                help: "The name of the file",
+            },
+            Argument {
+                name: "FILE",
+                kind: Kind::Word,
+                help: "The new text; - is standard input",
+            },
+            Argument {
+                name: "all",
+                kind: Kind::Flag,
+                help: "Lists the ranges whose line or reason alone changes, too",
             },
         ],
     )
@@ -518,6 +739,59 @@ fn cat_command<'a>(alloc: Global) -> Result<Command<'a>, AllocError>
                 name: "rev",
                 kind: Kind::Valued("N"),
                 help: "The number of the revision; the newest without it",
+            },
+        ],
+    )
+}
+
+/// Makes the command line of `files DB`.
+fn files_command<'a>(alloc: Global) -> Result<Command<'a>, AllocError>
+    ensures { IsMade spec.files_command result }
+{
+    let title = Title {
+        name: "files",
+        about: "Lists the files with their newest revisions and authors",
+        usage: None,
+        help: None,
+    };
+    made(
+        alloc,
+        title,
+        &[Argument {
+            name: "DB",
+            kind: Kind::Word,
+            help: "The file of the database",
+        }],
+    )
+}
+
+/// Makes the command line of `write DB DIR`.
+fn write_command<'a>(alloc: Global) -> Result<Command<'a>, AllocError>
+    ensures { IsMade spec.write_command result }
+{
+    let title = Title {
+        name: "write",
+        about: "Writes the newest texts as the files that init reads",
+        usage: None,
+        help: Some(
+            "DIR gets custodians, filesystems, hosts, networks, passwd, group, netgroup and exports, which has the\n\
+             texts of all mount points, each below a comment that names its file, revision and author. A file that\n\
+             has the same bytes is left alone; another is replaced at once, by a new one that takes its name.",
+        ),
+    };
+    made(
+        alloc,
+        title,
+        &[
+            Argument {
+                name: "DB",
+                kind: Kind::Word,
+                help: "The file of the database",
+            },
+            Argument {
+                name: "DIR",
+                kind: Kind::Word,
+                help: "The folder, which has to be there",
             },
         ],
     )

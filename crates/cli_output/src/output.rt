@@ -10,6 +10,7 @@ use cli_files::failure::{Failure, Origin, message};
 use desk_check::split_text::SplitFault;
 use desk_check::try_text::Tried;
 use desk_check::{Checked, fault_text};
+use desk_impact::Report;
 use desk_policy::SiteFault;
 use std::alloc::{AllocError, Global};
 use std::io;
@@ -31,6 +32,8 @@ pub enum Output {
     NotSplit(SplitFault, String),
     /// What `check` finds.
     Checked(Checked),
+    /// What another text would change.
+    Changes(Report),
     /// What a command on a database prints that is not refused, but for a verdict.
     Done(String),
     /// Why a command on a database is refused, and the sentence that standard error tells of it.
@@ -91,6 +94,7 @@ fn status_of(answer: &Result<Output, Failure>) -> u8
         Ok(Output::Tried(tried)) => { if tried.granted { 0 } else { 1 } }
         Ok(Output::Faulty(..) | Output::NotSplit(..)) => 3,
         Ok(Output::Checked(checked)) => { if checked.passes { 0 } else { 3 } }
+        Ok(Output::Changes(report)) => { if report.mattering == 0 { 0 } else { 1 } }
         Ok(Output::Refused(refused, _)) => refused.status(),
         Err(Failure::Memory) => 4,
         Err(_) => 2,
@@ -113,6 +117,7 @@ fn output_text(alloc: Global, output: Output) -> Result<String, AllocError>
             fault.text(alloc)?
         }
         Output::Checked(checked) => return Ok(checked.text),
+        Output::Changes(report) => return Ok(report.text),
         Output::Refused(refused, told) => {
             drop(told);
             return refused.line(alloc);

@@ -1,3 +1,6 @@
 pub mod CheckAnswers
+pub mod ClientsAnswers
+pub mod CompareAnswers
 pub mod SplitAnswers
 pub mod ToldFindings
+pub mod Viewed

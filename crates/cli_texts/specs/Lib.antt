@@ -1,5 +1,9 @@
 pub mod CheckCommand
+pub mod ClientsCommand
+pub mod CompareCommand
+pub mod ComparedFiles
 pub mod FaultyOutputs
 pub mod SplitCommand
 pub mod TableFiles
 pub mod TryCommand
+pub mod WholeTables

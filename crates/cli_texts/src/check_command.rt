@@ -156,7 +156,7 @@ pub fn sources_of<'a>(
 }
 
 /// Lends a text with the path of its file, which is empty if no file is given.
-fn source_of<'a>(word: Option<&'a str>, text: &'a str) -> Source<'a>
+pub fn source_of<'a>(word: Option<&'a str>, text: &'a str) -> Source<'a>
     ensures path { result.path.now ≡ unwrap_or (option_map (λ word. word.now) word.entry) [] }
     ensures text { result.text.now ≡ text.entry.now }
 {

@@ -34,7 +34,7 @@ pub fn names_input_twice(tables: TableWords<'_>, file: &str) -> bool
 }
 
 /// Counts a file if it is standard input.
-fn input_count(word: Option<&str>) -> u32
+pub fn input_count(word: Option<&str>) -> u32
     ensures small { result ≤ 1 }
     ensures counted { result ≡ (if is_input_if_given (option_map (λ word. word.now) word.entry) then 1 else 0) }
 {

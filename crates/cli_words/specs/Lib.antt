@@ -1,4 +1,3 @@
 pub mod Arguments
 pub mod LineWords
-pub mod PrivateWords
 pub mod Words

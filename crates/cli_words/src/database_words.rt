@@ -3,10 +3,10 @@
 ghost use Rattle.std.specs.Prelude.{◌≡◌};
 ghost use Rattle.std.specs.Option.{option_map};
 ghost use Rattle.clap.specs.Words.{found_of, rows_of};
-ghost use Rattle.cli_line.specs.CommandLine.{ask_words_in, cat_words_in, exports_words_in, init_words_in, log_words_in, put_words_in, serve_words_in, show_words_in};
-ghost use Rattle.cli_words.specs.Words.{given_ask, given_cat, given_exports, given_init, given_log, given_put, given_serve, given_show};
+ghost use Rattle.cli_line.specs.CommandLine.{ask_words_in, cat_words_in, exports_words_in, files_words_in, impact_words_in, init_words_in, log_words_in, put_words_in, serve_words_in, show_words_in, who_words_in, write_words_in};
+ghost use Rattle.cli_words.specs.Words.{given_ask, given_cat, given_exports, given_files, given_impact, given_init, given_log, given_put, given_serve, given_show, given_who, given_write};
 
-use crate::words::word;
+use crate::words::{is_set, word};
 use clap::ArgMatches;
 
 /// The words of `init`.
@@ -87,6 +87,24 @@ impl<'a> ExportsWords<'a> {
     }
 }
 
+/// The words of `who`.
+#[derive(Clone, Copy)]
+pub struct WhoWords<'a> {
+    pub db: &'a str,
+    pub dir: &'a str,
+}
+
+impl<'a> WhoWords<'a> {
+    /// Takes the words of `who` from what `clap` found, if it found each that it requires.
+    pub fn find(found: &ArgMatches<'a>) -> Option<WhoWords<'a>>
+        ensures { option_map given_who result ≡ who_words_in (rows_of (found_of found.now)) }
+    {
+        let db = word(found, "DB")?;
+        let dir = word(found, "DIR")?;
+        Some(WhoWords { db, dir })
+    }
+}
+
 /// The words of `put`.
 #[derive(Clone, Copy)]
 pub struct PutWords<'a> {
@@ -117,6 +135,32 @@ impl<'a> PutWords<'a> {
             caller,
             key: word(found, "key"),
             key_file: word(found, "key-file"),
+        })
+    }
+}
+
+/// The words of `impact`.
+#[derive(Clone, Copy)]
+pub struct ImpactWords<'a> {
+    pub db: &'a str,
+    pub name: &'a str,
+    pub file: &'a str,
+    pub all: bool,
+}
+
+impl<'a> ImpactWords<'a> {
+    /// Takes the words of `impact` from what `clap` found, if it found each that it requires.
+    pub fn find(found: &ArgMatches<'a>) -> Option<ImpactWords<'a>>
+        ensures { option_map given_impact result ≡ impact_words_in (rows_of (found_of found.now)) }
+    {
+        let db = word(found, "DB")?;
+        let name = word(found, "NAME")?;
+        let file = word(found, "FILE")?;
+        Some(ImpactWords {
+            db,
+            name,
+            file,
+            all: is_set(found, "all"),
         })
     }
 }
@@ -159,6 +203,40 @@ impl<'a> CatWords<'a> {
             name,
             rev: word(found, "rev"),
         })
+    }
+}
+
+/// The words of `files`.
+#[derive(Clone, Copy)]
+pub struct FilesWords<'a> {
+    pub db: &'a str,
+}
+
+impl<'a> FilesWords<'a> {
+    /// Takes the words of `files` from what `clap` found, if it found each that it requires.
+    pub fn find(found: &ArgMatches<'a>) -> Option<FilesWords<'a>>
+        ensures { option_map given_files result ≡ files_words_in (rows_of (found_of found.now)) }
+    {
+        let db = word(found, "DB")?;
+        Some(FilesWords { db })
+    }
+}
+
+/// The words of `write`.
+#[derive(Clone, Copy)]
+pub struct WriteWords<'a> {
+    pub db: &'a str,
+    pub dir: &'a str,
+}
+
+impl<'a> WriteWords<'a> {
+    /// Takes the words of `write` from what `clap` found, if it found each that it requires.
+    pub fn find(found: &ArgMatches<'a>) -> Option<WriteWords<'a>>
+        ensures { option_map given_write result ≡ write_words_in (rows_of (found_of found.now)) }
+    {
+        let db = word(found, "DB")?;
+        let dir = word(found, "DIR")?;
+        Some(WriteWords { db, dir })
     }
 }
 

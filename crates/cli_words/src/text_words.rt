@@ -3,8 +3,8 @@
 ghost use Rattle.std.specs.Prelude.{◌≡◌};
 ghost use Rattle.std.specs.Option.{option_map};
 ghost use Rattle.clap.specs.Words.{found_of, rows_of};
-ghost use Rattle.cli_line.specs.CommandLine.{check_words_in, split_words_in, table_words_in, try_words_in};
-ghost use Rattle.cli_words.specs.Words.{given_check, given_split, given_tables, given_try};
+ghost use Rattle.cli_line.specs.CommandLine.{check_words_in, clients_words_in, compare_words_in, split_words_in, table_words_in, try_words_in};
+ghost use Rattle.cli_words.specs.Words.{given_check, given_clients, given_compare, given_split, given_tables, given_try};
 
 use crate::words::{is_set, word};
 use clap::ArgMatches;
@@ -110,6 +110,64 @@ impl<'m, 'a> CheckWords<'m, 'a> {
             brief: is_set(found, "brief"),
             strict: is_set(found, "strict"),
             json: is_set(found, "json"),
+        }
+    }
+}
+
+/// The words of `clients`.
+#[derive(Clone, Copy)]
+pub struct ClientsWords<'m, 'a> {
+    pub file: &'a str,
+    pub dir: &'a str,
+    pub mounts: &'m [&'a str],
+    pub tables: TableWords<'a>,
+}
+
+impl<'m, 'a> ClientsWords<'m, 'a> {
+    /// Takes the words of `clients` from what `clap` found, if it found each that it requires.
+    pub fn find(found: &'m ArgMatches<'a>) -> Option<ClientsWords<'m, 'a>>
+        ensures { option_map given_clients result ≡ clients_words_in (rows_of (found_of found.now)) }
+    {
+        let file = word(found, "FILE")?;
+        let dir = word(found, "DIR")?;
+        match found.get_strs("MOUNT") {
+            Some(mounts) => Some(ClientsWords {
+                file,
+                dir,
+                mounts,
+                tables: TableWords::find(found),
+            }),
+            None => None,
+        }
+    }
+}
+
+/// The words of `compare`.
+#[derive(Clone, Copy)]
+pub struct CompareWords<'m, 'a> {
+    pub old_file: &'a str,
+    pub new_file: &'a str,
+    pub mounts: &'m [&'a str],
+    pub tables: TableWords<'a>,
+    pub all: bool,
+}
+
+impl<'m, 'a> CompareWords<'m, 'a> {
+    /// Takes the words of `compare` from what `clap` found, if it found each that it requires.
+    pub fn find(found: &'m ArgMatches<'a>) -> Option<CompareWords<'m, 'a>>
+        ensures { option_map given_compare result ≡ compare_words_in (rows_of (found_of found.now)) }
+    {
+        let old_file = word(found, "OLD")?;
+        let new_file = word(found, "NEW")?;
+        match found.get_strs("MOUNT") {
+            Some(mounts) => Some(CompareWords {
+                old_file,
+                new_file,
+                mounts,
+                tables: TableWords::find(found),
+                all: is_set(found, "all"),
+            }),
+            None => None,
         }
     }
 }

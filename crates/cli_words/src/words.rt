@@ -3,14 +3,14 @@
 ghost use Rattle.std.specs.Prelude.{◌≡◌};
 ghost use Rattle.std.specs.Option.{option_map};
 ghost use Rattle.clap.specs.Words.{first_of, found_of, rows_of, subcommand_rows_of};
-ghost use Rattle.cli_line.specs.CommandLine.{command_in, command_of, desk_command_in, is_set};
-ghost use Rattle.cli_words.specs.PrivateWords.{file_command_in};
+ghost use Rattle.cli_line.specs.CommandLine.{command_in, command_of, desk_command_in, file_command_in, is_set};
 ghost use Rattle.cli_words.specs.Words.{Finds, given};
 
 use crate::database_words::{
-    AskWords, CatWords, ExportsWords, InitWords, LogWords, PutWords, ServeWords, ShowWords,
+    AskWords, CatWords, ExportsWords, FilesWords, ImpactWords, InitWords, LogWords, PutWords,
+    ServeWords, ShowWords, WhoWords, WriteWords,
 };
-use crate::text_words::{CheckWords, SplitWords, TryWords};
+use crate::text_words::{CheckWords, ClientsWords, CompareWords, SplitWords, TryWords};
 use clap::ArgMatches;
 use cli_files::failure::Failure;
 
@@ -20,13 +20,19 @@ pub enum CommandWords<'m, 'a> {
     Try(TryWords<'m, 'a>),
     Split(SplitWords<'a>),
     Check(CheckWords<'m, 'a>),
+    Clients(ClientsWords<'m, 'a>),
+    Compare(CompareWords<'m, 'a>),
     Init(InitWords<'a>),
     Ask(AskWords<'a>),
     Show(ShowWords<'a>),
     Exports(ExportsWords<'a>),
+    Who(WhoWords<'a>),
     Put(PutWords<'a>),
+    Impact(ImpactWords<'a>),
     Log(LogWords<'a>),
     Cat(CatWords<'a>),
+    Files(FilesWords<'a>),
+    Write(WriteWords<'a>),
     Serve(ServeWords<'a>),
 }
 
@@ -51,6 +57,8 @@ fn found_words<'m, 'a>(name: &str, words: &'m ArgMatches<'a>) -> Option<CommandW
         "try" => Some(CommandWords::Try(TryWords::find(words)?)),
         "split" => Some(CommandWords::Split(SplitWords::find(words)?)),
         "check" => Some(CommandWords::Check(CheckWords::find(words))),
+        "clients" => Some(CommandWords::Clients(ClientsWords::find(words)?)),
+        "compare" => Some(CommandWords::Compare(CompareWords::find(words)?)),
         _ => found_desk_words(name, words),
     }
 }
@@ -64,19 +72,23 @@ fn found_desk_words<'m, 'a>(name: &str, words: &'m ArgMatches<'a>) -> Option<Com
         "ask" => Some(CommandWords::Ask(AskWords::find(words)?)),
         "show" => Some(CommandWords::Show(ShowWords::find(words)?)),
         "exports" => Some(CommandWords::Exports(ExportsWords::find(words)?)),
+        "who" => Some(CommandWords::Who(WhoWords::find(words)?)),
         _ => found_file_words(name, words),
     }
 }
 
-/// Takes the words of the command of this name that is on one file of a database or serves it, if there is one and none is
+/// Takes the words of the command of this name that is on the files of a database or serves it, if there is one and none is
 /// missing.
 fn found_file_words<'m, 'a>(name: &str, words: &'m ArgMatches<'a>) -> Option<CommandWords<'m, 'a>>
     ensures { option_map given result ≡ file_command_in name.now (rows_of (found_of words.now)) }
 {
     match name {
         "put" => Some(CommandWords::Put(PutWords::find(words)?)),
+        "impact" => Some(CommandWords::Impact(ImpactWords::find(words)?)),
         "log" => Some(CommandWords::Log(LogWords::find(words)?)),
         "cat" => Some(CommandWords::Cat(CatWords::find(words)?)),
+        "files" => Some(CommandWords::Files(FilesWords::find(words)?)),
+        "write" => Some(CommandWords::Write(WriteWords::find(words)?)),
         "serve" => Some(CommandWords::Serve(ServeWords::find(words)?)),
         _ => None,
     }

@@ -16,11 +16,13 @@ use Rattle.desk_policy.specs.declared.verdict.Denial.{Denial}
 use Rattle.desk_policy.specs.declared.verdict.Denial.TheVariants.{NoFileSystem, NoLine, NotListed}
 use Rattle.desk_policy.specs.SiteFault.{rule_number}
 use Rattle.desk_text.specs.Address.{addr_text, number_of}
+use Rattle.desk_who.specs.Runs.{Run}
 use Rattle.desk_core.specs.declared.edit.Refusal.{Refusal}
 use Rattle.desk_core.specs.declared.edit.Refusal.TheVariants as refusal
 use Rattle.desk_bodies.specs.Edits.{refused_data}
 use Rattle.desk_bodies.specs.Exports.{dir_data, exports_data, system_data}
 use Rattle.desk_bodies.specs.Json.{count, entries, member_if}
+use Rattle.desk_bodies.specs.Ranges.{ended_range, range_data, who_data}
 use Rattle.desk_bodies.specs.Revisions.{revision_data, revisions_data}
 use Rattle.desk_bodies.specs.Verdicts.{flavour_data, verdict_data}
 
@@ -48,6 +50,18 @@ system_has_none content shown =
 
 pub exports_have_none : (content : Content) (address : ℕ) (systems : List Shown) → has_float (exports_data content address systems) ≡ false
 exports_have_none content address systems = rw (list_has_none (system_data content) (system_has_none content) systems) refl
+
+verdicts_have_none : (content : Content) (first last : List ℕ) (verdict : Result Grant Denial) → has_float (ended_range content first last verdict) ≡ false
+verdicts_have_none content first last (Ok grant) = rw (flavours_have_none grant.terms.flavours) refl
+verdicts_have_none content first last (Err NoFileSystem) = refl
+verdicts_have_none content first last (Err (NoLine fs)) = refl
+verdicts_have_none content first last (Err (NotListed fs line)) = refl
+
+range_has_none : (content : Content) (range : Run (Result Grant Denial)) → has_float (range_data content range) ≡ false
+range_has_none content range = verdicts_have_none content (addr_text range.first) (addr_text range.last) range.value
+
+pub who_have_none : (content : Content) (path : List (List ℕ)) (ranges : List (Run (Result Grant Denial))) → has_float (who_data content path ranges) ≡ false
+who_have_none content path ranges = rw (list_has_none (range_data content) (range_has_none content) ranges) refl
 
 fault_has_none : (error file : List ℕ) (line number rule : ℕ) (address : Option (List ℕ)) (other : Option ℕ) → has_float (entries (
     member_if (codes "address") string address

@@ -26,6 +26,8 @@ mod parts;
 mod paths;
 pub mod policies;
 mod questions;
+mod ranges;
+mod reports;
 pub mod site;
 pub mod sites;
 

@@ -77,7 +77,7 @@ fn exports(alloc: Global, policy: &Policy, out: &mut String) -> Asked {
 }
 
 /// Answers with a text, with `|` for each line feed.
-fn say_lines(out: &mut String, text: &str) -> Asked {
+pub fn say_lines(out: &mut String, text: &str) -> Asked {
     add_lines(out, text)?;
     Ok(true)
 }

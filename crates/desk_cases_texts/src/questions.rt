@@ -6,7 +6,7 @@ use crate::answers::Asked;
 use crate::site::Site;
 use crate::{
     addresses, credentials, custodians, exports, faults, filesystems, hosts, indexes, lines,
-    listings, netgroups, nets, networks, parts, paths, policies, sites,
+    listings, netgroups, nets, networks, parts, paths, policies, ranges, reports, sites,
 };
 use desk_policy::LONGEST_TEXT;
 use std::alloc::Global;
@@ -52,6 +52,8 @@ fn of_site(alloc: Global, site: &mut Site, out: &mut String, question: &str, tex
             || policies::answer(alloc, site, out, question, text)?
             || listings::answer(alloc, site, out, question, text)?
             || indexes::answer(alloc, site, out, question, text)?
+            || ranges::answer(alloc, site, out, question, text)?
+            || reports::answer(alloc, site, out, question, text)?
             || parts::answer(alloc, site, out, question, text)?
             || sites::answer(alloc, site, out, question, text)?
             || faults::answer(alloc, site, out, question, text)?,

@@ -23,6 +23,8 @@ pub struct Site {
     pub policy: Option<InForce>,
     /// The policy by its keys, unless lines of it contradict each other.
     pub index: Option<Index>,
+    /// The views that were set aside, against which changes are asked (`ranges`).
+    pub before: Option<Before>,
     /// The keys that lines of the site had when they were asked for, as questions write them (`indexes`).
     pub keys: BTreeSet<String>,
 }
@@ -32,6 +34,13 @@ pub struct Site {
 pub enum InForce {
     Policy(Policy),
     View(Plain),
+}
+
+/// Both views of a policy that was in force.
+#[derive(Drop)]
+pub struct Before {
+    pub plain: Plain,
+    pub index: Index,
 }
 
 impl InForce {
@@ -78,6 +87,7 @@ impl Site {
             texts: no_texts(alloc),
             policy: None,
             index: None,
+            before: None,
             keys: BTreeSet::new(alloc),
         }
     }

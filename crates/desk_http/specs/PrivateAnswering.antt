@@ -1,12 +1,18 @@
 -- What a desk does at one call that has a reply. (this project's own)
-use Rattle.std.specs.Prelude.{◌≡◌, ◌⊎◌, ℕ, Bool, true, List}
+use Rattle.std.specs.Prelude.{◌≡◌, ◌⊎◌, ℕ, Bool, true, List, Result}
+use Rattle.desk_policy.specs.Policy.{Content}
+use Rattle.desk_policy.specs.Verdict.{Grant}
+use Rattle.desk_policy.specs.declared.verdict.Denial.{Denial}
+use Rattle.desk_who.specs.Runs.{Run}
+use Rattle.desk_who.specs.Who.{IsWho}
 use Rattle.desk_core.specs.Edit.{Edit}
 use Rattle.desk_store.specs.Desk.{History}
 use Rattle.desk_messages.specs.Asked.{Asked, asked_by}
 use Rattle.desk_messages.specs.Head.{ends_stream}
-use Rattle.desk_messages.specs.Replies.{Reply, memory_reply, print_reply}
+use Rattle.desk_messages.specs.Replies.{Reply, memory_reply, print_reply, reply_with}
 use Rattle.desk_messages.specs.Stream.{Message}
 use Rattle.desk_requests.specs.Calls.{Question}
+use Rattle.desk_bodies.specs.Ranges.{who_data}
 use Rattle.desk_http.specs.Questions.{QuestionReply, asks_tables, store_reply}
 use Rattle.desk_http.specs.Edits.{EditReply}
 use Rattle.desk_http.specs.Answering.{Answered}
@@ -33,6 +39,11 @@ QuestionAnswered question old reply new =
 -- An edit is replied by the history; or that there is no memory or that the store refused a statement, and then nothing changes.
 abbrev pub EditAnswered : Edit → History → Reply → History → Type 0
 EditAnswered e old reply new = EditReply old e reply new ⊎ (((reply ≡ memory_reply) ⊎ (reply ≡ store_reply)) × (new ≡ old))
+
+-- the text of the reply to who may mount a path under a policy; ends says that the stream ends after it
+abbrev pub IsWhoText : Content → List (List ℕ) → Bool → List ℕ → Type 0
+IsWhoText content path ends text =
+    (ranges : List (Run (Result Grant Denial))) × IsWho content path ranges × (text ≡ print_reply ends (reply_with 200 (who_data content path ranges)))
 
 -- a desk after one request, which wrote the text of its reply; ends says that the stream ends after it
 abbrev pub AnswersAsked : {S : Type 0} → (S → Type 0) → (S → History → History → Type 0) → S → Asked → Bool → List ℕ → S → Type 0

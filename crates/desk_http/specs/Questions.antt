@@ -1,14 +1,15 @@
 -- The replies to questions: what desk_service answers, printed. (this project's own)
 use Rattle.std.specs.Prelude.{◌≡◌, ℕ, Bool, true, false, List}
 use Rattle.desk_store.specs.Desk.{History}
-use Rattle.desk_service.specs.Questions.{Answer, AnswersByHistory, ByFile, ByPolicy, Listing, ListingIs, OnFile, OnPolicy, Text, VerdictIs}
+use Rattle.desk_service.specs.Questions.{Answer, AnswersByHistory, ByFile, ByPolicy, Listing, ListingIs, OnFile, OnPolicy, RangesAre, Text, VerdictIs}
 use Rattle.desk_service.specs.Questions as service
 use Rattle.desk_service.specs.declared.questions.FileAnswer.{FileAnswer}
 use Rattle.desk_service.specs.declared.questions.FileAnswer.TheVariants as found
 use Rattle.desk_service.specs.declared.refused.Refused.TheVariants as refused
 use Rattle.desk_messages.specs.Replies.{Reply, reply_with}
-use Rattle.desk_requests.specs.Calls.{Exports, File, Mount, Question, Revisions}
+use Rattle.desk_requests.specs.Calls.{Exports, File, Mount, Question, Revisions, Who}
 use Rattle.desk_bodies.specs.Exports.{exports_data}
+use Rattle.desk_bodies.specs.Ranges.{who_data}
 use Rattle.desk_bodies.specs.Revisions.{file_data, revisions_data}
 use Rattle.desk_bodies.specs.Verdicts.{verdict_data}
 use Rattle.desk_http.specs.Replies.{refused_reply}
@@ -19,6 +20,7 @@ service_question (Mount address path own) = OnPolicy (service.Mount address path
 service_question (Exports address) = OnPolicy (Listing address)
 service_question (File name rev) = OnFile (Text name rev)
 service_question (Revisions name) = OnFile (service.Revisions name)
+service_question (Who path) = OnPolicy (service.Who path)
 
 -- the reply to a question on the revisions of this file, by its answer
 abbrev pub file_reply : List ℕ → FileAnswer → Reply
@@ -32,6 +34,7 @@ IsPrinted (Mount address path own) (ByPolicy (VerdictIs content verdict)) reply 
 IsPrinted (Exports address) (ByPolicy (ListingIs content systems)) reply = reply ≡ reply_with 200 (exports_data content address systems)
 IsPrinted (File name rev) (ByFile answer) reply = reply ≡ file_reply name answer
 IsPrinted (Revisions name) (ByFile answer) reply = reply ≡ file_reply name answer
+IsPrinted (Who path) (ByPolicy (RangesAre content ranges)) reply = reply ≡ reply_with 200 (who_data content path ranges)
 IsPrinted question answer reply = ⊥
 
 -- this is replied to a question by a history: the answer by that history, printed
@@ -45,6 +48,7 @@ asks_tables (Mount address path own) = false
 asks_tables (Exports address) = false
 asks_tables (File name rev) = true
 asks_tables (Revisions name) = true
+asks_tables (Who path) = false
 
 -- the reply where the store refused a statement
 abbrev pub store_reply : Reply

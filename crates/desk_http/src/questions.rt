@@ -12,10 +12,10 @@ ghost use Rattle.desk_requests.specs.Calls.{question_of};
 ghost use Rattle.desk_bodies.specs.Exports.{exports_data};
 ghost use Rattle.desk_bodies.specs.Verdicts.{verdict_data};
 ghost use Rattle.desk_http.specs.Questions.{file_reply};
-ghost use Rattle.desk_http.specs.PrivateAnswering.{Gives, GivesText, QuestionAnswered};
+ghost use Rattle.desk_http.specs.PrivateAnswering.{Gives, GivesText, IsWhoText, QuestionAnswered};
 
 use crate::replies::{failed_text, refused_text};
-use desk_bodies::{exports_body, file_body, revisions_body, verdict_body};
+use desk_bodies::{exports_body, file_body, revisions_body, verdict_body, who_body};
 use desk_messages::reply_text;
 use desk_policy::PolicyView;
 use desk_requests::Question;
@@ -46,6 +46,7 @@ pub(crate) fn answer_question<S: Alter + Drop, V: PolicyView + Drop>(
         Question::Exports(address) => exports_text(alloc, desk.view(), *address, ends),
         Question::File(name, rev) => text_at(alloc, desk, name, *rev, ends),
         Question::Revisions(name) => revisions_text(alloc, desk, name, ends),
+        Question::Who(path) => who_text(alloc, desk.view(), path, ends),
     }
 }
 
@@ -66,7 +67,9 @@ fn mount_text<V: PolicyView>(
             let body = verdict_body(alloc, policy, &verdict, own)?;
             reply_text(alloc, StatusCode::OK, body.as_str(), ends)
         }
-        PolicyAnswer::Listing(..) | PolicyAnswer::Exports(_) => unreachable!(),
+        PolicyAnswer::Listing(..) | PolicyAnswer::Exports(_) | PolicyAnswer::Who(..) => {
+            unreachable!()
+        }
     }
 }
 
@@ -85,7 +88,29 @@ fn exports_text<V: PolicyView>(
             let body = exports_body(alloc, policy, address, systems.as_slice())?;
             reply_text(alloc, StatusCode::OK, body.as_str(), ends)
         }
-        PolicyAnswer::Verdict(..) | PolicyAnswer::Exports(_) => unreachable!(),
+        PolicyAnswer::Verdict(..) | PolicyAnswer::Exports(_) | PolicyAnswer::Who(..) => {
+            unreachable!()
+        }
+    }
+}
+
+/// Writes who may mount a path.
+fn who_text<V: PolicyView>(
+    alloc: Global,
+    view: &V,
+    path: &Path,
+    ends: bool,
+) -> Result<String, AllocError>
+    ensures { IfOk result (λ text. IsWhoText (V.in_force view.now) path.now ends (string_bytes text)) }
+{
+    match answer_by_view(alloc, view, PolicyQuestion::Who(path))? {
+        PolicyAnswer::Who(policy, ranges) => {
+            let body = who_body(alloc, policy, path, ranges.as_slice())?;
+            reply_text(alloc, StatusCode::OK, body.as_str(), ends)
+        }
+        PolicyAnswer::Verdict(..) | PolicyAnswer::Listing(..) | PolicyAnswer::Exports(_) => {
+            unreachable!()
+        }
     }
 }
 

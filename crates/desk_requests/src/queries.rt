@@ -31,6 +31,8 @@ pub enum Question<'a> {
     File(&'a str, Option<u32>),
     /// The revisions of this file.
     Revisions(&'a str),
+    /// Who may mount this directory.
+    Who(Path),
 }
 
 /// What a query says.
@@ -154,6 +156,10 @@ fn query_read<'a>(
             Some(name) => Some(Query::Asks(Question::Revisions(name))),
             None => None,
         },
+        Action::Who => match path_in(alloc, parameters)? {
+            Some(path) => Some(Query::Asks(Question::Who(path))),
+            None => None,
+        },
         Action::Put => put_in(parameters),
     })
 }
@@ -167,6 +173,7 @@ fn is_named(action: Action, name: &str) -> bool
         Action::Exports => name == "host",
         Action::File => name == "name" || name == "rev",
         Action::Revisions => name == "name",
+        Action::Who => name == "dir",
         Action::Put => name == "name" || name == "base",
     }
 }

@@ -8,6 +8,8 @@ use Rattle.desk_policy.specs.Policy.{Content}
 use Rattle.desk_policy.specs.Verdict.{Grant, verdict_of, verdict_result}
 use Rattle.desk_policy.specs.declared.listings.Shown.{Shown as ShownSystem}
 use Rattle.desk_policy.specs.declared.verdict.Denial.{Denial}
+use Rattle.desk_who.specs.Runs.{Run}
+use Rattle.desk_who.specs.Who.{IsWho, range_value}
 use Rattle.desk_core.specs.Head.{Revision}
 use Rattle.desk_core.specs.History.{newest_of, revisions_of}
 use Rattle.desk_core.specs.Site.{IsInForce, site_in}
@@ -21,35 +23,46 @@ use Rattle.desk_service.specs.declared.questions.PolicyAnswer.TheVariants as len
 use Rattle.desk_service.specs.declared.questions.PolicyQuestion.{PolicyQuestion as LentPolicyQuestion}
 use Rattle.desk_service.specs.declared.questions.PolicyQuestion.TheVariants as lent
 
--- a question on the policy in force: whether a client may mount a path, what it may mount, and all exports
+-- a question on the policy in force: whether a client may mount a path, what it may mount, all exports, and who may mount a path
 pub data PolicyQuestion : Type 0 where
   Mount : ℕ → List (List ℕ) → PolicyQuestion
   Listing : ℕ → PolicyQuestion
   Exports : PolicyQuestion
+  Who : List (List ℕ) → PolicyQuestion
 
 -- a question on the policy in force, by value
 abbrev pub policy_question : LentPolicyQuestion → PolicyQuestion
 policy_question (lent.Mount address path) = Mount (number_of address) path.now
 policy_question (lent.Listing address) = Listing (number_of address)
 policy_question lent.Exports = Exports
+policy_question (lent.Who path) = Who path.now
 
--- an answer by the policy in force, with that policy: a verdict, what a client may mount, and all exports
+-- an answer by the policy in force, with that policy: a verdict, what a client may mount, all exports, and the verdicts on all
+-- clients by ranges
 pub data PolicyAnswer : Type 0 where
   VerdictIs : Content → Result Grant Denial → PolicyAnswer
   ListingIs : Content → List ShownSystem → PolicyAnswer
   ExportsAre : Content → PolicyAnswer
+  RangesAre : Content → List (Run (Result Grant Denial)) → PolicyAnswer
 
 -- an answer by the policy in force, by value
 abbrev pub policy_answer_of : LentPolicyAnswer → PolicyAnswer
 policy_answer_of (lent_answer.Verdict policy verdict) = VerdictIs policy.now (verdict_result verdict)
 policy_answer_of (lent_answer.Listing policy listing) = ListingIs policy.now listing.items
 policy_answer_of (lent_answer.Exports policy) = ExportsAre policy.now
+policy_answer_of (lent_answer.Who policy ranges) = RangesAre policy.now (map range_value ranges.items)
 
--- the answer of a policy to a question
-abbrev pub policy_answer : Content → PolicyQuestion → PolicyAnswer
-policy_answer content (Mount address path) = VerdictIs content (verdict_of content address path)
-policy_answer content (Listing address) = ListingIs content (listing_of content address)
-policy_answer content Exports = ExportsAre content
+-- this is a policy, and a path has these ranges under it
+abbrev pub AreRangesOf : Content → List (List ℕ) → PolicyAnswer → Type 0
+AreRangesOf content path (RangesAre own ranges) = (own ≡ content) × IsWho content path ranges
+AreRangesOf content path answer = ⊥
+
+-- the answer of a policy to a question; who may mount a path has just one list of ranges
+abbrev pub IsPolicyAnswer : Content → PolicyQuestion → PolicyAnswer → Type 0
+IsPolicyAnswer content (Mount address path) answer = answer ≡ VerdictIs content (verdict_of content address path)
+IsPolicyAnswer content (Listing address) answer = answer ≡ ListingIs content (listing_of content address)
+IsPolicyAnswer content Exports answer = answer ≡ ExportsAre content
+IsPolicyAnswer content (Who path) answer = AreRangesOf content path answer
 
 -- a question on the revisions of a file: its text as of a revision, or else the newest, and the list of them
 pub data FileQuestion : Type 0 where
@@ -101,7 +114,7 @@ TellsInForce history Tells = (content : Content) × IsInForce (site_in (newest_o
 
 -- the answer to a question by a history: of the policy in force by it, or of its revisions
 abbrev pub AnswersByHistory : List Revision → Question → Answer → Type 0
-AnswersByHistory history (OnPolicy question) (ByPolicy answer) = TellsInForce history (λ content. answer ≡ policy_answer content question)
+AnswersByHistory history (OnPolicy question) (ByPolicy answer) = TellsInForce history (λ content. IsPolicyAnswer content question answer)
 AnswersByHistory history (OnFile question) (ByFile answer) = answer ≡ file_answer history question
 AnswersByHistory history question answer = ⊥
 

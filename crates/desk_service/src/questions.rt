@@ -5,12 +5,13 @@ ghost use Rattle.sqlite.specs.Held.{state};
 ghost use Rattle.desk_store.specs.Desk.{HasGoodDisk, History, StandsAt};
 ghost use Rattle.desk_store.specs.Rows.{IsOfTask};
 ghost use Rattle.desk_store.specs.declared.error.Task.TheVariants as tasks;
-ghost use Rattle.desk_service.specs.Questions.{AnswersByHistory, ByFile, ByPolicy, OnFile, OnPolicy, OnlyLooks, file_question, policy_answer, policy_answer_of, policy_question};
+ghost use Rattle.desk_service.specs.Questions.{AnswersByHistory, ByFile, ByPolicy, IsPolicyAnswer, OnFile, OnPolicy, OnlyLooks, file_question, policy_answer_of, policy_question};
 ghost use Rattle.desk_service.specs.Questions as by_value;
 
 use desk_policy::{Policy, PolicyView, Shown, Verdict, listing};
 use desk_store::{Desk, DeskError};
 use desk_text::{Addr, Path, Sequence, Text};
+use desk_who::{Range, who};
 use sqlite::Alter;
 use std::alloc::{AllocError, Global};
 
@@ -23,6 +24,8 @@ pub enum PolicyQuestion<'a> {
     Listing(Addr),
     /// All exports.
     Exports,
+    /// Who may mount this directory.
+    Who(&'a Path),
 }
 
 /// The answer to a question on the policy in force. It lends that policy, whose mount points it names by number.
@@ -33,6 +36,8 @@ pub enum PolicyAnswer<'a> {
     Listing(&'a Policy, Vec<Shown>),
     /// The policy itself says what all exports are.
     Exports(&'a Policy),
+    /// The verdict on every client, by ranges of addresses.
+    Who(&'a Policy, Vec<Range<'a>>),
 }
 
 /// A question on the revisions of a file.
@@ -68,7 +73,7 @@ pub fn answer_by_view<'a, V: PolicyView>(
     view: &'a V,
     question: PolicyQuestion<'_>,
 ) -> Result<PolicyAnswer<'a>, AllocError>
-    ensures { IfOk result (λ answer. policy_answer_of answer ≡ policy_answer (V.in_force view.now) (policy_question question.entry)) }
+    ensures { IfOk result (λ answer. IsPolicyAnswer (V.in_force view.now) (policy_question question.entry) (policy_answer_of answer)) }
 {
     match question {
         PolicyQuestion::Mount(address, path) => {
@@ -79,6 +84,10 @@ pub fn answer_by_view<'a, V: PolicyView>(
             Ok(PolicyAnswer::Listing(view.policy(), shown))
         }
         PolicyQuestion::Exports => Ok(PolicyAnswer::Exports(view.policy())),
+        PolicyQuestion::Who(path) => {
+            let ranges = who(alloc, view, path)?;
+            Ok(PolicyAnswer::Who(view.policy(), ranges))
+        }
     }
 }
 

@@ -1,6 +1,6 @@
 //! A desk: a connection to a database, and the state that its tables stand for.
 
-ghost use Rattle.std.specs.Prelude.{◌≡◌, ◌≢◌, ◌+◌, [], false, Err, IfErr, IfOk, IsTrue, None, map, option_copied};
+ghost use Rattle.std.specs.Prelude.{◌≡◌, ◌≢◌, ◌+◌, ℕ, List, [], false, Err, IfErr, IfOk, IsTrue, None, map, option_copied};
 ghost use Rattle.sqlite.specs.Held.{state};
 ghost use Rattle.sqlite.specs.State.{HasCleanDisk, Survives};
 ghost use Rattle.desk_policy.specs.Site.{texts_of};
@@ -112,6 +112,15 @@ impl<S: Alter + Drop, V: PolicyView + Drop> Desk<S, V> {
             → option_copied result ≡ newest_of history file.now }
     {
         self.current.newest(file)
+    }
+
+    /// Lends the newest revision of each file, in no order. This takes no statement.
+    pub fn heads(&self) -> &[Head]
+        ensures heads { result.now ≡ self.now.state.heads }
+        ensures stood_at { (history pending : History) → StandsAt S.Store self.now history pending
+            → (file : List ℕ) → newest_in result.now file ≡ newest_of history file }
+    {
+        self.current.heads()
     }
 
     /// Judges an edit, stores its revision in one commit, and puts it in force. The reply can be made before.

@@ -1,17 +1,22 @@
 -- Each question is answered by the history: on the policy by the view of the desk, and else by the function that it is handed to.
-use Rattle.std.proofs.Common.{ap, refl, subst, sym, IfOk, OnErr}
+use Rattle.std.proofs.Common.{◌≡◌, ℕ, Bool, List, Result, Ok, Err, ap, refl, subst, sym, IfOk, OnErr}
 use Rattle.std.specs.String.{string_bytes}
 use Rattle.desk_text.specs.Address.{number_of}
 use Rattle.desk_policy.specs.Listings.{listing_of}
 use Rattle.desk_policy.specs.Verdict.{verdict_of}
-use Rattle.desk_store.specs.Desk.{HasGoodDisk, StandsAt}
-use Rattle.desk_service.specs.Questions.{ByPolicy, ListingIs, VerdictIs}
-use Rattle.desk_messages.specs.Replies.{memory_reply, reply_with}
-use Rattle.desk_requests.specs.Calls.{Exports, Mount, Question, question_of}
+use Rattle.desk_policy.specs.Policy.{Content}
+use Rattle.desk_core.specs.History.{newest_of}
+use Rattle.desk_core.specs.Site.{IsInForce, site_in}
+use Rattle.desk_store.specs.Desk.{HasGoodDisk, History, StandsAt}
+use Rattle.desk_service.specs.Questions.{ByPolicy, ListingIs, RangesAre, VerdictIs}
+use Rattle.desk_messages.specs.Replies.{Reply, memory_reply, print_reply, reply_with}
+use Rattle.desk_requests.specs.Calls.{Exports, Mount, Question, Who, question_of}
 use Rattle.desk_bodies.specs.Exports.{exports_data}
+use Rattle.desk_bodies.specs.Ranges.{who_data}
 use Rattle.desk_bodies.specs.Verdicts.{verdict_data}
-use Rattle.desk_http.specs.PrivateAnswering.{Gives, GivesText, QuestionAnswered}
-use Rattle.desk_http.proofs.AnswerLemmas.{looked_err, looked_text}
+use Rattle.desk_http.specs.Questions.{QuestionReply}
+use Rattle.desk_http.specs.PrivateAnswering.{Gives, GivesText, IsWhoText, QuestionAnswered}
+use Rattle.desk_http.proofs.AnswerLemmas.{looked_any, looked_err, looked_text}
 use Rattle.desk_http.proofs.questions.answer_question.Goals as goal
 
 pub returns-in-Mount-clause-ok : goal.returns-in-Mount-clause-ok
@@ -57,3 +62,22 @@ pub returns-in-Revisions-clause-err : goal.returns-in-Revisions-clause-err
 returns-in-Revisions-clause-err g c =
     subst (λ (q : Question). OnErr c.revisions_text.result (Gives (HasGoodDisk g.S.Store) (StandsAt g.S.Store) (QuestionAnswered q) c.args.desk.now memory_reply c.revisions_text.new.desk)) (sym (ap question_of c.in-Revisions.is))
     c.revisions_text.ensures.err
+
+-- the text of who may mount a path is that of a reply that tells it
+who_replies : {S V E : Type 0} (stands : S → History → History → Type 0) (items : V → List ℕ) (r : Result V E) (content : Content) (path : List (List ℕ)) (ends : Bool) (desk : S)
+    → ((history pending : History) → stands desk history pending → IsInForce (site_in (newest_of history)) content)
+    → IfOk r (λ text. IsWhoText content path ends (items text))
+    → IfOk r (λ text. (reply : Reply) × ((history pending : History) → stands desk history pending → QuestionReply history (Who path) reply) × (items text ≡ print_reply ends reply))
+who_replies stands items (Ok text) content path ends desk stood (ranges, who, is) =
+    (reply_with 200 (who_data content path ranges), λ history pending at. (ByPolicy (RangesAre content ranges), (content, stood history pending at, (refl, who)), refl), is)
+who_replies stands items (Err e) content path ends desk stood said = said
+
+pub returns-in-Who-clause-ok : goal.returns-in-Who-clause-ok
+returns-in-Who-clause-ok g c =
+    let content = g.V.PolicyView.in_force c.view-in-Who.result.now in
+    looked_any (HasGoodDisk g.S.Store) (StandsAt g.S.Store) string_bytes c.who_text.result (question_of c.args.question.now) (Who c.in-Who.path) c.args.ends c.args.desk.now (ap question_of c.in-Who.is)
+    (who_replies (StandsAt g.S.Store) string_bytes c.who_text.result content c.in-Who.path c.args.ends c.args.desk.now c.view-in-Who.ensures.stood_at c.who_text.ensures)
+
+pub returns-in-Who-clause-err : goal.returns-in-Who-clause-err
+returns-in-Who-clause-err g c =
+    looked_err (HasGoodDisk g.S.Store) (StandsAt g.S.Store) c.who_text.result (question_of c.args.question.now) c.args.desk.now

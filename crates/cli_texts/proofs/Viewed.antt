@@ -1,0 +1,29 @@
+-- A view of a policy without its warnings is one of the text that it was read from, for `whole_tables`.
+use Rattle.std.proofs.Common.{◌≡◌, ◌∙◌, [], Result, Ok, Err, ap, sym, subst}
+use Rattle.desk_text.specs.declared.reading.ReadError.{ReadError}
+use Rattle.desk_text.specs.declared.reading.ReadError.TheVariants.{Fault, Memory}
+use Rattle.desk_policy.specs.Contradiction.{HasNoContradiction}
+use Rattle.desk_policy.specs.Parsing.{without_warnings}
+use Rattle.desk_policy.specs.Policy.{Content, with_warnings}
+use Rattle.desk_policy.specs.View.{Builds, IsFaultOf, IsLeastContradiction, WarningsChangeNoAnswer}
+use Rattle.desk_policy.specs.declared.site_fault.SiteFault.{SiteFault}
+use Rattle.cli_texts.specs.WholeTables.{Views}
+
+-- a fault of what is read without warnings is one of what is read with them
+pub faulty_read : (read : Result Content SiteFault) (fault : SiteFault) → without_warnings read ≡ Err fault → IsFaultOf read fault
+faulty_read (Ok content) fault is = cc
+faulty_read (Err first) fault is = cc
+
+least_too : (law : WarningsChangeNoAnswer) (read : Result Content SiteFault) (policy : Content) (fault : SiteFault) → without_warnings read ≡ Ok policy → IsLeastContradiction policy fault → IsFaultOf read fault
+least_too law (Ok content) policy fault is least =
+    let same : policy ≡ with_warnings content [] = cc in
+    ((law content []).least fault).0 (subst (λ (p : Content). IsLeastContradiction p fault) same least)
+least_too law (Err first) policy fault is least = cc
+
+module _ {V : Type 0} where
+  pub viewed : (law : WarningsChangeNoAnswer) (in_force : V → Content) (read : Result Content SiteFault) (policy : Content) (result : Result V (ReadError SiteFault)) → without_warnings read ≡ Ok policy → Builds in_force policy result → Views in_force read result
+  viewed law in_force read policy (Ok view) is builds =
+      let ok : Content → Result Content SiteFault = λ content. Ok content in
+      (is ∙ ap ok (sym builds.0), subst HasNoContradiction (sym builds.0) builds.1)
+  viewed law in_force read policy (Err (Fault fault)) is least = least_too law read policy fault is least
+  viewed law in_force read policy (Err Memory) is builds = tt

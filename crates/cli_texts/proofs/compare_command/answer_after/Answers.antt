@@ -1,0 +1,24 @@
+-- NEW is read with the file systems, and either its fault or what changes is told.
+use Rattle.std.proofs.Common.{List, subst}
+use Rattle.std.proofs.lemmas.Result.{err_from_is_err_and}
+use Rattle.desk_policy.specs.Parsing.{read_whole_with}
+use Rattle.desk_policy.specs.View.{IsFaultOf}
+use Rattle.desk_tables.specs.declared.filesystems.Mount.{Mount}
+use Rattle.cli_texts.specs.WholeTables.{Writes}
+use Rattle.cli_texts.proofs.CompareAnswers.{reported, told_new}
+use Rattle.cli_texts.proofs.compare_command.answer_after.Goals as goal
+
+pub returns-in-Ok : goal.returns-in-Ok
+returns-in-Ok c =
+    let written = subst (λ (table : List Mount). Writes (read_whole_with c.args.tables.now table c.args.sources.exports.text.now) c.in-Ok.after) c.in_ok-own.ensures c.in-Ok.ensures in
+    reported c.args.before.now c.in-Ok.after (read_whole_with c.args.tables.now c.args.filesystems c.args.sources.exports.text.now) c.args.all c.args.sources c.args.filesystems c.changes.result written c.changes.ensures
+
+pub returns-in-Err-Fault : goal.returns-in-Err-Fault
+returns-in-Err-Fault c =
+    let of = subst (λ (table : List Mount). IsFaultOf (read_whole_with c.args.tables.now table c.args.sources.exports.text.now) c.in-Err-Fault.fault) c.in_ok-own.ensures c.in-Err-Fault.ensures in
+    told_new c.args.before.now (read_whole_with c.args.tables.now c.args.filesystems c.args.sources.exports.text.now) c.args.all c.args.sources c.args.filesystems c.in-Err-Fault.fault c.faulty.result of c.faulty.ensures
+
+pub returns-in_err-own : goal.returns-in_err-own
+returns-in_err-own c =
+    let p = err_from_is_err_and c.from_residual.result c.from_residual.ensures.1 in
+    rw (p.1, p.2) tt

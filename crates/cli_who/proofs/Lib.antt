@@ -1,0 +1,4 @@
+pub mod CopyAnswers
+pub mod ExportsNames
+pub mod Foreseeing
+pub mod Telling

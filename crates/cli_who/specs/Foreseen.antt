@@ -1,0 +1,24 @@
+-- What a site would be if a file had another text. (this project's own)
+use Rattle.std.specs.Prelude.{ℕ, List, [], Result, Ok, Err}
+use Rattle.desk_text.specs.declared.reading.ReadError.{ReadError}
+use Rattle.desk_text.specs.declared.reading.ReadError.TheVariants.{Fault, Memory}
+use Rattle.desk_policy.specs.Policy.{Content}
+use Rattle.desk_policy.specs.View.{HasFault}
+use Rattle.desk_policy.specs.declared.site_fault.SiteFault.{SiteFault}
+use Rattle.desk_core.specs.Head.{Newest, Revision, put}
+use Rattle.desk_core.specs.Site.{IsInForce, site_in}
+use Rattle.desk_core.specs.Views.{Kept}
+
+-- a revision of a file with this text; its number and its author say nothing
+abbrev pub revision_with : List ℕ → List ℕ → Revision
+revision_with file text = record { file = file; rev = 1; author = []; body = text }
+
+-- the newest revisions, but that a file has this text
+abbrev pub with_text : Newest → List ℕ → List ℕ → Newest
+with_text newest file text = put newest (revision_with file text)
+
+-- a state with the policy in force that these newest revisions write, or their fault; out of memory says nothing
+abbrev pub Foresees : Newest → Result (Kept Content) (ReadError SiteFault) → Type 0
+Foresees newest (Ok state) = IsInForce (site_in newest) state.view
+Foresees newest (Err (Fault fault)) = HasFault (site_in newest) fault
+Foresees newest (Err Memory) = Unit {0}

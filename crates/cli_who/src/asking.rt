@@ -1,0 +1,151 @@
+//! What a desk on a copy of a database tells of a text that a file might have.
+
+ghost use Rattle.std.specs.Prelude.{◌≡◌, false};
+ghost use Rattle.sqlite.specs.Held.{state};
+ghost use Rattle.sqlite.specs.State.{HasCleanDisk};
+ghost use Rattle.desk_core.specs.Head.{newest_in};
+ghost use Rattle.desk_core.specs.Judging.{is_known};
+ghost use Rattle.desk_core.specs.Site.{policy_of, site_in};
+ghost use Rattle.desk_service.specs.declared.refused.Refused.TheVariants as by_desk;
+ghost use Rattle.cli_database.specs.RefusedOutputs.{IsRefusedByDesk};
+ghost use Rattle.cli_who.specs.Asking.{TellsAtPath, TellsByDatabase, TellsChangesTo, TellsImpact, text_of};
+ghost use Rattle.cli_who.specs.Foreseen.{Foresees, with_text};
+
+use crate::foreseen::{foresee, is_known};
+use cli_database::View;
+use cli_database::put_command::refused;
+use cli_database::refused_outputs::{not_opened_at, refused_by_copy};
+use cli_database_files::copy::{Unopened, open_copy};
+use cli_files::failure::Failure;
+use cli_output::output::Output;
+use desk_core::{Edit, LONGEST_REVISION, Refusal, State};
+use desk_impact::impact_report;
+use desk_policy::{PolicyView, SiteFault};
+use desk_store::Desk;
+use desk_text::ReadError;
+use sqlite::{Alter, Connection};
+use std::alloc::Global;
+
+/// A text that a file might have.
+#[derive(Clone, Copy)]
+pub(crate) struct NewText<'a> {
+    /// The name of the file in the desk.
+    pub name: &'a str,
+    /// The word that names the file with the text.
+    pub file: &'a str,
+    pub text: &'a str,
+    /// Whether the changes are told that matter to no client, too.
+    pub all: bool,
+}
+
+/// Asks the desk on a copy of the database at a path; or answers why there is none.
+#[tactic(auto, using(crate::proofs::CopyAnswers::not_opened))]
+pub(crate) fn ask_copy(rt: &HostRuntime, db: &str, new: NewText<'_>) -> Result<Output, Failure>
+    ensures { TellsAtPath db.now (text_of new.entry) result }
+{
+    match open_copy(rt, db) {
+        Ok(conn) => {
+            let (told, conn) = ask_connection(rt.alloc(), db, conn, new);
+            drop(conn);
+            told
+        }
+        Err(Unopened::Unread(failure)) => Err(failure),
+        Err(Unopened::Refused(error)) => not_opened_at(rt, db, error),
+    }
+}
+
+/// Asks the desk on the database of a connection, which is handed back. It is a copy in memory: an error of its disk is reported
+/// as out of memory.
+fn ask_connection<S: Alter + Drop>(
+    alloc: Global,
+    db: &str,
+    conn: Connection<S>,
+    new: NewText<'_>,
+) -> (Result<Output, Failure>, Connection<S>)
+    requires { (state S.Store conn).in_transaction ≡ false }
+    ensures { HasCleanDisk (state S.Store result.1) → TellsByDatabase (state S.Store conn).committed (text_of new.entry) result.0 }
+{
+    let opened: Result<Desk<S, View>, _> = Desk::open(alloc, conn);
+    match opened {
+        Ok(desk) => {
+            let told = ask_desk(alloc, &desk, new);
+            (told, desk.into_connection())
+        }
+        Err((error, conn)) => (refused_by_copy(alloc, db, error), conn),
+    }
+}
+
+/// Tells what would change, by the newest revisions of a desk; or why the file cannot have the text. An unknown file comes before a
+/// text that is too long, and that before the fault of the site with it. No statement is made.
+#[tactic(auto, using(crate::proofs::Telling::unknown, crate::proofs::Telling::too_large, crate::proofs::Telling::faulty, crate::proofs::Telling::changed))]
+fn ask_desk<S: Alter + Drop>(
+    alloc: Global,
+    desk: &Desk<S, View>,
+    new: NewText<'_>,
+) -> Result<Output, Failure>
+    ensures { TellsImpact (newest_in desk.now.state.heads) (text_of new.entry) result }
+{
+    if !knows(desk, new.name) {
+        return refuse(alloc, desk, new, Refusal::UnknownFile);
+    }
+    if new.text.len() > LONGEST_REVISION {
+        return refuse(alloc, desk, new, Refusal::TooLarge);
+    }
+    match foresee_by(alloc, desk, new) {
+        Ok(after) => compare(alloc, desk, &after, new.all),
+        Err(ReadError::Fault(fault)) => refuse(alloc, desk, new, Refusal::Fault(fault)),
+        Err(ReadError::Memory) => Err(Failure::Memory),
+    }
+}
+
+/// Makes the state of a desk if a file had this text, or gives the site's fault.
+fn foresee_by<S: Alter + Drop>(
+    alloc: Global,
+    desk: &Desk<S, View>,
+    new: NewText<'_>,
+) -> Result<State<View>, ReadError<SiteFault>>
+    ensures { Foresees (with_text (newest_in desk.now.state.heads) new.entry.name.now new.entry.text.now) result }
+{
+    foresee(alloc, desk.heads(), new.name, new.text)
+}
+
+/// Tests whether a desk has a file of this name: one of the seven, or the exports file of a listed mount point.
+fn knows<S: Alter + Drop>(desk: &Desk<S, View>, name: &str) -> bool
+    ensures { result ≡ is_known (policy_of (site_in (newest_in desk.now.state.heads))).table name.now }
+{
+    is_known(desk.view().policy().filesystems(), name)
+}
+
+/// Tells what changes from the policy of a desk to that of a state.
+fn compare<S: Alter + Drop>(
+    alloc: Global,
+    desk: &Desk<S, View>,
+    after: &State<View>,
+    all: bool,
+) -> Result<Output, Failure>
+    ensures { TellsChangesTo (newest_in desk.now.state.heads) after.now.view all result }
+{
+    match impact_report(alloc, desk.view(), after.view(), all) {
+        Ok(report) => Ok(Output::Changes(report)),
+        Err(_) => Err(Failure::Memory),
+    }
+}
+
+/// Answers by why a file cannot have a text, as an edit with it is refused.
+fn refuse<S: Alter + Drop>(
+    alloc: Global,
+    desk: &Desk<S, View>,
+    new: NewText<'_>,
+    refusal: Refusal,
+) -> Result<Output, Failure>
+    ensures { IsRefusedByDesk (by_desk.Edit refusal) result }
+{
+    let edit = Edit {
+        file: new.name,
+        base: 0,
+        caller: "",
+        key: "",
+        text: new.text,
+    };
+    refused(alloc, new.file, desk, &edit, refusal)
+}

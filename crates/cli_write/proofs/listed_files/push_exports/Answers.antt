@@ -1,0 +1,20 @@
+use Rattle.std.proofs.Common.{◌++◌, ◌∙◌, ap, map, sym, Bor, List, ℕ}
+use Rattle.std.specs.List.{flat_map}
+use Rattle.std.specs.String.{string_bytes}
+use Rattle.std.proofs.lemmas.List.{take_all}
+use Rattle.std.proofs.lemmas.List.Folds.{flat_map-map}
+use Rattle.desk_core.specs.Head.{newest_in}
+use Rattle.cli_write.specs.ListedFiles.{exports_line}
+use Rattle.cli_write.proofs.Gathering.{writes}
+use Rattle.cli_write.proofs.listed_files.push_exports.Goals as goal
+
+pub loop-mount-preserved : goal.loop-mount-preserved
+loop-mount-preserved g c =
+    writes c.args.mounts.now c.loop-mount.mount-index c.mount-item.result c.loop-mount-test.true c.mount-item.is
+    (λ (mount : Bor (List ℕ)). exports_line c.args.filesystems.now (newest_in c.args.desk.now.state.heads) mount.now) (string_bytes c.args.text.now) (string_bytes c.loop-mount.text) (string_bytes c.push_mount.new.text) c.loop-mount.invariant c.in_ok-push_mount.ensures
+
+pub returns : goal.returns
+returns g c =
+    c.loop-mount.invariant
+    ∙ ap (λ ms. string_bytes c.args.text.now ++ flat_map (λ (mount : Bor (List ℕ)). exports_line c.args.filesystems.now (newest_in c.args.desk.now.state.heads) mount.now) ms) (take_all c.loop-mount.mount-index c.args.mounts.now c.loop-mount-test.false)
+    ∙ ap (λ t. string_bytes c.args.text.now ++ t) (sym (flat_map-map (exports_line c.args.filesystems.now (newest_in c.args.desk.now.state.heads)) (λ (mount : Bor (List ℕ)). mount.now) c.args.mounts.now))

@@ -1,0 +1,124 @@
+//! The texts of a site's files, as the newest revisions have them, and as `init` reads them.
+
+ghost use Rattle.std.specs.Prelude.{◌≡◌, IfOk, OnOk, map};
+ghost use Rattle.std.specs.Option.{option_map};
+ghost use Rattle.std.specs.String.{string_bytes};
+ghost use Rattle.desk_core.specs.Head.{newest_in};
+ghost use Rattle.desk_core.specs.Site.{text_in};
+ghost use Rattle.desk_join.specs.Joining.{joined, stored_file};
+ghost use Rattle.desk_policy.specs.SiteFile.{file_name};
+ghost use Rattle.cli_output.specs.SiteFolder.{site_list};
+ghost use Rattle.cli_write.specs.PrivateFiles.{with_found};
+ghost use Rattle.cli_write.specs.TextsBack as spec;
+
+use cli_output::site_folder::SiteFiles;
+use desk_join::{ExportsFile, join};
+use desk_policy::{PolicyView, SiteFile, exports_file_name};
+use desk_store::Desk;
+use desk_tables::{FileSystems, Mount};
+use sqlite::Alter;
+use std::alloc::{AllocError, Global};
+
+/// Makes the texts: the newest of each of the seven files, empty if it has none, and the exports files of the listed file
+/// systems, joined.
+pub(crate) fn texts_back<S: Alter + Drop, V: PolicyView + Drop>(
+    alloc: Global,
+    desk: &Desk<S, V>,
+) -> Result<SiteFiles, AllocError>
+    ensures { IfOk result (λ texts. site_list texts ≡ spec.texts_back (newest_in desk.now.state.heads)) }
+{
+    Ok(SiteFiles {
+        custodians: newest_text(alloc, desk, SiteFile::Custodians)?,
+        filesystems: newest_text(alloc, desk, SiteFile::Filesystems)?,
+        hosts: newest_text(alloc, desk, SiteFile::Hosts)?,
+        networks: newest_text(alloc, desk, SiteFile::Networks)?,
+        passwd: newest_text(alloc, desk, SiteFile::Passwd)?,
+        group: newest_text(alloc, desk, SiteFile::Group)?,
+        netgroup: newest_text(alloc, desk, SiteFile::Netgroup)?,
+        exports: joined_exports(alloc, desk)?,
+    })
+}
+
+/// Copies the newest text of one of the seven files, empty if it has none.
+fn newest_text<S: Alter + Drop, V: PolicyView + Drop>(
+    alloc: Global,
+    desk: &Desk<S, V>,
+    file: SiteFile,
+) -> Result<String, AllocError>
+    ensures { IfOk result (λ text. string_bytes text ≡ text_in (newest_in desk.now.state.heads) (file_name file)) }
+{
+    match desk.newest(file.name()) {
+        Some(head) => String::from_str(alloc, head.body.as_str()),
+        None => Ok(String::new(alloc)),
+    }
+}
+
+/// Lends the file systems that are listed now.
+pub(crate) fn listed_now<S: Alter + Drop, V: PolicyView + Drop>(desk: &Desk<S, V>) -> &FileSystems
+    ensures { result.now ≡ spec.listed_now (newest_in desk.now.state.heads) }
+{
+    desk.view().policy().filesystems()
+}
+
+/// Joins the newest exports files of the listed file systems.
+fn joined_exports<S: Alter + Drop, V: PolicyView + Drop>(
+    alloc: Global,
+    desk: &Desk<S, V>,
+) -> Result<String, AllocError>
+    ensures { IfOk result (λ text. string_bytes text ≡ joined (spec.listed_exports (newest_in desk.now.state.heads))) }
+{
+    let files = exports_among(alloc, desk, listed_now(desk).as_slice())?;
+    join(alloc, files.as_slice())
+}
+
+/// Finds the newest exports file of each of these file systems that has one, by mount point.
+fn exports_among<'a, S: Alter + Drop, V: PolicyView + Drop>(
+    alloc: Global,
+    desk: &'a Desk<S, V>,
+    mounts: &[Mount],
+) -> Result<Vec<ExportsFile<'a>>, AllocError>
+    ensures { IfOk result (λ files. map stored_file files.items ≡ spec.exports_among mounts.now (newest_in desk.now.state.heads)) }
+{
+    let mut files = Vec::new(alloc);
+    for mount in mounts {
+        let found = newest_exports(alloc, desk, mount.path.text())?;
+        push_found(found, &mut files)?;
+    }
+    Ok(files)
+}
+
+/// Adds a file, if one was found.
+fn push_found<'a>(
+    found: Option<ExportsFile<'a>>,
+    files: &mut Vec<ExportsFile<'a>>,
+) -> Result<(), AllocError>
+    ensures { OnOk result (map stored_file files.new.items ≡ with_found (map stored_file files.old.items) (option_map stored_file found.entry)) }
+{
+    match found {
+        Some(file) => {
+            files.push(file)?;
+            Ok(())
+        }
+        None => Ok(()),
+    }
+}
+
+/// Finds the newest exports file of a printed mount point.
+fn newest_exports<'a, S: Alter + Drop, V: PolicyView + Drop>(
+    alloc: Global,
+    desk: &'a Desk<S, V>,
+    mount: &str,
+) -> Result<Option<ExportsFile<'a>>, AllocError>
+    ensures { IfOk result (λ file. option_map stored_file file ≡ spec.stored_exports (newest_in desk.now.state.heads) mount.now) }
+{
+    let name = exports_file_name(alloc, mount)?;
+    match desk.newest(name.as_str()) {
+        Some(head) => Ok(Some(ExportsFile {
+            name: head.file.as_str(),
+            rev: head.rev,
+            author: head.author.as_str(),
+            text: head.body.as_str(),
+        })),
+        None => Ok(None),
+    }
+}

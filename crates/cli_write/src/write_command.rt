@@ -1,0 +1,114 @@
+//! The command `write`: the newest texts of a database, as the files that `init` reads.
+
+ghost use Rattle.std.specs.Prelude.{◌≡◌, find, map, string_bytes};
+ghost use Rattle.std.specs.Option.{option_copied};
+ghost use Rattle.cli_output.specs.SiteFolder.{site_list};
+ghost use Rattle.cli_words.specs.Words.{given_write};
+ghost use Rattle.cli_write.specs.Replacing.{name_in};
+ghost use Rattle.cli_write.specs.WriteCommand.{AnswersWrite, RefusesTooLong, TellsDone, WritesNamed, is_too_long, site_names, text_in};
+
+use crate::asking::{Asked, Told, ask_copy};
+use crate::replacing::{NewText, replace_files};
+use cli_files::failure::Failure;
+use cli_files::input::LONGEST_INPUT;
+use cli_output::output::Output;
+use cli_output::refused::Refused;
+use cli_output::site_folder::{SiteFiles, paths_of};
+use cli_words::database_words::WriteWords;
+use desk_policy::SiteFile;
+use desk_text::Text;
+use std::alloc::Global;
+
+/// Answers `write DB DIR`.
+pub fn run_write(rt: &HostRuntime, words: WriteWords<'_>) -> Result<Output, Failure>
+    ensures { AnswersWrite (given_write words.entry) result }
+{
+    match ask_copy(rt, words.db, Asked::Texts) {
+        Ok(Told::Texts(texts)) => write_texts(rt, words.dir, &texts),
+        Ok(Told::Files(_)) => unreachable!(),
+        Err(answer) => answer,
+    }
+}
+
+/// Writes texts into a folder, each as the file of its name, if `init` can read them all.
+fn write_texts(rt: &HostRuntime, dir: &str, texts: &SiteFiles) -> Result<Output, Failure>
+    ensures { WritesNamed site_names (site_list texts.now) result }
+{
+    let paths = paths_of(rt.alloc(), dir)?;
+    let files = new_texts(&paths, texts);
+    write_files(rt, &files)
+}
+
+/// Puts each text beside the name and the path of its file.
+fn new_texts<'a>(paths: &'a SiteFiles, texts: &'a SiteFiles) -> [NewText<'a>; 8]
+    ensures names { map name_in result ≡ site_names }
+    ensures texts { map text_in result ≡ site_list texts.now }
+{
+    [
+        new_text(
+            SiteFile::Custodians.name(),
+            &paths.custodians,
+            &texts.custodians,
+        ),
+        new_text(
+            SiteFile::Filesystems.name(),
+            &paths.filesystems,
+            &texts.filesystems,
+        ),
+        new_text(SiteFile::Hosts.name(), &paths.hosts, &texts.hosts),
+        new_text(SiteFile::Networks.name(), &paths.networks, &texts.networks),
+        new_text(SiteFile::Passwd.name(), &paths.passwd, &texts.passwd),
+        new_text(SiteFile::Group.name(), &paths.group, &texts.group),
+        new_text(SiteFile::Netgroup.name(), &paths.netgroup, &texts.netgroup),
+        new_text("exports", &paths.exports, &texts.exports),
+    ]
+}
+
+/// Puts a text beside the name and the path of its file.
+fn new_text<'a>(name: &'a str, path: &'a String, text: &'a String) -> NewText<'a>
+    ensures name { result.name.now ≡ name.now }
+    ensures text { result.text.now ≡ string_bytes text.now }
+{
+    NewText {
+        name,
+        path: path.as_str(),
+        text: text.as_str(),
+    }
+}
+
+/// Writes files, if `init` can read them all.
+fn write_files(rt: &HostRuntime, files: &[NewText<'_>]) -> Result<Output, Failure>
+    ensures { WritesNamed (map name_in files.now) (map text_in files.now) result }
+{
+    match find_too_long(files) {
+        Some(file) => refuse_too_long(rt.alloc(), file),
+        None => tell_written(rt, files),
+    }
+}
+
+/// Writes files, and tells which got another text.
+fn tell_written(rt: &HostRuntime, files: &[NewText<'_>]) -> Result<Output, Failure>
+    ensures { TellsDone (map name_in files.now) result }
+{
+    let told = replace_files(rt, files)?;
+    Ok(Output::Done(told))
+}
+
+/// Finds the first file whose text is too long to be read.
+fn find_too_long<'a, 'b>(files: &'a [NewText<'b>]) -> Option<&'a NewText<'b>>
+    ensures { option_copied result ≡ find (λ file. is_too_long file.text.now) files.now }
+{
+    files.iter().find(|file| file.text.len() > LONGEST_INPUT)
+}
+
+/// Answers that the text of a file is too long to be read.
+fn refuse_too_long(alloc: Global, file: &NewText<'_>) -> Result<Output, Failure>
+    ensures { RefusesTooLong file.now.name.now result }
+{
+    let path = file.path;
+    let name = Text::copy(alloc, file.name)?;
+    let told = format!(in alloc;
+        "exportdesk: DIR {path:?}: it would be over 16777216 bytes, which init does not read\n"
+    )?;
+    Ok(Output::Refused(Refused::TooLarge(name), told))
+}

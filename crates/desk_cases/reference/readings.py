@@ -1,0 +1,147 @@
+"""Reads the texts of sites, as far as well-formed lines go whose words have no quotes and no backslashes: for the script that
+looks answers up in the definitions.
+"""
+
+import re
+
+from reference.definitions import Line, Site, fs_of, number_of, printed
+
+FILES = ["custodians", "filesystems", "hosts", "networks", "passwd", "group", "netgroup"]
+VALUED = ("maproot", "r", "mapall", "sec", "network", "mask")
+
+
+def path_of(text):
+    return tuple(part for part in text.split("/") if part)
+
+
+def logical_lines(text):
+    """The lines of a text, each with its number, and with those that go on in the next one joined; without comments."""
+    number, begun = None, ""
+    lines = text.split("\n")
+    for place, line in enumerate(lines, 1):
+        number = number or place
+        goes_on = line.rstrip(" \t").endswith("\\")
+        begun += line.rstrip(" \t")[:-1] + " " if goes_on else line
+        if goes_on and place < len(lines):
+            continue
+        if begun.strip() and not begun.strip().startswith("#"):
+            yield number, begun
+        number, begun = None, ""
+
+
+class Tables:
+    """The tables with which exports lines are read."""
+
+    def __init__(self, texts):
+        rows = lambda name: [line.partition("#")[0].split() for line in texts.get(name, "").split("\n")]
+        fields = lambda name: [line.split(":") for _, line in logical_lines(texts.get(name, ""))]
+        self.hosts = [(number_of(row[0]), row[1:]) for row in rows("hosts") if row and ":" not in row[0]]
+        self.networks, self.users, self.groups = {}, {}, {}  # (the first row counts)
+        for name, number, *aliases in (row for row in rows("networks") if row):
+            for known in (name, *aliases):
+                self.networks.setdefault(known, number)
+        for row in fields("passwd"):
+            self.users.setdefault(row[0], (int(row[2]), int(row[3])))
+        for row in fields("group"):
+            self.groups.setdefault(row[0], (int(row[2]), row[3].split(",")))
+        self.netgroups = {}
+        for _, line in logical_lines(texts.get("netgroup", "")):
+            name, _, members = line.strip().partition(" ")
+            self.netgroups[name] = [
+                ("group", group) if group else ("host", host)
+                for host, group in re.findall(r"\(\s*([^,\s]*)\s*,[^)]*\)|([^\s(),]+)", members)
+                if group or host not in ("", "-")
+            ]
+
+    def credential(self, text):
+        user, colon, rest = text.partition(":")
+        groups = [name for name in rest.split(":") if name] if colon else []
+        if colon or not user.isdigit():
+            uid, gid = (int(user), None) if user.isdigit() else self.users[user]
+        else:
+            user = next(name for name, (uid, _) in self.users.items() if uid == int(user))
+            uid, gid = self.users[user]
+        gids = [int(name) if name.isdigit() else self.groups[name][0] for name in groups]
+        if not colon:
+            mine = [number for number, names in self.groups.values() if user in names]
+            gids = list(dict.fromkeys([gid, *mine]))
+        return f"{uid}:{':'.join(map(str, gids))}"
+
+    def network(self, text, mask):
+        """The client network, as a number and a prefix."""
+        if ":" in text:
+            return ("ipv6",)
+        first, slash, prefix = text.partition("/")
+        number = padded(first if first[0].isdigit() else self.networks[first])
+        if slash:
+            return "network", number, int(prefix)
+        if mask:
+            return "network", number, bin(padded(mask if mask[0].isdigit() else self.networks[mask])).count("1")
+        return "network", number, 8 if number < 2**31 else 16 if number < 3 * 2**30 else 24
+
+
+def padded(text):
+    return number_of(".".join((text.split(".") + ["0", "0", "0"])[:4]))
+
+
+def read_line(text, number, tables):
+    """An exports line, or None for a V4: line."""
+    words = text.split()
+    if words[0].startswith("V4:"):
+        return None
+    directories, options, names = [], {}, []
+    while words:
+        word = words.pop(0)
+        if word.startswith("/"):
+            directories.append(path_of(word))
+        elif word.startswith("-"):
+            *pieces, last = word[1:].split(",")
+            if last in VALUED:
+                last += "=" + words.pop(0)
+            options |= dict((piece.split("=") + [""])[:2] for piece in [*pieces, last])
+        else:
+            names.append(word)
+    short = {"o": "ro", "r": "maproot"}
+    options = {short.get(name, name): value for name, value in options.items()}
+    clients = ("names", names) if names else ("everybody",)
+    if "network" in options:
+        clients = tables.network(options["network"], options.get("mask"))
+    return Line(number, directories, "alldirs" in options, terms_of(options, tables), clients)
+
+
+def terms_of(options, tables):
+    access = "ro" if "ro" in options else "rw"
+    flavours = ":".join(dict.fromkeys(options.get("sec", "sys").split(":")))
+    if "mapall" in options:
+        return f"{access} sec={flavours} all={tables.credential(options['mapall'])}"
+    root = tables.credential(options["maproot"]) if "maproot" in options else "65534:65533"
+    return f"{access} sec={flavours} root={root}"
+
+
+def empty_site(mounts, tables):
+    site = Site(mounts, tables.hosts, tables.netgroups)
+    site.lines = {mount: [] for mount in site.mounts}
+    return site
+
+
+def read_site(texts):
+    """The site of these texts, those of exports files under `exports:` and their mount points."""
+    tables = Tables(texts)
+    mounts = [path_of(line.split()[0]) for _, line in logical_lines(texts["filesystems"])]
+    site = empty_site(mounts, tables)
+    for mount in site.mounts:
+        for number, line in logical_lines(texts.get(f"exports:{printed(mount)}", "")):
+            entry = read_line(line, number, tables)
+            site.lines[mount] += [entry] if entry else []
+    return site
+
+
+def read_whole(text, mounts, texts):
+    """The site of an exports text for all of these mount points, and of the texts of tables."""
+    tables = Tables(texts)
+    site = empty_site(map(path_of, mounts), tables)
+    for number, line in logical_lines(text):
+        entry = read_line(line, number, tables)
+        if entry:
+            site.lines[fs_of(site.mounts, entry.directories[0])].append(entry)
+    return site
