@@ -4,6 +4,8 @@
 
 mod cases;
 mod commands;
+mod failing;
+mod failing_commands;
 mod holders;
 mod report;
 mod terminal;
@@ -14,8 +16,9 @@ use std::alloc::{AllocError, Global};
 use std::process::ExitCode;
 use std::{fs, io};
 
-/// Prints for each file of cases how many there are and each that differs. The exit status is 0 if every case of every
-/// file has its answer, and no file is without cases.
+/// Prints for each file of cases how many there are and each that differs, and then what came of the commands at readers and
+/// writers that fail. The exit status is 0 if every case of every file has its answer, no file is without cases, and those
+/// commands pass.
 fn main(rt: HostRuntime) -> io::Result<ExitCode> {
     let names = file_names(&rt)?;
     let mut is_right = !names.is_empty();
@@ -27,6 +30,7 @@ fn main(rt: HostRuntime) -> io::Result<ExitCode> {
         is_right = is_right && report.is_right();
         println!(rt; "{name}: {report}")?;
     }
+    is_right = failing_commands::try_all(&rt)? && is_right;
     Ok(if is_right {
         ExitCode::SUCCESS
     } else {

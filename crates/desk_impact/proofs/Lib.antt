@@ -1,6 +1,7 @@
 pub mod Same
 pub mod Gathered
 pub mod Ordered
+pub mod Searched
 pub mod Numbered
 pub mod Under
 pub mod Elsewhere

@@ -7,6 +7,7 @@ ghost use Rattle.desk_policy.specs.Listings.{written};
 ghost use Rattle.desk_impact.specs.Places as spec;
 ghost use Rattle.desk_impact.specs.Places.{AreInOrder, ArePlaces, all_written, dirs_below, has_room, is_home, place_of, places_at};
 ghost use Rattle.desk_impact.specs.PrivatePlaces.{paths_in};
+ghost use Rattle.desk_impact.specs.PrivateReport.{taken_by};
 
 use desk_policy::{Policy, Row};
 use desk_tables::Mount;
@@ -51,18 +52,18 @@ pub fn places_of_both<'a>(
     Ok(places)
 }
 
-/// Lists the mount points of two policies and the directories that their lines write, some of them more than once.
+/// Lists the mount points of two policies and the directories that their lines write, in byte order, each once.
 pub(crate) fn taken_paths<'a>(
     alloc: Global,
     before: &'a Policy,
     after: &'a Policy,
 ) -> Result<Vec<&'a Path>, AllocError>
-    ensures { IfOk result (λ taken. paths_in taken.items ≡ spec.mounts_of_both before.now after.now ++ spec.dirs_of_both before.now after.now) }
+    ensures { IfOk result (λ taken. AreInOrder (taken_by before.now after.now) (paths_in taken.items)) }
 {
     let mut taken = mounts_of_both(alloc, before, after)?;
     push_all_written(&mut taken, before)?;
     push_all_written(&mut taken, after)?;
-    Ok(taken)
+    Ok(in_order(taken))
 }
 
 /// Lists the mount points of two policies, some of them twice.

@@ -3,7 +3,7 @@
 ghost use Rattle.std.specs.Prelude.{◌≡◌, ◌++◌, IfOk, OnOk, if◌then◌else◌, map};
 ghost use Rattle.std.specs.String.{string_bytes};
 ghost use Rattle.desk_who.specs.Impact.{IsImpact, change_value};
-ghost use Rattle.desk_impact.specs.Places.{place_of, place_verdicts};
+ghost use Rattle.desk_impact.specs.Places.{AreInOrder, place_of, place_verdicts};
 ghost use Rattle.desk_impact.specs.PrivatePlaces.{paths_in};
 ghost use Rattle.desk_impact.specs.PrivateReport.{HasRoomIfOthers, IsTold, taken_by};
 ghost use Rattle.desk_impact.specs.Report as spec;
@@ -73,7 +73,7 @@ fn tell_place<'a, V: PolicyView>(
     text: &mut String,
 ) -> Result<Told, AllocError>
     requires room { HasRoomIfOthers (place_of place) }
-    requires taken { paths_in taken.now ≡ taken_by (V.in_force before.now) (V.in_force after.now) }
+    requires taken { AreInOrder (taken_by (V.in_force before.now) (V.in_force after.now)) (paths_in taken.now) }
     ensures { IfOk result (IsTold (V.in_force before.now) (V.in_force after.now) (place_of place.entry) all (string_bytes text.old) (string_bytes text.new)) }
 {
     let changes = changes_at(alloc, before, after, taken, place)?;
@@ -112,7 +112,7 @@ fn changes_at<'a, V: PolicyView>(
     place: Place<'_>,
 ) -> Result<Vec<Change<'a>>, AllocError>
     requires room { HasRoomIfOthers (place_of place) }
-    requires taken { paths_in taken.now ≡ taken_by (V.in_force before.now) (V.in_force after.now) }
+    requires taken { AreInOrder (taken_by (V.in_force before.now) (V.in_force after.now)) (paths_in taken.now) }
     ensures { IfOk result (λ changes. let old = V.in_force before.now in let new = V.in_force after.now in
         IsImpact old new (place_verdicts old new (place_of place.entry)) (map change_value changes.items)) }
 {

@@ -5,15 +5,17 @@ ghost use Rattle.std.specs.Fmt.{decimal};
 ghost use Rattle.std.specs.String.{string_bytes};
 ghost use Rattle.desk_policy.specs.Verdict.{is_directory_among};
 ghost use Rattle.desk_impact.specs.Places.{has_room};
-ghost use Rattle.desk_impact.specs.PrivatePlaces.{IsFree, child_text, paths_in};
+ghost use Rattle.desk_impact.specs.PrivatePlaces.{AreAscending, IsFree, child_text, paths_in};
 
 use desk_text::laws::paths_read_back;
 use desk_text::{Path, ReadError};
 use std::alloc::{AllocError, Global};
 
-/// Finds a path right below a mount point that is none of these: its name is the first number that is free.
+/// Finds a path right below a mount point that is none of these, which are in byte order: its name is the first number that is
+/// free. Each number costs one search.
 pub fn free_path(alloc: Global, mount: &Path, taken: &[&Path]) -> Result<Path, AllocError>
-    requires { has_room mount.now ≡ true }
+    requires room { has_room mount.now ≡ true }
+    requires ascending { AreAscending (paths_in taken.now) }
     ensures { IfOk result (IsFree mount.now (paths_in taken.now)) }
 {
     for number in 0..taken.len() {
@@ -27,11 +29,16 @@ pub fn free_path(alloc: Global, mount: &Path, taken: &[&Path]) -> Result<Path, A
     Ok(path)
 }
 
-/// Tests whether a path is one of these.
+/// Tests whether a path is one of these, which are in byte order.
 fn is_among(path: &Path, paths: &[&Path]) -> bool
+    requires { AreAscending (paths_in paths.now) }
     ensures { result ≡ is_directory_among path.now (paths_in paths.now) }
 {
-    paths.iter().any(|other| **other == *path)
+    let first = paths.partition_point(|other| **other < *path);
+    match paths.get(first) {
+        Some(other) => **other == *path,
+        None => false,
+    }
 }
 
 /// Makes the path right below a mount point whose name is this number.

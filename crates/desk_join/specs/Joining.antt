@@ -26,8 +26,8 @@ comment name rev author = codes "# " ++ name ++ codes " rev " ++ decimal rev ++ 
 abbrev pub told_revision : List ℕ → ℕ → List ℕ → List ℕ
 told_revision name rev author = comment name rev author ++ 10 ∷ []
 
--- The comment line of a file. Without it is a file whose name or author would break the line, which no desk stores: what stood
--- behind the line feed would be a line of exports.
+-- The comment line of a file. Without it is a file whose name or author would break the line: what stood behind the line feed
+-- would be a line of exports.
 abbrev pub comment_line : StoredFile → List ℕ
 comment_line file = if has_feed file.name || has_feed file.author then [] else told_revision file.name file.rev file.author
 

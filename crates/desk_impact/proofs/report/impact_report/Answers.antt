@@ -1,6 +1,6 @@
 use Rattle.std.proofs.Common.{◌∙◌, ap, arith, map, subst, sym}
 use Rattle.std.specs.String.{string_bytes}
-use Rattle.desk_impact.specs.Places.{ArePlaces, place_of}
+use Rattle.desk_impact.specs.Places.{AreInOrder, ArePlaces, place_of}
 use Rattle.desk_impact.specs.PrivatePlaces.{paths_in}
 use Rattle.desk_impact.specs.PrivateReport.{taken_by}
 use Rattle.desk_impact.proofs.Reporting.{reported, room_of, told_first, told_next}
@@ -17,8 +17,9 @@ pub tell_place-requires : goal.tell_place-requires
 tell_place-requires g c = record {
   room = room_of c.deref-place-items.result.now c.loop-place.place-index c.place-item.result c.loop-place-test.true c.place-item.is c.policy.result.now c.policy-2.result.now
       (subst (λ items. ArePlaces c.policy.result.now c.policy-2.result.now (map place_of items)) (sym c.deref-place-items.ensures.value) c.in_ok-places.ensures);
-  taken = ap paths_in c.as_slice.ensures.value ∙ c.in_ok-taken.ensures
-      ∙ ap (λ content. taken_by content c.policy-4.result.now) c.policy-3.ensures ∙ ap (taken_by (g.V.PolicyView.in_force c.args.before.now)) c.policy-4.ensures;
+  taken = subst (λ items. AreInOrder (taken_by (g.V.PolicyView.in_force c.args.before.now) (g.V.PolicyView.in_force c.args.after.now)) (paths_in items)) (sym c.as_slice.ensures.value)
+      (subst (λ content. AreInOrder (taken_by (g.V.PolicyView.in_force c.args.before.now) content) (paths_in c.in_ok-taken.taken.items)) c.policy-4.ensures
+      (subst (λ content. AreInOrder (taken_by content c.policy-4.result.now) (paths_in c.in_ok-taken.taken.items)) c.policy-3.ensures c.in_ok-taken.ensures));
 }
 
 pub overflow_add-mattering : goal.overflow_add-mattering

@@ -3,11 +3,11 @@
 use crate::failing::{Broken, Closed, Leaking};
 use cli::{print_memory, run};
 use std::alloc::{AllocError, Global};
-use std::str;
+use std::{io, str};
 
 /// What fails while a command runs.
 #[derive(Clone, Copy)]
-pub enum Failing {
+enum Failing {
     /// The input, once it has given these bytes.
     Input(&'static [u8]),
     /// Each print.
@@ -18,8 +18,8 @@ pub enum Failing {
 
 /// A command, what fails, and the exit status that is wanted, with the message behind a bar.
 #[derive(Clone, Copy)]
-pub struct Case {
-    pub name: &'static str,
+struct Case {
+    name: &'static str,
     words: &'static [&'static str],
     failing: Failing,
     wanted: &'static str,
@@ -31,7 +31,7 @@ const TRY: &[&str] = &["try", "-", "10.0.0.5", "/usr", "/usr"];
 
 const NOT_PRINTED: &str = "4 |exportdesk: standard output: broken pipe\n";
 
-pub const CASES: [Case; 6] = [
+const CASES: [Case; 6] = [
     Case {
         name: "a file that fails",
         words: TRY,
@@ -70,8 +70,29 @@ pub const CASES: [Case; 6] = [
     },
 ];
 
+/// Prints for each case whether it passed, and what is wrong if it failed. Returns whether no case failed.
+pub fn try_all(rt: &HostRuntime) -> io::Result<bool> {
+    let mut passes = true;
+    for case in &CASES {
+        let wrong = try_case(rt, case)?;
+        passes = report(rt, case.name, wrong.as_str())? && passes;
+    }
+    let wrong = try_print_memory(rt.alloc())?;
+    Ok(report(rt, "a refusal that is not printed", wrong.as_str())? && passes)
+}
+
+/// Prints what came of a case. Returns whether it passed: whether nothing is wrong.
+fn report(rt: &HostRuntime, name: &str, wrong: &str) -> io::Result<bool> {
+    if wrong.is_empty() {
+        println!(rt; "{name}: passed")?;
+    } else {
+        println!(rt; "{name}: FAILED: {wrong}")?;
+    }
+    Ok(wrong.is_empty())
+}
+
 /// Runs the command of a case. Returns what is wrong.
-pub fn try_case(rt: &HostRuntime, case: &Case) -> Result<String, AllocError> {
+fn try_case(rt: &HostRuntime, case: &Case) -> Result<String, AllocError> {
     let mut out = Vec::new(rt.alloc());
     let mut err = Vec::new(rt.alloc());
     let mut whole = EXPORTS;
@@ -93,7 +114,7 @@ pub fn try_case(rt: &HostRuntime, case: &Case) -> Result<String, AllocError> {
 }
 
 /// Prints to a writer that fails that memory ran out. Returns what is wrong.
-pub fn try_print_memory(alloc: Global) -> Result<String, AllocError> {
+fn try_print_memory(alloc: Global) -> Result<String, AllocError> {
     let mut err = Vec::new(alloc);
     let status = print_memory(&mut Closed, &mut err);
     compare(alloc, status, &[], err.as_slice(), NOT_PRINTED)
