@@ -1,6 +1,6 @@
 """Commands of the program and their answers, worked by hand, for the scripts that try a built program."""
 
-from databases import SITE, put_words
+from databases import NAMES, SITE, TABLES, put_words
 from messages import CONTRADICTING, LOCALHOST, TAKING
 
 STANDARD = "rw sec=sys root=65534:65533"
@@ -10,8 +10,8 @@ STORED = ("hosts", 2, "site", 1, LOCALHOST.encode())
 class Command:
     """The words of a command, its input, and what it answers: its status and what it prints.
 
-    Among the words `DB` is a copy of a database, the one of this name, `NEW` a file that is not there, and `TEXT` a file
-    with this text. `stored` are the rows that the command adds.
+    Among the words `DB` is a copy of a database, the one of this name, `NEW` a file that is not there, `TEXT` a file with
+    this text, and `FOLDER` an empty folder. `stored` are the rows that the command adds.
     """
 
     def __init__(self, words, out, status=0, given="", database=None, text="", stored=(), title=None):
@@ -45,6 +45,13 @@ def put(name, caller, key, text, out, status=1, database="first", stored=()):
     return Command(words, out, status, database=database, text=text, stored=stored, title=title)
 
 
+def foreseen(name, text, out, status, *options):
+    """What a text would change if a file of the sample site had it."""
+    words = ["impact", "DB", name, "TEXT", *options]
+    title = f"`impact` of {name}{''.join(f' {option}' for option in options)}, which is answered {out.split(chr(10))[0]!r}"
+    return Command(words, out, status, database="first", text=text, title=title)
+
+
 CONTRADICTION = "/a -network 192.168.0/24\n/a /a/x{} -network 192.168.0.0 -mask 255.255.255.0\n"
 SHOWN = """\
 /private rw sec=krb5i root=65534:65533 lines 1
@@ -74,6 +81,11 @@ EXPORTS = """\
 /usr (everyone)
 """
 
+NESTED = "/a -network 10.0.0.0/8 -ro\n/a -network 10.255.255.255/32 -ro\n/a -sec=krb5\n"
+U2 = "/u2 -maproot=root friends\n/u2 -alldirs -network cis-net -mask cis-mask\n"
+FILES = [*TABLES, "exports"]
+
+# The commands from `clients` on were added after the last runs: none of them was run yet.
 COMMANDS = {
     "try": [
         Command(
@@ -143,5 +155,70 @@ COMMANDS = {
             3,
         ),
         put("filesystems", "site", "abc", TAKING, "fault exports:/usr line 1 rule 4 DirectoryElsewhere\n", 3),
+    ],
+    "clients": [
+        tried(
+            ["clients", "-", "/a", "/a"],
+            NESTED,
+            "0.0.0.0-9.255.255.255 granted line 3 rw sec=krb5 root=65534:65533\n"
+            "10.0.0.0-10.255.255.254 granted line 1 ro sec=sys root=65534:65533\n"
+            "10.255.255.255-10.255.255.255 granted line 2 ro sec=sys root=65534:65533\n"
+            "11.0.0.0-255.255.255.255 granted line 3 rw sec=krb5 root=65534:65533\n",
+        ),
+        tried(
+            ["clients", "-", "/a", "/a"],
+            CONTRADICTION.format(" -ro"),
+            "fault line 2 rule 26 Contradiction line 1 address 192.168.0.0\n",
+            3,
+        ),
+    ],
+    "compare": [
+        Command(
+            ["compare", "TEXT", "-", "/usr", "/home"],
+            "== other directories of /home\n"
+            f"- 10.0.0.9-10.0.0.9 granted line 3 {STANDARD}\n"
+            "+ 10.0.0.9-10.0.0.9 denied 3 NotListed /home line 4\n"
+            "1 change, 1 of lines or reasons alone\n",
+            1,
+            given="/usr /usr/local -ro 10.0.0.5\n/usr 10.0.0.6\n/home -alldirs\n/home 10.0.0.9\n",
+            text="/usr /usr/local -ro 10.0.0.5\n/usr 10.0.0.6\n/home -alldirs\n",
+        ),
+        Command(
+            ["compare", "TEXT", "-", "/usr", "/home"],
+            "fault line 2 rule 5 UnknownOption\n",
+            3,
+            given="/usr -ro\n/home -maprot=root\n",
+            text="/usr /usr/local -ro 10.0.0.5\n/usr 10.0.0.6\n/home -alldirs\n",
+            title="`compare` with a text that has a fault",
+        ),
+    ],
+    "who": [
+        Command(
+            ["who", "DB", "/u2/x"],
+            "0.0.0.0-131.104.47.255 denied 2 NoLine /u2\n"
+            f"131.104.48.0-131.104.48.19 granted line 2 {STANDARD}\n"
+            "131.104.48.20-131.104.48.21 denied 3 NotListed /u2 line 1\n"
+            f"131.104.48.22-131.104.48.255 granted line 2 {STANDARD}\n"
+            "131.104.49.0-255.255.255.255 denied 2 NoLine /u2\n",
+            database="first",
+        ),
+    ],
+    "impact": [
+        foreseen(
+            "exports:/u2",
+            f"{U2}/u2 -quiet 131.104.48.22\n",
+            "== other directories of /u2\n"
+            f"- 131.104.48.22-131.104.48.22 granted line 2 {STANDARD}\n"
+            "+ 131.104.48.22-131.104.48.22 denied 3 NotListed /u2 line 3\n"
+            "1 change, 1 of lines or reasons alone\n",
+            1,
+        ),
+        foreseen("exports:/u2", U2, "0 changes\n", 0, "--all"),
+        foreseen("exports:/u3", "/u3\n", "refused 3 UnknownFile\n", 1),
+        foreseen("hosts", CONTRADICTING, "fault exports:/usr line 2 rule 26 Contradiction line 1 address 131.104.48.16\n", 3),
+    ],
+    "files": [Command(["files", "DB"], "".join(f"{name} rev 1 site\n" for name in NAMES), database="first")],
+    "write": [
+        Command(["write", "DB", "FOLDER"], "".join(f"written {name}\n" for name in FILES), database="first"),
     ],
 }

@@ -31,6 +31,15 @@ SYSTEMS = [
     system("/u2", "0:0:5"),
     system("/usr", "0:10", dirs=["/usr", "/usr/local"]),
 ]
+DENIED = '{{"first":"{}","fs":"/usr","last":"{}","line":{},"reason":3,"verdict":"denied"}}'
+RANGES = [
+    DENIED.format("0.0.0.0", "131.104.48.15", 3),
+    DENIED.format("131.104.48.16", "131.104.48.17", 2),
+    DENIED.format("131.104.48.18", "131.104.48.19", 3),
+    '{"first":"131.104.48.20","flavours":["sys"],"fs":"/usr","last":"131.104.48.21","line":1,"map":"root","mapped":"0:10",'
+    '"ro":false,"verdict":"granted"}',
+    DENIED.format("131.104.48.22", "255.255.255.255", 3),
+]
 ONE_REVISION = '{"name":"hosts","revisions":[{"author":"site","rev":1}]}'
 TWO_REVISIONS = '{"name":"hosts","revisions":[{"author":"site","rev":1},{"author":"site","rev":2}]}'
 
@@ -107,6 +116,7 @@ QUESTIONS = [
         200,
         f'{{"host":"131.104.48.20","systems":[{",".join(SYSTEMS)}]}}',
     ),
+    Message("/v1/who?dir=/usr/local", 200, f'{{"dir":"/usr/local","ranges":[{",".join(RANGES)}]}}'),
     Message(
         "/v1/file?name=exports:/u2&rev=1",
         200,
