@@ -1,4 +1,4 @@
-//! The commands on a database: `init` makes one, `put` makes an edit, and `ask`, `show`, `exports`, `log` and `cat` ask.
+//! The commands on a database: `init` makes one, `put` makes an edit, and `ask`, `show`, `exports`, `who`, `log` and `cat` ask.
 //!
 //! Its promise: each answers by what its database holds, a question over a copy, which changes nothing; and what is reported as
 //! done is stored. `serve` opens its database as `put` does. What only the system decides, as whether a database can be opened, is left open.

@@ -109,9 +109,9 @@ fn program<'a>(alloc: Global) -> Command<'a>
         .about("Decides who may mount what, by the exports files of mountd(8)")
         .after_help(
             "Without words, the first line of standard input gives them, and the file - is the rest.\n\n\
-             Status: 0 granted or done, or help was printed; 1 denied, or refused by the rules of edits; 2 bad\n\
-             words, or a file that cannot be read; 3 a text has a fault; 4 out of memory, a database that\n\
-             cannot be used, or the output could not be written.\n\
+             Status: 0 granted or done, or help was printed; 1 denied, something changes, or refused by the rules of\n\
+             edits; 2 bad words, or a file that cannot be read or written; 3 a text has a fault; 4 out of memory, a\n\
+             database that cannot be used, or the output could not be written.\n\
              docs/RULES.md explains each rule that an exports text can break.",
         )
         .disable_help_subcommand(true)
@@ -372,10 +372,11 @@ fn compare_command<'a>(alloc: Global) -> Result<Command<'a>, AllocError>
         about: "Tells what another exports file would change",
         usage: None,
         help: Some(
-            "For each directory that is affected it prints a line `== DIR`, and below it for each range of\n\
-             addresses the verdict by OLD behind `- ` and that by NEW behind `+ `. The last line counts: a change\n\
-             of a line or a reason alone does not matter to a client. A table that is not given is empty. One\n\
-             file may be -, standard input. Status: 0 nothing changes for a client; 1 something does.",
+            "For each directory that changes it prints a line `== DIR`, or `== other directories of MOUNT` for all that\n\
+             no line writes, and below it for each range of addresses the verdict by OLD behind `- ` and that by NEW\n\
+             behind `+ `. The last line counts: a change of a line or a reason alone does not matter to a client. A\n\
+             table that is not given is empty. One file may be -, standard input. Status: 0 nothing changes for a\n\
+             client; 1 something does; 3 a text has a fault.",
         ),
     };
     made(
@@ -649,10 +650,11 @@ fn impact_command<'a>(alloc: Global) -> Result<Command<'a>, AllocError>
         about: "Tells what a new text of a file would change, and stores nothing",
         usage: None,
         help: Some(
-            "For each directory that is affected it prints a line `== DIR`, and below it for each range of\n\
-             addresses the verdict now behind `- ` and that with the new text behind `+ `. The last line counts: a\n\
-             change of a line or a reason alone does not matter to a client. No key is asked. Status: 0 nothing\n\
-             changes for a client; 1 something does, or the text is refused; 3 the text has a fault.",
+            "For each directory that changes it prints a line `== DIR`, or `== other directories of MOUNT` for all that\n\
+             no line writes, and below it for each range of addresses the verdict now behind `- ` and that with the new\n\
+             text behind `+ `. The last line counts: a change of a line or a reason alone does not matter to a client.\n\
+             NAME is as in put; no key is asked. Status: 0 nothing changes for a client; 1 something does, or the text\n\
+             is refused; 3 the text has a fault.",
         ),
     };
     made(
@@ -752,7 +754,10 @@ fn files_command<'a>(alloc: Global) -> Result<Command<'a>, AllocError>
         name: "files",
         about: "Lists the files with their newest revisions and authors",
         usage: None,
-        help: None,
+        help: Some(
+            "Each line is a file with the number and the author of its newest revision, as `hosts rev 1 site`. An exports\n\
+             file whose mount point is not listed now has `unlisted` behind it.",
+        ),
     };
     made(
         alloc,
@@ -775,8 +780,9 @@ fn write_command<'a>(alloc: Global) -> Result<Command<'a>, AllocError>
         usage: None,
         help: Some(
             "DIR gets custodians, filesystems, hosts, networks, passwd, group, netgroup and exports, which has the\n\
-             texts of all mount points, each below a comment that names its file, revision and author. A file that\n\
-             has the same bytes is left alone; another is replaced at once, by a new one that takes its name.",
+             texts of the listed mount points, each below a comment that names its file, revision and author. A file\n\
+             that has the same bytes is left alone; another is replaced at once, by a new one that takes its name, and\n\
+             told by a line `written NAME`. A text that init could not read is refused, and nothing is written.",
         ),
     };
     made(

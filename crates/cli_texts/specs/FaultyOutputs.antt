@@ -1,4 +1,4 @@
--- An output with the finding that standard error tells beside a fault of `try` or `split`. (this project's own)
+-- An output with the finding that standard error tells beside the fault of a text. (this project's own)
 use Rattle.std.specs.Prelude.{◌≡◌, List, Result}
 use Rattle.std.specs.String.{string_bytes}
 use Rattle.desk_tables.specs.declared.filesystems.Mount.{Mount}

@@ -1,4 +1,4 @@
--- The finding that standard error tells beside a fault of `try` or `split`: the one that `check` prints. (this project's own)
+-- The finding that standard error tells beside the fault of a text: the one that `check` prints. (this project's own)
 use Rattle.std.specs.Prelude.{◌≡◌, ℕ, ◌==◌, ◌&&◌, Bool, false, List, [], ◌∷◌, Option, Some, None, Result, Ok, Err, map, slice_get}
 use Rattle.std.specs.List.{find}
 use Rattle.std.specs.Option.{option_map_or}
