@@ -12,7 +12,7 @@ returns-in-Some c =
     let found = c.partition_point-first.ensures in
     let point = IsPartitionPoint-from_clause (comes_before path) paths first found.partitioned (partitioned path paths c.requires) (λ a r f q. search (rules, tests)) in
     let there = c.in-Some.ensures.lookup in
-    c.eq.ensures ∙ sym (found_at path paths c.requires first point c.in-Some.other.now there.3.0 there.1)
+    c.eq.ensures.same ∙ sym (found_at path paths c.requires first point c.in-Some.other.now there.3.0 there.1)
 
 pub returns-in-None : goal.returns-in-None
 returns-in-None c =
