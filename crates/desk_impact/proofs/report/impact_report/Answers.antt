@@ -1,4 +1,4 @@
-use Rattle.std.proofs.Common.{◌∙◌, ap, arith, map, subst, sym}
+use Rattle.std.proofs.Common.{arith, map, subst, sym}
 use Rattle.std.specs.String.{string_bytes}
 use Rattle.desk_impact.specs.Places.{AreInOrder, ArePlaces, place_of}
 use Rattle.desk_impact.specs.PrivatePlaces.{paths_in}

@@ -1,6 +1,5 @@
-use Rattle.std.proofs.Common.{◌≡◌, ◌≤◌, ◌∙◌, ap, length, rules, sym, tests}
+use Rattle.std.proofs.Common.{◌≤◌, ◌∙◌, length, rules, sym, tests}
 use Rattle.std.proofs.lemmas.List.Sorted.{IsPartitionPoint-from_clause}
-use Rattle.desk_text.specs.Path.{same_path}
 use Rattle.desk_impact.proofs.Searched.{comes_before, found_at, lacks_past, partitioned}
 use Rattle.desk_impact.proofs.unwritten.is_among.Goals as goal
 
