@@ -1,4 +1,4 @@
--- What is told stands beside the fault, for `try_command` and `split_command`.
+-- What is told stands beside the fault, for `try_command`, `clients_command` and `split_command`.
 use Rattle.std.proofs.Common.{◌≡◌, ◌∙◌, ℕ, List, Option, Some, None, IfOk, Result, Ok, Err, MatchResult, refl, sym, subst, ap}
 use Rattle.std.specs.String.{string_bytes}
 use Rattle.desk_tables.specs.declared.credential_text.CredFault.{CredFault}
@@ -23,7 +23,7 @@ use Rattle.cli_texts.specs.TryCommand.{Tells, TellsAs, TellsFault, TellsWith}
 use Rattle.cli_output.specs.declared.output.Output.{Output}
 use Rattle.cli_output.specs.declared.output.Output.TheVariants.{Faulty, NotSplit}
 
--- a fault of `try` that is told is the fault
+-- a fault of an exports text or a table that is told is the fault
 pub told_fault : (sources : WholeSources) (table : List Mount) (fault : SiteFault) (result : Result Output Failure) → MatchResult result (IsToldFaulty sources table fault) (λ failure. failure ≡ Memory) → TellsFault fault result
 told_fault sources table fault (Ok (Faulty found text)) tells = tells.0
 told_fault sources table fault (Ok output) tells = absurd tells

@@ -12,7 +12,7 @@ use Rattle.desk_check.specs.declared.split_text.SplitFault.{SplitFault}
 use Rattle.cli_output.specs.declared.output.Output.{Output}
 use Rattle.cli_output.specs.declared.output.Output.TheVariants.{Faulty, NotSplit}
 
--- beside a fault of `try` that is told; another output says nothing more
+-- beside a fault of an exports text or a table that is told; another output says nothing more
 abbrev pub IsTold : WholeSources → List Mount → Output → Type 0
 IsTold sources table (Faulty fault text) = TellsOf sources table fault (string_bytes text)
 IsTold sources table output = Unit {0}

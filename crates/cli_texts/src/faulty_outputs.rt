@@ -1,4 +1,4 @@
-//! A fault of `try` or `split` with what standard error tells beside it: the finding that `check` prints of it.
+//! A fault of the texts of a command with what standard error tells beside it: the finding that `check` prints of it.
 
 ghost use Rattle.std.specs.Prelude.{◌≡◌, ◌≤◌, MatchResult, length};
 ghost use Rattle.desk_check.specs.CheckFaults.{AreReadable};
@@ -13,7 +13,8 @@ use desk_policy::SiteFault;
 use desk_tables::FileSystems;
 use std::alloc::Global;
 
-/// Answers `try` with a fault, and tells the first finding about it of those that `check` makes in the same texts.
+/// Answers with a fault of an exports text or a table, and tells the first finding about it of those that `check` makes in the
+/// same texts.
 pub fn faulty(
     alloc: Global,
     sources: WholeSources<'_>,

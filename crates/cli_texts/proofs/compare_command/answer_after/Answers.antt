@@ -15,7 +15,8 @@ returns-in-Ok c =
 
 pub returns-in-Err-Fault : goal.returns-in-Err-Fault
 returns-in-Err-Fault c =
-    let of = subst (λ (table : List Mount). IsFaultOf (read_whole_with c.args.tables.now table c.args.sources.exports.text.now) c.in-Err-Fault.fault) c.in_ok-own.ensures c.in-Err-Fault.ensures in
+    let found : IsFaultOf (read_whole_with c.args.tables.now c.in_ok-own.own c.args.sources.exports.text.now) c.in-Err-Fault.fault = rw c.in-Err-Fault.field-0-is at c.in-Err-Fault.ensures in
+    let of = subst (λ (table : List Mount). IsFaultOf (read_whole_with c.args.tables.now table c.args.sources.exports.text.now) c.in-Err-Fault.fault) c.in_ok-own.ensures found in
     told_new c.args.before.now (read_whole_with c.args.tables.now c.args.filesystems c.args.sources.exports.text.now) c.args.all c.args.sources c.args.filesystems c.in-Err-Fault.fault c.faulty.result of c.faulty.ensures
 
 pub returns-in_err-own : goal.returns-in_err-own

@@ -1,5 +1,5 @@
 -- The tables are read first.
-use Rattle.std.proofs.Common.{Result, subst, sym}
+use Rattle.std.proofs.Common.{◌≡◌, Err, Result, subst, sym}
 use Rattle.desk_policy.specs.declared.parsing.SiteTables.{SiteTables}
 use Rattle.desk_policy.specs.declared.site_fault.SiteFault.{SiteFault}
 use Rattle.cli_texts.specs.CompareCommand.{ComparesWith}
@@ -13,7 +13,8 @@ returns-in-Ok c =
 
 pub returns-in-Err-Fault : goal.returns-in-Err-Fault
 returns-in-Err-Fault c =
-    subst (λ (tables : Result SiteTables SiteFault). ComparesWith tables c.args.filesystems c.args.all c.args.old_sources c.args.new_sources c.faulty.result) (sym c.in-Err-Fault.ensures) c.faulty.ensures
+    let read : tables_in c.args.old_sources ≡ Err c.in-Err-Fault.fault = rw c.in-Err-Fault.field-0-is at c.in-Err-Fault.ensures in
+    subst (λ (tables : Result SiteTables SiteFault). ComparesWith tables c.args.filesystems c.args.all c.args.old_sources c.args.new_sources c.faulty.result) (sym read) c.faulty.ensures
 
 pub returns-in-Err-Memory : goal.returns-in-Err-Memory
 returns-in-Err-Memory c = memory_compares (tables_in c.args.old_sources) c.args.filesystems c.args.all c.args.old_sources c.args.new_sources
