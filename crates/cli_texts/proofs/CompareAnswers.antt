@@ -10,7 +10,7 @@ use Rattle.desk_check.specs.ToldFault.{TellsOf}
 use Rattle.desk_check.specs.declared.check_text.WholeSources.{WholeSources}
 use Rattle.cli_files.specs.declared.failure.Failure.{Failure}
 use Rattle.cli_files.specs.declared.failure.Failure.TheVariants.{Memory}
-use Rattle.cli_texts.specs.CompareCommand.{Compares, ComparesAfter, ComparesWith, TellsFaultOf, TellsOld, TellsReport}
+use Rattle.cli_texts.specs.CompareCommand.{ComparesAfter, ComparesWith, TellsFaultOf, TellsOld, TellsReport}
 use Rattle.cli_texts.specs.FaultyOutputs.{IsToldFaulty}
 use Rattle.cli_texts.specs.WholeTables.{Writes}
 use Rattle.cli_output.specs.declared.output.Output.{Output}
