@@ -1,8 +1,10 @@
--- What is told of a text that a file might have, for `asking::ask_desk`.
-use Rattle.std.proofs.Common.{◌≡◌, ◌<◌, ◌≤◌, true, false, Result, Ok, Err, length}
+-- What is told of a text that a file might have, for `asking::ask_desk` and `asking::compare`.
+use Rattle.std.proofs.Common.{◌≡◌, ◌<◌, ◌≤◌, Bool, true, false, Result, Ok, Err, length}
 use Rattle.desk_policy.specs.Policy.{Content}
 use Rattle.desk_policy.specs.View.{HasFault}
 use Rattle.desk_policy.specs.declared.site_fault.SiteFault.{SiteFault}
+use Rattle.desk_impact.specs.Report.{IsReport}
+use Rattle.desk_impact.specs.declared.report.Report.{Report}
 use Rattle.desk_core.specs.Head.{Newest, longest_revision}
 use Rattle.desk_core.specs.Site.{IsInForce, site_in}
 use Rattle.desk_core.specs.declared.edit.Refusal.TheVariants as refusal
@@ -12,9 +14,13 @@ use Rattle.cli_files.specs.declared.failure.Failure.TheVariants.{Memory}
 use Rattle.cli_output.specs.declared.output.Output.{Output}
 use Rattle.cli_output.specs.declared.output.Output.TheVariants.{Changes}
 use Rattle.cli_database.specs.RefusedOutputs.{IsRefusedByDesk}
-use Rattle.cli_who.specs.Asking.{NewText, TellsChangesTo, TellsImpact, is_known_by}
+use Rattle.cli_who.specs.Asking.{NewText, ReportsFrom, TellsChangesTo, TellsImpact, is_known_by}
 use Rattle.cli_who.specs.Foreseen.{with_text}
 use Rattle.cli_who.proofs.CopyAnswers.{told_so}
+
+-- a report from the policy in force
+pub reports : (newest : Newest) (before after : Content) (all : Bool) (report : Report) → IsInForce (site_in newest) before → IsReport before after all report → ReportsFrom newest after all report
+reports newest before after all report in_force is = record { before = before; before_is = in_force; report_is = is }
 
 pub unknown : (newest : Newest) (new : NewText) (result : Result Output Failure) → is_known_by newest new ≡ false → IsRefusedByDesk (by_desk.Edit refusal.UnknownFile) result → TellsImpact newest new result
 unknown newest new result not is = told_so (λ r. TellsImpact newest new r) tt (by_desk.Edit refusal.UnknownFile) (λ told. not) result is

@@ -6,6 +6,7 @@ ghost use Rattle.sqlite.specs.State.{HasCleanDisk};
 ghost use Rattle.desk_core.specs.Head.{newest_in};
 ghost use Rattle.desk_core.specs.Judging.{is_known};
 ghost use Rattle.desk_core.specs.Site.{policy_of, site_in};
+ghost use Rattle.desk_store.specs.Desk.{LeavesTables};
 ghost use Rattle.desk_service.specs.declared.refused.Refused.TheVariants as by_desk;
 ghost use Rattle.cli_database.specs.RefusedOutputs.{IsRefusedByDesk};
 ghost use Rattle.cli_who.specs.Asking.{TellsAtPath, TellsByDatabase, TellsChangesTo, TellsImpact, text_of};
@@ -63,7 +64,9 @@ fn ask_connection<S: Alter + Drop>(
     new: NewText<'_>,
 ) -> (Result<Output, Failure>, Connection<S>)
     requires { (state S.Store conn).in_transaction ≡ false }
-    ensures { HasCleanDisk (state S.Store result.1) → TellsByDatabase (state S.Store conn).committed (text_of new.entry) result.0 }
+    ensures told { HasCleanDisk (state S.Store result.1) → TellsByDatabase (state S.Store conn).committed (text_of new.entry) result.0 }
+    ensures tables { LeavesTables (state S.Store conn) (state S.Store result.1) }
+    ensures mode { HasCleanDisk (state S.Store result.1) → (state S.Store result.1).in_transaction ≡ false }
 {
     let opened: Result<Desk<S, View>, _> = Desk::open(alloc, conn);
     match opened {
@@ -117,6 +120,7 @@ fn knows<S: Alter + Drop>(desk: &Desk<S, View>, name: &str) -> bool
 }
 
 /// Tells what changes from the policy of a desk to that of a state.
+#[tactic(auto, using(crate::proofs::Telling::reports))]
 fn compare<S: Alter + Drop>(
     alloc: Global,
     desk: &Desk<S, View>,

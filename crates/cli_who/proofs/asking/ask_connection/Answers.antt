@@ -5,12 +5,15 @@ use Rattle.cli_who.specs.Asking.{text_of}
 use Rattle.cli_who.proofs.CopyAnswers.{refuses_copy, told_of}
 use Rattle.cli_who.proofs.asking.ask_connection.Goals as goal
 
-pub returns-in-Ok : goal.returns-in-Ok
-returns-in-Ok g c =
+pub returns-in-Ok-clause-told : goal.returns-in-Ok-clause-told
+returns-in-Ok-clause-told g c =
     rw (c.into_connection.ensures.same)
     (λ good. told_of (state g.S.Store c.args.conn).committed (text_of c.args.new) (newest_in c.in-Ok.desk.state.heads) c.ask_desk-told.result (c.in-Ok.ensures.opened good).0
     (λ history project. ((c.in-Ok.ensures.opened good).1 history project).heads) c.ask_desk-told.ensures)
 
-pub returns-in-Err : goal.returns-in-Err
-returns-in-Err g c = λ good.
+pub returns-in-Ok-clause-tables : goal.returns-in-Ok-clause-tables
+returns-in-Ok-clause-tables g c = rw (c.into_connection.ensures.same) c.in-Ok.ensures.tables
+
+pub returns-in-Err-clause-told : goal.returns-in-Err-clause-told
+returns-in-Err-clause-told g c = λ good.
     refuses_copy (state g.S.Store c.args.conn).committed (text_of c.args.new) c.in-Err.error c.refused_by_copy.result c.in-Err.ensures.errors (c.in-Err.ensures.foreign good) c.refused_by_copy.ensures

@@ -10,4 +10,4 @@ pub returns-in-Ok : goal.returns-in-Ok
 unfolding state
 returns-in-Ok c =
     at_path c.args.db.now (file_state c.in-Ok.conn).committed (text_of c.args.new) c.ask_connection-told.result.0
-    (c.ask_connection-told.ensures (good_disk (file_state c.ask_connection-told.result.1).is_clean refl))
+    (c.ask_connection-told.ensures.told (good_disk (file_state c.ask_connection-told.result.1).is_clean refl))
