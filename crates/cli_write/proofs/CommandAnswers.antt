@@ -1,38 +1,35 @@
--- What is told of a database is the answer of a command, for `files_command` and `write_command`.
-use Rattle.std.proofs.Common.{◌≡◌, ℕ, List, Result, Ok, Err, inl, inr, subst, sym}
-use Rattle.sqlite.specs.Effect.{Database}
-use Rattle.desk_core.specs.Head.{Revision}
-use Rattle.desk_core.specs.History.{newest_of}
-use Rattle.desk_store.specs.Open.{IsOurs, IsProject}
+-- What is told by a desk on a copy, or of why there is none, is the answer of a command, for `files_command` and `write_command`.
+use Rattle.std.proofs.Common.{◌≡◌, Result, Ok, Err, inl, inr, subst, sym}
+use Rattle.desk_core.specs.Head.{Newest}
 use Rattle.desk_service.specs.declared.refused.Refused.TheVariants as by_desk
 use Rattle.cli_line.specs.CommandLine.{FilesWords, WriteWords}
+use Rattle.cli_files.specs.Files.{IsUnread}
 use Rattle.cli_files.specs.declared.failure.Failure.{Failure}
+use Rattle.cli_files.specs.declared.files.FileArgument.TheVariants.{Database as DatabaseFile}
 use Rattle.cli_output.specs.declared.output.Output.{Output}
 use Rattle.cli_output.specs.declared.output.Output.TheVariants.{Done, Refused}
 use Rattle.cli_output.specs.declared.refused.Refused.TheVariants as refused
-use Rattle.cli_write.specs.Asking.{TellsAtPath}
-use Rattle.cli_write.specs.FilesCommand.{AnswersFiles}
-use Rattle.cli_write.specs.TextsBack.{texts_back}
-use Rattle.cli_write.specs.WriteCommand.{AnswersWrite, WritesNamed, site_names}
-use Rattle.cli_write.specs.declared.asking.Asked.TheVariants as asked
+use Rattle.cli_write.specs.CopiedDesk.{AreNewest, TellsNoDesk}
+use Rattle.cli_write.specs.FilesCommand.{AnswersFiles, TellsFiles}
+use Rattle.cli_write.specs.WriteCommand.{AnswersWrite, WritesNewest}
 
--- there is no desk
-pub files_refused : (words : FilesWords) (answer : Result Output Failure) → TellsAtPath words.db asked.Files (Err answer) → AnswersFiles words answer
+pub files_told : (words : FilesWords) (newest : Newest) (result : Result Output Failure) → AreNewest newest → TellsFiles newest result → AnswersFiles words result
+files_told words newest (Ok (Done text)) are tells = (newest, are, tells)
+files_told words newest (Ok output) are tells = absurd tells
+files_told words newest (Err failure) are is = subst (λ (f : Failure). IsUnread DatabaseFile words.db f) (sym is) tt
+
+pub files_refused : (words : FilesWords) (answer : Result Output Failure) → TellsNoDesk words.db answer → AnswersFiles words answer
+files_refused words (Ok (Done text)) h = absurd h
+files_refused words (Ok output) h = h
 files_refused words (Err failure) h = h
-files_refused words (Ok (Refused (refused.Desk by_desk.Store) told)) h = tt
-files_refused words (Ok (Refused (refused.Desk by_desk.Schema) told)) h = h
-files_refused words (Ok output) h = absurd h.1
 
-pub write_refused : (words : WriteWords) (answer : Result Output Failure) → TellsAtPath words.db asked.Texts (Err answer) → AnswersWrite words answer
+pub newest_written : (words : WriteWords) (newest : Newest) (result : Result Output Failure) → AreNewest newest → WritesNewest words.dir newest result → AnswersWrite words result
+newest_written words newest (Ok (Refused (refused.Desk why) told)) are writes = absurd writes
+newest_written words newest (Ok output) are writes = (newest, are, writes)
+newest_written words newest (Err failure) are writes = inr writes
+
+pub write_refused : (words : WriteWords) (answer : Result Output Failure) → TellsNoDesk words.db answer → AnswersWrite words answer
+write_refused words (Ok (Refused (refused.Desk why) told)) h = h
+write_refused words (Ok (Refused (refused.TooLarge file) told)) h = absurd h
+write_refused words (Ok output) h = absurd h
 write_refused words (Err failure) h = inl h
-write_refused words (Ok (Refused (refused.Desk by_desk.Store) told)) h = tt
-write_refused words (Ok (Refused (refused.Desk by_desk.Schema) told)) h = h
-write_refused words (Ok output) h = absurd h.1
-
--- the texts that a history has are written
-pub texts_written : (words : WriteWords) (texts : List (List ℕ)) (result : Result Output Failure) → WritesNamed site_names texts result
-    → (db : Database) × (IsOurs db × ((history : List Revision) → IsProject db history → texts ≡ texts_back (newest_of history))) → AnswersWrite words result
-texts_written words texts (Err failure) writes held = inr writes
-texts_written words texts (Ok (Done told)) writes held = (held.0, (held.1.0, λ history project. subst (λ ts. WritesNamed site_names ts (Ok (Done told))) (held.1.1 history project) writes))
-texts_written words texts (Ok (Refused (refused.TooLarge file) told)) writes held = (held.0, (held.1.0, λ history project. subst (λ ts. WritesNamed site_names ts (Ok (Refused (refused.TooLarge file) told))) (held.1.1 history project) writes))
-texts_written words texts (Ok output) writes held = absurd writes

@@ -6,9 +6,9 @@ use Rattle.std.proofs.lemmas.List.Elements.{filter_map-append}
 use Rattle.desk_join.specs.Joining.{StoredFile}
 use Rattle.cli_write.specs.PrivateFiles.{with_found}
 
-module _ {X : Type 0} (xs : List X) (i : ℕ) (x : X) (below : i < length xs) (is : x ≡ get_or xs i x) where
+module _ {X : Type 0} (xs : List X) (i : ℕ) (x d : X) (below : i < length xs) (is : x ≡ get_or xs i d) where
   take_next : take (i + 1) xs ≡ take i xs ++ x ∷ []
-  take_next = take_more xs i x below ∙ ap (λ y. take i xs ++ y ∷ []) (sym is)
+  take_next = take_more xs i d below ∙ ap (λ y. take i xs ++ y ∷ []) (sym is)
 
   module _ (f : X → Option StoredFile) (old : List StoredFile) (before : old ≡ filter_map f (take i xs)) where
     found_next : (o : Option StoredFile) → o ≡ f x → filter_map f (take (i + 1) xs) ≡ filter_map f (take i xs) ++ cons_option o []

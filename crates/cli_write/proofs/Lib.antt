@@ -3,6 +3,6 @@ pub mod NamedMounts
 pub mod SortedMounts
 pub mod SevenLines
 pub mod WrittenFiles
-pub mod CopyAnswers
+pub mod NoCopiedDesk
 pub mod CommandAnswers
 pub mod TooLong

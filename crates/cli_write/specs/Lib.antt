@@ -1,7 +1,7 @@
 pub mod TextsBack
 pub mod ListedFiles
 pub mod PrivateFiles
-pub mod Asking
+pub mod CopiedDesk
 pub mod FilesCommand
 pub mod Replacing
 pub mod WriteCommand

@@ -1,20 +1,37 @@
 //! The command `files`: which files a database holds.
 
+ghost use Rattle.desk_core.specs.Head.{newest_in};
 ghost use Rattle.cli_words.specs.Words.{given_files};
-ghost use Rattle.cli_write.specs.FilesCommand.{AnswersFiles};
+ghost use Rattle.cli_write.specs.FilesCommand.{AnswersFiles, TellsFiles};
 
-use crate::asking::{Asked, Told, ask_copy};
+use crate::copied_desk::open_copied_desk;
+use crate::listed_files::files_text;
+use cli_database::View;
 use cli_files::failure::Failure;
 use cli_output::output::Output;
 use cli_words::database_words::FilesWords;
+use desk_store::Desk;
+use sqlite::Alter;
+use std::alloc::Global;
 
 /// Answers `files DB`.
 pub fn run_files(rt: &HostRuntime, words: FilesWords<'_>) -> Result<Output, Failure>
     ensures { AnswersFiles (given_files words.entry) result }
 {
-    match ask_copy(rt, words.db, Asked::Files) {
-        Ok(Told::Files(text)) => Ok(Output::Done(text)),
-        Ok(Told::Texts(_)) => unreachable!(),
+    match open_copied_desk(rt, words.db) {
+        Ok(desk) => {
+            let told = tell_files(rt.alloc(), &desk);
+            drop(desk);
+            told
+        }
         Err(answer) => answer,
     }
+}
+
+/// Tells the files of a desk.
+fn tell_files<S: Alter + Drop>(alloc: Global, desk: &Desk<S, View>) -> Result<Output, Failure>
+    ensures { TellsFiles (newest_in desk.now.state.heads) result }
+{
+    let text = files_text(alloc, desk)?;
+    Ok(Output::Done(text))
 }

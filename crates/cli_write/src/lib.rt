@@ -10,7 +10,7 @@
 //! ```
 #![tactic(auto)]
 
-mod asking;
+mod copied_desk;
 pub mod files_command;
 mod listed_files;
 mod replacing;

@@ -3,13 +3,14 @@
 
 ghost use Rattle.std.specs.Prelude.{◌≡◌, ◌++◌, IfErr, MatchResult, OnOk, map};
 ghost use Rattle.std.specs.String.{string_bytes};
-ghost use Rattle.cli_write.specs.Replacing.{IsUnwritten, MayTell, TellsWritten, name_in, written_line};
+ghost use Rattle.cli_write.specs.Replacing.{IsUnwritten, IsUnwrittenIn, MayTell, TellsWritten, name_in, path_in, written_line};
 
 use cli_files::failure::Failure;
 use std::alloc::{AllocError, Global};
-use std::fs::{File, Metadata, OpenOptions, Permissions};
+use std::fs::{File, Metadata, OpenOptions};
 use std::io::{Read, Write};
-use std::os::unix::fs::OpenOptionsExt;
+use std::os::unix::fs::{MetadataExt, OpenOptionsExt, fchown};
+use std::time::{SystemTime, UNIX_EPOCH};
 use std::{fs, io};
 
 /// A file that gets a text: its name, its path, and the text.
@@ -25,15 +26,15 @@ pub(crate) struct NewText<'a> {
 enum Found {
     /// A file that has the bytes of the text.
     Same,
-    /// A file with other bytes, and these permissions.
-    Other(Permissions),
+    /// A file with other bytes.
+    Other(Metadata),
     Nothing,
 }
 
 /// Replaces in turn each file whose bytes are not those of its text, or that is not there, and tells their names in lines. If one
 /// cannot be written, those before it have been replaced, and those behind it stay as they are.
 pub(crate) fn replace_files(rt: &HostRuntime, files: &[NewText<'_>]) -> Result<String, Failure>
-    ensures { MatchResult result (λ told. TellsWritten (map name_in files.now) (string_bytes told)) IsUnwritten }
+    ensures { MatchResult result (λ told. TellsWritten (map name_in files.now) (string_bytes told)) (IsUnwrittenIn (map path_in files.now)) }
 {
     let mut told = String::new(rt.alloc());
     for file in files {
@@ -45,7 +46,7 @@ pub(crate) fn replace_files(rt: &HostRuntime, files: &[NewText<'_>]) -> Result<S
 /// Replaces a file unless its bytes are those of its text, and tells it if it did.
 fn replace_told(rt: &HostRuntime, file: &NewText<'_>, told: &mut String) -> Result<(), Failure>
     ensures told { OnOk result (MayTell (name_in file.now) (string_bytes told.old) (string_bytes told.new)) }
-    ensures failure { IfErr result IsUnwritten }
+    ensures failure { IfErr result (IsUnwritten (path_in file.now)) }
 {
     if replace_other(rt, file)? {
         push_written(file.name, told)?;
@@ -62,20 +63,40 @@ fn push_written(name: &str, told: &mut String) -> Result<(), AllocError>
 
 /// Replaces a file unless its bytes are those of its text. Returns whether it did.
 fn replace_other(rt: &HostRuntime, file: &NewText<'_>) -> Result<bool, Failure>
-    ensures { IfErr result IsUnwritten }
+    ensures { IfErr result (IsUnwritten (path_in file.now)) }
 {
-    match look(rt, file) {
-        Ok(Found::Same) => Ok(false),
-        Ok(Found::Other(permissions)) => replace_old(rt, file, permissions),
-        Ok(Found::Nothing) => replace(rt, file.path, file.text, None),
+    match try_to_replace(rt, file) {
+        Ok(is_replaced) => Ok(is_replaced),
         Err(error) => Err(unwritten(rt.alloc(), file.path, error)),
+    }
+}
+
+/// Returns the failure to write the file at a path.
+fn unwritten(alloc: Global, path: &str, error: io::Error) -> Failure
+    ensures { IsUnwritten path.now result }
+{
+    if error.kind() == io::ErrorKind::OutOfMemory {
+        return Failure::Memory;
+    }
+    match String::from_str(alloc, path) {
+        Ok(path) => Failure::Unwritten(path, error),
+        Err(_) => Failure::Memory,
+    }
+}
+
+/// Replaces a file unless its bytes are those of its text. Returns whether it did.
+fn try_to_replace(rt: &HostRuntime, file: &NewText<'_>) -> io::Result<bool> {
+    match look(rt, file)? {
+        Found::Same => Ok(false),
+        Found::Other(old) => replace_old(rt, file, &old),
+        Found::Nothing => replace(rt, file.path, file.text, None),
     }
 }
 
 /// Looks what stands at the path of a file. Only a regular file can be replaced.
 fn look(rt: &HostRuntime, file: &NewText<'_>) -> io::Result<Found> {
     match fs::metadata(rt, file.path) {
-        Ok(found) if found.is_file() => look_inside(rt, file, &found),
+        Ok(found) if found.is_file() => look_inside(rt, file, found),
         Ok(_) => Err(io::Error::from(io::ErrorKind::AlreadyExists)),
         Err(error) if error.kind() == io::ErrorKind::NotFound => Ok(Found::Nothing),
         Err(error) => Err(error),
@@ -83,11 +104,11 @@ fn look(rt: &HostRuntime, file: &NewText<'_>) -> io::Result<Found> {
 }
 
 /// Looks whether a regular file has the bytes of its text.
-fn look_inside(rt: &HostRuntime, file: &NewText<'_>, found: &Metadata) -> io::Result<Found> {
+fn look_inside(rt: &HostRuntime, file: &NewText<'_>, found: Metadata) -> io::Result<Found> {
     if found.len() == file.text.len() as u64 && has_bytes(rt, file.path, file.text)? {
         return Ok(Found::Same);
     }
-    Ok(Found::Other(found.permissions()))
+    Ok(Found::Other(found))
 }
 
 /// Tests whether the bytes of a file are those of a text.
@@ -98,66 +119,43 @@ fn has_bytes(rt: &HostRuntime, path: &str, text: &str) -> io::Result<bool> {
     Ok(bytes.as_slice() == text.as_bytes())
 }
 
-/// Replaces a file that is there, where its path leads, and keeps its permissions.
-fn replace_old(
-    rt: &HostRuntime,
-    file: &NewText<'_>,
-    permissions: Permissions,
-) -> Result<bool, Failure>
-    ensures { IfErr result IsUnwritten }
-{
-    match fs::canonicalize(rt, file.path) {
-        Ok(real) => replace(rt, real.as_str(), file.text, Some(permissions)),
-        Err(error) => Err(unwritten(rt.alloc(), file.path, error)),
-    }
+/// Replaces a file that is there, where its path leads, by one of its owner, group and permissions. Returns true.
+fn replace_old(rt: &HostRuntime, file: &NewText<'_>, old: &Metadata) -> io::Result<bool> {
+    let real = fs::canonicalize(rt, file.path)?;
+    replace(rt, real.as_str(), file.text, Some(old))
 }
 
 /// Makes a file with a text, and gives it the path. Returns true.
-fn replace(
-    rt: &HostRuntime,
-    path: &str,
-    text: &str,
-    permissions: Option<Permissions>,
-) -> Result<bool, Failure>
-    ensures { IfErr result IsUnwritten }
-{
-    let new = new_path(rt.alloc(), path)?;
-    match make_new(rt, new.as_str(), text, permissions) {
-        Ok(()) => take_path(rt, new.as_str(), path),
-        Err(error) => Err(unwritten(rt.alloc(), new.as_str(), error)),
-    }
+fn replace(rt: &HostRuntime, path: &str, text: &str, old: Option<&Metadata>) -> io::Result<bool> {
+    let new = new_path(rt, path)?;
+    make_new(rt, new.as_str(), text, old)?;
+    take_path(rt, new.as_str(), path)?;
+    Ok(true)
 }
 
-/// Gives the new file the path, or removes it. Returns true.
-fn take_path(rt: &HostRuntime, new: &str, path: &str) -> Result<bool, Failure>
-    ensures { IfErr result IsUnwritten }
-{
-    match fs::rename(rt, new, path) {
-        Ok(()) => Ok(true),
-        Err(error) => {
-            let _ = fs::remove_file(rt, new);
-            Err(unwritten(rt.alloc(), path, error))
-        }
-    }
+/// Makes the path of the new file: `/etc/.exports.123456789.new` beside `/etc/exports`. The number is that of the clock, so that what
+/// an interrupted run left is in no other's way, nor are two runs at once in each other's.
+fn new_path(rt: &HostRuntime, path: &str) -> io::Result<String> {
+    let number = nanoseconds(rt)?;
+    let new = match path.rsplit_once('/') {
+        Some((folder, name)) => format!(in rt.alloc(); "{folder}/.{name}.{number}.new")?,
+        None => format!(in rt.alloc(); ".{path}.{number}.new")?,
+    };
+    Ok(new)
 }
 
-/// Makes the path of the new file: `/etc/.exports.new` beside `/etc/exports`.
-fn new_path(alloc: Global, path: &str) -> Result<String, AllocError> {
-    match path.rsplit_once('/') {
-        Some((folder, name)) => format!(in alloc; "{folder}/.{name}.new"),
-        None => format!(in alloc; ".{path}.new"),
+/// Returns the nanoseconds of the clock within its second.
+fn nanoseconds(rt: &HostRuntime) -> io::Result<u32> {
+    match SystemTime::now(rt)?.duration_since(UNIX_EPOCH) {
+        Ok(since) => Ok(since.subsec_nanos()),
+        Err(_) => Ok(0),
     }
 }
 
 /// Makes a new file with a text, which is synced; or removes it, if it cannot be finished.
-fn make_new(
-    rt: &HostRuntime,
-    new: &str,
-    text: &str,
-    permissions: Option<Permissions>,
-) -> io::Result<()> {
-    let mut file = create_new(rt, new, permissions.is_some())?;
-    match fill(&mut file, text, permissions) {
+fn make_new(rt: &HostRuntime, new: &str, text: &str, old: Option<&Metadata>) -> io::Result<()> {
+    let mut file = create_new(rt, new, old.is_some())?;
+    match fill(&mut file, text, old) {
         Ok(()) => Ok(()),
         Err(error) => {
             let _ = fs::remove_file(rt, new);
@@ -176,24 +174,47 @@ fn create_new(rt: &HostRuntime, new: &str, gets_permissions: bool) -> io::Result
         .open(rt, new)
 }
 
-/// Writes a text into a file, gives it permissions, and syncs it.
-fn fill(file: &mut File, text: &str, permissions: Option<Permissions>) -> io::Result<()> {
+/// Writes a text into a file, gives it the owner, the group and the permissions of an old one, and syncs it.
+fn fill(file: &mut File, text: &str, old: Option<&Metadata>) -> io::Result<()> {
     file.write_all(text.as_bytes())?;
-    if let Some(permissions) = permissions {
-        file.set_permissions(permissions)?;
+    if let Some(old) = old {
+        give_owner(file, old)?;
+        file.set_permissions(old.permissions())?;
     }
     file.sync_all()
 }
 
-/// Returns the failure to write a file.
-fn unwritten(alloc: Global, path: &str, error: io::Error) -> Failure
-    ensures { IsUnwritten result }
-{
-    if error.kind() == io::ErrorKind::OutOfMemory {
-        return Failure::Memory;
+/// Gives a file the owner and the group of an old one. To another owner only root can give it; then it gets the group alone.
+fn give_owner(file: &File, old: &Metadata) -> io::Result<()> {
+    match fchown(file, Some(old.uid()), Some(old.gid())) {
+        Ok(()) => Ok(()),
+        Err(_) => fchown(file, None, Some(old.gid())),
     }
-    match String::from_str(alloc, path) {
-        Ok(path) => Failure::Unwritten(path, error),
-        Err(_) => Failure::Memory,
+}
+
+/// Gives the new file the path, or removes it.
+fn take_path(rt: &HostRuntime, new: &str, path: &str) -> io::Result<()> {
+    match fs::rename(rt, new, path) {
+        Ok(()) => {
+            sync_folder(rt, path);
+            Ok(())
+        }
+        Err(error) => {
+            let _ = fs::remove_file(rt, new);
+            Err(error)
+        }
+    }
+}
+
+/// Syncs the folder of a file, which has its name. Not every file system can, and a folder may be unreadable; then the name waits for
+/// the system.
+fn sync_folder(rt: &HostRuntime, path: &str) {
+    let folder = match path.rsplit_once('/') {
+        Some(("", _)) => "/",
+        Some((folder, _)) => folder,
+        None => ".",
+    };
+    if let Ok(file) = fs::open(rt, folder) {
+        let _ = file.sync_all();
     }
 }

@@ -2,13 +2,16 @@
 
 ghost use Rattle.std.specs.Prelude.{◌≡◌, find, map, string_bytes};
 ghost use Rattle.std.specs.Option.{option_copied};
-ghost use Rattle.cli_output.specs.SiteFolder.{site_list};
+ghost use Rattle.desk_core.specs.Head.{newest_in};
+ghost use Rattle.cli_output.specs.SiteFolder.{site_list, site_paths};
 ghost use Rattle.cli_words.specs.Words.{given_write};
-ghost use Rattle.cli_write.specs.Replacing.{name_in};
-ghost use Rattle.cli_write.specs.WriteCommand.{AnswersWrite, RefusesTooLong, TellsDone, WritesNamed, is_too_long, site_names, text_in};
+ghost use Rattle.cli_write.specs.Replacing.{name_in, path_in, text_in};
+ghost use Rattle.cli_write.specs.WriteCommand.{AnswersWrite, RefusesTooLong, TellsDone, WritesNamed, WritesNewest, is_too_long, site_names};
 
-use crate::asking::{Asked, Told, ask_copy};
+use crate::copied_desk::open_copied_desk;
 use crate::replacing::{NewText, replace_files};
+use crate::texts_back::texts_back;
+use cli_database::View;
 use cli_files::failure::Failure;
 use cli_files::input::LONGEST_INPUT;
 use cli_output::output::Output;
@@ -16,23 +19,40 @@ use cli_output::refused::Refused;
 use cli_output::site_folder::{SiteFiles, paths_of};
 use cli_words::database_words::WriteWords;
 use desk_policy::SiteFile;
+use desk_store::Desk;
 use desk_text::Text;
+use sqlite::Alter;
 use std::alloc::Global;
 
 /// Answers `write DB DIR`.
 pub fn run_write(rt: &HostRuntime, words: WriteWords<'_>) -> Result<Output, Failure>
     ensures { AnswersWrite (given_write words.entry) result }
 {
-    match ask_copy(rt, words.db, Asked::Texts) {
-        Ok(Told::Texts(texts)) => write_texts(rt, words.dir, &texts),
-        Ok(Told::Files(_)) => unreachable!(),
+    match open_copied_desk(rt, words.db) {
+        Ok(desk) => {
+            let told = write_newest(rt, words.dir, &desk);
+            drop(desk);
+            told
+        }
         Err(answer) => answer,
     }
 }
 
+/// Writes the newest texts of a desk into a folder, if `init` can read them all.
+fn write_newest<S: Alter + Drop>(
+    rt: &HostRuntime,
+    dir: &str,
+    desk: &Desk<S, View>,
+) -> Result<Output, Failure>
+    ensures { WritesNewest dir.now (newest_in desk.now.state.heads) result }
+{
+    let texts = texts_back(rt.alloc(), desk)?;
+    write_texts(rt, dir, &texts)
+}
+
 /// Writes texts into a folder, each as the file of its name, if `init` can read them all.
 fn write_texts(rt: &HostRuntime, dir: &str, texts: &SiteFiles) -> Result<Output, Failure>
-    ensures { WritesNamed site_names (site_list texts.now) result }
+    ensures { WritesNamed site_names (site_paths dir.now) (site_list texts.now) result }
 {
     let paths = paths_of(rt.alloc(), dir)?;
     let files = new_texts(&paths, texts);
@@ -42,6 +62,7 @@ fn write_texts(rt: &HostRuntime, dir: &str, texts: &SiteFiles) -> Result<Output,
 /// Puts each text beside the name and the path of its file.
 fn new_texts<'a>(paths: &'a SiteFiles, texts: &'a SiteFiles) -> [NewText<'a>; 8]
     ensures names { map name_in result ≡ site_names }
+    ensures paths { map path_in result ≡ site_list paths.now }
     ensures texts { map text_in result ≡ site_list texts.now }
 {
     [
@@ -67,6 +88,7 @@ fn new_texts<'a>(paths: &'a SiteFiles, texts: &'a SiteFiles) -> [NewText<'a>; 8]
 /// Puts a text beside the name and the path of its file.
 fn new_text<'a>(name: &'a str, path: &'a String, text: &'a String) -> NewText<'a>
     ensures name { result.name.now ≡ name.now }
+    ensures path { result.path.now ≡ string_bytes path.now }
     ensures text { result.text.now ≡ string_bytes text.now }
 {
     NewText {
@@ -78,7 +100,7 @@ fn new_text<'a>(name: &'a str, path: &'a String, text: &'a String) -> NewText<'a
 
 /// Writes files, if `init` can read them all.
 fn write_files(rt: &HostRuntime, files: &[NewText<'_>]) -> Result<Output, Failure>
-    ensures { WritesNamed (map name_in files.now) (map text_in files.now) result }
+    ensures { WritesNamed (map name_in files.now) (map path_in files.now) (map text_in files.now) result }
 {
     match find_too_long(files) {
         Some(file) => refuse_too_long(rt.alloc(), file),
@@ -88,7 +110,7 @@ fn write_files(rt: &HostRuntime, files: &[NewText<'_>]) -> Result<Output, Failur
 
 /// Writes files, and tells which got another text.
 fn tell_written(rt: &HostRuntime, files: &[NewText<'_>]) -> Result<Output, Failure>
-    ensures { TellsDone (map name_in files.now) result }
+    ensures { TellsDone (map name_in files.now) (map path_in files.now) result }
 {
     let told = replace_files(rt, files)?;
     Ok(Output::Done(told))

@@ -1,11 +1,11 @@
-use Rattle.std.proofs.Common.{map, subst, sym, Bor, List, ℕ}
+use Rattle.std.proofs.Common.{[], map, subst, sym, Bor, List, ℕ}
 use Rattle.std.proofs.lemmas.List.{take_all}
 use Rattle.cli_write.specs.PrivateFiles.{AreNamed}
 use Rattle.cli_write.proofs.NamedMounts.{named_next, none_named}
 use Rattle.cli_write.proofs.listed_files.named_mounts.Goals as goal
 
 pub loop-head-init : goal.loop-head-init
-loop-head-init c = none_named
+loop-head-init c = subst (λ (ms : List (Bor (List ℕ))). AreNamed [] (map (λ (mount : Bor (List ℕ)). mount.now) ms)) (sym c.new-mounts.ensures.items) none_named
 
 pub loop-head-preserved : goal.loop-head-preserved
 loop-head-preserved c =

@@ -1,4 +1,4 @@
-use Rattle.std.proofs.Common.{◌++◌, ◌∙◌, ap, map, sym, Bor, List, ℕ}
+use Rattle.std.proofs.Common.{[], ◌++◌, ◌∙◌, ap, get_or, map, refl, sym, Bor, List, ℕ}
 use Rattle.std.specs.List.{flat_map}
 use Rattle.std.specs.String.{string_bytes}
 use Rattle.std.proofs.lemmas.List.{take_all}
@@ -10,7 +10,8 @@ use Rattle.cli_write.proofs.listed_files.push_exports.Goals as goal
 
 pub loop-mount-preserved : goal.loop-mount-preserved
 loop-mount-preserved g c =
-    writes c.args.mounts.now c.loop-mount.mount-index c.mount-item.result c.loop-mount-test.true c.mount-item.is
+    let none : Bor (List ℕ) = record { ref_ptr = (0, 0); now = [] } in
+    writes c.args.mounts.now c.loop-mount.mount-index (get_or c.args.mounts.now c.loop-mount.mount-index none) none c.loop-mount-test.true refl
     (λ (mount : Bor (List ℕ)). exports_line c.args.filesystems.now (newest_in c.args.desk.now.state.heads) mount.now) (string_bytes c.args.text.now) (string_bytes c.loop-mount.text) (string_bytes c.push_mount.new.text) c.loop-mount.invariant c.in_ok-push_mount.ensures
 
 pub returns : goal.returns

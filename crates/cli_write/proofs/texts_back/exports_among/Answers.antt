@@ -10,7 +10,7 @@ use Rattle.cli_write.proofs.texts_back.exports_among.Goals as goal
 
 pub loop-mount-preserved : goal.loop-mount-preserved
 loop-mount-preserved g c =
-    finds_next c.args.mounts.now c.loop-mount.mount-index c.mount-item.result c.loop-mount-test.true c.mount-item.is
+    finds_next c.args.mounts.now c.loop-mount.mount-index c.mount-item.result c.mount-item.result c.loop-mount-test.true c.mount-item.is
     (λ (mount : Mount). stored_exports (newest_in c.args.desk.now.state.heads) (path_text mount.path)) (map stored_file c.loop-mount.files.items) c.loop-mount.invariant
     (map stored_file c.push_found.new.files.items) _ c.in_ok-found.ensures c.in_ok-push_found.ensures
 
