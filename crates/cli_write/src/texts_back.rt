@@ -12,6 +12,7 @@ ghost use Rattle.cli_write.specs.PrivateFiles.{with_found};
 ghost use Rattle.cli_write.specs.TextsBack as spec;
 
 use cli_output::site_folder::SiteFiles;
+use desk_core::Head;
 use desk_join::{ExportsFile, join};
 use desk_policy::{PolicyView, SiteFile, exports_file_name};
 use desk_store::Desk;
@@ -47,9 +48,17 @@ fn newest_text<S: Alter + Drop, V: PolicyView + Drop>(
 ) -> Result<String, AllocError>
     ensures { IfOk result (λ text. string_bytes text ≡ text_in (newest_in desk.now.state.heads) (file_name file)) }
 {
-    match desk.newest(file.name()) {
-        Some(head) => String::from_str(alloc, head.body.as_str()),
-        None => Ok(String::new(alloc)),
+    let text = String::from_str(alloc, body_of(desk, file.name()))?;
+    Ok(text)
+}
+
+/// Lends the newest text of a file, empty if it has none.
+fn body_of<'a, S: Alter + Drop, V: PolicyView + Drop>(desk: &'a Desk<S, V>, name: &str) -> &'a str
+    ensures { result.now ≡ text_in (newest_in desk.now.state.heads) name.now }
+{
+    match desk.newest(name) {
+        Some(head) => head.body.as_str(),
+        None => "",
     }
 }
 
@@ -68,7 +77,8 @@ fn joined_exports<S: Alter + Drop, V: PolicyView + Drop>(
     ensures { IfOk result (λ text. string_bytes text ≡ joined (spec.listed_exports (newest_in desk.now.state.heads))) }
 {
     let files = exports_among(alloc, desk, listed_now(desk).as_slice())?;
-    join(alloc, files.as_slice())
+    let text = join(alloc, files.as_slice())?;
+    Ok(text)
 }
 
 /// Finds the newest exports file of each of these file systems that has one, by mount point.
@@ -112,13 +122,30 @@ fn newest_exports<'a, S: Alter + Drop, V: PolicyView + Drop>(
     ensures { IfOk result (λ file. option_map stored_file file ≡ spec.stored_exports (newest_in desk.now.state.heads) mount.now) }
 {
     let name = exports_file_name(alloc, mount)?;
-    match desk.newest(name.as_str()) {
-        Some(head) => Ok(Some(ExportsFile {
-            name: head.file.as_str(),
-            rev: head.rev,
-            author: head.author.as_str(),
-            text: head.body.as_str(),
-        })),
-        None => Ok(None),
+    Ok(newest_file(desk, name.as_str()))
+}
+
+/// Finds the newest revision of a file, as an exports file.
+fn newest_file<'a, S: Alter + Drop, V: PolicyView + Drop>(
+    desk: &'a Desk<S, V>,
+    name: &str,
+) -> Option<ExportsFile<'a>>
+    ensures { option_map stored_file result ≡ option_map spec.exports_file (newest_in desk.now.state.heads name.now) }
+{
+    match desk.newest(name) {
+        Some(head) => Some(exports_file(head)),
+        None => None,
+    }
+}
+
+/// Returns a revision, as an exports file.
+fn exports_file(head: &Head) -> ExportsFile<'_>
+    ensures { stored_file result ≡ spec.exports_file head.now }
+{
+    ExportsFile {
+        name: head.file.as_str(),
+        rev: head.rev,
+        author: head.author.as_str(),
+        text: head.body.as_str(),
     }
 }

@@ -1,0 +1,13 @@
+use Rattle.std.proofs.Common.{[], ◌∙◌, ap, List, Option, ℕ}
+use Rattle.std.specs.Option.{option_map_or}
+use Rattle.desk_core.specs.Head.{Revision}
+use Rattle.cli_write.proofs.texts_back.body_of.Goals as goal
+
+abbrev body_in : Option Revision → List ℕ
+body_in newest = option_map_or (λ (revision : Revision). revision.body) newest []
+
+pub returns-in-Some : goal.returns-in-Some
+returns-in-Some g c = c.as_str.ensures ∙ ap body_in c.in-Some.ensures.newest
+
+pub returns-in-None : goal.returns-in-None
+returns-in-None g c = ap body_in c.in-None.ensures.newest
