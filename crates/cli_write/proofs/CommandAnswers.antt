@@ -1,7 +1,6 @@
 -- What is told by a desk on a copy, or of why there is none, is the answer of a command, for `files_command` and `write_command`.
-use Rattle.std.proofs.Common.{◌≡◌, Result, Ok, Err, inl, inr, subst, sym}
+use Rattle.std.proofs.Common.{Result, Ok, Err, inl, inr, subst, sym}
 use Rattle.desk_core.specs.Head.{Newest}
-use Rattle.desk_service.specs.declared.refused.Refused.TheVariants as by_desk
 use Rattle.cli_line.specs.CommandLine.{FilesWords, WriteWords}
 use Rattle.cli_files.specs.Files.{IsUnread}
 use Rattle.cli_files.specs.declared.failure.Failure.{Failure}

@@ -1,7 +1,7 @@
 -- What is found at the elements of a list so far, or told of them, with one more.
 use Rattle.std.proofs.Common.{◌≡◌, ℕ, ◌+◌, ◌<◌, ◌++◌, List, [], ◌∷◌, Option, None, Some, ap, get_or, length, map, sym, take, ◌∙◌}
 use Rattle.std.specs.List.{cons_option, filter_map, flat_map}
-use Rattle.std.proofs.lemmas.List.{append-nil, append_assoc, flat_map_more, take_more}
+use Rattle.std.proofs.lemmas.List.{append-nil, flat_map_more, take_more}
 use Rattle.std.proofs.lemmas.List.Elements.{filter_map-append}
 use Rattle.desk_join.specs.Joining.{StoredFile}
 use Rattle.cli_write.specs.PrivateFiles.{with_found}

@@ -1,8 +1,7 @@
 -- What `files` answers. (this project's own)
-use Rattle.std.specs.Prelude.{Result, Ok, Err}
+use Rattle.std.specs.Prelude.{◌≡◌, Result, Ok, Err}
 use Rattle.std.specs.String.{string_bytes}
 use Rattle.desk_core.specs.Head.{Newest}
-use Rattle.desk_service.specs.declared.refused.Refused.TheVariants as by_desk
 use Rattle.cli_line.specs.CommandLine.{FilesWords}
 use Rattle.cli_files.specs.declared.failure.Failure.{Failure}
 use Rattle.cli_files.specs.declared.failure.Failure.TheVariants.{Memory}

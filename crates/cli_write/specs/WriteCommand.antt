@@ -3,7 +3,6 @@ use Rattle.std.specs.Prelude.{◌≡◌, ◌⊎◌, ℕ, ◌++◌, Bool, List, [
 use Rattle.std.specs.String.{string_bytes}
 use Rattle.desk_policy.specs.SiteFile.{all_files, file_name}
 use Rattle.desk_core.specs.Head.{Newest}
-use Rattle.desk_service.specs.declared.refused.Refused.TheVariants as by_desk
 use Rattle.cli_line.specs.CommandLine.{WriteWords}
 use Rattle.cli_files.specs.Files.{IsUnread}
 use Rattle.cli_files.specs.declared.failure.Failure.{Failure}
