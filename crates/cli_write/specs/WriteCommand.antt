@@ -36,26 +36,26 @@ RefusesTooLong name (Ok (Refused (refused.TooLarge file) told)) = file ≡ name
 RefusesTooLong name (Err Memory) = Unit {0}
 RefusesTooLong name result = ⊥
 
--- the files of these names, at these paths, that got another text are told
+-- some of the files of these names are told, in their order; or one at these paths cannot be written
 abbrev pub TellsDone : List (List ℕ) → List (List ℕ) → Result Output Failure → Type 0
 TellsDone names paths (Ok (Done told)) = TellsWritten names (string_bytes told)
 TellsDone names paths (Ok output) = ⊥
 TellsDone names paths (Err failure) = IsUnwrittenIn paths failure
 
--- Files of these names, at these paths, get these texts, and those that got another are told; or the first that `init` could not
--- read is refused, and none is written.
+-- Of files of these names, at these paths, whose texts `init` can read, some are told, in their order: which of them got its text,
+-- only the system can say. Or the first whose text it could not read is refused, or one cannot be written.
 abbrev pub WritesNamed : List (List ℕ) → List (List ℕ) → List (List ℕ) → Result Output Failure → Type 0
 WritesNamed names paths texts (Ok (Done told)) = (first_too_long names texts ≡ None) × TellsWritten names (string_bytes told)
 WritesNamed names paths texts (Ok (Refused (refused.TooLarge file) told)) = first_too_long names texts ≡ Some file
 WritesNamed names paths texts (Ok output) = ⊥
 WritesNamed names paths texts (Err failure) = IsUnwrittenIn paths failure
 
--- the texts that go back, by newest revisions, are written into a folder
+-- the same of the texts that go back, by newest revisions, and of the eight files in a folder
 abbrev pub WritesNewest : List ℕ → Newest → Result Output Failure → Type 0
 WritesNewest folder newest result = WritesNamed site_names (site_paths folder) (texts_back newest) result
 
--- The files that the database at a path writes, by its newest revisions; or that there is no desk on it, or that a file cannot be
--- written. Out of memory says nothing.
+-- What is told of the files of a folder, by the newest revisions of the database at a path; or that there is no desk on it, or that
+-- a file cannot be written. Out of memory says nothing.
 abbrev pub AnswersWrite : WriteWords → Result Output Failure → Type 0
 AnswersWrite words (Ok (Refused (refused.Desk why) told)) = TellsNoDesk words.db (Ok (Refused (refused.Desk why) told))
 AnswersWrite words (Ok output) = (newest : Newest) × AreNewest newest × WritesNewest words.dir newest (Ok output)
