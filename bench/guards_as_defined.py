@@ -87,7 +87,7 @@ def custodian_answer(number, before, words):
     return first(breaks, (1, 3, 4, 7)), tuple(words)
 
 
-@functools.lru_cache(100000)
+@functools.lru_cache(20000)
 def read_custodians(text):
     read = lines_table(custodian_answer, text)
     if read[0] == "ok" and not any(row[0] == "site" for row in read[1]):
@@ -127,7 +127,7 @@ def filesystem_answer(number, before, words):
     return first(breaks, (1, 4, 5, 8, 9)), Mount(path, tuple(custodians_on(words)), is_marked(words), number)
 
 
-@functools.lru_cache(100000)
+@functools.lru_cache(20000)
 def read_filesystems(text):
     read = lines_table(filesystem_answer, text)
     return read if read[0] == "fault" else ("ok", tuple(sorted(read[1], key=lambda mount: path_text(mount.path))))
@@ -144,7 +144,7 @@ def hosts_answer(number, before, words):
     return first(breaks, (1, 2)), words
 
 
-@functools.lru_cache(100000)
+@functools.lru_cache(20000)
 def read_hosts(text):
     return lines_table(hosts_answer, text)
 
@@ -280,7 +280,7 @@ def clients_of(settings, names):
     return ("net", address >> (32 - prefix) << (32 - prefix), prefix, value if classful else None)
 
 
-@functools.lru_cache(300000)
+@functools.lru_cache(20000)
 def entries_in(profile, body, table, own):
     """The entries of an exports text, as (line, terms, clients), or the first fault of its first faulty line."""
     entries = []
@@ -329,7 +329,7 @@ def exports_name(path):
     return "exports:" + path_text(path)
 
 
-@functools.lru_cache(100000)
+@functools.lru_cache(20000)
 def class_warnings(site):
     """Each (file, line, word) of a network whose class counts, in the site's policy."""
     read = read_site(site)
@@ -337,7 +337,7 @@ def class_warnings(site):
     return [(file, row.line, row.clients[3]) for file, row in found if row.clients[0] == "net" and row.clients[3] is not None]
 
 
-@functools.lru_cache(100000)
+@functools.lru_cache(20000)
 def read_site(site):
     """("ok", table, rows of each file system) or ("fault", fault)."""
     custodians = read_custodians(site.custodians)
@@ -361,7 +361,7 @@ def read_site(site):
     return ("ok", table[1], rows)
 
 
-@functools.lru_cache(100000)
+@functools.lru_cache(20000)
 def site_fault(site):
     """The fault of a site, if it is not consistent."""
     read = read_site(site)

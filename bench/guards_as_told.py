@@ -89,6 +89,8 @@ class Reader:
 
     def remembered(self, what, *text):
         key = (what, *text)
+        if len(self.known) > 20000:
+            self.known.clear()
         if key not in self.known:
             try:
                 self.known[key] = getattr(self, what)(*text)
