@@ -38,7 +38,10 @@ abbrev pub select_numbers : List ℕ
 select_numbers = codes "SELECT rev, author FROM file_rev WHERE file = ?1"
 
 abbrev pub select_revision : List ℕ
-select_revision = codes "SELECT author, body FROM file_rev WHERE file = ?1 AND rev = ?2"
+select_revision = codes "SELECT author, profile, body FROM file_rev WHERE file = ?1 AND rev = ?2"
+
+abbrev pub select_approver : List ℕ
+select_approver = codes "SELECT approver FROM approval WHERE file = ?1 AND rev = ?2"
 
 -- SQL takes two values for equal
 abbrev pub are_equal : Value → Value → Bool
@@ -51,12 +54,15 @@ is_of file row = are_equal (column row 0) (Words file)
 abbrev pub is_at : List ℕ → ℕ → Row → Bool
 is_at file rev row = is_of file row && are_equal (column row 1) (Int (pos rev))
 
--- the number and the author in a row of `file_rev`, and the author and the text
+-- the number and the author in a row of `file_rev`; the author, the profile and the text; and the approver in a row of `approval`
 abbrev pub number_and_author : Row → Row
 number_and_author row = column row 1 ∷ column row 2 ∷ []
 
 abbrev pub author_and_text : Row → Row
-author_and_text row = column row 2 ∷ column row 4 ∷ []
+author_and_text row = column row 2 ∷ column row 3 ∷ column row 4 ∷ []
+
+abbrev pub approver_of : Row → Row
+approver_of row = column row 2 ∷ []
 
 -- the numbers and authors of a file's revisions, in rows; the author and the text of one revision, in a row
 abbrev pub numbers_in : List ℕ → Database → List Row
@@ -64,3 +70,7 @@ numbers_in file db = map number_and_author (filter (is_of file) (rows_of db (cod
 
 abbrev pub revision_in : List ℕ → ℕ → Database → List Row
 revision_in file rev db = map author_and_text (filter (is_at file rev) (rows_of db (codes "file_rev")))
+
+-- who approved one revision, in a row
+abbrev pub approver_in : List ℕ → ℕ → Database → List Row
+approver_in file rev db = map approver_of (filter (is_at file rev) (rows_of db (codes "approval")))
