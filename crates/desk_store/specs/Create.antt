@@ -29,7 +29,7 @@ use Rattle.desk_core.specs.Site.{IsConsistent}
 use Rattle.desk_store.specs.Desk.{IsSiteHistory, LeavesTables, Shown, Stands}
 use Rattle.desk_store.specs.History.{Holds}
 use Rattle.desk_core.specs.Views.{Kept}
-use Rattle.desk_store.specs.Tables.{EntryRows, HasTables, IsAtRest, IsFree, LeavesCommit, SpareFrozen, Stores, approval_table, file_rev_table, has_table, meta_table, proposal_table, rows_of}
+use Rattle.desk_store.specs.Tables.{EntryRows, HasTables, IsAtRest, IsFree, LeavesCommit, SpareFrozen, Stores, approval_table, are_referred, file_rev_table, has_table, meta_table, proposal_table, rows_of}
 use Rattle.desk_exports.specs.declared.profile.Profile.TheVariants.{Two}
 use Rattle.desk_core.specs.declared.entry.Entry.{Entry}
 use Rattle.desk_core.specs.declared.entry.Entry.TheVariants.{Revised}
@@ -39,9 +39,9 @@ use Rattle.desk_store.specs.declared.error.Task.TheVariants as task
 use Rattle.desk_store.specs.declared.error.CreateError.{CreateError}
 use Rattle.desk_store.specs.declared.error.CreateError.TheVariants as refused
 
--- one of the four tables is there
+-- one of the four tables is there, or a table refers to one of them by a foreign key
 abbrev pub has_one : Schema → Bool
-has_one schema = has_table schema (codes "meta") || has_table schema (codes "file_rev") || has_table schema (codes "approval") || has_table schema (codes "proposal")
+has_one schema = has_table schema (codes "meta") || has_table schema (codes "file_rev") || has_table schema (codes "approval") || has_table schema (codes "proposal") || are_referred schema
 
 -- of each of the seven files its text
 abbrev pub text_of_seven : SiteTexts → List ℕ → List ℕ
@@ -161,12 +161,13 @@ pub record IsUtf8Revision (revision : Revision) : Type 0 where
 abbrev pub insert_version : List ℕ
 insert_version = codes "INSERT INTO meta(version) VALUES(2)"
 
--- the four tables can be made: their names are free, and `sqlite_sequence` is there if a table counts
+-- the four tables can be made: their names are free, no table refers to them, and `sqlite_sequence` is there if a table counts
 pub record HasRoom (schema : Schema) : Type 0 where
   pub meta : IsFree schema (codes "meta")
   pub file_rev : IsFree schema (codes "file_rev")
   pub approval : IsFree schema (codes "approval")
   pub proposal : IsFree schema (codes "proposal")
+  pub unreferred : are_referred schema ≡ false
   pub whole : lacks_sequence schema ≡ false
 
 -- a schema with `meta` behind its tables, and the other three, each with the index of its key, behind that
