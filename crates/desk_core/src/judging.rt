@@ -140,6 +140,13 @@ pub fn is_file_name(alloc: Global, file: &str) -> Result<bool, AllocError>
     if is_of_seven(file) {
         return Ok(true);
     }
+    is_exports_name(alloc, file)
+}
+
+/// Tests whether this is the name of an exports file: `exports:` and a path in printed form. A proposal has no other.
+pub fn is_exports_name(alloc: Global, file: &str) -> Result<bool, AllocError>
+    ensures { IfOk result (λ named. IsTrue named ↔ spec.IsExportsName file.now) }
+{
     match mount_of(file) {
         Some(mount) => is_printed_path(alloc, mount),
         None => Ok(false),

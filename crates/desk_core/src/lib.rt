@@ -26,7 +26,7 @@ pub mod state;
 pub use edit::{Edit, Refusal};
 pub use entry::Entry;
 pub use head::{Head, LAST_REVISION, LONGEST_REVISION, can_be_kept};
-pub use judging::{Case, is_file_name};
+pub use judging::{Case, is_exports_name, is_file_name};
 pub use laws::{
     answered_edits_keep_the_numbers, answers_are_right, consistent_sites_have_no_fault,
     edits_take_effect, guarded_files_have_two_keepers, histories_stay_numbered,

@@ -71,6 +71,15 @@ impl<V: PolicyView + Drop> Model for Accepted<V> {
     ghost invariant = { λ a. (a.room.items ≡ []) × (a.proposal_room.items ≡ []) };
 }
 
+impl<V: PolicyView + Drop> Accepted<V> {
+    /// Lends what is to be stored of the edit: its revision, or its proposal.
+    pub fn entry(&self) -> &Entry
+        ensures { result.now ≡ self.now.entry }
+    {
+        &self.entry
+    }
+}
+
 /// What an edit is answered that is not refused.
 #[derive(Drop)]
 pub enum Judged<A> {
