@@ -29,7 +29,7 @@ use Rattle.desk_core.specs.Site.{IsConsistent}
 use Rattle.desk_store.specs.Desk.{IsSiteHistory, LeavesTables, Shown, Stands}
 use Rattle.desk_store.specs.History.{Holds}
 use Rattle.desk_core.specs.Views.{Kept}
-use Rattle.desk_store.specs.Tables.{EntryRows, HasTables, IsAtRest, IsFree, LeavesCommit, SpareFrozen, Stores, approval_table, are_referred, file_rev_table, has_table, meta_table, proposal_table, rows_of}
+use Rattle.desk_store.specs.Tables.{HasTables, IsAtRest, IsFree, LeavesCommit, SpareFrozen, Writes, approval_table, are_referred, file_rev_table, has_later, has_table, meta_table, proposal_table, rows_of}
 use Rattle.desk_exports.specs.declared.profile.Profile.TheVariants.{Two}
 use Rattle.desk_core.specs.declared.entry.Entry.{Entry}
 use Rattle.desk_core.specs.declared.entry.Entry.TheVariants.{Revised}
@@ -41,7 +41,7 @@ use Rattle.desk_store.specs.declared.error.CreateError.TheVariants as refused
 
 -- one of the four tables is there, or a table refers to one of them by a foreign key
 abbrev pub has_one : Schema → Bool
-has_one schema = has_table schema (codes "meta") || has_table schema (codes "file_rev") || has_table schema (codes "approval") || has_table schema (codes "proposal") || are_referred schema
+has_one schema = has_table schema (codes "meta") || has_table schema (codes "file_rev") || has_later schema || are_referred schema
 
 -- of each of the seven files its text
 abbrev pub text_of_seven : SiteTexts → List ℕ → List ℕ
@@ -200,10 +200,6 @@ pub record MakesEmpty (old after : Database) : Type 0 where
   pub steps : List Database
   pub frozen : SpareFrozen old steps after
 
--- the entry's rows of first revisions: no approval, and no proposal
-abbrev pub first_rows : List Row → EntryRows
-first_rows rows = record { file = []; revisions = rows; approvals = []; proposals = [] }
-
 -- What a step within a transaction leaves: nothing is committed, and a crash leaves what it could before; if it succeeded, the
 -- transaction goes on, and this was done.
 pub record RunsInside {T : Type 0} (old new : State) (result : Result T Error) (Did : State → State → Type 0) : Type 0 where
@@ -219,9 +215,22 @@ Ran text old new = (count : ℕ) × Executes text [] old new (Ok count)
 abbrev pub MakesRoom : State → State → Type 0
 MakesRoom old new = HasRoom old.now.schema → MakesEmpty old.now new.now
 
+-- the two later tables are made, if their names are free: they are behind the others, with no row, and all else is as before
+pub record HasLater (old new : Database) : Type 0 where
+  pub schema : new.schema ≡ created (created old.schema (approval_table 0)) (proposal_table 0)
+  pub no_approvals : rows_of new (codes "approval") ≡ []
+  pub no_proposals : rows_of new (codes "proposal") ≡ []
+  pub others : AllByRecursion (λ t. new.trees t.tree ≡ old.trees t.tree) old.schema.tables
+  pub steps : List Database
+  pub frozen : SpareFrozen old steps new
+  pub sound : IsDatabase new
+
+abbrev pub MakesLater : State → State → Type 0
+MakesLater old new = IsFree old.now.schema (codes "approval") → IsFree old.now.schema (codes "proposal") → lacks_sequence old.now.schema ≡ false → HasLater old.now new.now
+
 -- a revision's row is added, if the tables are there
 abbrev pub AddsRow : Row → State → State → Type 0
-AddsRow row old new = HasTables old.now.schema → Stores (first_rows (row ∷ [])) old.now new.now
+AddsRow row old new = HasTables old.now.schema → Writes (row ∷ []) [] (λ proposals. proposals) old.now new.now
 
 -- a transaction is open
 pub record IsInside (s : State) : Type 0 where
@@ -230,7 +239,7 @@ pub record IsInside (s : State) : Type 0 where
 
 -- the rows are added, if the tables are there
 abbrev pub AddsRows : List Row → State → State → Type 0
-AddsRows rows old new = HasTables old.now.schema → Stores (first_rows rows) old.now new.now
+AddsRows rows old new = HasTables old.now.schema → Writes rows [] (λ proposals. proposals) old.now new.now
 
 -- the history is stored in new tables, if there is room for them
 abbrev pub Fills : List Entry → State → State → Type 0

@@ -1,5 +1,5 @@
 -- What a desk shows, how it stands to a history, and what its calls promise. (this project's own)
-use Rattle.std.specs.Prelude.{◌≡◌, ◌≢◌, ◌⊎◌, ℕ, ◌+◌, ◌<◌, ◌≤◌, ◌++◌, ◌==◌, List, [], ◌∷◌, Option, Some, None, Result, Ok, Err, All, Contains, IfOk, IsTrue, OnErr, OnOk, find, length, if◌then◌else◌, refl}
+use Rattle.std.specs.Prelude.{◌≡◌, ◌≢◌, ◌⊎◌, ℕ, ◌+◌, ◌<◌, ◌≤◌, ◌++◌, ◌==◌, Bool, true, false, List, [], ◌∷◌, Option, Some, None, Result, Ok, Err, All, Contains, IfOk, IsTrue, OnErr, OnOk, find, length, if◌then◌else◌, refl}
 use Rattle.std.specs.List.{cons_option}
 use Rattle.std.specs.Option.{option_map}
 use Rattle.std.specs.Str.{IsUtf8}
@@ -20,6 +20,7 @@ use Rattle.desk_core.specs.Standing.{Standing, with_entry}
 use Rattle.desk_core.specs.State.{IsJudged, again, standing}
 use Rattle.desk_core.specs.Views.{Kept, Ready, kept_code}
 use Rattle.desk_core.specs.declared.entry.Entry.{Entry}
+use Rattle.desk_core.specs.declared.entry.Entry.TheVariants as entry
 use Rattle.desk_core.specs.declared.proposal.Proposal.{Proposal}
 use Rattle.desk_store.specs.Tables.{EntryRows, IsAtRest, LeadsTo, LeavesCommit, Stores, StoresIn}
 use Rattle.desk_store.specs.History.{Holds, entry_rows, revisions_in}
@@ -195,6 +196,11 @@ pub record CommitsAtMost {T E : Type 0} (Change : Database → Database → Type
 -- an answer adds nothing
 abbrev pub AddsNothing : {V : Type 0} → Kept V → Edit → Option Answer → Type 0
 AddsNothing state e answer = added_if (standing state) e answer ≡ []
+
+-- what is stored is a proposal
+abbrev pub is_proposed : Entry → Bool
+is_proposed (entry.Revised revision) = false
+is_proposed (entry.Proposed proposal) = true
 
 -- what an edit did to a desk, all together (each part is a clause of `edit`)
 pub record IsEdited {V : Type 0} (old new : State) (before after : Kept V) (e : Edit) (result : Result Done DeskError) : Type 0 where

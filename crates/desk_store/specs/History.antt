@@ -10,7 +10,7 @@ use Rattle.desk_core.specs.History.{IsHistory, pending_in, revision_in}
 use Rattle.desk_core.specs.declared.entry.Entry.{Entry}
 use Rattle.desk_core.specs.declared.entry.Entry.TheVariants.{Revised, Proposed}
 use Rattle.desk_core.specs.declared.proposal.Proposal.{Proposal}
-use Rattle.desk_store.specs.Tables.{EntryRows, HasFirstTables, HasTables, approval_row, has_table, proposal_row, revision_row, rows_of}
+use Rattle.desk_store.specs.Tables.{EntryRows, HasFirstTables, HasTables, approval_row, has_later, proposal_row, revision_row, rows_of}
 
 -- the row of a revision, that of its approval if it has one, and that of a proposal
 abbrev pub row_of : Revision → Row
@@ -45,8 +45,7 @@ pub record Holds (db : Database) (history : List Entry) : Type 0 where
 -- SQL here understands it. So nobody approved any of its revisions, and nothing is pending.
 pub record HoldsFirst (db : Database) (history : List Entry) : Type 0 where
   pub tables : HasFirstTables db.schema
-  pub no_approval : has_table db.schema (codes "approval") ≡ false
-  pub no_proposal : has_table db.schema (codes "proposal") ≡ false
+  pub first : has_later db.schema ≡ false
   pub version : rows_of db (codes "meta") ≡ (Int (pos 1) ∷ []) ∷ []
   pub revisions : IsPermutation (map row_of (revisions_in history)) (rows_of db (codes "file_rev"))
   pub approvals : filter_map approval_of (revisions_in history) ≡ []

@@ -5,6 +5,7 @@ pub mod Rows
 pub mod Laws
 pub mod Open
 pub mod Create
+pub mod Storing
 pub mod Newest
 pub mod Looks
 pub mod Error

@@ -12,7 +12,7 @@ ghost use Rattle.desk_core.specs.Site.{IsConsistent, IsInForce, site_in};
 ghost use Rattle.desk_core.specs.Standing.{proposals_in};
 ghost use Rattle.desk_core.specs.State.{standing};
 ghost use Rattle.desk_store.specs.Create.{IsMade, JudgesSite, MayMake, RefusesToCreate, answer_of, first_revisions};
-ghost use Rattle.desk_store.specs.Desk.{AddsNothing, CommitsOne, HasGoodDisk, HasStored, History, IsAccepted, IsEdited, IsJudgedBy, LeavesTables, StandsAt, StaysAsItWas, StepsTo, revision_at, stored_of, told};
+ghost use Rattle.desk_store.specs.Desk.{AddsNothing, CommitsOne, HasGoodDisk, HasStored, History, IsAccepted, IsEdited, IsJudgedBy, LeavesTables, StandsAt, StaysAsItWas, StepsTo, is_proposed, revision_at, stored_of, told};
 ghost use Rattle.desk_store.specs.History.{entry_rows};
 ghost use Rattle.desk_store.specs.Open.{IsOfOpening, IsOurs, LeavesOpened, MayMigrate, OpensAt, held_in};
 ghost use Rattle.desk_store.specs.Rows.{IsOfEdit, IsOfTask};
@@ -25,8 +25,9 @@ use crate::database::read_state;
 use crate::error::{CreateError, DeskError, Task};
 use crate::laws::answered_edits_keep_site_histories;
 use crate::rows::{find_revision, list_revisions, not_stored};
-use crate::tables::{append_revision, read_numbers, read_revision};
-use desk_core::{Accepted, Edit, Head, Judged, Proposal, State, standing_of_a_longer_history};
+use crate::storing::append_entry;
+use crate::tables::{read_approver, read_numbers, read_revision};
+use desk_core::{Accepted, Edit, Entry, Head, Judged, Proposal, State, standing_of_a_longer_history};
 use desk_exports::Profile;
 use desk_policy::{PolicyView, Site};
 use desk_text::{ReadError, Sequence, Text};
@@ -191,9 +192,16 @@ impl<S: Alter + Drop, V: PolicyView + Drop> Desk<S, V> {
         ensures errors { IfErr result (IsOfTask tasks.ReadRevisions) }
         ensures tables { LeavesTables (state S.Store self.old.conn) (state S.Store self.new.conn) }
     {
-        match read_revision(&mut self.conn, file, rev) {
-            Ok(rows) => find_revision(alloc, rows.as_slice()),
-            Err(e) => Err(not_stored(Task::ReadRevisions, e)),
+        let rows = match read_revision(&mut self.conn, file, rev) {
+            Ok(rows) => rows,
+            Err(e) => return Err(not_stored(Task::ReadRevisions, e)),
+        };
+        match read_approver(&mut self.conn, file, rev) {
+            Ok(approvals) => find_revision(alloc, rows.as_slice(), approvals.as_slice()),
+            Err(e) => {
+                drop(rows);
+                Err(not_stored(Task::ReadRevisions, e))
+            }
         }
     }
 
@@ -277,7 +285,7 @@ impl<S: Alter + Drop, V: PolicyView + Drop> Desk<S, V> {
         }
     }
 
-    /// Stores the revision of an edit that this desk, as it is, has accepted, and puts it in force.
+    /// Stores the revision or the proposal of an edit that this desk, as it is, has accepted, and puts a revision in force.
     fn store(&mut self, edit: &Edit<'_>, accepted: Accepted<V>) -> Result<Done, DeskError>
         requires sound { IsConsistent (site_in (newest_in self.old.state.heads)) }
         requires accepted { IsAccepted V.in_force self.old.state (asked edit.now) accepted }
@@ -287,14 +295,26 @@ impl<S: Alter + Drop, V: PolicyView + Drop> Desk<S, V> {
         standing_of_a_longer_history();
         answered_edits_keep_site_histories();
         let rev = edit.base + 1;
-        let body = edit.text.as_bytes();
-        if let Err(e) = append_revision(&mut self.conn, edit.file, rev, edit.caller, body) {
-            return Err(not_stored(Task::AddRevision, e));
+        let proposed = is_proposed(accepted.entry());
+        if let Err(e) = append_entry(&mut self.conn, accepted.entry()) {
+            drop(accepted);
+            return Err(not_stored(Task::AddEntry, e));
         }
         self.current.apply(accepted);
         Ok(Done {
             rev,
             already: false,
+            proposed,
         })
+    }
+}
+
+/// Tests whether what is stored is a proposal.
+fn is_proposed(entry: &Entry) -> bool
+    ensures { result ≡ is_proposed entry.now }
+{
+    match entry {
+        Entry::Proposed(_) => true,
+        Entry::Revised(_) => false,
     }
 }

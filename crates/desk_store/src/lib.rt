@@ -21,9 +21,12 @@ mod newest;
 mod opening;
 mod rows;
 mod stored;
+mod storing;
 mod tables;
 
-pub use declared::{declares_file_rev, declares_meta};
+pub use declared::{
+    Version, declares_approval, declares_file_rev, declares_meta, declares_proposal,
+};
 pub use desk::{Desk, Done, Revision};
 pub use error::{
     CreateError, DeskError, MEMORY_NUMBER, SCHEMA_NUMBER, STORE_NUMBER, StoreFault, Task,
