@@ -2,6 +2,7 @@ pub mod Tables
 pub mod History
 pub mod Desk
 pub mod Rows
+pub mod StoredRows
 pub mod Laws
 pub mod Open
 pub mod Create

@@ -1,5 +1,5 @@
 -- What opening a desk promises. (this project's own)
-use Rattle.std.specs.Prelude.{◌≡◌, ◌≢◌, ◌⊎◌, Bool, false, List, [], Result, Ok, Err, IsTrue, codes, ◌==◌}
+use Rattle.std.specs.Prelude.{◌≡◌, ◌≢◌, ◌⊎◌, ℕ, Bool, false, List, [], ◌∷◌, Result, Ok, Err, IsTrue, codes, pos, ◌==◌}
 use Rattle.std.specs.List.{AllByRecursion}
 use Rattle.std.specs.Option.{option_map_or}
 use Rattle.sqlite_trees.specs.declared.store.Store.{Ghosts}
@@ -10,6 +10,8 @@ use Rattle.sqlite.specs.Effect.{Database, IsDatabase}
 use Rattle.sqlite.specs.Schema.{Schema}
 use Rattle.sqlite.specs.Table.{Table}
 use Rattle.sqlite.specs.Tree.{Trees}
+use Rattle.sqlite.specs.Order.{Row}
+use Rattle.sqlite.specs.declared.types.Value.TheVariants.{Int}
 use Rattle.sqlite.specs.declared.error.Error.TheVariants.{SqliteFailure}
 use Rattle.sqlite.specs.declared.error.ErrorCode.TheVariants as code
 use Rattle.desk_core.specs.declared.entry.Entry.{Entry}
@@ -21,6 +23,16 @@ use Rattle.desk_store.specs.declared.error.DeskError.TheVariants as error
 use Rattle.desk_store.specs.declared.error.StoreFault.{StoreFault}
 use Rattle.desk_store.specs.declared.error.Task.{Task}
 use Rattle.desk_store.specs.declared.error.Task.TheVariants as task
+use Rattle.desk_store.specs.declared.declared.Version.{Version}
+use Rattle.desk_store.specs.declared.declared.Version.TheVariants as version
+
+-- the number of a version, and the rows of `meta` that tell it
+abbrev pub version_number : Version → ℕ
+version_number version.First = 1
+version_number version.Second = 2
+
+abbrev pub version_rows : Version → List Row
+version_rows own = (Int (pos (version_number own)) ∷ []) ∷ []
 
 -- a schema with the two later tables, and the indexes of their keys, behind it
 abbrev pub with_later : Schema → Schema

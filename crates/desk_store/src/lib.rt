@@ -19,6 +19,7 @@ mod first;
 pub mod laws;
 mod newest;
 mod opening;
+mod pending;
 mod rows;
 mod stored;
 mod storing;
