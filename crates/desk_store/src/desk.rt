@@ -136,6 +136,15 @@ impl<S: Alter + Drop, V: PolicyView + Drop> Desk<S, V> {
         self.current.heads()
     }
 
+    /// Lends the proposals, in no order. This takes no statement.
+    pub fn proposals(&self) -> &[Proposal]
+        ensures proposals { result.now ≡ self.now.state.proposals }
+        ensures stood_at { (history pending : History) → StandsAt S.Store self.now history pending
+            → (file : List ℕ) → proposals_in result.now file ≡ (standing_of history).proposals file }
+    {
+        self.current.proposals()
+    }
+
     /// Finds the proposal of a file. This takes no statement.
     pub fn proposal(&self, file: &str) -> Option<&Proposal>
         ensures proposal { option_copied result ≡ proposals_in self.now.state.proposals file.now }
