@@ -216,7 +216,7 @@ abbrev pub MakesRoom : State → State → Type 0
 MakesRoom old new = HasRoom old.now.schema → MakesEmpty old.now new.now
 
 -- the two later tables are made, if their names are free: they are behind the others, with no row, and all else is as before
-pub record HasLater (old new : Database) : Type 0 where
+pub record LaterAreMade (old new : Database) : Type 0 where
   pub schema : new.schema ≡ created (created old.schema (approval_table 0)) (proposal_table 0)
   pub no_approvals : rows_of new (codes "approval") ≡ []
   pub no_proposals : rows_of new (codes "proposal") ≡ []
@@ -226,7 +226,7 @@ pub record HasLater (old new : Database) : Type 0 where
   pub sound : IsDatabase new
 
 abbrev pub MakesLater : State → State → Type 0
-MakesLater old new = IsFree old.now.schema (codes "approval") → IsFree old.now.schema (codes "proposal") → lacks_sequence old.now.schema ≡ false → HasLater old.now new.now
+MakesLater old new = IsFree old.now.schema (codes "approval") → IsFree old.now.schema (codes "proposal") → lacks_sequence old.now.schema ≡ false → LaterAreMade old.now new.now
 
 -- a revision's row is added, if the tables are there
 abbrev pub AddsRow : Row → State → State → Type 0
