@@ -361,8 +361,11 @@ class Desk:
         return self.reader.remembered("site", texts["custodians"], texts["filesystems"], texts["hosts"], tuple(sorted(exports.items())))
 
     def class_warnings(self):
-        """Each (file, line, network) of a network whose class counts."""
-        files = self.consistent()[1]
+        """Each (file, line, network) of a network whose class counts; None if the site has a fault, as by a wrong reading."""
+        try:
+            files = self.consistent()[1]
+        except Faulty:
+            return None
         return [("exports:" + mount, line[0], line[3]) for mount in sorted(files) for line in files[mount] if line[3] is not None]
 
     def put(self, file, base, caller, key, text):
