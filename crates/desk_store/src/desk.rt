@@ -27,7 +27,9 @@ use crate::laws::answered_edits_keep_site_histories;
 use crate::rows::{find_revision, list_revisions, not_stored};
 use crate::storing::append_entry;
 use crate::tables::{read_approver, read_numbers, read_revision};
-use desk_core::{Accepted, Edit, Entry, Head, Judged, Proposal, State, standing_of_a_longer_history};
+use desk_core::{
+    Accepted, Edit, Entry, Head, Judged, Proposal, State, standing_of_a_longer_history,
+};
 use desk_exports::Profile;
 use desk_policy::{PolicyView, Site};
 use desk_text::{ReadError, Sequence, Text};

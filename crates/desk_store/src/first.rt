@@ -199,7 +199,11 @@ fn fault_of_seven<V: PolicyView + Drop>(alloc: Global, site: &Site) -> Result<()
     let Ok(heads) = revisions_of_seven(alloc, site) else {
         return Err(CreateError::Memory);
     };
-    let state: Result<State<V>, ReadError<SiteFault>> = State::from_heads(alloc, heads, Vec::new(alloc));
+    let state: Result<State<V>, ReadError<SiteFault>> = State::from_heads(
+        alloc,
+        heads,
+        Vec::new(alloc),
+    );
     match state {
         Ok(_) => Ok(()),
         Err(ReadError::Fault(fault)) => if_seven(fault),

@@ -73,10 +73,7 @@ fn is_of(approval: &Approval, head: &Head) -> bool {
 pub(crate) fn may_follow(heads: &[Head], proposals: &[Proposal]) -> bool
     ensures { IsTrue result ↔ MayFollow (newest_in heads.now) proposals.now }
 {
-    stand_once(proposals)
-        && proposals
-            .iter()
-            .all(|proposal| follows(heads, proposal))
+    stand_once(proposals) && proposals.iter().all(|proposal| follows(heads, proposal))
 }
 
 /// Tests whether no two proposals are of one file. (A database has at most one for each, by its key.)

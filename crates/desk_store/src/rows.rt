@@ -138,11 +138,7 @@ fn author_in(alloc: Global, row: &Row) -> Result<Text, DeskError>
 }
 
 /// Reads the author, the profile and the text in a row, of a revision with this approver.
-fn revision_in(
-    alloc: Global,
-    row: &Row,
-    approver: Option<Text>,
-) -> Result<Revision, DeskError>
+fn revision_in(alloc: Global, row: &Row, approver: Option<Text>) -> Result<Revision, DeskError>
     ensures says { IfOk result (Says row.now) }
     ensures approver { IfOk result (λ found. found.approver ≡ approver) }
     ensures errors { IfErr result (IsOfTask tasks.ReadRevisions) }

@@ -53,8 +53,9 @@ fn revision_in(alloc: Global, row: &Row) -> Result<Head, DeskError>
     ensures errors { IfErr result IsOfRows }
 {
     match parts_in(row) {
-        Some((file, rev, author, profile, body)) =>
-            revision_of(alloc, file, rev, author, profile, body),
+        Some((file, rev, author, profile, body)) => revision_of(
+            alloc, file, rev, author, profile, body,
+        ),
         None => Err(DeskError::Schema),
     }
 }
@@ -215,9 +216,11 @@ fn approval_in(alloc: Global, row: &Row) -> Result<Approval, DeskError>
     if row.column_count() != 3 {
         return Err(DeskError::Schema);
     }
-    let (Some(file), Some(rev), Some(approver)) =
-        (words_in(row, 0), number_in(row, 1), words_in(row, 2))
-    else {
+    let (Some(file), Some(rev), Some(approver)) = (
+        words_in(row, 0),
+        number_in(row, 1),
+        words_in(row, 2),
+    ) else {
         return Err(DeskError::Schema);
     };
     Ok(Approval {
