@@ -1,0 +1,100 @@
+//! Who approved the revisions that are read of a database, and the proposals that are pending behind them.
+
+ghost use Rattle.std.specs.Prelude.{◌≡◌, ◌↔◌, Err, IfErr, IfOk, IsPermutation, IsTrue, List, OnOk, map};
+ghost use Rattle.std.specs.List.{filter_map};
+ghost use Rattle.desk_core.specs.Head.{Revision, newest_in};
+ghost use Rattle.desk_store.specs.History.{approval_of, row_of};
+ghost use Rattle.desk_store.specs.Open.{IsOfRows};
+ghost use Rattle.desk_store.specs.StoredRows.{MayFollow, row_of_approval};
+ghost use Rattle.desk_store.specs.declared.error.DeskError.TheVariants as error;
+
+use crate::error::DeskError;
+use crate::stored::Approval;
+use desk_core::{Head, Proposal};
+
+/// Writes into revisions who approved them; `Schema` if an approval is of none of them, or two are of one.
+pub(crate) fn approve(
+    revisions: &mut Vec<Head>,
+    mut approvals: Vec<Approval>,
+) -> Result<(), DeskError>
+    ensures same { OnOk result (IsPermutation (map row_of revisions.old.items) (map row_of revisions.new.items)) }
+    ensures approved { OnOk result (IsPermutation (map row_of_approval approvals.items) (filter_map approval_of revisions.new.items)) }
+    ensures foreign { result ≡ Err error.Schema → (history : List Revision) → IsPermutation (map row_of history) (map row_of revisions.old.items)
+        → IsPermutation (filter_map approval_of history) (map row_of_approval approvals.items) → ⊥ }
+    ensures errors { IfErr result IsOfRows }
+{
+    // Both in one order, the approvals from the last to the first, so that the next one is at the end.
+    let ordered = revisions.sort_by(|one, other| {
+        one.file
+            .as_str()
+            .cmp(other.file.as_str())
+            .then(one.rev.cmp(&other.rev))
+    });
+    if ordered.is_err() {
+        return Err(DeskError::Memory);
+    }
+    let ordered = approvals.sort_by(|one, other| {
+        other
+            .file
+            .as_str()
+            .cmp(one.file.as_str())
+            .then(other.rev.cmp(&one.rev))
+    });
+    if ordered.is_err() {
+        return Err(DeskError::Memory);
+    }
+    for head in revisions.iter_mut() {
+        take_approval(head, &mut approvals);
+    }
+    if approvals.is_empty() {
+        Ok(())
+    } else {
+        Err(DeskError::Schema)
+    }
+}
+
+/// Writes into a revision who approved it, if the last of the approvals is of it, and takes that approval away.
+fn take_approval(head: &mut Head, approvals: &mut Vec<Approval>) {
+    let own = match approvals.last() {
+        Some(approval) => is_of(approval, head),
+        None => false,
+    };
+    if own && let Some(approval) = approvals.pop() {
+        head.approver = Some(approval.approver);
+    }
+}
+
+/// Tests whether an approval is of a revision.
+fn is_of(approval: &Approval, head: &Head) -> bool {
+    approval.rev == head.rev && approval.file.as_str() == head.file.as_str()
+}
+
+/// Tests whether proposals may be pending behind these newest revisions.
+pub(crate) fn may_follow(heads: &[Head], proposals: &[Proposal]) -> bool
+    ensures { IsTrue result ↔ MayFollow (newest_in heads.now) proposals.now }
+{
+    stand_once(proposals) && proposals.iter().all(|proposal| follows(heads, proposal))
+}
+
+/// Tests whether no two proposals are of one file. (A database has at most one for each, by its key.)
+fn stand_once(proposals: &[Proposal]) -> bool {
+    (0..proposals.len()).all(|place| is_first(&proposals[..place], &proposals[place]))
+}
+
+/// Tests whether no earlier proposal is of this one's file.
+fn is_first(earlier: &[Proposal], proposal: &Proposal) -> bool {
+    earlier
+        .iter()
+        .all(|other| other.file.as_str() != proposal.file.as_str())
+}
+
+/// Tests whether a proposal follows the newest revision of its file, or 0 if there is none.
+fn follows(heads: &[Head], proposal: &Proposal) -> bool {
+    let newest = heads
+        .iter()
+        .find(|head| head.file.as_str() == proposal.file.as_str());
+    match newest {
+        Some(head) => head.rev == proposal.base,
+        None => proposal.base == 0,
+    }
+}
