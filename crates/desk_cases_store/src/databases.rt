@@ -2,7 +2,7 @@
 
 use desk_cases_texts::answers::{Asked, number, say, say_whether, split};
 use desk_index::Index;
-use desk_store::{Desk, declares_file_rev, declares_meta};
+use desk_store::{Desk, declares_approval, declares_file_rev, declares_meta, declares_proposal};
 use sqlite::{Connection, Error, ErrorCode, MemStore, Row, params};
 use sqlite_value::value::ValueRef;
 use std::alloc::{AllocError, Global};
@@ -158,11 +158,13 @@ fn add_bytes(out: &mut String, bytes: &[u8]) -> Asked {
     }
 }
 
-/// `declares TABLE`: whether the schema declares `meta`, or `file_rev`, as that of a desk, `yes` or `no`.
+/// `declares TABLE`: whether the schema declares `meta`, `file_rev`, `approval` or `proposal` as that of a desk, `yes` or `no`.
 fn declares(conn: &Connection<MemStore>, out: &mut String, table: &str) -> Asked {
     match table {
         "meta" => say_whether(out, declares_meta(conn.schema())),
         "file_rev" => say_whether(out, declares_file_rev(conn.schema())),
+        "approval" => say_whether(out, declares_approval(conn.schema())),
+        "proposal" => say_whether(out, declares_proposal(conn.schema())),
         _ => Ok(false),
     }
 }
