@@ -9,7 +9,7 @@ use Rattle.desk_core.specs.Head.{Revision}
 use Rattle.desk_store.specs.Desk.{Shown, stored_of}
 use Rattle.desk_store.specs.declared.desk.Revision.{Revision as Found}
 use Rattle.desk_store.specs.declared.desk.Signature.{Signature}
-use Rattle.desk_service.specs.Questions.{OnlyLooks, revisions_answer, signatures_answer, text_answer}
+use Rattle.desk_service.specs.Questions.{OnlyLooks, revisions_answer, text_answer}
 use Rattle.desk_service.specs.declared.questions.FileAnswer.{FileAnswer}
 use Rattle.desk_service.specs.declared.questions.FileAnswer.TheVariants as found
 
@@ -47,16 +47,9 @@ unfolding holds
 apart e = subst holds e tt
 
 -- an empty list of revisions is none, and another is one
-pub lists_none : (xs : List (ℕ × List ℕ)) → (length xs == 0) ≡ true → found.NoRevision ≡ revisions_answer xs
+pub lists_none : (xs : List Signature) → (length xs == 0) ≡ true → found.NoRevision ≡ revisions_answer xs
 lists_none xs e = ap revisions_answer (sym (nil_from_length xs (eqb-true _ _ e)))
 
-pub lists_some : (xs : List (ℕ × List ℕ)) → (length xs == 0) ≡ false → found.Revisions xs ≡ revisions_answer xs
+pub lists_some : (xs : List Signature) → (length xs == 0) ≡ false → found.Revisions xs ≡ revisions_answer xs
 lists_some [] e = absurd (apart e)
 lists_some (x ∷ xs) e = refl
-
-pub signs_none : (xs : List Signature) → (length xs == 0) ≡ true → found.NoRevision ≡ signatures_answer xs
-signs_none xs e = ap signatures_answer (sym (nil_from_length xs (eqb-true _ _ e)))
-
-pub signs_some : (xs : List Signature) → (length xs == 0) ≡ false → found.Signatures xs ≡ signatures_answer xs
-signs_some [] e = absurd (apart e)
-signs_some (x ∷ xs) e = refl

@@ -68,24 +68,17 @@ IsPolicyAnswer content (Listing address) answer = answer ≡ ListingIs content (
 IsPolicyAnswer content Exports answer = answer ≡ ExportsAre content
 IsPolicyAnswer content (Who path) answer = AreRangesOf content path answer
 
--- a question on a file: its text as of a revision, or else the newest; the list of its revisions, or the same with who approved
--- them; and its proposal
+-- a question on a file: its text as of a revision, or else the newest; the list of its revisions; and its proposal
 pub data FileQuestion : Type 0 where
   Text : List ℕ → Option ℕ → FileQuestion
   Revisions : List ℕ → FileQuestion
-  Signatures : List ℕ → FileQuestion
   Proposal : List ℕ → FileQuestion
 
 -- a question on a file, by value
 abbrev pub file_question : LentFileQuestion → FileQuestion
 file_question (lent_file.Text name rev) = Text name.now rev
 file_question (lent_file.Revisions name) = Revisions name.now
-file_question (lent_file.Signatures name) = Signatures name.now
 file_question (lent_file.Proposal name) = Proposal name.now
-
--- the numbers and authors of a file's revisions
-abbrev pub numbered_authors : List ℕ → History → List (ℕ × List ℕ)
-numbered_authors file history = map (λ r. (r.rev, r.author)) (revisions_of file history)
 
 -- a revision by its number, who wrote and who approved it, and its profile
 abbrev pub signature_of : Revision → Signature
@@ -114,14 +107,9 @@ text_answer (Some r) = found.Text (text_of r)
 text_answer None = found.NoRevision
 
 -- the answer that a list of revisions is, or that there is none
-abbrev pub revisions_answer : List (ℕ × List ℕ) → FileAnswer
+abbrev pub revisions_answer : List Signature → FileAnswer
 revisions_answer [] = found.NoRevision
 revisions_answer (first ∷ others) = found.Revisions (first ∷ others)
-
--- the same with who approved them
-abbrev pub signatures_answer : List Signature → FileAnswer
-signatures_answer [] = found.NoRevision
-signatures_answer (first ∷ others) = found.Signatures (first ∷ others)
 
 -- the answer that a proposal is, or that there is none
 abbrev pub proposal_answer : Option Proposed → FileAnswer
@@ -131,8 +119,7 @@ proposal_answer None = found.NoRevision
 -- the answer of a history to a question on a file
 abbrev pub file_answer : History → FileQuestion → FileAnswer
 file_answer history (Text file rev) = text_answer (revision_asked history file rev)
-file_answer history (Revisions file) = revisions_answer (numbered_authors file history)
-file_answer history (Signatures file) = signatures_answer (signatures file history)
+file_answer history (Revisions file) = revisions_answer (signatures file history)
 file_answer history (Proposal file) = proposal_answer ((standing_of history).proposals file)
 
 -- a question on a site: on its policy in force, or on its files

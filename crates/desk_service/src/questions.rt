@@ -47,10 +47,8 @@ pub enum PolicyAnswer<'a> {
 pub enum FileQuestion<'a> {
     /// The text of this file as of a revision, or else the newest.
     Text(&'a str, Option<u32>),
-    /// The numbers and authors of the revisions of this file.
+    /// The numbers of the revisions of this file, with who wrote and who approved them, and their profiles.
     Revisions(&'a str),
-    /// The same, with who approved them, and their profiles.
-    Signatures(&'a str),
     /// The proposal of this file, which waits for a second custodian.
     Proposal(&'a str),
 }
@@ -79,9 +77,7 @@ pub struct ProposalText {
 pub enum FileAnswer {
     Text(FileText),
     /// At least one revision, by number.
-    Revisions(Sequence<(u32, Text)>),
-    /// The same, with more of each.
-    Signatures(Sequence<Signature>),
+    Revisions(Sequence<Signature>),
     Proposal(ProposalText),
     /// There is no such file, revision or proposal.
     NoRevision,
@@ -143,7 +139,6 @@ pub fn answer_by_desk<S: Alter + Drop, V: PolicyView + Drop>(
             None => newest_text(alloc, desk, name),
         },
         FileQuestion::Revisions(name) => revisions(alloc, desk, name),
-        FileQuestion::Signatures(name) => signatures(alloc, desk, name),
         FileQuestion::Proposal(name) => proposal(alloc, desk, name),
     }
 }
@@ -266,27 +261,9 @@ fn revisions<S: Alter + Drop, V: PolicyView + Drop>(
     ensures looks { OnlyLooks S.Store desk.old desk.new }
     ensures errors { IfErr result (IsOfTask tasks.ReadRevisions) }
 {
-    match desk.revisions(alloc, name) {
-        Ok(found) if found.is_empty() => Ok(FileAnswer::NoRevision),
-        Ok(found) => Ok(FileAnswer::Revisions(found)),
-        Err(error) => Err(error),
-    }
-}
-
-/// Lists the revisions of a file, with who approved them, and their profiles.
-fn signatures<S: Alter + Drop, V: PolicyView + Drop>(
-    alloc: Global,
-    desk: &mut Desk<S, V>,
-    name: &str,
-) -> Result<FileAnswer, DeskError>
-    ensures answered { HasGoodDisk S.Store desk.new → (history pending : History) → StandsAt S.Store desk.old history pending
-        → IfOk result (λ answer. AnswersByHistory history (OnFile (by_value.Signatures name.now)) (ByFile answer)) }
-    ensures looks { OnlyLooks S.Store desk.old desk.new }
-    ensures errors { IfErr result (IsOfTask tasks.ReadRevisions) }
-{
     match desk.signatures(alloc, name) {
         Ok(found) if found.is_empty() => Ok(FileAnswer::NoRevision),
-        Ok(found) => Ok(FileAnswer::Signatures(found)),
+        Ok(found) => Ok(FileAnswer::Revisions(found)),
         Err(error) => Err(error),
     }
 }
