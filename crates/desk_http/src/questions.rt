@@ -15,7 +15,7 @@ ghost use Rattle.desk_http.specs.Questions.{file_reply};
 ghost use Rattle.desk_http.specs.PrivateAnswering.{Gives, GivesText, IsWhoText, QuestionAnswered};
 
 use crate::replies::{failed_text, refused_text};
-use desk_bodies::{exports_body, file_body, revisions_body, verdict_body, who_body};
+use desk_bodies::{exports_body, file_body, proposal_body, revisions_body, verdict_body, who_body};
 use desk_messages::reply_text;
 use desk_policy::PolicyView;
 use desk_requests::Question;
@@ -45,6 +45,7 @@ pub(crate) fn answer_question<S: Alter + Drop, V: PolicyView + Drop>(
         }
         Question::Exports(address) => exports_text(alloc, desk.view(), *address, ends),
         Question::File(name, rev) => text_at(alloc, desk, name, *rev, ends),
+        Question::Proposal(name) => proposal_text(alloc, desk, name, ends),
         Question::Revisions(name) => revisions_text(alloc, desk, name, ends),
         Question::Who(path) => who_text(alloc, desk.view(), path, ends),
     }
@@ -131,6 +132,22 @@ fn text_at<S: Alter + Drop, V: PolicyView + Drop>(
     }
 }
 
+/// Writes the proposal of a file.
+fn proposal_text<S: Alter + Drop, V: PolicyView + Drop>(
+    alloc: Global,
+    desk: &mut Desk<S, V>,
+    name: &str,
+    ends: bool,
+) -> Result<String, AllocError>
+    ensures ok { IfOk result (λ text. GivesText (HasGoodDisk S.Store) (StandsAt S.Store) (QuestionAnswered (calls.Proposal name.now)) ends desk.old (string_bytes text) desk.new) }
+    ensures err { OnErr result (Gives (HasGoodDisk S.Store) (StandsAt S.Store) (QuestionAnswered (calls.Proposal name.now)) desk.old memory_reply desk.new) }
+{
+    match answer_by_desk(alloc, desk, FileQuestion::Proposal(name)) {
+        Ok(answer) => found_text(alloc, name, &answer, ends),
+        Err(error) => failed_text(alloc, error, ends),
+    }
+}
+
 /// Writes the list of a file's revisions.
 fn revisions_text<S: Alter + Drop, V: PolicyView + Drop>(
     alloc: Global,
@@ -147,7 +164,7 @@ fn revisions_text<S: Alter + Drop, V: PolicyView + Drop>(
     }
 }
 
-/// Writes the answer to a question on the revisions of a file.
+/// Writes the answer to a question on the revisions of a file, or on its proposal.
 fn found_text(
     alloc: Global,
     name: &str,
@@ -163,10 +180,20 @@ fn found_text(
                 name,
                 text.rev,
                 text.author.as_str(),
+                &text.approver,
                 text.body.as_str(),
             )?
         }
         FileAnswer::Revisions(revisions) => revisions_body(alloc, name, revisions.as_slice())?,
+        FileAnswer::Proposal(text) => {
+            proposal_body(
+                alloc,
+                name,
+                text.base,
+                text.author.as_str(),
+                text.body.as_str(),
+            )?
+        }
         FileAnswer::NoRevision => return refused_text(alloc, &Refused::NoRevision, ends),
     };
     reply_text(alloc, StatusCode::OK, body.as_str(), ends)
