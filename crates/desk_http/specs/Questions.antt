@@ -1,6 +1,7 @@
 -- The replies to questions: what desk_service answers, printed. (this project's own)
-use Rattle.std.specs.Prelude.{◌≡◌, ℕ, Bool, true, false, List}
+use Rattle.std.specs.Prelude.{◌≡◌, ℕ, Bool, true, false, List, map}
 use Rattle.desk_store.specs.Desk.{History}
+use Rattle.desk_store.specs.declared.desk.Signature.{Signature}
 use Rattle.desk_service.specs.Questions.{Answer, AnswersByHistory, ByFile, ByPolicy, Listing, ListingIs, OnFile, OnPolicy, RangesAre, Text, VerdictIs}
 use Rattle.desk_service.specs.Questions as service
 use Rattle.desk_service.specs.declared.questions.FileAnswer.{FileAnswer}
@@ -23,10 +24,14 @@ service_question (Proposal name) = OnFile (service.Proposal name)
 service_question (Revisions name) = OnFile (service.Revisions name)
 service_question (Who path) = OnPolicy (service.Who path)
 
+-- what is told of a revision in a list: its number and its author
+abbrev pub numbered_author : Signature → ℕ × List ℕ
+numbered_author s = (s.rev, s.author)
+
 -- the reply to a question on the revisions of this file, or on its proposal, by its answer
 abbrev pub file_reply : List ℕ → FileAnswer → Reply
 file_reply name (found.Text text) = reply_with 200 (file_data name text.rev text.author text.approver text.body)
-file_reply name (found.Revisions revisions) = reply_with 200 (revisions_data name revisions)
+file_reply name (found.Revisions revisions) = reply_with 200 (revisions_data name (map numbered_author revisions))
 file_reply name (found.Proposal text) = reply_with 200 (proposal_data name text.base text.author text.body)
 file_reply name found.NoRevision = refused_reply refused.NoRevision
 

@@ -1,7 +1,8 @@
 //! The replies to questions.
 
-ghost use Rattle.std.specs.Prelude.{◌≡◌, IfOk, OnErr};
+ghost use Rattle.std.specs.Prelude.{◌≡◌, IfOk, OnErr, map};
 ghost use Rattle.std.specs.String.{string_bytes};
+ghost use Rattle.serde_json.specs.Written.{compact_text};
 ghost use Rattle.desk_text.specs.Address.{number_of};
 ghost use Rattle.desk_policy.specs.Listings.{listing_of};
 ghost use Rattle.desk_policy.specs.Verdict.{verdict_of};
@@ -10,8 +11,9 @@ ghost use Rattle.desk_messages.specs.Replies.{memory_reply, print_reply, reply_w
 ghost use Rattle.desk_requests.specs.Calls as calls;
 ghost use Rattle.desk_requests.specs.Calls.{question_of};
 ghost use Rattle.desk_bodies.specs.Exports.{exports_data};
+ghost use Rattle.desk_bodies.specs.Revisions.{revisions_data};
 ghost use Rattle.desk_bodies.specs.Verdicts.{verdict_data};
-ghost use Rattle.desk_http.specs.Questions.{file_reply};
+ghost use Rattle.desk_http.specs.Questions.{file_reply, numbered_author};
 ghost use Rattle.desk_http.specs.PrivateAnswering.{Gives, GivesText, IsWhoText, QuestionAnswered};
 
 use crate::replies::{failed_text, refused_text};
@@ -22,9 +24,9 @@ use desk_requests::Question;
 use desk_service::{
     FileAnswer, FileQuestion, PolicyAnswer, PolicyQuestion, Refused, answer_by_desk, answer_by_view,
 };
-use desk_store::Desk;
+use desk_store::{Desk, Signature};
 use desk_tables::Cred;
-use desk_text::{Addr, Path};
+use desk_text::{Addr, Path, Text};
 use http::StatusCode;
 use sqlite::Alter;
 use std::alloc::{AllocError, Global};
@@ -184,7 +186,7 @@ fn found_text(
                 text.body.as_str(),
             )?
         }
-        FileAnswer::Revisions(revisions) => revisions_body(alloc, name, revisions.as_slice())?,
+        FileAnswer::Revisions(revisions) => list_body(alloc, name, revisions.as_slice())?,
         FileAnswer::Proposal(text) => {
             proposal_body(
                 alloc,
@@ -197,4 +199,24 @@ fn found_text(
         FileAnswer::NoRevision => return refused_text(alloc, &Refused::NoRevision, ends),
     };
     reply_text(alloc, StatusCode::OK, body.as_str(), ends)
+}
+
+/// Writes the body of the list of a file's revisions.
+fn list_body(alloc: Global, name: &str, revisions: &[Signature]) -> Result<String, AllocError>
+    ensures { IfOk result (λ body. string_bytes body ≡ compact_text (revisions_data name.now (map numbered_author revisions.now))) }
+{
+    let numbered = numbered_authors(alloc, revisions)?;
+    revisions_body(alloc, name, numbered.as_slice())
+}
+
+/// Copies the numbers and authors of revisions, which are all that a reply tells of a list of them.
+fn numbered_authors(alloc: Global, revisions: &[Signature]) -> Result<Vec<(u32, Text)>, AllocError>
+    ensures { IfOk result (λ numbered. numbered.items ≡ map numbered_author revisions.now) }
+{
+    let mut numbered = Vec::new(alloc);
+    for revision in revisions {
+        let author = Text::copy(alloc, revision.author.as_str())?;
+        numbered.push((revision.rev, author))?;
+    }
+    Ok(numbered)
 }
