@@ -55,13 +55,13 @@ IsOtherKind None = Unit {0}
 IsOtherKind (Some kind) = kind ≢ ClassMask
 
 ipv6_is_other : Ipv6 ≢ ClassMask
-ipv6_is_other e = let n : 2 ≡ 1 = ap kind_number e in omega arith
+ipv6_is_other e = let n : kind_number Ipv6 ≡ kind_number ClassMask = ap kind_number e in omega (arith, n)
 
 host_is_other : UnknownHost ≢ ClassMask
-host_is_other e = let n : 3 ≡ 1 = ap kind_number e in omega arith
+host_is_other e = let n : kind_number UnknownHost ≡ kind_number ClassMask = ap kind_number e in omega (arith, n)
 
 member_is_other : UnknownMember ≢ ClassMask
-member_is_other e = let n : 4 ≡ 1 = ap kind_number e in omega arith
+member_is_other e = let n : kind_number UnknownMember ≡ kind_number ClassMask = ap kind_number e in omega (arith, n)
 
 of_kind : (file : List ℕ) (line : ℕ) (word : List ℕ) (kind : Option WarningKind) → IsOtherKind kind → AllByRecursion IsOther (warning_if file line word kind)
 of_kind file line word None other = tt

@@ -5,6 +5,7 @@
 
 ghost use Rattle.std.specs.Prelude.{◌≡◌, ◌≤◌, [], ◌++◌, IfOk, None, Ok, OnOk, Result, codes, length, map};
 ghost use Rattle.std.specs.List.{flat_map};
+ghost use Rattle.desk_text.specs.Path.{path_text};
 ghost use Rattle.desk_text.specs.Reading.{Reads, ReadsAs};
 ghost use Rattle.desk_tables.specs.FileSystemsText as filesystems;
 ghost use Rattle.desk_tables.specs.Rules as tables;
@@ -263,33 +264,34 @@ fn push_file(
         rows.old.items rows.new.items warnings.old warnings.new }
 {
     let name = exports_file_name(alloc, mount.text())?;
-    let entries = file_entries(alloc, site, filesystems, site_tables, fs, mount.text());
+    let entries = file_entries(alloc, site, filesystems, site_tables, fs, mount);
     let entries = in_exports(alloc, name.as_str(), entries)?;
     rows.push(lines_in_force(alloc, site_tables, name.as_str(), entries, warnings)?)?;
     Ok(())
 }
 
-/// Reads the entries of the exports file of a file system with this printed mount point, by the profile of its text.
+/// Reads the entries of the exports file of a file system with this mount point, by the profile of its text.
 fn file_entries(
     alloc: Global,
     site: &Site,
     filesystems: &FileSystems,
     site_tables: &SiteTables,
     fs: FsId,
-    mount: &str,
+    mount: &Path,
 ) -> Result<Sequence<Boxed<Entry>>, ReadError<LineFault<Rule>>>
     requires { HaveReadableLengths (texts_of site.now) }
-    ensures read { Reads result (spec.entries_in ((texts_of site.now).exports mount.now) filesystems.now site_tables.now fs) }
+    ensures read { Reads result (spec.entries_in ((texts_of site.now).exports (path_text mount.now)) filesystems.now site_tables.now fs) }
     ensures ascending { IfOk result FileAscends }
 {
+    let printed = mount.text();
     let tables = Tables {
-        profile: site.exports_profile(mount),
+        profile: site.exports_profile(printed),
         networks: &site_tables.networks,
         users: &site_tables.users,
         groups: &site_tables.groups,
         filesystems,
     };
-    read_file(alloc, site.exports_text(mount), &tables, fs)
+    read_file(alloc, site.exports_text(printed), &tables, fs)
 }
 
 /// Makes the lines in force of the entries of the exports file of this name, and adds its warnings.

@@ -1,5 +1,6 @@
 use Rattle.std.proofs.Common.{◌++◌, ◌∙◌, [], ◌∷◌, List, Ok, Result, ap, IfOk, subst, sym, ℕ}
 use Rattle.std.specs.List.{flat_map}
+use Rattle.desk_text.specs.Path.{path_text}
 use Rattle.desk_text.specs.declared.reading.LineFault.{LineFault}
 use Rattle.desk_text.specs.declared.reading.ReadError.{ReadError}
 use Rattle.desk_exports.specs.Files.{FileAscends}
@@ -22,14 +23,12 @@ returns c =
     let next : List Entry → Result ExportsFile SiteFault = λ es. Ok (file_with site_tables name es) in
     let named = c.as_str.ensures.value ∙ c.in_ok-name.ensures ∙ ap exports_file_name c.text.ensures.printed in
     let again = c.as_str-2.ensures.value ∙ c.in_ok-name.ensures ∙ ap exports_file_name c.text.ensures.printed in
-    let lent : List ℕ = c.text-2.result.now in
-    let A : List ℕ → Result (List Entry) (LineFault Rule) = λ mount. entries_in ((texts_of c.args.site.now).exports mount) c.args.filesystems.now site_tables c.args.fs in
-    let told = c.in_ok-entries.ensures.read (A lent) c.file_entries-entries.ensures.read in
+    let answer : Result (List Entry) (LineFault Rule) = entries_in ((texts_of c.args.site.now).exports (path_text c.args.mount.now)) c.args.filesystems.now site_tables c.args.fs in
+    let told = c.in_ok-entries.ensures.read answer c.file_entries-entries.ensures.read in
     let R : Result (List Entry) (ReadError (LineFault Rule)) → Type 0 = λ r. IfOk r FileAscends in
     record {
       file = file_with site_tables name entries;
-      is = ap (λ m. then_read (in_file (line_fault name) (A m)) next) (sym c.text-2.ensures.printed)
-          ∙ ap (λ n. then_read (in_file (line_fault n) (A lent)) next) (sym named)
+      is = ap (λ n. then_read (in_file (line_fault n) answer) next) (sym named)
           ∙ ap (λ r. then_read r next) told;
       lines = c.in_ok-push.ensures.items ∙ ap (λ rs. c.args.rows.now.items ++ rs ∷ []) c.in_ok-lines_in_force.ensures.rows;
       warned = c.in_ok-lines_in_force.ensures.warnings ∙ ap (λ n. c.args.warnings.now ++ flat_map (entry_warnings site_tables.netgroups site_tables.hosts n) entries) again;
