@@ -1,13 +1,14 @@
 //! The command `put`: an edit of a file.
 
 ghost use Rattle.std.specs.Prelude.{◌≡◌, ◌+◌, false, IfOk};
+ghost use Rattle.std.specs.String.{string_bytes};
 ghost use Rattle.sqlite_wal.specs.Files.{image_at};
 ghost use Rattle.sqlite.specs.Files.{over_files};
 ghost use Rattle.sqlite.specs.Held.{state};
 ghost use Rattle.desk_core.specs.Edit.{asked};
 ghost use Rattle.desk_service.specs.declared.refused.Refused.TheVariants as by_desk;
 ghost use Rattle.cli_words.specs.Words.{given_put};
-ghost use Rattle.cli_database.specs.PutCommand.{AnswersEdit, AnswersKeyFile, AnswersPut, AnswersPutFiles, GivesKey, HasReplies, IsKeyIn, PutsFrom, TellsPut, TellsReply, edit_of, key_in, key_file_in};
+ghost use Rattle.cli_database.specs.PutCommand.{AnswersEdit, AnswersKeyFile, AnswersPut, AnswersPutFiles, GivesKey, HasReplies, IsKeyIn, PutsFrom, TellsPut, TellsReply, edit_of, key_in, key_file_in, line_of};
 ghost use Rattle.cli_database.specs.RefusedOutputs.{IsRefusedByDesk};
 
 use crate::View;
@@ -158,9 +159,23 @@ fn remove_new_log(rt: &HostRuntime, words: PutWords<'_>, edit: &Edit<'_>) -> Res
 fn replies_of(alloc: Global, rev: u64) -> Result<Replies<String>, AllocError>
     ensures { IfOk result (HasReplies rev) }
 {
-    let accepted = format!(in alloc; "accepted rev {rev}\n")?;
-    let already = format!(in alloc; "already rev {rev}\n")?;
-    Ok(Replies { accepted, already })
+    let accepted = line_of(alloc, "accepted rev ", rev)?;
+    let already = line_of(alloc, "already rev ", rev)?;
+    let proposed = line_of(alloc, "proposed rev ", rev)?;
+    let already_proposed = line_of(alloc, "already proposed rev ", rev)?;
+    Ok(Replies {
+        accepted,
+        already,
+        proposed,
+        already_proposed,
+    })
+}
+
+/// Writes a line of these words and a number.
+fn line_of(alloc: Global, words: &str, rev: u64) -> Result<String, AllocError>
+    ensures { IfOk result (λ line. string_bytes line ≡ line_of words.now rev) }
+{
+    format!(in alloc; "{words}{rev}\n")
 }
 
 /// Opens the database at a path, and puts an edit into it. Beside the answer is the connection, if there is one.

@@ -2,8 +2,8 @@
 use Rattle.std.proofs.Common.{◌∷◌, [], Err, List, Ok, inl, refl, subst, ℕ}
 use Rattle.std.proofs.lemmas.Result.{err_from_is_err_and}
 use Rattle.std.specs.String.{string_bytes}
-use Rattle.cli_who.specs.Asking.{TellsAtPath}
-use Rattle.cli_who.proofs.impact_command.run_impact.Goals as goal
+use Rattle.cli_who.specs.Asking.{OfText, TellsAtPath}
+use Rattle.cli_who.proofs.impact_command.ask_file.Goals as goal
 
 pub returns-in_err-text : goal.returns-in_err-text
 returns-in_err-text g c =
@@ -15,6 +15,6 @@ returns g c = record {
   read = Ok (string_bytes c.in_ok-text.text ∷ []);
   reads = (c.in_ok-text.ensures.text, (g.I.Read.remaining c.read_if_given.new.input, (c.read_if_given.ensures.left, refl)));
   answers =
-      subst (λ (text : List ℕ). TellsAtPath c.args.words.db.now (record { name = c.args.words.name.now; text = text; all = c.args.words.all }) c.ask_copy.result) c.as_str.ensures.value
+      subst (λ (text : List ℕ). TellsAtPath c.args.words.db.now (OfText (record { name = c.args.words.name.now; text = text; all = c.args.words.all })) c.ask_copy.result) c.as_str.ensures.value
       c.ask_copy.ensures;
 }
