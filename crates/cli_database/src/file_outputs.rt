@@ -73,11 +73,7 @@ fn text_told(alloc: Global, name: &str, text: &FileText) -> Result<String, Alloc
 }
 
 /// Prints the text of a proposal. Standard error says who proposes it, and on which revision.
-fn proposal_output(
-    alloc: Global,
-    name: &str,
-    proposal: &ProposalText,
-) -> Result<Output, Failure>
+fn proposal_output(alloc: Global, name: &str, proposal: &ProposalText) -> Result<Output, Failure>
     ensures { PrintsAnswer None name.now (ByFile (found.Proposal proposal.now)) result }
 {
     let told = proposal_told(alloc, name, proposal.author.as_str(), proposal.base)?;
@@ -92,7 +88,9 @@ pub fn proposal_told(
     author: &str,
     base: u32,
 ) -> Result<String, AllocError> {
-    format!(in alloc; "exportdesk: NAME {name:?}: it is proposed by {author:?}, with --base {base}\n")
+    format!(in alloc;
+        "exportdesk: NAME {name:?}: it is proposed by {author:?}, with --base {base}\n"
+    )
 }
 
 /// Prints the revisions of a file.

@@ -424,6 +424,11 @@ fn faulty(
     ensures { IsRefusedByDesk (by_desk.Edit (SiteRefusal fault)) result }
 {
     let name = fault.file.as_str();
-    let told = tell_site_fault(alloc, with_exports(sources, site, name), &fault)?;
+    let told = tell_site_fault(
+        alloc,
+        Profile::Two,
+        with_exports(sources, site, name),
+        &fault,
+    )?;
     Ok(Output::Refused(Refused::Desk(ByDesk::Edit(Refusal::Fault(fault))), told))
 }

@@ -25,7 +25,8 @@ use cli_words::arguments::read_number;
 use cli_words::database_words::PutWords;
 use desk_check::{SiteSources, Source, TableSources, WholeSources, tell_site_fault};
 use desk_core::{Edit, Refusal};
-use desk_policy::SiteFile;
+use desk_exports::Profile;
+use desk_policy::{SiteFault, SiteFile};
 use desk_service::{Refused as ByDesk, Replies, put_over};
 use desk_store::{Desk, DeskError};
 use sqlite::{Alter, Connection, Start, Wary};
@@ -249,11 +250,35 @@ pub fn refused<S: Alter + Drop>(
 {
     let told = match &refusal {
         Refusal::Fault(fault) => {
-            tell_site_fault(alloc, sources_of(desk, edit, fault.file.as_str()), fault)?
+            let profile = profile_of(desk, edit, fault.file.as_str());
+            fault_told(alloc, profile, desk, edit, fault)?
         }
         _ => refusal_told(alloc, path, edit, &refusal)?,
     };
     Ok(Output::Refused(Refused::Desk(ByDesk::Edit(refusal)), told))
+}
+
+/// Tells the fault of the site with an edit, as `check` does, by the profile by which its file is read.
+pub fn fault_told<S: Alter + Drop>(
+    alloc: Global,
+    profile: Profile,
+    desk: &Desk<S, View>,
+    edit: &Edit<'_>,
+    fault: &SiteFault,
+) -> Result<String, AllocError> {
+    let sources = sources_of(desk, edit, fault.file.as_str());
+    tell_site_fault(alloc, profile, sources, fault)
+}
+
+/// Returns the profile by which a file is read in the site with an edit.
+fn profile_of<S: Alter + Drop>(desk: &Desk<S, View>, edit: &Edit<'_>, file: &str) -> Profile {
+    if edit.file == file {
+        return Profile::Two;
+    }
+    match desk.newest(file) {
+        Some(head) => head.profile,
+        None => Profile::Two,
+    }
 }
 
 /// Lends the texts of the site with an edit, and of the exports the file of this name.

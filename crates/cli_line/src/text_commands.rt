@@ -47,13 +47,11 @@ pub fn try_command<'a>(alloc: Global) -> Result<Command<'a>, AllocError>
                 help: "The mount points of the file systems",
             },
         ],
-        &[
-            Argument {
-                name: "as",
-                kind: Kind::Valued("CRED"),
-                help: "The client's credential, as USER or USER:GROUP:...; a granted line says as whom it acts",
-            },
-        ],
+        &[Argument {
+            name: "as",
+            kind: Kind::Valued("CRED"),
+            help: "The client's credential, as USER or USER:GROUP:...; a granted line says as whom it acts",
+        }],
     )
 }
 
@@ -219,13 +217,11 @@ pub fn compare_command<'a>(alloc: Global) -> Result<Command<'a>, AllocError>
                 help: "The mount points of the file systems",
             },
         ],
-        &[
-            Argument {
-                name: "all",
-                kind: Kind::Flag,
-                help: "Lists the ranges whose line or reason alone changes, too",
-            },
-        ],
+        &[Argument {
+            name: "all",
+            kind: Kind::Flag,
+            help: "Lists the ranges whose line or reason alone changes, too",
+        }],
     )
 }
 
