@@ -118,7 +118,7 @@ file_of_proposal proposal = proposal.file
 
 -- a file is held exactly if a revision or a proposal has it
 held : (heads : List Head) (proposals : List Proposal) (file : List ℕ) → Contains (map file_of_head heads ++ map file_of_proposal proposals) file → IsHeld (standing_in heads proposals) file
-unfolding newest_in, proposals_in
+unfolding newest_in proposals_in
 held heads proposals file c =
     elim (Contains-append_cases (map file_of_head heads) (map file_of_proposal proposals) file c) [
       | inl there ↦ inl (found file_of_head heads file there)
@@ -126,7 +126,7 @@ held heads proposals file c =
     ]
 
 has_file : (heads : List Head) (proposals : List Proposal) (file : List ℕ) → IsHeld (standing_in heads proposals) file → Contains (map file_of_head heads ++ map file_of_proposal proposals) file
-unfolding newest_in, proposals_in
+unfolding newest_in proposals_in
 has_file heads proposals file (inl some) = Contains-append_left (map file_of_head heads) (map file_of_proposal proposals) file (has_name file_of_head heads file some)
 has_file heads proposals file (inr some) = Contains-append_right (map file_of_head heads) (map file_of_proposal proposals) file (has_name file_of_proposal proposals file some)
 
