@@ -161,14 +161,18 @@ pub record IsUtf8Revision (revision : Revision) : Type 0 where
 abbrev pub insert_version : List ℕ
 insert_version = codes "INSERT INTO meta(version) VALUES(2)"
 
--- the four tables can be made: their names are free, no table refers to them, and `sqlite_sequence` is there if a table counts
+-- the two later tables can be made: their names are free, and `sqlite_sequence` is there if a table counts
+pub record HasLaterRoom (schema : Schema) : Type 0 where
+  pub approval : IsFree schema (codes "approval")
+  pub proposal : IsFree schema (codes "proposal")
+  pub whole : lacks_sequence schema ≡ false
+
+-- the four tables can be made, and no table refers to them
 pub record HasRoom (schema : Schema) : Type 0 where
   pub meta : IsFree schema (codes "meta")
   pub file_rev : IsFree schema (codes "file_rev")
-  pub approval : IsFree schema (codes "approval")
-  pub proposal : IsFree schema (codes "proposal")
+  pub later : HasLaterRoom schema
   pub unreferred : are_referred schema ≡ false
-  pub whole : lacks_sequence schema ≡ false
 
 -- a schema with `meta` behind its tables, and the other three, each with the index of its key, behind that
 abbrev pub with_meta : Schema → Schema
@@ -215,7 +219,7 @@ Ran text old new = (count : ℕ) × Executes text [] old new (Ok count)
 abbrev pub MakesRoom : State → State → Type 0
 MakesRoom old new = HasRoom old.now.schema → MakesEmpty old.now new.now
 
--- the two later tables are made, if their names are free: they are behind the others, with no row, and all else is as before
+-- the two later tables are made: they are behind the others, with no row, and all else is as before
 pub record LaterAreMade (old new : Database) : Type 0 where
   pub schema : new.schema ≡ created (created old.schema (approval_table 0)) (proposal_table 0)
   pub no_approvals : rows_of new (codes "approval") ≡ []
@@ -225,8 +229,9 @@ pub record LaterAreMade (old new : Database) : Type 0 where
   pub frozen : SpareFrozen old steps new
   pub sound : IsDatabase new
 
+-- they are made, if there is room for them
 abbrev pub MakesLater : State → State → Type 0
-MakesLater old new = IsFree old.now.schema (codes "approval") → IsFree old.now.schema (codes "proposal") → lacks_sequence old.now.schema ≡ false → LaterAreMade old.now new.now
+MakesLater old new = HasLaterRoom old.now.schema → LaterAreMade old.now new.now
 
 -- a revision's row is added, if the tables are there
 abbrev pub AddsRow : Row → State → State → Type 0

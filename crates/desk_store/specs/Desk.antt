@@ -26,6 +26,7 @@ use Rattle.desk_store.specs.Tables.{EntryRows, IsAtRest, LeadsTo, LeavesCommit, 
 use Rattle.desk_store.specs.History.{Holds, entry_rows, revisions_in}
 use Rattle.desk_store.specs.declared.desk.Done.{Done}
 use Rattle.desk_store.specs.declared.desk.Revision.{Revision as Found}
+use Rattle.desk_store.specs.declared.desk.Signature.{Signature}
 use Rattle.desk_store.specs.declared.error.DeskError.{DeskError}
 use Rattle.desk_store.specs.declared.error.DeskError.TheVariants as error
 
@@ -182,9 +183,10 @@ pub record HasStored (rows : EntryRows) (old new : State) : Type 0 where
 -- What an attempt to commit a change leaves. It is made, in one commit, and a crash leaves that; or there is an error, and the tables
 -- are as before. A crash meanwhile leaves what it could before, or that commit.
 pub record CommitsAtMost {T E : Type 0} (Change : Database → Database → Type 0) (old new : State) (result : Result T E) : Type 0 where
-  -- a connection that was at rest still is, and one that is open was
-  pub rest : HasCleanDisk new → IsAtRest old → IsAtRest new
+  -- no transaction is open, and a connection that is open was, and stands at its last commit
+  pub autocommit : new.in_transaction ≡ false
   pub opened : HasCleanDisk new → IsTrue new.is_open → IsTrue old.is_open
+  pub settled : HasCleanDisk new → IsTrue new.is_open → new.now ≡ new.committed
   -- the change is made, the connection is open, and a crash leaves the commit
   pub made : HasCleanDisk new → OnOk result (Change old.committed new.committed)
   pub live : HasCleanDisk new → OnOk result (IsTrue new.is_open)
@@ -221,6 +223,10 @@ revision_at history file rev = find (λ r. r.rev == rev) (revisions_of file hist
 -- a revision as it is handed out
 abbrev pub stored_of : Option Revision → Option Found
 stored_of found = option_map (λ r. record { author = r.author; approver = r.approver; profile = r.profile; body = r.body }) found
+
+-- who signed a revision
+abbrev pub signature_of : Revision → Signature
+signature_of r = record { rev = r.rev; author = r.author; approver = r.approver; profile = r.profile }
 
 -- the tables are as before, and a crash leaves what it could before
 pub record LeavesTables (old new : State) : Type 0 where

@@ -1,5 +1,5 @@
 -- What a look changes, which is nothing, and what the queries read. (this project's own)
-use Rattle.std.specs.Prelude.{◌≡◌, ◌&&◌, ℕ, Bool, false, List, [], ◌∷◌, Option, Some, None, IfOk, IsPermutation, IsTrue, Ok, OnOk, Result, Vec, codes, filter, map, pos}
+use Rattle.std.specs.Prelude.{◌≡◌, ◌&&◌, ℕ, Bool, true, false, List, [], ◌∷◌, Option, Some, None, IfOk, IsPermutation, IsTrue, Ok, OnOk, Result, Vec, codes, filter, map, pos}
 use Rattle.std.specs.Ordering.{is_eq}
 use Rattle.sqlite.specs.Effect.{Database, IsDatabase, Reads}
 use Rattle.sqlite.specs.Given.{IsPlain}
@@ -50,7 +50,7 @@ SeesTables old new (Some version.First) = IsAtRestWith false new × (has_later o
 SeesTables old new None = DeclaresVersion old.committed.schema None
 
 abbrev pub select_numbers : List ℕ
-select_numbers = codes "SELECT rev, author FROM file_rev WHERE file = ?1"
+select_numbers = codes "SELECT rev, author, profile FROM file_rev WHERE file = ?1"
 
 abbrev pub select_revision : List ℕ
 select_revision = codes "SELECT author, profile, body FROM file_rev WHERE file = ?1 AND rev = ?2"
@@ -58,20 +58,24 @@ select_revision = codes "SELECT author, profile, body FROM file_rev WHERE file =
 abbrev pub select_approver : List ℕ
 select_approver = codes "SELECT approver FROM approval WHERE file = ?1 AND rev = ?2"
 
+abbrev pub select_approvers : List ℕ
+select_approvers = codes "SELECT rev, approver FROM approval WHERE file = ?1"
+
 -- SQL takes two values for equal
 abbrev pub are_equal : Value → Value → Bool
 are_equal a b = is_eq (value_cmp a b)
 
--- a row of `file_rev` is of this file, or of the revision of this file with this number
+-- a row of `file_rev` or of `approval` is of this file, or of the revision of this file with this number
 abbrev pub is_of : List ℕ → Row → Bool
 is_of file row = are_equal (column row 0) (Words file)
 
 abbrev pub is_at : List ℕ → ℕ → Row → Bool
 is_at file rev row = is_of file row && are_equal (column row 1) (Int (pos rev))
 
--- of a row of `file_rev` the number and the author, or the author, the profile and the text; of a row of `approval` the approver
-abbrev pub number_and_author : Row → Row
-number_and_author row = column row 1 ∷ column row 2 ∷ []
+-- of a row of `file_rev` the number, the author and the profile, or the author, the profile and the text; of a row of `approval` the
+-- approver, or the number and the approver
+abbrev pub number_author_and_profile : Row → Row
+number_author_and_profile row = column row 1 ∷ column row 2 ∷ column row 3 ∷ []
 
 abbrev pub author_profile_and_text : Row → Row
 author_profile_and_text row = column row 2 ∷ column row 3 ∷ column row 4 ∷ []
@@ -79,13 +83,19 @@ author_profile_and_text row = column row 2 ∷ column row 3 ∷ column row 4 ∷
 abbrev pub approver_of : Row → Row
 approver_of row = column row 2 ∷ []
 
--- the numbers and authors of a file's revisions, in rows; the author, the profile and the text of one revision, in a row
+abbrev pub number_and_approver : Row → Row
+number_and_approver row = column row 1 ∷ column row 2 ∷ []
+
+-- the numbers, authors and profiles of a file's revisions, in rows; the author, the profile and the text of one revision, in a row
 abbrev pub numbers_in : List ℕ → Database → List Row
-numbers_in file db = map number_and_author (filter (is_of file) (rows_of db (codes "file_rev")))
+numbers_in file db = map number_author_and_profile (filter (is_of file) (rows_of db (codes "file_rev")))
 
 abbrev pub revision_in : List ℕ → ℕ → Database → List Row
 revision_in file rev db = map author_profile_and_text (filter (is_at file rev) (rows_of db (codes "file_rev")))
 
--- who approved one revision, in a row
+-- who approved one revision, in a row; the numbers of the approved revisions of a file and who approved them, in rows
 abbrev pub approver_in : List ℕ → ℕ → Database → List Row
 approver_in file rev db = map approver_of (filter (is_at file rev) (rows_of db (codes "approval")))
+
+abbrev pub approvers_in : List ℕ → Database → List Row
+approvers_in file db = map number_and_approver (filter (is_of file) (rows_of db (codes "approval")))

@@ -1,12 +1,16 @@
 -- What is read of the rows of revisions and of approvals. (this project's own)
-use Rattle.std.specs.Prelude.{◌≡◌, ◌≢◌, ℕ, List, None, All, IsPermutation, map}
+use Rattle.std.specs.Prelude.{◌≡◌, ◌≢◌, ◌-◌, ◌==◌, ◌&&◌, ℕ, Bool, false, List, Option, None, Some, All, IsPermutation, length, map, slice_get, if◌then◌else◌}
 use Rattle.std.specs.List.{AllPairs, filter_map}
+use Rattle.std.specs.Option.{option_map_or}
+use Rattle.std.specs.Str.{IsUtf8, bytes_eq}
 use Rattle.sqlite.specs.Order.{Row}
 use Rattle.desk_exports.specs.declared.profile.Profile.{Profile}
-use Rattle.desk_core.specs.Head.{Newest, Revision, newest_number}
-use Rattle.desk_core.specs.History.{pending_in}
+use Rattle.desk_core.specs.Head.{Newest, Revision, newest_in, newest_number}
+use Rattle.desk_core.specs.History.{IsHistory, newest_of, pending_in}
 use Rattle.desk_core.specs.declared.entry.Entry.{Entry}
+use Rattle.desk_core.specs.declared.entry.Entry.TheVariants.{Revised}
 use Rattle.desk_core.specs.declared.proposal.Proposal.{Proposal}
+use Rattle.desk_store.specs.Desk.{IsStorable}
 use Rattle.desk_store.specs.History.{approval_of, proposed_row, revisions_in, row_of}
 use Rattle.desk_store.specs.Tables.{approval_row}
 use Rattle.desk_store.specs.declared.stored.Approval.{Approval}
@@ -14,6 +18,31 @@ use Rattle.desk_store.specs.declared.stored.Approval.{Approval}
 -- a revision with these parts that nobody approved
 abbrev pub unapproved : List ℕ → ℕ → List ℕ → Profile → List ℕ → Revision
 unapproved file rev author profile body = record { file = file; rev = rev; author = author; approver = None; profile = profile; body = body }
+
+-- nobody approved a revision
+abbrev pub IsUnapproved : Revision → Type 0
+IsUnapproved r = r.approver ≡ None
+
+-- what an approval stores is UTF-8: of its file that is asked of the revision
+abbrev pub HasUtf8Approver : Approval → Type 0
+HasUtf8Approver approval = IsUtf8 approval.approver
+
+-- an approval is of this revision
+abbrev pub is_approval_of : Revision → Approval → Bool
+is_approval_of revision approval = approval.rev == revision.rev && bytes_eq approval.file revision.file
+
+-- the last approval
+abbrev pub last_of : List Approval → Option Approval
+last_of approvals = slice_get approvals (length approvals - 1)
+
+-- the last approval, if it is of this revision
+abbrev pub own_approval : Revision → List Approval → Option Approval
+own_approval revision approvals = if option_map_or (is_approval_of revision) (last_of approvals) false then last_of approvals else None
+
+-- a revision with its approval, if there is one
+abbrev pub with_approval : Option Approval → Revision → Revision
+with_approval None revision = revision
+with_approval (Some approval) revision = record revision { approver = Some approval.approver }
 
 -- the row of an approval
 abbrev pub row_of_approval : Approval → Row
@@ -24,6 +53,15 @@ pub record AreRowsOf (history : List Entry) (revisions approvals proposals : Lis
   pub revised : IsPermutation (map row_of (revisions_in history)) revisions
   pub approved : IsPermutation (filter_map approval_of (revisions_in history)) approvals
   pub proposed : IsPermutation (map proposed_row (pending_in history)) proposals
+
+-- Heads are the newest of revisions that rows say, with those who approved them as other rows say; these may be the revisions of a
+-- database of this project.
+pub record AreNewestOf (revisions approvals : List Row) (heads history : List Revision) : Type 0 where
+  pub revised : IsPermutation (map row_of history) revisions
+  pub approved : IsPermutation (filter_map approval_of history) approvals
+  pub storable : All IsStorable history
+  pub numbered : IsHistory (map Revised history)
+  pub newest : newest_in heads ≡ newest_of (map Revised history)
 
 -- Proposals may be pending behind these newest revisions: no two are of one file, and each follows the newest revision of its file.
 pub record MayFollow (newest : Newest) (proposals : List Proposal) : Type 0 where

@@ -5,6 +5,7 @@ use Rattle.std.specs.List.{cons_option}
 use Rattle.sqlite.specs.Order.{Row}
 use Rattle.sqlite.specs.State.{State}
 use Rattle.desk_core.specs.declared.entry.Entry.{Entry}
+use Rattle.desk_store.specs.Create.{HasLaterRoom}
 use Rattle.desk_store.specs.History.{HoldsFirst, entry_rows}
 use Rattle.desk_store.specs.Open.{Migrates}
 use Rattle.desk_store.specs.Tables.{HasTables, Stores, Writes, without_file}
@@ -25,6 +26,6 @@ TakesProposal file old new = HasTables old.now.schema → Writes [] [] (without_
 abbrev pub WritesEntry : Entry → State → State → Type 0
 WritesEntry stored old new = HasTables old.now.schema → Stores (entry_rows stored) old.now new.now
 
--- a database of version 1 becomes one of version 2, with the same history
+-- a database of version 1 becomes one of version 2, with the same history, if there is room for the later tables
 abbrev pub MakesSecond : State → State → Type 0
-MakesSecond old new = (history : List Entry) → HoldsFirst old.now history → Migrates old.now new.now
+MakesSecond old new = HasLaterRoom old.now.schema → (history : List Entry) → HoldsFirst old.now history → Migrates old.now new.now

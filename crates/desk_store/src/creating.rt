@@ -9,7 +9,7 @@ ghost use Rattle.desk_policy.specs.Site.{texts_of};
 ghost use Rattle.desk_core.specs.History.{IsHistory};
 ghost use Rattle.desk_core.specs.declared.entry.Entry.TheVariants.{Revised};
 ghost use Rattle.sqlite.specs.Rows.{sequence};
-ghost use Rattle.desk_store.specs.Create.{HasRoom, IsCreated, IsOfMaking, LooksForRoom, has_one, AddsRows, Fills, IsInside, MakesLater, MakesRoom, Ran, RunsInside, StoresAll};
+ghost use Rattle.desk_store.specs.Create.{HasLaterRoom, HasRoom, IsCreated, IsOfMaking, LooksForRoom, has_one, AddsRows, Fills, IsInside, MakesLater, MakesRoom, Ran, RunsInside, StoresAll};
 ghost use Rattle.desk_store.specs.History.{row_of};
 ghost use Rattle.desk_store.specs.Tables.{IsFree};
 
@@ -146,16 +146,23 @@ fn counts(schema: &Schema) -> bool
         .any(|table| table.is_counted)
 }
 
+/// Tests whether the two tables that came with version 2 can be made.
+pub(crate) fn has_later_room(schema: &Schema) -> bool
+    ensures { IsTrue result → HasLaterRoom schema.now }
+{
+    is_free(schema, b"approval".as_slice())
+        && is_free(schema, b"proposal".as_slice())
+        && !(counts(schema) && !has_sequence(schema))
+}
+
 /// Tests whether the four tables can be made.
 fn has_room(schema: &Schema) -> bool
     ensures { IsTrue result → HasRoom schema.now }
 {
     is_free(schema, b"meta".as_slice())
         && is_free(schema, b"file_rev".as_slice())
-        && is_free(schema, b"approval".as_slice())
-        && is_free(schema, b"proposal".as_slice())
+        && has_later_room(schema)
         && !are_referred(schema)
-        && !(counts(schema) && !has_sequence(schema))
 }
 
 /// Tests whether the database of a connection at rest has one of the four tables, or a table that refers to one.

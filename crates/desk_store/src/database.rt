@@ -6,7 +6,7 @@ ghost use Rattle.sqlite.specs.Held.{state};
 ghost use Rattle.sqlite.specs.State.{HasCleanDisk, Survives};
 ghost use Rattle.desk_core.specs.History.{standing_of};
 ghost use Rattle.desk_core.specs.State.{standing};
-ghost use Rattle.desk_store.specs.Create.{RunsInside};
+ghost use Rattle.desk_store.specs.Create.{HasLaterRoom, RunsInside};
 ghost use Rattle.desk_store.specs.Desk.{CommitsAtMost, History, IsSiteHistory};
 ghost use Rattle.desk_store.specs.History.{Holds, HoldsFirst};
 ghost use Rattle.desk_store.specs.Looks.{ChangesNothing, SeesTables};
@@ -15,7 +15,7 @@ ghost use Rattle.desk_store.specs.Storing.{MakesSecond};
 ghost use Rattle.desk_store.specs.Tables.{IsAtRest, IsAtRestWith, has_later, rows_of};
 ghost use Rattle.desk_store.specs.declared.error.DeskError.TheVariants as error;
 
-use crate::creating::{make_later, run};
+use crate::creating::{has_later_room, make_later, run};
 use crate::declared::Version;
 use crate::error::{DeskError, Task};
 use crate::opening::{accept_version, state_in};
@@ -23,7 +23,7 @@ use crate::rows::not_stored;
 use crate::tables::{read_approvals, read_proposals, read_revisions, read_versions, seen_tables};
 use desk_core::State;
 use desk_policy::PolicyView;
-use sqlite::{Alter, Connection, Error, Transaction};
+use sqlite::{Alter, Connection, Error, ErrorCode, Transaction};
 use std::alloc::Global;
 
 /// Looks which tables the database has; `Schema` if it has neither those of version 1 alone nor all four.
@@ -125,14 +125,32 @@ fn make_second<S: Alter>(tx: &mut Transaction<'_, S>) -> Result<(), Error>
 }
 
 /// Makes a database of version 1 one of version 2, in one commit. Its history stays.
-fn migrate<S: Alter>(conn: &mut Connection<S>) -> Result<(), Error>
+fn commit_second<S: Alter>(conn: &mut Connection<S>) -> Result<(), Error>
+    requires autocommit { (state S.Store conn.old).in_transaction ≡ false }
     requires rest { HasCleanDisk (state S.Store conn.old) → IsAtRestWith false (state S.Store conn.old) }
+    requires first { HasCleanDisk (state S.Store conn.old) → IsTrue (state S.Store conn.old).is_open → IsFirst (state S.Store conn.old).committed }
+    requires room { HasCleanDisk (state S.Store conn.old) → IsTrue (state S.Store conn.old).is_open → HasLaterRoom (state S.Store conn.old).committed.schema }
     ensures migrated { CommitsAtMost Migrates (state S.Store conn.old) (state S.Store conn.new) result }
-    ensures at_rest { HasCleanDisk (state S.Store conn.new) → OnOk result (IsAtRest (state S.Store conn.new)) }
 {
     let mut tx = conn.transaction();
     make_second(&mut tx)?;
     tx.commit()
+}
+
+/// Makes a database of version 1 one of version 2, if there is room for the later tables. (A view, an index or a trigger that has
+/// one of their names is refused as `sqlite` refuses the statement; so is a schema in which a table counts and `sqlite_sequence`
+/// is not there.)
+fn migrate<S: Alter>(conn: &mut Connection<S>) -> Result<(), Error>
+    requires autocommit { (state S.Store conn.old).in_transaction ≡ false }
+    requires rest { HasCleanDisk (state S.Store conn.old) → IsAtRestWith false (state S.Store conn.old) }
+    requires first { HasCleanDisk (state S.Store conn.old) → IsTrue (state S.Store conn.old).is_open → IsFirst (state S.Store conn.old).committed }
+    ensures migrated { CommitsAtMost Migrates (state S.Store conn.old) (state S.Store conn.new) result }
+{
+    if has_later_room(conn.schema()) {
+        commit_second(conn)
+    } else {
+        Err(Error::SqliteFailure(ErrorCode::NameTaken))
+    }
 }
 
 /// Reads the state for which the database stands, and makes a database of version 1 one of version 2; `Schema` if it is not one of
@@ -167,6 +185,7 @@ fn read_and_migrate<S: Alter, V: PolicyView + Drop>(
     alloc: Global,
     conn: &mut Connection<S>,
 ) -> Result<State<V>, DeskError>
+    requires autocommit { (state S.Store conn.old).in_transaction ≡ false }
     requires rest { HasCleanDisk (state S.Store conn.old) → IsAtRestWith false (state S.Store conn.old) }
     requires alone { HasCleanDisk (state S.Store conn.old) → has_later (state S.Store conn.old).committed.schema ≡ false }
     ensures mode { (state S.Store conn.new).in_transaction ≡ false }

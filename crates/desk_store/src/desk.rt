@@ -12,7 +12,7 @@ ghost use Rattle.desk_core.specs.Site.{IsConsistent, IsInForce, site_in};
 ghost use Rattle.desk_core.specs.Standing.{proposals_in};
 ghost use Rattle.desk_core.specs.State.{standing};
 ghost use Rattle.desk_store.specs.Create.{IsMade, JudgesSite, MayMake, RefusesToCreate, answer_of, first_revisions};
-ghost use Rattle.desk_store.specs.Desk.{AddsNothing, CommitsOne, HasGoodDisk, HasStored, History, IsAccepted, IsEdited, IsJudgedBy, LeavesTables, StandsAt, StaysAsItWas, StepsTo, is_proposed, revision_at, stored_of, told};
+ghost use Rattle.desk_store.specs.Desk.{AddsNothing, CommitsOne, HasGoodDisk, HasStored, History, IsAccepted, IsEdited, IsInUtf8, IsJudgedBy, LeavesTables, StandsAt, StaysAsItWas, StepsTo, is_proposed, revision_at, signature_of, stored_of, told};
 ghost use Rattle.desk_store.specs.History.{entry_rows};
 ghost use Rattle.desk_store.specs.Open.{IsOfOpening, IsOurs, LeavesOpened, MayMigrate, OpensAt, held_in};
 ghost use Rattle.desk_store.specs.Rows.{IsOfEdit, IsOfTask};
@@ -25,8 +25,9 @@ use crate::database::read_state;
 use crate::error::{CreateError, DeskError, Task};
 use crate::laws::answered_edits_keep_site_histories;
 use crate::rows::{find_revision, list_revisions, not_stored};
+use crate::signatures::list_signatures;
 use crate::storing::append_entry;
-use crate::tables::{read_approver, read_numbers, read_revision};
+use crate::tables::{read_approver, read_approvers, read_numbers, read_revision};
 use desk_core::{
     Accepted, Edit, Entry, Head, Judged, Proposal, State, standing_of_a_longer_history,
 };
@@ -45,6 +46,7 @@ pub struct Desk<S: Alter + Drop, V: PolicyView + Drop> {
 }
 
 impl<S: Alter + Drop, V: PolicyView + Drop> Model for Desk<S, V> {
+    ghost use Rattle.std.specs.Prelude.{◌≡◌, false};
     ghost use Rattle.sqlite.specs.Held.{state};
     ghost use Rattle.sqlite.specs.State.{HasCleanDisk};
     ghost use Rattle.desk_store.specs.Desk.{IsDesk, Shown, shown_code};
@@ -55,7 +57,7 @@ impl<S: Alter + Drop, V: PolicyView + Drop> Model for Desk<S, V> {
 
     ghost view = { λ d. record { conn = d.conn; state = d.current } };
 
-    ghost invariant = { λ d. HasCleanDisk (state S.Store d.conn) → IsDesk (state S.Store d.conn) d.current };
+    ghost invariant = { λ d. ((state S.Store d.conn).in_transaction ≡ false) × (HasCleanDisk (state S.Store d.conn) → IsDesk (state S.Store d.conn) d.current) };
 }
 
 /// What an edit is answered that is not refused.
@@ -78,6 +80,17 @@ pub struct Revision {
     /// The profile by which it is read.
     pub profile: Profile,
     pub body: Text,
+}
+
+/// Who signed a stored revision.
+#[derive(Drop)]
+pub struct Signature {
+    pub rev: u32,
+    pub author: Text,
+    /// Who approved it, if its file was guarded.
+    pub approver: Option<Text>,
+    /// The profile by which it is read.
+    pub profile: Profile,
 }
 
 impl<S: Alter + Drop, V: PolicyView + Drop> Desk<S, V> {
@@ -235,10 +248,36 @@ impl<S: Alter + Drop, V: PolicyView + Drop> Desk<S, V> {
         }
     }
 
+    /// Lists who signed a file's revisions, in the order of their numbers. An error changes nothing.
+    pub fn signatures(
+        &mut self,
+        alloc: Global,
+        file: &str,
+    ) -> Result<Sequence<Signature>, DeskError>
+        ensures stays { StaysAsItWas S.Store self.old self.new }
+        ensures found { HasGoodDisk S.Store self.new → (history pending : History)
+            → StandsAt S.Store self.old history pending
+            → IfOk result (λ found. found ≡ map signature_of (revisions_of file.now history)) }
+        ensures errors { IfErr result (IsOfTask tasks.ReadRevisions) }
+        ensures tables { LeavesTables (state S.Store self.old.conn) (state S.Store self.new.conn) }
+    {
+        let rows = match read_numbers(&mut self.conn, file) {
+            Ok(rows) => rows,
+            Err(e) => return Err(not_stored(Task::ReadRevisions, e)),
+        };
+        match read_approvers(&mut self.conn, file) {
+            Ok(approvals) => list_signatures(alloc, rows.as_slice(), approvals.as_slice()),
+            Err(e) => {
+                drop(rows);
+                Err(not_stored(Task::ReadRevisions, e))
+            }
+        }
+    }
+
     /// Gives the connection back, as it stands, with no transaction open.
     pub fn into_connection(self) -> Connection<S>
         ensures same { result ≡ self.conn }
-        ensures mode { HasCleanDisk (state S.Store result) → (state S.Store result).in_transaction ≡ false }
+        ensures mode { (state S.Store result).in_transaction ≡ false }
     {
         self.conn
     }
@@ -305,6 +344,7 @@ impl<S: Alter + Drop, V: PolicyView + Drop> Desk<S, V> {
     {
         standing_of_a_longer_history();
         answered_edits_keep_site_histories();
+        texts_are_utf8(edit);
         let rev = edit.base + 1;
         let proposed = is_proposed(accepted.entry());
         if let Err(e) = append_entry(&mut self.conn, accepted.entry()) {
@@ -318,6 +358,15 @@ impl<S: Alter + Drop, V: PolicyView + Drop> Desk<S, V> {
             proposed,
         })
     }
+}
+
+/// The texts of an edit are UTF-8.
+fn texts_are_utf8(edit: &Edit<'_>)
+    ensures { IsInUtf8 (asked edit.now) }
+{
+    edit.file.as_bytes();
+    edit.caller.as_bytes();
+    edit.text.as_bytes();
 }
 
 /// Tests whether what is stored is a proposal.

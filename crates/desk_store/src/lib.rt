@@ -21,6 +21,7 @@ mod newest;
 mod opening;
 mod pending;
 mod rows;
+mod signatures;
 mod stored;
 mod storing;
 mod tables;
@@ -28,7 +29,7 @@ mod tables;
 pub use declared::{
     Version, declares_approval, declares_file_rev, declares_meta, declares_proposal,
 };
-pub use desk::{Desk, Done, Revision};
+pub use desk::{Desk, Done, Revision, Signature};
 pub use error::{
     CreateError, DeskError, MEMORY_NUMBER, SCHEMA_NUMBER, STORE_NUMBER, StoreFault, Task,
 };

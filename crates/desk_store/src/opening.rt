@@ -1,18 +1,20 @@
 //! The state that the rows of a database stand for.
 
-ghost use Rattle.std.specs.Prelude.{◌≡◌, ◌↔◌, ◌∷◌, [], pos, Err, IfErr, IfOk, IsPermutation, IsTrue, OnOk, All, map};
-ghost use Rattle.std.specs.List.{list_all};
+ghost use Rattle.std.specs.Prelude.{◌≡◌, ◌↔◌, ◌∷◌, [], pos, Err, IfErr, IfOk, IsPermutation, IsTrue, List, OnOk, All, map};
+ghost use Rattle.std.specs.List.{filter_map, list_all};
 ghost use Rattle.sqlite.specs.declared.types.Value.TheVariants.{Int};
-ghost use Rattle.desk_core.specs.Head.{CanBeKept, StandOnce, newest_in};
-ghost use Rattle.desk_core.specs.History.{standing_of};
+ghost use Rattle.desk_core.specs.Head.{CanBeKept, Revision, StandOnce, newest_in};
+ghost use Rattle.desk_core.specs.History.{IsHistory, standing_of};
 ghost use Rattle.desk_core.specs.Judging.{seven};
 ghost use Rattle.desk_core.specs.Site.{IsConsistent, site_in};
 ghost use Rattle.desk_core.specs.Standing.{CanBePending, standing_in};
 ghost use Rattle.desk_core.specs.State.{standing};
-ghost use Rattle.desk_store.specs.Desk.{History, IsSiteHistory};
+ghost use Rattle.desk_core.specs.declared.entry.Entry.TheVariants.{Revised};
+ghost use Rattle.desk_store.specs.Desk.{History, IsSiteHistory, IsStorable};
+ghost use Rattle.desk_store.specs.History.{approval_of, row_of};
 ghost use Rattle.desk_store.specs.Newest.{has_revision};
 ghost use Rattle.desk_store.specs.Open.{IsOfRows, version_number, version_rows};
-ghost use Rattle.desk_store.specs.StoredRows.{AreRowsOf};
+ghost use Rattle.desk_store.specs.StoredRows.{AreNewestOf, AreRowsOf};
 ghost use Rattle.desk_store.specs.declared.error.DeskError.TheVariants as error;
 
 use crate::declared::Version;
@@ -134,6 +136,11 @@ pub(crate) fn state_in<V: PolicyView + Drop>(
 
 /// Makes the newest revisions that rows say, with who approved them; `Schema` if the rows are not those of a history.
 fn heads_in(alloc: Global, revisions: &[Row], approvals: &[Row]) -> Result<Vec<Head>, DeskError>
+    ensures newest { IfOk result (λ heads. (history : List Revision) × AreNewestOf revisions.now approvals.now heads.items history) }
+    ensures once { IfOk result (λ heads. StandOnce heads.items) }
+    ensures kept { IfOk result (λ heads. All CanBeKept heads.items) }
+    ensures foreign { result ≡ Err error.Schema → (history : List Revision) → All IsStorable history → IsHistory (map Revised history)
+        → IsPermutation (map row_of history) revisions.now → IsPermutation (filter_map approval_of history) approvals.now → ⊥ }
     ensures errors { IfErr result IsOfRows }
 {
     let mut revisions = revisions_in(alloc, revisions)?;

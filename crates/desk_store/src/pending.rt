@@ -1,11 +1,14 @@
 //! Who approved the revisions that are read of a database, and the proposals that are pending behind them.
 
-ghost use Rattle.std.specs.Prelude.{◌≡◌, ◌↔◌, Err, IfErr, IfOk, IsPermutation, IsTrue, List, OnOk, map};
-ghost use Rattle.std.specs.List.{filter_map};
-ghost use Rattle.desk_core.specs.Head.{Revision, newest_in};
+ghost use Rattle.std.specs.Prelude.{◌≡◌, ◌↔◌, ◌==◌, ◌++◌, ◌≢◌, All, Err, IfErr, IsPermutation, IsTrue, List, OnOk, map, not};
+ghost use Rattle.std.specs.List.{AllPairs, filter_map, list_all};
+ghost use Rattle.std.specs.Option.{option_to_list};
+ghost use Rattle.std.specs.Str.{bytes_eq};
+ghost use Rattle.desk_core.specs.Head.{Revision, newest_in, newest_number};
+ghost use Rattle.desk_store.specs.Desk.{IsStorable};
 ghost use Rattle.desk_store.specs.History.{approval_of, row_of};
 ghost use Rattle.desk_store.specs.Open.{IsOfRows};
-ghost use Rattle.desk_store.specs.StoredRows.{MayFollow, row_of_approval};
+ghost use Rattle.desk_store.specs.StoredRows.{HasUtf8Approver, IsUnapproved, MayFollow, is_approval_of, own_approval, row_of_approval, with_approval};
 ghost use Rattle.desk_store.specs.declared.error.DeskError.TheVariants as error;
 
 use crate::error::DeskError;
@@ -17,8 +20,10 @@ pub(crate) fn approve(
     revisions: &mut Vec<Head>,
     mut approvals: Vec<Approval>,
 ) -> Result<(), DeskError>
+    requires bare { All IsUnapproved revisions.old.items }
     ensures same { OnOk result (IsPermutation (map row_of revisions.old.items) (map row_of revisions.new.items)) }
     ensures approved { OnOk result (IsPermutation (map row_of_approval approvals.items) (filter_map approval_of revisions.new.items)) }
+    ensures storable { OnOk result (All IsStorable revisions.old.items → All HasUtf8Approver approvals.items → All IsStorable revisions.new.items) }
     ensures foreign { result ≡ Err error.Schema → (history : List Revision) → IsPermutation (map row_of history) (map row_of revisions.old.items)
         → IsPermutation (filter_map approval_of history) (map row_of_approval approvals.items) → ⊥ }
     ensures errors { IfErr result IsOfRows }
@@ -54,7 +59,10 @@ pub(crate) fn approve(
 }
 
 /// Writes into a revision who approved it, if the last of the approvals is of it, and takes that approval away.
-fn take_approval(head: &mut Head, approvals: &mut Vec<Approval>) {
+fn take_approval(head: &mut Head, approvals: &mut Vec<Approval>)
+    ensures approved { head.new ≡ with_approval (own_approval head.old approvals.old.items) head.old }
+    ensures taken { approvals.old.items ≡ approvals.new.items ++ option_to_list (own_approval head.old approvals.old.items) }
+{
     let own = match approvals.last() {
         Some(approval) => is_of(approval, head),
         None => false,
@@ -65,7 +73,9 @@ fn take_approval(head: &mut Head, approvals: &mut Vec<Approval>) {
 }
 
 /// Tests whether an approval is of a revision.
-fn is_of(approval: &Approval, head: &Head) -> bool {
+fn is_of(approval: &Approval, head: &Head) -> bool
+    ensures { result ≡ is_approval_of head.now approval.now }
+{
     approval.rev == head.rev && approval.file.as_str() == head.file.as_str()
 }
 
@@ -77,19 +87,31 @@ pub(crate) fn may_follow(heads: &[Head], proposals: &[Proposal]) -> bool
 }
 
 /// Tests whether no two proposals are of one file. (A database has at most one for each, by its key.)
-fn stand_once(proposals: &[Proposal]) -> bool {
-    (0..proposals.len()).all(|place| is_first(&proposals[..place], &proposals[place]))
+fn stand_once(proposals: &[Proposal]) -> bool
+    ensures { IsTrue result ↔ AllPairs (λ proposal later. proposal.file ≢ later.file) proposals.now }
+{
+    for (place, proposal) in proposals.iter().enumerate() {
+        if !is_first(&proposals[..place], proposal) {
+            return false;
+        }
+    }
+    true
 }
 
 /// Tests whether no earlier proposal is of this one's file.
-fn is_first(earlier: &[Proposal], proposal: &Proposal) -> bool {
+fn is_first(earlier: &[Proposal], proposal: &Proposal) -> bool
+    ensures { result ≡ list_all (λ other. not (bytes_eq other.file proposal.now.file)) earlier.now }
+{
     earlier
         .iter()
         .all(|other| other.file.as_str() != proposal.file.as_str())
 }
 
 /// Tests whether a proposal follows the newest revision of its file, or 0 if there is none.
-fn follows(heads: &[Head], proposal: &Proposal) -> bool {
+#[tactic(auto, unfolding(desk_core::specs::Head::newest_in))]
+fn follows(heads: &[Head], proposal: &Proposal) -> bool
+    ensures { result ≡ (newest_number (newest_in heads.now proposal.now.file) == proposal.now.base) }
+{
     let newest = heads
         .iter()
         .find(|head| head.file.as_str() == proposal.file.as_str());

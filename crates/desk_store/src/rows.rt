@@ -68,7 +68,7 @@ fn approver_in(alloc: Global, row: &Row) -> Result<Text, DeskError>
     }
 }
 
-/// Lists the numbers and authors in rows, in ascending order of the numbers.
+/// Lists the numbers and authors with which rows begin, in ascending order of the numbers.
 pub(crate) fn list_revisions(
     alloc: Global,
     rows: &[Row],
@@ -81,8 +81,8 @@ pub(crate) fn list_revisions(
     Ok(Sequence::from_vec(found))
 }
 
-/// Reads the numbers and authors in rows, in the order of the rows.
-fn listed_rows(alloc: Global, rows: &[Row]) -> Result<Vec<(u32, Text)>, DeskError>
+/// Reads the numbers and authors with which rows begin, or the numbers and approvers, in the order of the rows.
+pub(crate) fn listed_rows(alloc: Global, rows: &[Row]) -> Result<Vec<(u32, Text)>, DeskError>
     ensures listed { IfOk result (λ found. found.items ≡ map listed rows.now) }
     ensures errors { IfErr result (IsOfTask tasks.ReadRevisions) }
 {
@@ -116,7 +116,7 @@ fn listed_in(alloc: Global, row: &Row) -> Result<(u32, Text), DeskError>
 }
 
 /// Reads the number in a row.
-fn number_in(row: &Row) -> Result<u32, DeskError>
+pub(crate) fn number_in(row: &Row) -> Result<u32, DeskError>
     ensures number { IfOk result (λ rev. column row.now 0 ≡ Int (pos rev)) }
     ensures errors { IfErr result (IsOfTask tasks.ReadRevisions) }
 {
@@ -127,7 +127,7 @@ fn number_in(row: &Row) -> Result<u32, DeskError>
 }
 
 /// Reads the author in a row that begins with a number.
-fn author_in(alloc: Global, row: &Row) -> Result<Text, DeskError>
+pub(crate) fn author_in(alloc: Global, row: &Row) -> Result<Text, DeskError>
     ensures author { IfOk result (λ author. column row.now 1 ≡ Words author) }
     ensures errors { IfErr result (IsOfTask tasks.ReadRevisions) }
 {
@@ -143,7 +143,7 @@ fn revision_in(alloc: Global, row: &Row, approver: Option<Text>) -> Result<Revis
     ensures approver { IfOk result (λ found. found.approver ≡ approver) }
     ensures errors { IfErr result (IsOfTask tasks.ReadRevisions) }
 {
-    let profile = profile_in(row)?;
+    let profile = profile_in(row, 1)?;
     match (row.get_ref(0), row.get_ref(2)) {
         (Ok(ValueRef::Text(author)), Ok(ValueRef::Blob(body))) => Ok(Revision {
             author: text_in(alloc, author, 0)?,
@@ -155,15 +155,15 @@ fn revision_in(alloc: Global, row: &Row, approver: Option<Text>) -> Result<Revis
     }
 }
 
-/// Reads the profile in a row that begins with an author.
-fn profile_in(row: &Row) -> Result<Profile, DeskError>
-    ensures profile { IfOk result (λ profile. column row.now 1 ≡ Int (pos (profile_number profile))) }
+/// Reads the profile in a column.
+pub(crate) fn profile_in(row: &Row, at: usize) -> Result<Profile, DeskError>
+    ensures profile { IfOk result (λ profile. column row.now at ≡ Int (pos (profile_number profile))) }
     ensures errors { IfErr result (IsOfTask tasks.ReadRevisions) }
 {
-    match row.get_ref(1) {
+    match row.get_ref(at) {
         Ok(ValueRef::Int(1)) => Ok(Profile::One),
         Ok(ValueRef::Int(2)) => Ok(Profile::Two),
-        _ => Err(unreadable(1)),
+        _ => Err(unreadable(at)),
     }
 }
 

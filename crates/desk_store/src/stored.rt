@@ -12,7 +12,7 @@ ghost use Rattle.desk_core.specs.Standing.{CanBePending};
 ghost use Rattle.desk_core.specs.declared.proposal.Proposal.{Proposal as Proposed};
 ghost use Rattle.desk_store.specs.Desk.{IsStorable, MayPend};
 ghost use Rattle.desk_store.specs.History.{approval_of, proposed_row, row_of};
-ghost use Rattle.desk_store.specs.StoredRows.{row_of_approval, unapproved};
+ghost use Rattle.desk_store.specs.StoredRows.{HasUtf8Approver, IsUnapproved, row_of_approval, unapproved};
 ghost use Rattle.desk_store.specs.Open.{IsOfRows};
 ghost use Rattle.desk_store.specs.Tables.{revision_row};
 ghost use Rattle.desk_store.specs.declared.error.DeskError.TheVariants as error;
@@ -28,6 +28,7 @@ use std::alloc::{AllocError, Global};
 /// Reads the revisions in rows; `Schema` if a row is not that of a revision that a database of this project may hold.
 pub(crate) fn revisions_in(alloc: Global, rows: &[Row]) -> Result<Vec<Head>, DeskError>
     ensures read { IfOk result (λ heads. map row_of heads.items ≡ rows.now) }
+    ensures bare { IfOk result (λ heads. All IsUnapproved heads.items) }
     ensures storable { IfOk result (λ heads. All IsStorable heads.items) }
     ensures foreign { result ≡ Err error.Schema → (history : List Revision) → All IsStorable history → IsPermutation (map row_of history) rows.now → ⊥ }
     ensures errors { IfErr result IsOfRows }
@@ -48,6 +49,7 @@ pub(crate) fn revisions_in(alloc: Global, rows: &[Row]) -> Result<Vec<Head>, Des
 /// Reads the revision in a row; `Schema` if it is not one that a database of this project may hold.
 fn revision_in(alloc: Global, row: &Row) -> Result<Head, DeskError>
     ensures read { IfOk result (λ head. row_of head ≡ row.now) }
+    ensures bare { IfOk result IsUnapproved }
     ensures storable { IfOk result IsStorable }
     ensures foreign { result ≡ Err error.Schema → (revision : Revision) → IsStorable revision → row_of revision ≡ row.now → ⊥ }
     ensures errors { IfErr result IsOfRows }
@@ -189,7 +191,7 @@ pub(crate) struct Approval {
 /// Reads the approvals in rows; `Schema` if a row is not that of an approval.
 pub(crate) fn approvals_in(alloc: Global, rows: &[Row]) -> Result<Vec<Approval>, DeskError>
     ensures read { IfOk result (λ approvals. map row_of_approval approvals.items ≡ rows.now) }
-    ensures utf8 { IfOk result (λ approvals. All (λ one. IsUtf8 one.approver) approvals.items) }
+    ensures utf8 { IfOk result (λ approvals. All HasUtf8Approver approvals.items) }
     ensures foreign { result ≡ Err error.Schema → (history : List Revision) → All IsStorable history → IsPermutation (filter_map approval_of history) rows.now → ⊥ }
     ensures errors { IfErr result IsOfRows }
 {
@@ -209,7 +211,7 @@ pub(crate) fn approvals_in(alloc: Global, rows: &[Row]) -> Result<Vec<Approval>,
 /// Reads the approval in a row; `Schema` if it is not one that a database of this project may hold.
 fn approval_in(alloc: Global, row: &Row) -> Result<Approval, DeskError>
     ensures read { IfOk result (λ approval. row_of_approval approval ≡ row.now) }
-    ensures utf8 { IfOk result (λ approval. IsUtf8 approval.approver) }
+    ensures utf8 { IfOk result HasUtf8Approver }
     ensures foreign { result ≡ Err error.Schema → (revision : Revision) → IsStorable revision → approval_of revision ≡ Some row.now → ⊥ }
     ensures errors { IfErr result IsOfRows }
 {

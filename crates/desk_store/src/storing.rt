@@ -3,7 +3,7 @@
 ghost use Rattle.std.specs.Prelude.{◌≡◌};
 ghost use Rattle.sqlite.specs.Held.{state};
 ghost use Rattle.sqlite.specs.State.{HasCleanDisk};
-ghost use Rattle.desk_store.specs.Create.{AddsRow, RunsInside};
+ghost use Rattle.desk_store.specs.Create.{AddsRow, IsInside, RunsInside};
 ghost use Rattle.desk_store.specs.Desk.{CommitsAtMost};
 ghost use Rattle.desk_store.specs.History.{approval_of, entry_rows, proposed_row, row_of};
 ghost use Rattle.desk_store.specs.Storing.{AddsApproval, AddsProposal, TakesProposal, WritesEntry};
@@ -15,7 +15,8 @@ use sqlite::{Alter, Connection, Error, Transaction, params};
 /// Stores an entry, in one commit: a revision with its approval, and no proposal of its file any more; or a proposal in place of
 /// any other of its file.
 pub(crate) fn append_entry<S: Alter>(conn: &mut Connection<S>, entry: &Entry) -> Result<(), Error>
-    requires { HasCleanDisk (state S.Store conn.old) → IsAtRest (state S.Store conn.old) }
+    requires autocommit { (state S.Store conn.old).in_transaction ≡ false }
+    requires rest { HasCleanDisk (state S.Store conn.old) → IsAtRest (state S.Store conn.old) }
     ensures { CommitsAtMost (Stores (entry_rows entry.now)) (state S.Store conn.old) (state S.Store conn.new) result }
 {
     let mut tx = conn.transaction();
@@ -61,6 +62,7 @@ pub(crate) fn add_revision<S: Alter>(tx: &mut Transaction<'_, S>, head: &Head) -
 
 /// Adds the row of a revision's approval, if it was approved.
 fn add_approval<S: Alter>(tx: &mut Transaction<'_, S>, head: &Head) -> Result<(), Error>
+    requires inside { HasCleanDisk (state S.Store tx.old.conn.now) → IsInside (state S.Store tx.old.conn.now) }
     ensures same_reference { tx.new.conn.ghost_name ≡ tx.old.conn.ghost_name }
     ensures added { RunsInside (state S.Store tx.old.conn.now) (state S.Store tx.new.conn.now) result (AddsApproval (approval_of head.now)) }
 {

@@ -6,7 +6,7 @@ ghost use Rattle.sqlite.specs.Order.{Row as Values};
 ghost use Rattle.sqlite.specs.State.{HasCleanDisk};
 ghost use Rattle.sqlite.specs.Held.{state};
 ghost use Rattle.sqlite.specs.Values.{bound};
-ghost use Rattle.desk_store.specs.Looks.{ChangesNothing, IsLook, ReadsRows, SeesTables, approver_in, numbers_in, revision_in};
+ghost use Rattle.desk_store.specs.Looks.{ChangesNothing, IsLook, ReadsRows, SeesTables, approver_in, approvers_in, numbers_in, revision_in};
 ghost use Rattle.desk_store.specs.Tables.{IsAtRest, IsAtRestWith, rows_of};
 
 use crate::declared::{Version, declared_version};
@@ -36,7 +36,7 @@ pub(crate) fn read_revisions<S: Alter>(conn: &mut Connection<S>) -> Result<Vec<R
     read(conn, "SELECT * FROM file_rev", &[])
 }
 
-/// Reads the numbers and authors of a file's revisions, in any order.
+/// Reads the numbers, authors and profiles of a file's revisions, in any order.
 pub(crate) fn read_numbers<S: Alter>(
     conn: &mut Connection<S>,
     file: &str,
@@ -46,7 +46,7 @@ pub(crate) fn read_numbers<S: Alter>(
 {
     read(
         conn,
-        "SELECT rev, author FROM file_rev WHERE file = ?1",
+        "SELECT rev, author, profile FROM file_rev WHERE file = ?1",
         params![file],
     )
 }
@@ -96,6 +96,21 @@ pub(crate) fn read_approver<S: Alter>(
         conn,
         "SELECT approver FROM approval WHERE file = ?1 AND rev = ?2",
         params![file, i64::from(rev)],
+    )
+}
+
+/// Reads the numbers of a file's approved revisions, and who approved them, in any order.
+pub(crate) fn read_approvers<S: Alter>(
+    conn: &mut Connection<S>,
+    file: &str,
+) -> Result<Vec<Row>, Error>
+    requires { HasCleanDisk (state S.Store conn.old) → IsAtRest (state S.Store conn.old) }
+    ensures { ReadsRows (approvers_in file.now) (state S.Store conn.old) (state S.Store conn.new) result }
+{
+    read(
+        conn,
+        "SELECT rev, approver FROM approval WHERE file = ?1",
+        params![file],
     )
 }
 
