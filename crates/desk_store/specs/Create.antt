@@ -84,7 +84,7 @@ IsFaultOfSeven texts fault = HasFault (by_second texts) fault × (is_of_seven fa
 
 -- a refusal is a fault of the site, or there is no memory
 abbrev pub IsFaultOrMemory : SiteTexts → CreateError → Type 0
-IsFaultOrMemory texts (refused.Fault fault) = HasFault (by_second texts) fault
+IsFaultOrMemory texts (refused.Fault fault) = HasFault texts fault
 IsFaultOrMemory texts refused.Memory = Unit {0}
 IsFaultOrMemory texts (refused.TooLarge file) = ⊥
 IsFaultOrMemory texts (refused.Store fault) = ⊥

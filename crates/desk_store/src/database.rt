@@ -1,6 +1,6 @@
 //! The state for which a database stands, if it is one of this project. One of version 1 is made one of version 2.
 
-ghost use Rattle.std.specs.Prelude.{◌≡◌, [], false, codes, Err, IfErr, IfOk, IsTrue, OnOk};
+ghost use Rattle.std.specs.Prelude.{◌≡◌, [], false, codes, Err, IfErr, IfOk, IsTrue, OnErr, OnOk};
 ghost use Rattle.sqlite.specs.Effect.{IsDatabase};
 ghost use Rattle.sqlite.specs.Held.{state};
 ghost use Rattle.sqlite.specs.State.{HasCleanDisk, Survives};
