@@ -1,5 +1,5 @@
 -- What a desk shows, how it stands to a history, and what its calls promise. (this project's own)
-use Rattle.std.specs.Prelude.{◌≡◌, ◌≢◌, ◌⊎◌, ℕ, ◌+◌, ◌<◌, ◌≤◌, ◌++◌, ◌==◌, Bool, true, false, List, [], ◌∷◌, Option, Some, None, Result, Ok, Err, All, Contains, IfOk, IsTrue, OnErr, OnOk, find, length, if◌then◌else◌, refl}
+use Rattle.std.specs.Prelude.{◌≡◌, ◌≢◌, ◌⊎◌, ℕ, ◌+◌, ◌<◌, ◌≤◌, ◌++◌, ◌==◌, Bool, true, false, List, [], ◌∷◌, Option, Some, None, Result, Ok, Err, All, Contains, IfOk, IsTrue, OnErr, OnOk, codes, find, length, if◌then◌else◌, refl}
 use Rattle.std.specs.List.{cons_option}
 use Rattle.std.specs.Option.{option_map}
 use Rattle.std.specs.Str.{IsUtf8}
@@ -22,7 +22,7 @@ use Rattle.desk_core.specs.Views.{Kept, Ready, kept_code}
 use Rattle.desk_core.specs.declared.entry.Entry.{Entry}
 use Rattle.desk_core.specs.declared.entry.Entry.TheVariants as entry
 use Rattle.desk_core.specs.declared.proposal.Proposal.{Proposal}
-use Rattle.desk_store.specs.Tables.{EntryRows, IsAtRest, LeadsTo, LeavesCommit, Stores, StoresIn}
+use Rattle.desk_store.specs.Tables.{EntryRows, IsAtRest, IsKeyed, LeadsTo, LeavesCommit, Stores, StoresIn}
 use Rattle.desk_store.specs.History.{Holds, entry_rows, revisions_in}
 use Rattle.desk_store.specs.declared.desk.Done.{Done}
 use Rattle.desk_store.specs.declared.desk.Revision.{Revision as Found}
@@ -89,6 +89,7 @@ pub record Stands {V : Type 0} (s : State) (state : Kept V) (history pending : L
 -- what a desk keeps true while nothing else has written its files
 pub record IsDesk {V : Type 0} (s : State) (state : Kept V) : Type 0 where
   pub rest : IsAtRest s
+  pub keyed : IsTrue s.is_open → IsKeyed s.committed (codes "proposal")
   pub history : List Entry
   pub pending : List Entry
   pub stands : Stands s state history pending

@@ -9,4 +9,5 @@ pub mod Create
 pub mod Storing
 pub mod Newest
 pub mod Looks
+pub mod Keys
 pub mod Error

@@ -1,8 +1,9 @@
 -- What is read of the rows of revisions and of approvals. (this project's own)
-use Rattle.std.specs.Prelude.{◌≡◌, ◌≢◌, ◌-◌, ◌==◌, ◌&&◌, ℕ, Bool, false, List, Option, None, Some, All, IsPermutation, length, map, slice_get, if◌then◌else◌}
+use Rattle.std.specs.Prelude.{◌≡◌, ◌≢◌, ◌-◌, ◌==◌, ◌&&◌, ℕ, Bool, false, List, Option, None, Some, All, IsPermutation, codes, length, map, slice_get, if◌then◌else◌}
 use Rattle.std.specs.List.{AllPairs, filter_map}
 use Rattle.std.specs.Option.{option_map_or}
 use Rattle.std.specs.Str.{IsUtf8, bytes_eq}
+use Rattle.sqlite.specs.Effect.{Database}
 use Rattle.sqlite.specs.Order.{Row}
 use Rattle.desk_exports.specs.declared.profile.Profile.{Profile}
 use Rattle.desk_core.specs.Head.{Newest, Revision, newest_in, newest_number}
@@ -12,7 +13,7 @@ use Rattle.desk_core.specs.declared.entry.Entry.TheVariants.{Revised}
 use Rattle.desk_core.specs.declared.proposal.Proposal.{Proposal}
 use Rattle.desk_store.specs.Desk.{IsStorable}
 use Rattle.desk_store.specs.History.{approval_of, proposed_row, revisions_in, row_of}
-use Rattle.desk_store.specs.Tables.{approval_row}
+use Rattle.desk_store.specs.Tables.{approval_row, rows_of}
 use Rattle.desk_store.specs.declared.stored.Approval.{Approval}
 
 -- a revision with these parts that nobody approved
@@ -53,6 +54,10 @@ pub record AreRowsOf (history : List Entry) (revisions approvals proposals : Lis
   pub revised : IsPermutation (map row_of (revisions_in history)) revisions
   pub approved : IsPermutation (filter_map approval_of (revisions_in history)) approvals
   pub proposed : IsPermutation (map proposed_row (pending_in history)) proposals
+
+-- a database has just the rows of a history, of all three kinds
+abbrev pub AreRowsIn : Database → List Entry → Type 0
+AreRowsIn db history = AreRowsOf history (rows_of db (codes "file_rev")) (rows_of db (codes "approval")) (rows_of db (codes "proposal"))
 
 -- Heads are the newest of revisions that rows say, with those who approved them as other rows say; these may be the revisions of a
 -- database of this project.

@@ -11,19 +11,26 @@ ghost use Rattle.desk_store.specs.Desk.{CommitsAtMost, History, IsSiteHistory};
 ghost use Rattle.desk_store.specs.History.{Holds, HoldsFirst};
 ghost use Rattle.desk_store.specs.Looks.{ChangesNothing, SeesTables};
 ghost use Rattle.desk_store.specs.Open.{IsFirst, IsOfOpening, IsOurs, IsProject, LeavesOpened, MayMigrate, Migrates, version_rows};
+ghost use Rattle.desk_store.specs.Rows.{IsOfTask};
+ghost use Rattle.desk_store.specs.StoredRows.{AreRowsIn};
 ghost use Rattle.desk_store.specs.Storing.{MakesSecond};
-ghost use Rattle.desk_store.specs.Tables.{IsAtRest, IsAtRestWith, has_later, rows_of};
+ghost use Rattle.desk_store.specs.Tables.{AreKeys, IsAtRest, IsAtRestWith, IsKeyed, has_later, rows_of};
 ghost use Rattle.desk_store.specs.declared.error.DeskError.TheVariants as error;
+ghost use Rattle.desk_store.specs.declared.error.Task.TheVariants as tasks;
 
 use crate::creating::{has_later_room, make_later, run};
 use crate::declared::Version;
 use crate::error::{DeskError, Task};
+use crate::keys::are_keys;
 use crate::opening::{accept_version, state_in};
 use crate::rows::not_stored;
-use crate::tables::{read_approvals, read_proposals, read_revisions, read_versions, seen_tables};
+use crate::tables::{
+    read_approvals, read_proposal_keys, read_proposals, read_revisions, read_version_keys,
+    read_versions, seen_tables,
+};
 use desk_core::State;
 use desk_policy::PolicyView;
-use sqlite::{Alter, Connection, Error, ErrorCode, Transaction};
+use sqlite::{Alter, Connection, Error, ErrorCode, Row, Transaction};
 use std::alloc::Global;
 
 /// Looks which tables the database has; `Schema` if it has neither those of version 1 alone nor all four.
@@ -57,8 +64,8 @@ fn check_version<S: Alter>(conn: &mut Connection<S>, version: Version) -> Result
     }
 }
 
-/// Reads the history of a database with the four tables, and makes the state that it stands for; `Schema` if it is not the history
-/// of a site.
+/// Reads the history of a database with the four tables, and makes the state that it stands for; `Schema` if it is not one of this
+/// project.
 fn read_second<S: Alter, V: PolicyView + Drop>(
     alloc: Global,
     conn: &mut Connection<S>,
@@ -66,6 +73,7 @@ fn read_second<S: Alter, V: PolicyView + Drop>(
     requires { HasCleanDisk (state S.Store conn.old) → IsAtRest (state S.Store conn.old) }
     ensures look { ChangesNothing (state S.Store conn.old) (state S.Store conn.new) }
     ensures live { HasCleanDisk (state S.Store conn.new) → OnOk result (IsTrue (state S.Store conn.new).is_open) }
+    ensures keyed { HasCleanDisk (state S.Store conn.new) → OnOk result (IsKeyed (state S.Store conn.old).committed (codes "proposal")) }
     ensures history { HasCleanDisk (state S.Store conn.new) → IfOk result (λ state'. (history : History) × IsSiteHistory history
         × Holds (state S.Store conn.old).committed history × (standing state' ≡ standing_of history)) }
     ensures foreign { HasCleanDisk (state S.Store conn.new) → result ≡ Err error.Schema → (history : History) → IsSiteHistory history
@@ -73,6 +81,25 @@ fn read_second<S: Alter, V: PolicyView + Drop>(
     ensures errors { IfErr result IsOfOpening }
 {
     check_version(conn, Version::Second)?;
+    check_keys(conn)?;
+    read_history(alloc, conn)
+}
+
+/// Reads the rows of the three tables of a history, and makes the state that they stand for; `Schema` if it is not the history of a
+/// site.
+fn read_history<S: Alter, V: PolicyView + Drop>(
+    alloc: Global,
+    conn: &mut Connection<S>,
+) -> Result<State<V>, DeskError>
+    requires { HasCleanDisk (state S.Store conn.old) → IsAtRest (state S.Store conn.old) }
+    ensures look { ChangesNothing (state S.Store conn.old) (state S.Store conn.new) }
+    ensures live { HasCleanDisk (state S.Store conn.new) → OnOk result (IsTrue (state S.Store conn.new).is_open) }
+    ensures history { HasCleanDisk (state S.Store conn.new) → IfOk result (λ state'. (history : History) × IsSiteHistory history
+        × AreRowsIn (state S.Store conn.old).committed history × (standing state' ≡ standing_of history)) }
+    ensures foreign { HasCleanDisk (state S.Store conn.new) → result ≡ Err error.Schema → (history : History) → IsSiteHistory history
+        → AreRowsIn (state S.Store conn.old).committed history → ⊥ }
+    ensures errors { IfErr result IsOfOpening }
+{
     let revisions = match read_revisions(conn) {
         Ok(rows) => rows,
         Err(e) => return Err(not_stored(Task::ReadRevisions, e)),
@@ -102,6 +129,7 @@ fn read_first<S: Alter, V: PolicyView + Drop>(
     requires alone { HasCleanDisk (state S.Store conn.old) → has_later (state S.Store conn.old).committed.schema ≡ false }
     ensures look { ChangesNothing (state S.Store conn.old) (state S.Store conn.new) }
     ensures live { HasCleanDisk (state S.Store conn.new) → OnOk result (IsTrue (state S.Store conn.new).is_open) }
+    ensures keyed { HasCleanDisk (state S.Store conn.new) → OnOk result (IsKeyed (state S.Store conn.old).committed (codes "meta")) }
     ensures history { HasCleanDisk (state S.Store conn.new) → IfOk result (λ state'. (history : History) × IsSiteHistory history
         × HoldsFirst (state S.Store conn.old).committed history × (standing state' ≡ standing_of history)) }
     ensures foreign { HasCleanDisk (state S.Store conn.new) → result ≡ Err error.Schema → (history : History) → IsSiteHistory history
@@ -109,9 +137,50 @@ fn read_first<S: Alter, V: PolicyView + Drop>(
     ensures errors { IfErr result IsOfOpening }
 {
     check_version(conn, Version::First)?;
+    check_version_keys(conn)?;
     match read_revisions(conn) {
         Ok(revisions) => state_in(alloc, revisions.as_slice(), &[], &[]),
         Err(e) => Err(not_stored(Task::ReadRevisions, e)),
+    }
+}
+
+/// Reads the rowids of the proposals, and tests that none comes twice.
+fn check_keys<S: Alter>(conn: &mut Connection<S>) -> Result<(), DeskError>
+    requires { HasCleanDisk (state S.Store conn.old) → IsAtRest (state S.Store conn.old) }
+    ensures look { ChangesNothing (state S.Store conn.old) (state S.Store conn.new) }
+    ensures live { HasCleanDisk (state S.Store conn.new) → OnOk result (IsTrue (state S.Store conn.new).is_open) }
+    ensures keyed { HasCleanDisk (state S.Store conn.new) → OnOk result (IsKeyed (state S.Store conn.old).committed (codes "proposal")) }
+    ensures errors { IfErr result (IsOfTask tasks.ReadRevisions) }
+{
+    match read_proposal_keys(conn) {
+        Ok(rows) => accept_keys(Task::ReadRevisions, rows.as_slice()),
+        Err(e) => Err(not_stored(Task::ReadRevisions, e)),
+    }
+}
+
+/// Reads the rowids of the versions, and tests that none comes twice.
+fn check_version_keys<S: Alter>(conn: &mut Connection<S>) -> Result<(), DeskError>
+    requires { HasCleanDisk (state S.Store conn.old) → IsAtRestWith false (state S.Store conn.old) }
+    ensures look { ChangesNothing (state S.Store conn.old) (state S.Store conn.new) }
+    ensures live { HasCleanDisk (state S.Store conn.new) → OnOk result (IsTrue (state S.Store conn.new).is_open) }
+    ensures keyed { HasCleanDisk (state S.Store conn.new) → OnOk result (IsKeyed (state S.Store conn.old).committed (codes "meta")) }
+    ensures errors { IfErr result (IsOfTask tasks.ReadVersion) }
+{
+    match read_version_keys(conn) {
+        Ok(rows) => accept_keys(Task::ReadVersion, rows.as_slice()),
+        Err(e) => Err(not_stored(Task::ReadVersion, e)),
+    }
+}
+
+/// Accepts rowids of which none comes twice. (A file in which one does is damaged, which `sqlite` tells otherwise.)
+fn accept_keys(task: Task, rows: &[Row]) -> Result<(), DeskError>
+    ensures keys { OnOk result (AreKeys rows.now) }
+    ensures errors { IfErr result (IsOfTask task) }
+{
+    if are_keys(rows) {
+        Ok(())
+    } else {
+        Err(not_stored(task, Error::SqliteFailure(ErrorCode::DatabaseCorrupt)))
     }
 }
 
@@ -121,7 +190,8 @@ fn make_second<S: Alter>(tx: &mut Transaction<'_, S>) -> Result<(), Error>
     ensures made { RunsInside (state S.Store tx.old.conn.now) (state S.Store tx.new.conn.now) result MakesSecond }
 {
     make_later(tx)?;
-    run(tx, "UPDATE meta SET version = 2")
+    run(tx, "DELETE FROM meta")?;
+    run(tx, "INSERT INTO meta(version) VALUES(2)")
 }
 
 /// Makes a database of version 1 one of version 2, in one commit. Its history stays.
@@ -129,6 +199,7 @@ fn commit_second<S: Alter>(conn: &mut Connection<S>) -> Result<(), Error>
     requires autocommit { (state S.Store conn.old).in_transaction ≡ false }
     requires rest { HasCleanDisk (state S.Store conn.old) → IsAtRestWith false (state S.Store conn.old) }
     requires first { HasCleanDisk (state S.Store conn.old) → IsTrue (state S.Store conn.old).is_open → IsFirst (state S.Store conn.old).committed }
+    requires keyed { HasCleanDisk (state S.Store conn.old) → IsTrue (state S.Store conn.old).is_open → IsKeyed (state S.Store conn.old).committed (codes "meta") }
     requires room { HasCleanDisk (state S.Store conn.old) → IsTrue (state S.Store conn.old).is_open → HasLaterRoom (state S.Store conn.old).committed.schema }
     ensures migrated { CommitsAtMost Migrates (state S.Store conn.old) (state S.Store conn.new) result }
 {
@@ -144,6 +215,7 @@ fn migrate<S: Alter>(conn: &mut Connection<S>) -> Result<(), Error>
     requires autocommit { (state S.Store conn.old).in_transaction ≡ false }
     requires rest { HasCleanDisk (state S.Store conn.old) → IsAtRestWith false (state S.Store conn.old) }
     requires first { HasCleanDisk (state S.Store conn.old) → IsTrue (state S.Store conn.old).is_open → IsFirst (state S.Store conn.old).committed }
+    requires keyed { HasCleanDisk (state S.Store conn.old) → IsTrue (state S.Store conn.old).is_open → IsKeyed (state S.Store conn.old).committed (codes "meta") }
     ensures migrated { CommitsAtMost Migrates (state S.Store conn.old) (state S.Store conn.new) result }
 {
     if has_later_room(conn.schema()) {
@@ -163,6 +235,7 @@ pub(crate) fn read_state<S: Alter, V: PolicyView + Drop>(
     ensures mode { (state S.Store conn.new).in_transaction ≡ false }
     ensures rest { HasCleanDisk (state S.Store conn.new) → OnOk result (IsAtRest (state S.Store conn.new)) }
     ensures live { HasCleanDisk (state S.Store conn.new) → OnOk result (IsTrue (state S.Store conn.new).is_open) }
+    ensures keyed { HasCleanDisk (state S.Store conn.new) → OnOk result (IsKeyed (state S.Store conn.new).committed (codes "proposal")) }
     ensures sound { HasCleanDisk (state S.Store conn.new) → OnOk result (IsDatabase (state S.Store conn.new).committed) }
     ensures project { HasCleanDisk (state S.Store conn.new) → IfOk result (λ state'. (history : History) × IsProject (state S.Store conn.old).committed history
         × (standing state' ≡ standing_of history)) }
@@ -193,6 +266,7 @@ fn read_and_migrate<S: Alter, V: PolicyView + Drop>(
     ensures live { HasCleanDisk (state S.Store conn.new) → OnOk result (IsTrue (state S.Store conn.new).is_open) }
     ensures history { HasCleanDisk (state S.Store conn.new) → IfOk result (λ state'. (history : History) × IsSiteHistory history
         × HoldsFirst (state S.Store conn.old).committed history × (standing state' ≡ standing_of history)) }
+    ensures keyed { HasCleanDisk (state S.Store conn.new) → OnOk result (IsKeyed (state S.Store conn.new).committed (codes "proposal")) }
     ensures migrated { HasCleanDisk (state S.Store conn.new) → OnOk result (Migrates (state S.Store conn.old).committed (state S.Store conn.new).committed) }
     ensures unchanged { HasCleanDisk (state S.Store conn.new) → IsTrue (state S.Store conn.new).is_open → OnErr result ((state S.Store conn.new).committed ≡ (state S.Store conn.old).committed) }
     ensures crash { Survives (state S.Store conn.old) (state S.Store conn.new) (MayMigrate (state S.Store conn.old)) }

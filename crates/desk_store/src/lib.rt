@@ -16,6 +16,7 @@ pub mod declared;
 pub mod desk;
 pub mod error;
 mod first;
+mod keys;
 pub mod laws;
 mod newest;
 mod opening;

@@ -1,13 +1,13 @@
 //! Storing the entry of an edit in the tables, in one transaction.
 
-ghost use Rattle.std.specs.Prelude.{◌≡◌, false};
+ghost use Rattle.std.specs.Prelude.{◌≡◌, false, IsTrue, codes};
 ghost use Rattle.sqlite.specs.Held.{state};
 ghost use Rattle.sqlite.specs.State.{HasCleanDisk};
 ghost use Rattle.desk_store.specs.Create.{AddsRow, IsInside, RunsInside};
 ghost use Rattle.desk_store.specs.Desk.{CommitsAtMost};
 ghost use Rattle.desk_store.specs.History.{approval_of, entry_rows, proposed_row, row_of};
 ghost use Rattle.desk_store.specs.Storing.{AddsApproval, AddsProposal, TakesProposal, WritesEntry};
-ghost use Rattle.desk_store.specs.Tables.{IsAtRest, Stores};
+ghost use Rattle.desk_store.specs.Tables.{IsAtRest, IsKeyed, Stores};
 
 use desk_core::{Entry, Head, Proposal};
 use sqlite::{Alter, Connection, Error, Transaction, params};
@@ -17,6 +17,7 @@ use sqlite::{Alter, Connection, Error, Transaction, params};
 pub(crate) fn append_entry<S: Alter>(conn: &mut Connection<S>, entry: &Entry) -> Result<(), Error>
     requires autocommit { (state S.Store conn.old).in_transaction ≡ false }
     requires rest { HasCleanDisk (state S.Store conn.old) → IsAtRest (state S.Store conn.old) }
+    requires keyed { HasCleanDisk (state S.Store conn.old) → IsTrue (state S.Store conn.old).is_open → IsKeyed (state S.Store conn.old).committed (codes "proposal") }
     ensures { CommitsAtMost (Stores (entry_rows entry.now)) (state S.Store conn.old) (state S.Store conn.new) result }
 {
     let mut tx = conn.transaction();

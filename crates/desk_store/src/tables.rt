@@ -7,7 +7,7 @@ ghost use Rattle.sqlite.specs.State.{HasCleanDisk};
 ghost use Rattle.sqlite.specs.Held.{state};
 ghost use Rattle.sqlite.specs.Values.{bound};
 ghost use Rattle.desk_store.specs.Looks.{ChangesNothing, IsLook, ReadsRows, SeesTables, approver_in, approvers_in, numbers_in, revision_in};
-ghost use Rattle.desk_store.specs.Tables.{IsAtRest, IsAtRestWith, rows_of};
+ghost use Rattle.desk_store.specs.Tables.{IsAtRest, IsAtRestWith, rowids_of, rows_of};
 
 use crate::declared::{Version, declared_version};
 use sqlite::{Alter, Connection, Error, Row, params};
@@ -120,6 +120,22 @@ pub(crate) fn read_versions<S: Alter>(conn: &mut Connection<S>) -> Result<Vec<Ro
     ensures { ReadsRows (λ db. rows_of db (codes "meta")) (state S.Store conn.old) (state S.Store conn.new) result }
 {
     read(conn, "SELECT * FROM meta", &[])
+}
+
+/// Reads the rowids of the proposals.
+pub(crate) fn read_proposal_keys<S: Alter>(conn: &mut Connection<S>) -> Result<Vec<Row>, Error>
+    requires { HasCleanDisk (state S.Store conn.old) → IsAtRest (state S.Store conn.old) }
+    ensures { ReadsRows (λ db. rowids_of db (codes "proposal")) (state S.Store conn.old) (state S.Store conn.new) result }
+{
+    read(conn, "SELECT rowid FROM proposal", &[])
+}
+
+/// Reads the rowids of the database's versions.
+pub(crate) fn read_version_keys<S: Alter>(conn: &mut Connection<S>) -> Result<Vec<Row>, Error>
+    requires { HasCleanDisk (state S.Store conn.old) → IsAtRestWith false (state S.Store conn.old) }
+    ensures { ReadsRows (λ db. rowids_of db (codes "meta")) (state S.Store conn.old) (state S.Store conn.new) result }
+{
+    read(conn, "SELECT rowid FROM meta", &[])
 }
 
 /// Looks which tables the database has: all four, or those of version 1 alone, each of them alone in its tree; none if neither.
