@@ -24,7 +24,7 @@ unapproved file rev author profile body = record { file = file; rev = rev; autho
 abbrev pub IsUnapproved : Revision → Type 0
 IsUnapproved r = r.approver ≡ None
 
--- what an approval stores is UTF-8: of its file that is asked of the revision
+-- the name of an approver is UTF-8 (the file is that of a revision)
 abbrev pub HasUtf8Approver : Approval → Type 0
 HasUtf8Approver approval = IsUtf8 approval.approver
 

@@ -86,7 +86,7 @@ impl DeskError {
 pub enum CreateError {
     /// A statement was refused.
     Store(StoreFault),
-    /// One of the two tables is there.
+    /// One of the four tables is there.
     Schema,
     /// There is no memory.
     Memory,

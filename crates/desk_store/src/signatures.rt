@@ -60,11 +60,7 @@ fn add_signed(
 }
 
 /// Reads who signed the revision in a row.
-fn signature_in(
-    alloc: Global,
-    row: &Row,
-    approved: &[(u32, Text)],
-) -> Result<Signature, DeskError>
+fn signature_in(alloc: Global, row: &Row, approved: &[(u32, Text)]) -> Result<Signature, DeskError>
     ensures signed { IfOk result (λ one. one ≡ signed approved.now row.now) }
     ensures errors { IfErr result (IsOfTask tasks.ReadRevisions) }
 {
@@ -81,11 +77,7 @@ fn signature_in(
 }
 
 /// Copies who approved the revision with a number, if it was approved.
-fn approver_of(
-    alloc: Global,
-    approved: &[(u32, Text)],
-    rev: u32,
-) -> Result<Option<Text>, DeskError>
+fn approver_of(alloc: Global, approved: &[(u32, Text)], rev: u32) -> Result<Option<Text>, DeskError>
     ensures approver { IfOk result (λ approver. approver ≡ approver_at approved.now rev) }
     ensures errors { IfErr result (IsOfTask tasks.ReadRevisions) }
 {
