@@ -13,7 +13,7 @@ use Rattle.desk_store.specs.declared.desk.Done.{Done}
 use Rattle.desk_store.specs.declared.error.DeskError.{DeskError}
 use Rattle.desk_store.specs.declared.error.DeskError.TheVariants as error
 use Rattle.desk_store.specs.declared.error.Task.{Task}
-use Rattle.desk_service.specs.Edits.{PutsBy, reply_in, reply_to}
+use Rattle.desk_service.specs.Edits.{PutsBy, reply_in}
 use Rattle.desk_service.specs.Refused.{refused_by}
 use Rattle.desk_service.specs.declared.edits.Replies.{Replies}
 use Rattle.desk_messages.specs.Replies.{Reply, memory_reply, print_reply}
@@ -38,9 +38,6 @@ reply_told items replies ends rev are true true = are.already_proposed
 reply_told items replies ends rev are true false = are.already
 reply_told items replies ends rev are false true = are.proposed
 reply_told items replies ends rev are false false = are.accepted
-
-of_done : {T : Type 0} (replies : Replies T) (text : T) (done : Done) → Ok {E = DeskError} text ≡ reply_to replies (Ok done) → text ≡ reply_in replies done
-of_done replies text done is = cc
 
 module _ {S V : Type 0} (g : Ghosts S) (old new : Shown S V) (e : Edit) where
   abbrev Edited : Result Done DeskError → Type 0
@@ -80,10 +77,10 @@ module _ {S V : Type 0} (g : Ghosts S) (old new : Shown S V) (e : Edit) where
   -- an edit that is stored or proposed, or was
   pub put_ok : {T : Type 0} (items : T → List ℕ) (replies : Replies T) (ends : Bool) (rev : ℕ) → rev ≡ e.base + 1 → AreReplies items ends rev replies
       → (text : T) → PutsBy g old new e replies (Ok text) → GivesText (HasGoodDisk g) (StandsAt g) (EditAnswered e) ends old (items text) new
-  put_ok items replies ends rev number are text (Ok done, edited, is) = (
+  put_ok items replies ends rev number are text (Ok done, edited, is) = let same : text ≡ reply_in replies done = cc in (
     answer_reply (answer_told done),
     answered (Ok done) (answer_told done) refl edited,
-    ap items (of_done replies text done is) ∙ reply_told items replies ends rev are done.already done.proposed
+    ap items same ∙ reply_told items replies ends rev are done.already done.proposed
         ∙ ap (λ n. print_reply ends (answer_reply (told_by n done.already done.proposed))) (number ∙ sym edited.number),
   )
   put_ok items replies ends rev number are text (Err failed, edited, is) = absurd (cc)

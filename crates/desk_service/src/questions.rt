@@ -1,6 +1,6 @@
 //! Questions that change nothing, and their answers.
 
-ghost use Rattle.std.specs.Prelude.{◌≡◌, IfErr, IfOk, None, Some, option_copied};
+ghost use Rattle.std.specs.Prelude.{◌≡◌, IfErr, IfOk, None, Some};
 ghost use Rattle.sqlite.specs.Held.{state};
 ghost use Rattle.desk_store.specs.Desk.{HasGoodDisk, History, StandsAt};
 ghost use Rattle.desk_store.specs.Rows.{IsOfTask};
