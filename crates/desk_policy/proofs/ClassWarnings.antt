@@ -1,5 +1,5 @@
 -- By profile 2 no network is warned of because its class counts.
-use Rattle.std.proofs.Common.{◌≡◌, ◌≢◌, ◌∙◌, ℕ, ◌+◌, ◌==◌, Bool, true, false, List, [], ◌∷◌, ◌++◌, Option, Some, None, Result, Ok, Err, if◌then◌else◌, is_some, arith, filter, length, map, refl, sym, ap, subst}
+use Rattle.std.proofs.Common.{◌≡◌, ◌≢◌, ℕ, ◌+◌, ◌==◌, Bool, true, false, List, [], ◌∷◌, Option, Some, None, Result, Ok, if◌then◌else◌, is_some, arith, filter, length, map, refl, ap, subst}
 use Rattle.std.specs.Prelude.{codes}
 use Rattle.std.specs.List.{AllByRecursion, flat_map}
 use Rattle.std.proofs.lemmas.List.Elements.{All-from_recursion}
@@ -26,7 +26,7 @@ use Rattle.desk_exports.specs.declared.files.Scope.TheVariants.{File, Whole}
 use Rattle.desk_exports.specs.declared.profile.Profile.TheVariants.{Two}
 use Rattle.desk_policy.specs.Laws.{custodians_in, filesystems_in, FilesByProfileTwoWarnOfNoClass, SitesByProfileTwoWarnOfNoClass, WholeTextsByProfileTwoWarnOfNoClass}
 use Rattle.desk_policy.specs.Names.{is_address_like}
-use Rattle.desk_policy.specs.Parsing.{content_with, ExportsFile, file_with, in_file, read_after_filesystems, read_exports, read_files, read_site, read_site_tables, rows_with, then_read, whole_policy}
+use Rattle.desk_policy.specs.Parsing.{content_with, ExportsFile, in_file, read_after_filesystems, read_exports, read_files, read_site, read_site_tables, rows_with, then_read, whole_policy}
 use Rattle.desk_policy.specs.Policy.{Content, content_of, with_warnings}
 use Rattle.desk_policy.specs.Site.{SiteTexts}
 use Rattle.desk_policy.specs.SiteFault.{exports_name, line_fault}

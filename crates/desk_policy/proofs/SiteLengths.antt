@@ -1,5 +1,5 @@
 -- The texts of a site are within a limit exactly if each file is, and each value of the map of exports files.
-use Rattle.std.proofs.Common.{◌≡◌, ◌≤◌, ℕ, Bool, true, false, Decides, List, [], Option, Some, None, String, arith, get_or, length, subst, sym, unwrap_or, ◌∙◌}
+use Rattle.std.proofs.Common.{◌≡◌, ◌≤◌, ℕ, Bool, true, false, Decides, List, Option, Some, None, String, arith, get_or, length, subst, sym, unwrap_or, ◌∙◌}
 use Rattle.std.specs.BTreeMap.{BTreeMap, get_by_text, IsOrdered, values}
 use Rattle.std.specs.List.{list_all}
 use Rattle.std.specs.Option.{IfSome}

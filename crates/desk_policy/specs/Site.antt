@@ -18,7 +18,7 @@ pub record SiteTexts : Type 0 where
   pub netgroup : List ℕ
   pub exports : List ℕ → ExportsText
 
--- an empty exports file
+-- an empty exports file: no line of it depends on its profile
 abbrev pub no_exports : ExportsText
 no_exports = record { profile = Two; body = [] }
 

@@ -1,4 +1,4 @@
-use Rattle.std.proofs.Common.{◌≡◌, List, Result, subst, ℕ}
+use Rattle.std.proofs.Common.{List, Result, subst, ℕ}
 use Rattle.desk_text.specs.Reading.{Reads}
 use Rattle.desk_text.specs.declared.reading.LineFault.{LineFault}
 use Rattle.desk_exports.specs.Files.{file_answer}
