@@ -8,7 +8,7 @@ use Rattle.std.proofs.lemmas.Bool.{cases_Bool}
 use Rattle.std.proofs.lemmas.List.Elements.{All-append, All-from_recursion, filter-append, filter_map-append, recursion_from_All}
 use Rattle.std.proofs.lemmas.List.FromFn.{get_or-range_with_len}
 use Rattle.std.proofs.lemmas.Slice.Eq.{bytes_eq-Decides}
-use Rattle.desk_core.specs.Edit.{Already, Edit, Pending, Proposed, Refused, Stored, approved_revision, proposal_of, revision_of}
+use Rattle.desk_core.specs.Edit.{Already, Pending, Proposed, Refused, Stored, approved_revision, proposal_of, revision_of}
 use Rattle.desk_core.specs.Head.{Newest, Revision, newest_number, put}
 use Rattle.desk_core.specs.History.{IsHistory, entry_file, newest_of, pending_in, proposal_in, revision_in, revisions_of}
 use Rattle.desk_core.specs.Laws.{AnsweredEditsKeepTheNumbers, StandingOfALongerHistory}

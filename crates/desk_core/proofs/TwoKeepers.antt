@@ -1,13 +1,12 @@
 -- Behind each revision of a guarded file stand two custodians.
-use Rattle.std.proofs.Common.{◌≡◌, ◌∙◌, ◌⊎◌, inl, inr, sym, ap, subst, refl, ℕ, ◌<◌, ◌++◌, Bool, true, false, cond, not, List, [], ◌∷◌, Option, Some, None, zero, suc, length, arith, append-nil}
-use Rattle.std.specs.Prelude.{find}
-use Rattle.std.specs.List.{Contains, cons_option}
+use Rattle.std.proofs.Common.{◌≡◌, ◌∙◌, ◌⊎◌, inl, inr, sym, ap, subst, refl, ℕ, ◌++◌, Bool, true, false, cond, not, List, [], ◌∷◌, Option, Some, None, suc, arith, append-nil}
+use Rattle.std.specs.List.{Contains}
 use Rattle.std.specs.Str.{bytes_eq}
 use Rattle.desk_core.specs.Edit.{Already, Answer, Edit, Pending, Proposed, Refused, Stored, approved_revision, proposal_of, revision_of}
 use Rattle.desk_core.specs.Head.{Revision}
-use Rattle.desk_core.specs.History.{Exchange, IsAnswered, Run, added_if, entry_file, history_after, history_through, pending_in, proposal_in, standing_of}
+use Rattle.desk_core.specs.History.{Exchange, IsAnswered, Run, added_if, history_after, history_through, pending_in, standing_of}
 use Rattle.desk_core.specs.Judging.{is_guarded_file, table_in}
-use Rattle.desk_core.specs.Laws.{GuardedFilesHaveTwoKeepers, IsSeconded, MayTakeEffect, NeedsNoSecond, WasProposed}
+use Rattle.desk_core.specs.Laws.{GuardedFilesHaveTwoKeepers, IsSeconded, MayTakeEffect, NeedsNoSecond}
 use Rattle.desk_core.specs.Standing.{Standing, proposals_in}
 use Rattle.desk_core.specs.declared.entry.Entry.{Entry}
 use Rattle.desk_core.specs.declared.entry.Entry.TheVariants as entry

@@ -1,4 +1,4 @@
-use Rattle.std.proofs.Common.{rules, ◌≡◌, ◌++◌, List, [], ℕ}
+use Rattle.std.proofs.Common.{rules, ◌≡◌, ◌++◌, List, ℕ}
 use Rattle.std.specs.Prelude.{codes, unwrap_or}
 use Rattle.std.specs.BTreeMap.{get_by_text}
 use Rattle.desk_policy.specs.Site.{no_exports, texts_of}

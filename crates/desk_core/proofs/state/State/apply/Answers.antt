@@ -3,7 +3,6 @@ use Rattle.desk_tables.specs.Custodians.{read_custodians}
 use Rattle.desk_core.specs.Head.{Newest, newest_in, put}
 use Rattle.desk_core.specs.Site.{IsInForce, site_in}
 use Rattle.desk_core.specs.State.{PutsEntry, PutsRevision}
-use Rattle.desk_core.specs.declared.entry.Entry.TheVariants as entry
 use Rattle.desk_core.specs.declared.head.Head.{Head}
 use Rattle.desk_core.proofs.state.State.apply.Goals as goal
 
