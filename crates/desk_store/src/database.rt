@@ -81,7 +81,7 @@ fn read_second<S: Alter, V: PolicyView + Drop>(
     ensures errors { IfErr result IsOfOpening }
 {
     check_version(conn, Version::Second)?;
-    check_keys(conn)?;
+    check_keys(alloc, conn)?;
     read_history(alloc, conn)
 }
 
@@ -137,7 +137,7 @@ fn read_first<S: Alter, V: PolicyView + Drop>(
     ensures errors { IfErr result IsOfOpening }
 {
     check_version(conn, Version::First)?;
-    check_version_keys(conn)?;
+    check_version_keys(alloc, conn)?;
     match read_revisions(conn) {
         Ok(revisions) => state_in(alloc, revisions.as_slice(), &[], &[]),
         Err(e) => Err(not_stored(Task::ReadRevisions, e)),
@@ -145,7 +145,7 @@ fn read_first<S: Alter, V: PolicyView + Drop>(
 }
 
 /// Reads the rowids of the proposals, and tests that none comes twice.
-fn check_keys<S: Alter>(conn: &mut Connection<S>) -> Result<(), DeskError>
+fn check_keys<S: Alter>(alloc: Global, conn: &mut Connection<S>) -> Result<(), DeskError>
     requires { HasCleanDisk (state S.Store conn.old) → IsAtRest (state S.Store conn.old) }
     ensures look { ChangesNothing (state S.Store conn.old) (state S.Store conn.new) }
     ensures live { HasCleanDisk (state S.Store conn.new) → OnOk result (IsTrue (state S.Store conn.new).is_open) }
@@ -153,13 +153,13 @@ fn check_keys<S: Alter>(conn: &mut Connection<S>) -> Result<(), DeskError>
     ensures errors { IfErr result (IsOfTask tasks.ReadRevisions) }
 {
     match read_proposal_keys(conn) {
-        Ok(rows) => accept_keys(Task::ReadRevisions, rows.as_slice()),
+        Ok(rows) => accept_keys(alloc, Task::ReadRevisions, rows.as_slice()),
         Err(e) => Err(not_stored(Task::ReadRevisions, e)),
     }
 }
 
 /// Reads the rowids of the versions, and tests that none comes twice.
-fn check_version_keys<S: Alter>(conn: &mut Connection<S>) -> Result<(), DeskError>
+fn check_version_keys<S: Alter>(alloc: Global, conn: &mut Connection<S>) -> Result<(), DeskError>
     requires { HasCleanDisk (state S.Store conn.old) → IsAtRestWith false (state S.Store conn.old) }
     ensures look { ChangesNothing (state S.Store conn.old) (state S.Store conn.new) }
     ensures live { HasCleanDisk (state S.Store conn.new) → OnOk result (IsTrue (state S.Store conn.new).is_open) }
@@ -167,20 +167,20 @@ fn check_version_keys<S: Alter>(conn: &mut Connection<S>) -> Result<(), DeskErro
     ensures errors { IfErr result (IsOfTask tasks.ReadVersion) }
 {
     match read_version_keys(conn) {
-        Ok(rows) => accept_keys(Task::ReadVersion, rows.as_slice()),
+        Ok(rows) => accept_keys(alloc, Task::ReadVersion, rows.as_slice()),
         Err(e) => Err(not_stored(Task::ReadVersion, e)),
     }
 }
 
 /// Accepts rowids of which none comes twice. (A file in which one does is damaged, which `sqlite` tells otherwise.)
-fn accept_keys(task: Task, rows: &[Row]) -> Result<(), DeskError>
+fn accept_keys(alloc: Global, task: Task, rows: &[Row]) -> Result<(), DeskError>
     ensures keys { OnOk result (AreKeys rows.now) }
     ensures errors { IfErr result (IsOfTask task) }
 {
-    if are_keys(rows) {
-        Ok(())
-    } else {
-        Err(not_stored(task, Error::SqliteFailure(ErrorCode::DatabaseCorrupt)))
+    match are_keys(alloc, rows) {
+        Ok(true) => Ok(()),
+        Ok(false) => Err(not_stored(task, Error::SqliteFailure(ErrorCode::DatabaseCorrupt))),
+        Err(_) => Err(DeskError::Memory),
     }
 }
 

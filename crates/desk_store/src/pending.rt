@@ -108,7 +108,6 @@ fn is_first(earlier: &[Proposal], proposal: &Proposal) -> bool
 }
 
 /// Tests whether a proposal follows the newest revision of its file, or 0 if there is none.
-#[tactic(auto, unfolding(desk_core::specs::Head::newest_in))]
 fn follows(heads: &[Head], proposal: &Proposal) -> bool
     ensures { result ≡ (newest_number (newest_in heads.now proposal.now.file) == proposal.now.base) }
 {
