@@ -1,3 +1,4 @@
+pub mod DeleteEffect
 pub mod InsertText
 pub mod InsertEffect
 pub mod ChangesNothing
