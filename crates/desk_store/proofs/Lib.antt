@@ -3,9 +3,12 @@ pub mod InsertText
 pub mod InsertEffect
 pub mod ChangesNothing
 pub mod Inserting
+pub mod Placed
 pub mod SelectText
 pub mod Reading
+pub mod QueryText
 pub mod NamedText
+pub mod KeysText
 pub mod NamedRows
 pub mod NamedLook
 pub mod CrashLeaves

@@ -16,8 +16,8 @@ use Rattle.sqlite.specs.Term.{Env, Term, col, eval_all, holds, lit, op2}
 use Rattle.sqlite.specs.Query.{Query, inner, end, Output, output, IsAnswer}
 use Rattle.sqlite.specs.declared.types.Value.{Value}
 use Rattle.sqlite.specs.declared.types.Value.TheVariants.{Null, Int, Real, Text as Words, Blob as Bytes}
-use Rattle.desk_store.specs.Looks.{are_equal, author_and_text, is_at, is_of, number_and_author}
-use Rattle.desk_store.specs.Tables.{cells, file_rev_table}
+use Rattle.desk_store.specs.Looks.{approver_of, are_equal, author_profile_and_text, is_at, is_of, number_and_approver, number_author_and_profile}
+use Rattle.desk_store.specs.Tables.{approval_table, cells, file_rev_table}
 
 abbrev pub query : List Term → List Term → ℕ → Query
 query tests project tree = record {
@@ -95,21 +95,44 @@ abbrev pub rev_test : Term
 rev_test = op2 (Compare Eq Binary) (col 1 2) (col 0 1)
 
 abbrev pub number_columns : List Term
-number_columns = col 1 2 ∷ col 1 3 ∷ []
+number_columns = col 1 2 ∷ col 1 3 ∷ col 1 4 ∷ []
 
 abbrev pub text_columns : List Term
-text_columns = col 1 3 ∷ col 1 5 ∷ []
+text_columns = col 1 3 ∷ col 1 4 ∷ col 1 5 ∷ []
+
+abbrev pub approver_columns : List Term
+approver_columns = col 1 3 ∷ []
+
+abbrev pub approvers_columns : List Term
+approvers_columns = col 1 2 ∷ col 1 3 ∷ []
+
+-- the tests of a file, and of its revision with a number, pass where these rows pass
+file_passes : (file : List ℕ) (row : Row) → list_all (holds ((Words file ∷ []) ∷ row ∷ [])) (file_test ∷ []) ≡ are_equal (column row 1) (Words file)
+file_passes file row = and_true _ ∙ by_text (column row 1) file
+
+both_pass : (file : List ℕ) (rev : ℕ) (row : Row) → list_all (holds ((Words file ∷ Int (pos rev) ∷ []) ∷ row ∷ [])) (file_test ∷ rev_test ∷ []) ≡ (are_equal (column row 1) (Words file) && are_equal (column row 2) (Int (pos rev)))
+both_pass file rev row =
+    ap (λ b. b && (holds ((Words file ∷ Int (pos rev) ∷ []) ∷ row ∷ []) rev_test && true)) (by_text (column row 1) file)
+    ∙ ap (λ b. are_equal (column row 1) (Words file) && b) (and_true _ ∙ by_int (column row 2) rev)
 
 pub numbers_answered : (file : List ℕ) (tree : ℕ) (low : nat_le (2 ^ 31) tree ≡ false) (db : Trees) (rows : List Row) → IsProgramAnswer [] (query (file_test ∷ []) number_columns tree) db (Words file ∷ []) rows
-    → IsPermutation (map number_and_author (filter (is_of file) (map (cells (file_rev_table tree)) (db tree)))) rows
+    → IsPermutation (map number_author_and_profile (filter (is_of file) (map (cells (file_rev_table tree)) (db tree)))) rows
 numbers_answered file tree =
-    answered (file_test ∷ []) number_columns (file_rev_table tree) (Words file ∷ []) (is_of file) number_and_author (λ row. and_true _ ∙ by_text (column row 1) file) (λ row. refl)
+    answered (file_test ∷ []) number_columns (file_rev_table tree) (Words file ∷ []) (is_of file) number_author_and_profile (file_passes file) (λ row. refl)
 
 pub revision_answered : (file : List ℕ) (rev tree : ℕ) (low : nat_le (2 ^ 31) tree ≡ false) (db : Trees) (rows : List Row)
     → IsProgramAnswer [] (query (file_test ∷ rev_test ∷ []) text_columns tree) db (Words file ∷ Int (pos rev) ∷ []) rows
-    → IsPermutation (map author_and_text (filter (is_at file rev) (map (cells (file_rev_table tree)) (db tree)))) rows
+    → IsPermutation (map author_profile_and_text (filter (is_at file rev) (map (cells (file_rev_table tree)) (db tree)))) rows
 revision_answered file rev tree =
-    answered (file_test ∷ rev_test ∷ []) text_columns (file_rev_table tree) (Words file ∷ Int (pos rev) ∷ []) (is_at file rev) author_and_text
-    (λ row. ap (λ b. b && (holds ((Words file ∷ Int (pos rev) ∷ []) ∷ row ∷ []) rev_test && true)) (by_text (column row 1) file)
-    ∙ ap (λ b. are_equal (column row 1) (Words file) && b) (and_true _ ∙ by_int (column row 2) rev))
-    (λ row. refl)
+    answered (file_test ∷ rev_test ∷ []) text_columns (file_rev_table tree) (Words file ∷ Int (pos rev) ∷ []) (is_at file rev) author_profile_and_text (both_pass file rev) (λ row. refl)
+
+pub approver_answered : (file : List ℕ) (rev tree : ℕ) (low : nat_le (2 ^ 31) tree ≡ false) (db : Trees) (rows : List Row)
+    → IsProgramAnswer [] (query (file_test ∷ rev_test ∷ []) approver_columns tree) db (Words file ∷ Int (pos rev) ∷ []) rows
+    → IsPermutation (map approver_of (filter (is_at file rev) (map (cells (approval_table tree)) (db tree)))) rows
+approver_answered file rev tree =
+    answered (file_test ∷ rev_test ∷ []) approver_columns (approval_table tree) (Words file ∷ Int (pos rev) ∷ []) (is_at file rev) approver_of (both_pass file rev) (λ row. refl)
+
+pub approvers_answered : (file : List ℕ) (tree : ℕ) (low : nat_le (2 ^ 31) tree ≡ false) (db : Trees) (rows : List Row) → IsProgramAnswer [] (query (file_test ∷ []) approvers_columns tree) db (Words file ∷ []) rows
+    → IsPermutation (map number_and_approver (filter (is_of file) (map (cells (approval_table tree)) (db tree)))) rows
+approvers_answered file tree =
+    answered (file_test ∷ []) approvers_columns (approval_table tree) (Words file ∷ []) (is_of file) number_and_approver (file_passes file) (λ row. refl)

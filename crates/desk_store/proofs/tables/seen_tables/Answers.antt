@@ -1,6 +1,6 @@
 use Rattle.std.proofs.Common.{[], inl}
 use Rattle.desk_store.proofs.ChangesNothing.{changes_nothing, not_run}
-use Rattle.desk_store.proofs.tables.sees_tables.Goals as goal
+use Rattle.desk_store.proofs.tables.seen_tables.Goals as goal
 
 pub returns-then-is_autocommit-clause-look : goal.returns-then-is_autocommit-clause-look
 returns-then-is_autocommit-clause-look g c = changes_nothing _ _ c.prepare.ensures.mode (λ clean. inl (c.in_ok-prepare.ensures.ok clean).1) c.prepare.ensures.survives
