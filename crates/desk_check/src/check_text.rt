@@ -148,8 +148,15 @@ fn read_entries(
     ensures read { Reads result (whole_answer (rows_with Two filesystems.now site_tables.now) text.now) }
     ensures ascending { IfOk result EntriesAscend }
 {
-    let tables = tables_with(Profile::Two, site_tables, filesystems);
+    let tables = tables_for_new(site_tables, filesystems);
     read_whole(alloc, text, &tables)
+}
+
+/// Lends the tables with which a new exports text is read: by profile 2.
+pub fn tables_for_new<'t>(site_tables: &'t SiteTables, filesystems: &'t FileSystems) -> Tables<'t>
+    ensures { table_rows result ≡ rows_with Two filesystems.now site_tables.now }
+{
+    tables_with(Profile::Two, site_tables, filesystems)
 }
 
 /// Lends the tables with which an exports text is read by this profile.
@@ -179,7 +186,7 @@ fn gather_line_faults<'a>(
     requires { length exports.text.now ≤ 4294967294 }
     ensures { IfOk result (GathersFaults exports.entry filesystems.now site_tables.now) }
 {
-    let tables = tables_with(Profile::Two, site_tables, filesystems);
+    let tables = tables_for_new(site_tables, filesystems);
     let faults = find_faults(alloc, exports.text, &tables, Scope::Whole)?;
     let mut findings = Sequence::new(alloc);
     push_line_faults(alloc, exports, faults.as_slice(), &mut findings)?;

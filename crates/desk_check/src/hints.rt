@@ -4,7 +4,7 @@
 ghost use Rattle.std.specs.Prelude.{◌≡◌, Some};
 ghost use Rattle.std.specs.Option.{option_map};
 ghost use Rattle.desk_text.specs.Address.{number_of};
-ghost use Rattle.desk_exports.specs.Clients.{class_prefix, prefix_text};
+ghost use Rattle.desk_exports.specs.Clients.{prefix_text};
 ghost use Rattle.desk_exports.specs.Grammar.{after_dash, option_name};
 ghost use Rattle.desk_exports.specs.Options.{is_name_among};
 ghost use Rattle.desk_check.specs.Hints as spec;
@@ -247,7 +247,7 @@ fn network_hint(word: &str) -> Option<&'static str>
 
 /// Returns the hint for such a network by the class of its address.
 fn class_hint(address: Addr) -> Option<&'static str>
-    ensures { option_map (λ hint. hint.now) result ≡ spec.class_hint (class_prefix (number_of address)) }
+    ensures { option_map (λ hint. hint.now) result ≡ spec.class_hint (number_of address) }
 {
     let first_part = address.number() / 0x100_0000;
     if first_part < 128 {

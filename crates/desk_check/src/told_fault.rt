@@ -15,12 +15,12 @@ ghost use Rattle.desk_check.specs.ToldFault.{TellOne, TellOneOf, TellOneWith, Te
 use crate::check_faults::{Source, push_line_faults};
 use crate::check_odd::{Odd, push_in_order};
 use crate::check_site::push_filesystems;
-use crate::check_text::{WholeSources, gather, tables_with};
+use crate::check_text::{WholeSources, gather, tables_for_new};
 use crate::finding::{Finding, Matter};
 use crate::finding_prints::finding_text;
 use crate::split_text::SplitFault;
 use crate::word_places::Writing;
-use desk_exports::{PlacedFault, Profile, Rule, Scope, Tables, find_faults};
+use desk_exports::{PlacedFault, Rule, Scope, Tables, find_faults};
 use desk_policy::{SiteFault, SiteRule, SiteTables};
 use desk_tables::FileSystems;
 use desk_text::{LineFault, ReadError, Sequence};
@@ -136,7 +136,7 @@ fn push_one<'a>(
     match ReadError::split(FileSystems::read(alloc, filesystems))? {
         Ok(table) => {
             let site_tables = SiteTables::new(alloc);
-            let tables = tables_with(Profile::Two, &site_tables, &table);
+            let tables = tables_for_new(&site_tables, &table);
             push_one_with(alloc, source, &tables, Scope::Whole, fault, found)
         }
         Err(_) => Ok(()),

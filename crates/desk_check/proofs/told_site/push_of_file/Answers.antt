@@ -11,5 +11,5 @@ pub returns : goal.returns
 returns c =
     subst (λ (rows : TableRows). OnOk c.push_one_with.result (Adds (TellOneWith c.args.source c.args.fault (scope_of c.args.source.path.now c.args.filesystems.now) rows) c.args.found.now c.push_one_with.new.found))
     c.tables_with-tables.ensures
-    (subst (λ (scope : Scope). OnOk c.push_one_with.result (Adds (TellOneWith c.args.source c.args.fault scope (table_rows c.tables_with-tables.tables)) c.args.found.now c.push_one_with.new.found))
+    (subst (λ (scope : Scope). OnOk c.push_one_with.result (Adds (TellOneWith c.args.source c.args.fault scope (table_rows c.tables_with-tables.result)) c.args.found.now c.push_one_with.new.found))
     c.scope_of-scope.ensures c.push_one_with.ensures)
