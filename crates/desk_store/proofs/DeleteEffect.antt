@@ -1,5 +1,5 @@
 -- What a DELETE does, from any table that nothing refers to: the rows that pass its test are gone.
-use Rattle.std.proofs.Common.{nat_le, ◌^◌, ◌≡◌, ◌≢◌, ◌∙◌, sym, ap, subst, subst₂, refl, inl, inr, ℕ, suc, ℤ, pos, negsuc, Bool, true, false, cond, not, ◌&&◌, ◌||◌, ◌==◌, List, [], ◌∷◌, ◌++◌, ◌⊎◌, if◌then◌else◌, filter, map, slice_get, Some, None, Option, Ok, Err, Result, IsTrue, arith}
+use Rattle.std.proofs.Common.{nat_le, ◌^◌, ◌≡◌, ◌≢◌, ◌∙◌, sym, ap, subst, subst₂, refl, inl, inr, ℕ, suc, ℤ, pos, negsuc, Bool, true, false, cond, not, ◌&&◌, ◌||◌, ◌==◌, List, [], ◌∷◌, ◌++◌, if◌then◌else◌, filter, map, slice_get, Some, None, Option, Ok, IsTrue, arith}
 use Rattle.std.specs.Prelude.{All, IsPermutation, option_and_then, option_map}
 use Rattle.std.specs.List.{AllByRecursion, AllPairs, filter_map, find, flat_map, list_all, list_any}
 use Rattle.std.proofs.lemmas.Bool.{cases_Bool}
@@ -35,6 +35,7 @@ use Rattle.sqlite_schema.specs.Rules.{ParentKey, declared_order, key_in, key_pla
 use Rattle.sqlite_schema.specs.declared.program.Program.{Program}
 use Rattle.sqlite_schema.specs.declared.schema.Keys.{Keys}
 use Rattle.sqlite_schema.specs.declared.schema.Reference.{Reference}
+use Rattle.desk_store.proofs.InsertEffect.{same_value, went}
 use Rattle.desk_store.specs.Tables.{AreKeys, is_own_tree, refers_to}
 
 -- the query of one table: these columns of the rows that pass these tests
@@ -283,13 +284,6 @@ pub record Takes (tree : ℕ) (test : Row → Bool) (db after : Database) : Type
   pub schema : after.schema ≡ db.schema
   pub rows : after.trees tree ≡ filter (λ row. not (test row)) (db.trees tree)
   pub others : AllByRecursion (λ t. t.tree ≢ tree → after.trees t.tree ≡ db.trees t.tree) db.schema.tables
-
-went : {B E R : Type 0} {b : B} {Stops : E → Type 0} → ((stop : E) × Stops stop × (Ok b ≡ Err stop)) ⊎ R → R
-went (inl stopped) = absurd (let e = stopped.2 in cc)
-went (inr on) = on
-
-same_value : {B E : Type 0} {a b : B} → ◌≡◌ {A = Result B E} (Ok a) (Ok b) → a ≡ b
-same_value e = cc
 
 -- the program of a DELETE
 abbrev pub deleting : List Term → ℕ → Program

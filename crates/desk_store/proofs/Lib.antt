@@ -1,4 +1,6 @@
 pub mod DeleteEffect
+pub mod DeleteText
+pub mod OwnRowids
 pub mod InsertText
 pub mod InsertEffect
 pub mod ChangesNothing
