@@ -46,3 +46,7 @@ pub mod Making
 pub mod Filling
 pub mod Room
 pub mod MadeState
+pub mod LongerHistory
+pub mod Members
+pub mod Revisions
+pub mod PendingOnce

@@ -8,7 +8,7 @@ use Rattle.std.proofs.lemmas.Bool.{cases_lt, eq-eqb, ne_eqb}
 use Rattle.std.proofs.lemmas.List.Sorted.{sum_by-IsPermutation}
 use Rattle.std.proofs.lemmas.List.Sums.{sum_by-cons}
 use Rattle.desk_core.specs.Head.{Revision}
-use Rattle.desk_core.specs.History.{IsHistory, revisions_of}
+use Rattle.desk_store.proofs.Revisions.{IsNumbered, own}
 
 abbrev Rises : List ℕ → Type 0
 Rises [] = Unit {0}
@@ -64,12 +64,12 @@ is_range (x ∷ xs) a (suc n) up same =
 abbrev number_if : List ℕ → ℕ → Revision → ℕ
 number_if file k r = cond (bytes_eq r.file file) (one_if (r.rev == k)) 0
 
-counted : (file : List ℕ) (k : ℕ) (xs : List Revision) → count k (map (λ (r : Revision). r.rev) (revisions_of file xs)) ≡ sum_by (number_if file k) xs
+counted : (file : List ℕ) (k : ℕ) (xs : List Revision) → count k (map (λ (r : Revision). r.rev) (own file xs)) ≡ sum_by (number_if file k) xs
 counted file k [] = refl
 counted file k (x ∷ xs) = step (bytes_eq x.file file) (counted file k xs) ∙ sym (sum_by-cons (number_if file k) x xs)
   where
-    step : (b : Bool) → count k (map (λ (r : Revision). r.rev) (revisions_of file xs)) ≡ sum_by (number_if file k) xs
-        → count k (map (λ (r : Revision). r.rev) (cond b (x ∷ revisions_of file xs) (revisions_of file xs))) ≡ cond b (one_if (x.rev == k)) 0 + sum_by (number_if file k) xs
+    step : (b : Bool) → count k (map (λ (r : Revision). r.rev) (own file xs)) ≡ sum_by (number_if file k) xs
+        → count k (map (λ (r : Revision). r.rev) (cond b (x ∷ own file xs) (own file xs))) ≡ cond b (one_if (x.rev == k)) 0 + sum_by (number_if file k) xs
     step true h = add (x.rev == k) _ _ h
     step false h = omega (arith, h)
 
@@ -77,23 +77,23 @@ all_from : (a : ℕ) (xs : List Revision) → ((j : ℕ) (d : Revision) → j < 
 all_from a [] h = tt
 all_from a (x ∷ xs) h = (h 0 x (omega arith), all_from a xs (λ j d below. h (suc j) d (omega arith)))
 
-all_own : (file : List ℕ) (a : ℕ) (xs : List Revision) → AllByRecursion (λ (r : Revision). a ≤ r.rev) xs → AllByRecursion (λ y. a ≤ y) (map (λ (r : Revision). r.rev) (revisions_of file xs))
+all_own : (file : List ℕ) (a : ℕ) (xs : List Revision) → AllByRecursion (λ (r : Revision). a ≤ r.rev) xs → AllByRecursion (λ y. a ≤ y) (map (λ (r : Revision). r.rev) (own file xs))
 all_own file a [] h = tt
 all_own file a (x ∷ xs) h = step (bytes_eq x.file file) (all_own file a xs h.1)
   where
-    step : (b : Bool) → AllByRecursion (λ y. a ≤ y) (map (λ (r : Revision). r.rev) (revisions_of file xs))
-        → AllByRecursion (λ y. a ≤ y) (map (λ (r : Revision). r.rev) (cond b (x ∷ revisions_of file xs) (revisions_of file xs)))
+    step : (b : Bool) → AllByRecursion (λ y. a ≤ y) (map (λ (r : Revision). r.rev) (own file xs))
+        → AllByRecursion (λ y. a ≤ y) (map (λ (r : Revision). r.rev) (cond b (x ∷ own file xs) (own file xs)))
     step true more = (h.0, more)
     step false more = more
 
-rising : (file : List ℕ) (xs : List Revision) → IsNonDecreasingBy (λ (r : Revision). r.rev) xs → Rises (map (λ (r : Revision). r.rev) (revisions_of file xs))
+rising : (file : List ℕ) (xs : List Revision) → IsNonDecreasingBy (λ (r : Revision). r.rev) xs → Rises (map (λ (r : Revision). r.rev) (own file xs))
 rising file [] h = tt
 rising file (x ∷ xs) h =
     let above : AllByRecursion (λ (r : Revision). x.rev ≤ r.rev) xs = all_from x.rev xs (λ j d below. h 0 (suc j) d (omega arith) (omega arith)) in
     step (bytes_eq x.file file) (all_own file x.rev xs above) (rising file xs (λ i j d le below. h (suc i) (suc j) d (omega arith) (omega arith)))
   where
-    step : (b : Bool) → AllByRecursion (λ y. x.rev ≤ y) (map (λ (r : Revision). r.rev) (revisions_of file xs)) → Rises (map (λ (r : Revision). r.rev) (revisions_of file xs))
-        → Rises (map (λ (r : Revision). r.rev) (cond b (x ∷ revisions_of file xs) (revisions_of file xs)))
+    step : (b : Bool) → AllByRecursion (λ y. x.rev ≤ y) (map (λ (r : Revision). r.rev) (own file xs)) → Rises (map (λ (r : Revision). r.rev) (own file xs))
+        → Rises (map (λ (r : Revision). r.rev) (cond b (x ∷ own file xs) (own file xs)))
     step true above more = (above, more)
     step false above more = more
 
@@ -105,12 +105,12 @@ length_range : (a n : ℕ) → length (range_with_len a n) ≡ n
 length_range a zero = refl
 length_range a (suc n) = ap suc (length_range (a + 1) n)
 
-pub sorted_history : (xs ys : List Revision) → IsNonDecreasingBy (λ (r : Revision). r.rev) xs → IsPermutation xs ys → IsHistory ys → IsHistory xs
-sorted_history xs ys up same h file =
-    let n = length (revisions_of file ys) in
-    let numbers = map (λ (r : Revision). r.rev) (revisions_of file xs) in
+pub sorted_numbers : (xs ys : List Revision) → IsNonDecreasingBy (λ (r : Revision). r.rev) xs → IsPermutation xs ys → IsNumbered ys → IsNumbered xs
+sorted_numbers xs ys up same h file =
+    let n = length (own file ys) in
+    let numbers = map (λ (r : Revision). r.rev) (own file xs) in
     let counts : (k : ℕ) → count k numbers ≡ count k (range_with_len 1 n) = λ k.
     counted file k xs ∙ sym (sum_by-IsPermutation (number_if file k) xs ys same) ∙ sym (counted file k ys) ∙ ap (count k) (h file) in
     let is : numbers ≡ range_with_len 1 n = is_range numbers 1 n (rising file xs up) counts in
-    let long : n ≡ length (revisions_of file xs) = sym (length_range 1 n) ∙ ap length (sym is) ∙ length_map (revisions_of file xs) in
+    let long : n ≡ length (own file xs) = sym (length_range 1 n) ∙ ap length (sym is) ∙ length_map (own file xs) in
     is ∙ ap (range_with_len 1) long
