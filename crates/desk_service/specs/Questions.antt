@@ -14,7 +14,7 @@ use Rattle.desk_core.specs.Head.{Revision}
 use Rattle.desk_core.specs.History.{newest_of, revisions_of, standing_of}
 use Rattle.desk_core.specs.Site.{IsInForce, site_in}
 use Rattle.desk_core.specs.declared.proposal.Proposal.{Proposal as Proposed}
-use Rattle.desk_store.specs.Desk.{History, LeavesTables, Shown, StaysAsItWas, revision_at}
+use Rattle.desk_store.specs.Desk.{History, LeavesTables, Shown, StaysAsItWas, revision_at, signature_of}
 use Rattle.desk_store.specs.declared.desk.Signature.{Signature}
 use Rattle.desk_service.specs.declared.questions.FileAnswer.{FileAnswer}
 use Rattle.desk_service.specs.declared.questions.FileAnswer.TheVariants as found
@@ -80,11 +80,7 @@ file_question (lent_file.Text name rev) = Text name.now rev
 file_question (lent_file.Revisions name) = Revisions name.now
 file_question (lent_file.Proposal name) = Proposal name.now
 
--- a revision by its number, who wrote and who approved it, and its profile
-abbrev pub signature_of : Revision → Signature
-signature_of r = record { rev = r.rev; author = r.author; approver = r.approver; profile = r.profile }
-
--- a file's revisions, so
+-- who signed a file's revisions
 abbrev pub signatures : List ℕ → History → List Signature
 signatures file history = map signature_of (revisions_of file history)
 
