@@ -1,7 +1,8 @@
 //! States: the newest revision of each file, the proposals, and the policy that is in force.
 
-ghost use Rattle.std.specs.Prelude.{◌≡◌, ◌<◌, All, IfOk, None, Some};
+ghost use Rattle.std.specs.Prelude.{◌≡◌, ◌<◌, [], All, IfOk, None, Ok, Some, length, vec_capacity, vec_len};
 ghost use Rattle.std.specs.Option.{option_copied};
+ghost use Rattle.desk_tables.specs.Custodians.{read_custodians};
 ghost use Rattle.desk_policy.specs.Site.{HaveReadableLengths, texts_of};
 ghost use Rattle.desk_core.specs.Edit as spec;
 ghost use Rattle.desk_core.specs.Edit.{asked};
@@ -9,8 +10,9 @@ ghost use Rattle.desk_core.specs.Head.{CanBeKept, StandOnce, last_revision, newe
 ghost use Rattle.desk_core.specs.Judging.{answer_in, entry_of, first_case};
 ghost use Rattle.desk_core.specs.PrivateState.{Accepts, AnswersCase, PutsInForce, refusal_of};
 ghost use Rattle.desk_core.specs.Site.{IsInForce, site_in};
-ghost use Rattle.desk_core.specs.Standing.{CanBePending, proposals_in, with_entry};
+ghost use Rattle.desk_core.specs.Standing.{CanBePending, proposals_in, with_entry, without};
 ghost use Rattle.desk_core.specs.State.{IsJudged, Judges, Starts, standing};
+ghost use Rattle.desk_core.specs.declared.entry.Entry.TheVariants.{Revised};
 
 use crate::edit::{Edit, Refusal};
 use crate::entry::Entry;
@@ -142,16 +144,27 @@ impl<V: PolicyView + Drop> State<V> {
             view,
         } = accepted;
         match entry {
-            Entry::Revised(head) => {
-                withdraw(&mut self.proposals, head.file.as_str());
-                put_head(&mut self.heads, room, head);
-                self.custodians = custodians;
-                self.view = view;
-            }
+            Entry::Revised(head) => self.revise(room, head, custodians, view),
             Entry::Proposed(proposal) => {
                 put_proposal(&mut self.proposals, proposal_room, proposal);
             }
         }
+    }
+
+    /// Puts a revision in force, with the custodians and the view of the site with its text. It takes no memory.
+    fn revise(&mut self, room: Vec<Head>, head: Head, custodians: Custodians, view: V)
+        requires empty { room.items ≡ [] }
+        requires room { length self.old.heads < vec_capacity room }
+        requires can_be_kept { CanBeKept head }
+        requires custodians { read_custodians (site_in (put (newest_in self.old.heads) head)).custodians ≡ Ok custodians }
+        requires view { IsInForce (site_in (put (newest_in self.old.heads) head)) (V.in_force view) }
+        ensures standing { standing self.new ≡ with_entry (standing self.old) (Revised head) }
+        ensures once { StandOnce self.old.heads → StandOnce self.new.heads }
+        ensures view { IsInForce (site_in (newest_in self.new.heads)) (V.in_force self.new.view) }
+    {
+        put_revision(&mut self.heads, &mut self.proposals, room, head);
+        self.custodians = custodians;
+        self.view = view;
     }
 
     /// Lends the view of the policy in force.
@@ -273,6 +286,21 @@ impl<V: PolicyView + Drop> State<V> {
         let proposal = proposal_for(self.proposals.as_slice(), edit.file);
         entry_by(alloc, self.view.policy().filesystems(), edit, proposal)
     }
+}
+
+/// Makes a revision the newest of its file, which then has no proposal. It takes no memory: the room for a file's first
+/// revision is brought along.
+fn put_revision(heads: &mut Vec<Head>, proposals: &mut Vec<Proposal>, room: Vec<Head>, head: Head)
+    requires empty { room.items ≡ [] }
+    requires room { vec_len heads.old < vec_capacity room }
+    ensures newest { newest_in heads.new.items ≡ put (newest_in heads.old.items) head }
+    ensures gone { proposals_in proposals.new.items ≡ without (proposals_in proposals.old.items) head.file }
+    ensures once { StandOnce heads.old.items → StandOnce heads.new.items }
+    ensures kept { CanBeKept head → All CanBeKept heads.old.items → All CanBeKept heads.new.items }
+    ensures pending { All CanBePending proposals.old.items → All CanBePending proposals.new.items }
+{
+    withdraw(proposals, head.file.as_str());
+    put_head(heads, room, head);
 }
 
 /// Gives the fault of the site as why an edit is refused.
