@@ -1,6 +1,7 @@
 pub mod DeleteEffect
 pub mod DeleteText
 pub mod OwnRowids
+pub mod Inside
 pub mod Entries
 pub mod InsertText
 pub mod InsertEffect
