@@ -1,5 +1,5 @@
 -- What an edit does to a desk, by what became of it.
-use Rattle.std.proofs.Common.{◌≡◌, ◌≢◌, ◌∙◌, sym, ap, subst, refl, inl, inr, ℕ, ◌+◌, ◌++◌, Bool, true, false, cond, List, [], ◌∷◌, Option, Some, None, Ok, Err, IfOk, IsTrue, arith, append-nil, codes}
+use Rattle.std.proofs.Common.{◌≡◌, ◌≢◌, ◌∙◌, sym, ap, subst, refl, inl, inr, ℕ, ◌+◌, ◌≤◌, ◌++◌, Bool, true, false, cond, List, [], ◌∷◌, Option, Some, None, Ok, Err, IfOk, IsTrue, arith, append-nil, codes}
 use Rattle.std.specs.Prelude.{Contains, Result}
 use Rattle.std.proofs.lemmas.Bool.{false≢true}
 use Rattle.std.proofs.lemmas.List.Elements.{Contains-append_left, Contains-append_right}
@@ -10,13 +10,13 @@ use Rattle.desk_policy.specs.Policy.{Content}
 use Rattle.desk_policy.specs.Site.{SiteTexts}
 use Rattle.desk_tables.specs.declared.filesystems.Mount.{Mount}
 use Rattle.desk_core.specs.Edit.{Already, Answer, Edit, Pending, Proposed, Refused, Stored, revision_of}
-use Rattle.desk_core.specs.Head.{Revision, put}
+use Rattle.desk_core.specs.Head.{Revision, last_revision, put}
 use Rattle.desk_core.specs.History.{IsAnswered, added_by, added_if, standing_of}
 use Rattle.desk_core.specs.Judging.{Answers, AnswersBySite, AnswersIn, answer_in, answer_of, approved, entry_by, entry_of, first_case, guarded_entry, is_guarded_file}
 use Rattle.desk_core.specs.Laws.{StandingOfALongerHistory}
 use Rattle.desk_core.specs.Site.{IsConsistent, site_in}
 use Rattle.desk_core.specs.Standing.{Standing, with_entry}
-use Rattle.desk_core.specs.State.{again, standing}
+use Rattle.desk_core.specs.State.{PutsEntry, again, standing}
 use Rattle.desk_core.specs.Views.{Kept, Ready}
 use Rattle.desk_core.specs.declared.edit.Refusal.{Refusal}
 use Rattle.desk_core.specs.declared.entry.Entry.{Entry}
@@ -361,14 +361,28 @@ pub of_edit : (failure : DeskError) → IsOfTask task.AddEntry failure → IsOfE
 of_edit failure (inl memory) = subst IsOfEdit (sym memory) tt
 of_edit failure (inr store) = subst IsOfEdit (sym store.2) store.1
 
+-- ---- the number of an edit that is accepted is low
+
+told_number : (number : ℕ) (proposed : Bool) → number_told 0 (stored_answer number proposed) ≡ number
+told_number number true = refl
+told_number number false = refl
+
+puts_low : {V : Type 0} (in_force : V → Content) (state : Kept V) (ready : Ready V) (stored : Entry) → PutsEntry in_force state ready stored → number_told 0 (answer_of stored) ≤ last_revision + 1
+puts_low in_force state ready (entry.Revised r) puts = let low : r.rev ≤ last_revision = puts.can_be_kept.to in omega (arith, low)
+puts_low in_force state ready (entry.Proposed p) puts = let low : p.base ≤ last_revision = puts in omega (arith, low)
+
+pub base_low : {V : Type 0} (in_force : V → Content) (state : Kept V) (e : Edit) (ready : Ready V) → IsAccepted in_force state e ready → e.base ≤ last_revision
+base_low in_force state e ready accepted =
+    let low = puts_low in_force state ready ready.entry accepted.judged.puts in
+    let is : answer_of ready.entry ≡ stored_answer (e.base + 1) (is_proposed (entry_of (standing state) e)) = ap answer_of accepted.stored ∙ entry_answer _ e ((standing state).proposals e.file) in
+    let number = ap (number_told 0) is ∙ told_number (e.base + 1) (is_proposed (entry_of (standing state) e)) in
+    omega (arith, low, number)
+
 -- ---- by what the statement answered
 module _ {V : Type 0} (longer : StandingOfALongerHistory) (keeps : AnsweredEditsKeepSiteHistories) (in_force : V → Content) (old new : State) (before after : Kept V) (e : Edit) (ready : Ready V)
     (sound : IsConsistent (site_in (standing before).newest)) (accepted : IsAccepted in_force before e ready) (utf8 : IsInUtf8 e) where
   answers : Answers (standing before) e (answer_of (entry_of (standing before) e))
   answers = subst (λ stored. Answers (standing before) e (answer_of stored)) accepted.stored accepted.answers
-
-  abbrev Committed : {T E : Type 0} → Entry → Result T E → Type 0
-  Committed stored result = CommitsAtMost (Stores (entry_rows stored)) old new result
 
   pub edit_failed : {T E : Type 0} {said : E} → (failure : DeskError) → IsOfTask task.AddEntry failure → CommitsAtMost {T = T} (Stores (entry_rows ready.entry)) old new (Err said) → IsEdited old new before before e (Err failure)
   edit_failed {T} {E} {said} failure which may =

@@ -1,9 +1,8 @@
-use Rattle.std.proofs.Common.{◌≡◌, ◌∙◌, ap, Err, None, Ok, subst}
+use Rattle.std.proofs.Common.{◌≡◌, Err, None, Ok, subst}
 use Rattle.sqlite.specs.Held.{state}
 use Rattle.desk_core.specs.Edit.{asked}
 use Rattle.desk_core.specs.Judging.{Answers, first_case}
 use Rattle.desk_core.specs.State.{Judges, again, standing}
-use Rattle.desk_core.specs.declared.state.Judged.TheVariants as judged
 use Rattle.desk_store.proofs.EditStep.{edited_already, edited_memory}
 use Rattle.desk_store.proofs.desk.Desk.judged.Goals as goal
 
@@ -20,7 +19,6 @@ returns-in-Ok-Already-clause-edited g c =
     let rev = c.in-Ok-Already.rev in
     let proposed = c.in-Ok-Already.proposed in
     let answers : Answers (standing c.self.inside.current) e (again rev proposed) =
-    subst (λ j. Judges g.V.PolicyView.in_force c.self.inside.current e (Ok j))
-    (c.in-Ok-Already.field-0-is ∙ ap (λ n. judged.Already n _) c.in-Ok-Already.rev-is ∙ ap (judged.Already rev) c.in-Ok-Already.proposed-is) c.in-Ok-Already.ensures in
+    subst (λ j. Judges g.V.PolicyView.in_force c.self.inside.current e (Ok j)) c.in-Ok-Already.field-0-is c.in-Ok-Already.ensures in
     edited_already (state g.S.Store c.args.self.now.conn) c.args.self.now.state e c.requires.sound rev proposed
     (subst (λ s. Answers (standing s.state) e (again rev proposed)) c.self.view_is answers)
