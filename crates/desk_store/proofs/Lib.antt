@@ -13,6 +13,7 @@ pub mod Reading
 pub mod QueryText
 pub mod NamedText
 pub mod KeysText
+pub mod KeysApart
 pub mod NamedRows
 pub mod NamedLook
 pub mod CrashLeaves
