@@ -55,3 +55,13 @@ look_then old mid new first then =
         crash = survives_then old mid new (λ _. ⊥) (λ _. ⊥) (λ _. ⊥) (λ clean trees none. none) (λ clean trees none. none) first.leaves.crash then.leaves.crash;
       };
     }
+
+-- what was so before a look
+pub early : (old new : State) → ChangesNothing old new → HasCleanDisk new → HasCleanDisk old
+early old new look clean = omega (arith, clean, look.leaves.crash.clean)
+
+pub rest_after : (all : Bool) (old new : State) → ChangesNothing old new → (HasCleanDisk old → IsAtRestWith all old) → HasCleanDisk new → IsAtRestWith all new
+rest_after all old new look rest clean = look.rest clean all (rest (early old new look clean))
+
+pub same_after : (old new : State) → ChangesNothing old new → HasCleanDisk new → IsTrue new.is_open → new.committed ≡ old.committed
+same_after old new look clean live = look.leaves.same clean live
