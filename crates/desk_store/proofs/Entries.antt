@@ -1,5 +1,5 @@
 -- What is written into the tables of a desk: one row put in or a file's proposal taken out, and one write after another.
-use Rattle.std.proofs.Common.{◌≡◌, ◌≢◌, ◌⊎◌, ◌∙◌, ap, sym, subst, subst₂, refl, inl, inr, ℕ, Bool, true, false, cond, not, ◌||◌, ◌==◌, List, [], ◌∷◌, ◌++◌, length, map, filter, codes, Option, Some, append-nil, append_assoc}
+use Rattle.std.proofs.Common.{◌≡◌, ◌≢◌, ◌⊎◌, ◌∙◌, ap, sym, subst, subst₂, refl, inl, inr, ℕ, Bool, true, false, cond, not, ◌||◌, ◌==◌, List, [], ◌∷◌, ◌++◌, length, map, filter, codes, Option, Some, Ok, append-nil, append_assoc}
 use Rattle.std.specs.Prelude.{IsPermutation}
 use Rattle.std.specs.List.{AllByRecursion}
 use Rattle.std.specs.Option.{option_map_or}
@@ -7,14 +7,16 @@ use Rattle.std.proofs.lemmas.Bool.{eq-eqb}
 use Rattle.std.proofs.lemmas.List.Sorted.{IsPermutation-append_right, IsPermutation-cons, IsPermutation-map, IsPermutation-refl, IsPermutation-trans}
 use Rattle.sqlite_trees.proofs.ListLemmas.{all-slice_get}
 use Rattle.sqlite.specs.Effect.{Database, IsDatabase, SparesFrozen}
+use Rattle.sqlite.specs.declared.types.Value.TheVariants.{Text as Words}
 use Rattle.sqlite.specs.Order.{Row, column}
 use Rattle.sqlite.specs.Schema.{Schema}
+use Rattle.sqlite.specs.State.{Executes, State}
 use Rattle.sqlite.specs.Table.{Table}
 use Rattle.desk_store.proofs.DeleteEffect.{Takes}
 use Rattle.desk_store.proofs.InsertEffect.{Puts, numbered_row, put_permutes}
-use Rattle.desk_store.proofs.Inserting.{Soundly, is_proposal_of, placed, rowids_are, rows_are}
+use Rattle.desk_store.proofs.Inserting.{Soundly, approval_put, is_proposal_of, placed, proposal_put, proposal_taken, revision_put, rowids_are, rows_are}
 use Rattle.desk_store.proofs.OwnRowids.{keys_kept, keys_put}
-use Rattle.desk_store.specs.Tables.{AreKeys, Declares, HasTables, IsKeyed, SpareFrozen, Stores, Writes, approval_table, cells, file_rev_table, is_row_of, is_written, meta_table, proposal_table, rowids_of, rows_of, table_at, table_in, without_file}
+use Rattle.desk_store.specs.Tables.{AreKeys, Declares, HasTables, IsKeyed, SpareFrozen, Stores, Writes, approval_row, approval_table, are_referred, cells, delete_proposal, file_rev_table, insert_approval, insert_proposal, insert_revision, is_row_of, is_written, meta_table, proposal_row, proposal_table, refers_to, revision_row, rowids_of, rows_of, table_at, table_in, without_file}
 
 -- ---- trees
 
@@ -271,3 +273,32 @@ stores_revised a b c d file row approvals taken revised approved =
 pub stores_proposed : (a b c : Database) (file : List ℕ) (row : Row) → Writes [] [] (without_file file) a b → Writes [] [] (λ proposals. row ∷ proposals) b c
     → Stores (record { file = file; revisions = []; approvals = []; proposals = row ∷ [] }) a c
 stores_proposed a b c file row taken proposed = writes_then a b c [] [] [] [] (without_file file) (λ proposals. row ∷ proposals) (λ rows more same. IsPermutation-cons row rows more same) taken proposed
+
+-- ---- the statements
+
+-- no table refers to that of the proposals, nor to that of the version
+pub unreferred_two : (schema : Schema) → are_referred schema ≡ false → (refers_to schema (codes "meta") ≡ false) × (refers_to schema (codes "proposal") ≡ false)
+unreferred_two schema none =
+    let first = neither _ _ none in
+    let second = neither _ _ first.1 in
+    let third = neither _ _ second.1 in
+    let fourth = neither _ _ third.1 in
+    (first.0, fourth.0)
+
+module _ (old new : State) (count : ℕ) (has : HasTables old.now.schema) where
+  pub revision_added : (file : List ℕ) (rev : ℕ) (author : List ℕ) (profile : ℕ) (body : List ℕ) → Executes insert_revision (revision_row file rev author profile body) old new (Ok count)
+      → Writes (revision_row file rev author profile body ∷ []) [] (λ proposals. proposals) old.now new.now
+  revision_added file rev author profile body h =
+      writes_revision old.now new.now has (revision_row file rev author profile body) (revision_put old new has.first.tree count file rev author profile body has.first.file_rev h)
+
+  pub approval_added : (file : List ℕ) (rev : ℕ) (approver : List ℕ) → Executes insert_approval (approval_row file rev approver) old new (Ok count)
+      → Writes [] (approval_row file rev approver ∷ []) (λ proposals. proposals) old.now new.now
+  approval_added file rev approver h = writes_approval old.now new.now has (approval_row file rev approver) (approval_put old new has.approval_tree count file rev approver has.approval h)
+
+  pub proposal_added : (file : List ℕ) (base : ℕ) (author body : List ℕ) → Executes insert_proposal (proposal_row file base author body) old new (Ok count)
+      → Writes [] [] (λ proposals. proposal_row file base author body ∷ proposals) old.now new.now
+  proposal_added file base author body h = writes_proposal old.now new.now has (proposal_row file base author body) (proposal_put old new has.proposal_tree count file base author body has.proposal h)
+
+  pub proposal_gone : (file : List ℕ) → IsKeyed old.now (codes "proposal") → Executes delete_proposal (Words file ∷ []) old new (Ok count) → Writes [] [] (without_file file) old.now new.now
+  proposal_gone file keyed h =
+      takes_proposal old.now new.now has file (proposal_taken old new has.proposal_tree count file has.proposal (unreferred_two old.now.schema has.first.unreferred).1 keyed h)

@@ -41,7 +41,7 @@ ran_inside a b sql params count x said Same ended runs survives = elim (cases_Bo
   | inr off ↦ absurd (let e = (ended off).0 in cc)
 ]
 
-stays_so : (a : State) → KeepsCommit a a
+pub stays_so : (a : State) → KeepsCommit a a
 stays_so a = record { was_open = λ live. live; committed = λ live. refl }
 
 -- a statement within a transaction was refused or failed

@@ -2,6 +2,7 @@ pub mod DeleteEffect
 pub mod DeleteText
 pub mod OwnRowids
 pub mod Inside
+pub mod Committing
 pub mod Entries
 pub mod InsertText
 pub mod InsertEffect

@@ -2,6 +2,7 @@
 -- transaction. (this project's own)
 use Rattle.std.specs.Prelude.{List, ℕ, [], ◌∷◌, Option, codes}
 use Rattle.std.specs.List.{cons_option}
+use Rattle.sqlite.specs.Effect.{IsDatabase}
 use Rattle.sqlite.specs.Order.{Row}
 use Rattle.sqlite.specs.State.{State}
 use Rattle.desk_core.specs.declared.entry.Entry.{Entry}
@@ -10,9 +11,9 @@ use Rattle.desk_store.specs.History.{HoldsFirst, entry_rows}
 use Rattle.desk_store.specs.Open.{Migrates}
 use Rattle.desk_store.specs.Tables.{HasTables, IsKeyed, Stores, Writes, without_file}
 
--- the row of an approval is added, if there is one and the tables are there
+-- the row of an approval is added, if there is one and the tables are there (in a database that can be opened, since without one nothing is done)
 abbrev pub AddsApproval : Option Row → State → State → Type 0
-AddsApproval row old new = HasTables old.now.schema → Writes [] (cons_option row []) (λ proposals. proposals) old.now new.now
+AddsApproval row old new = HasTables old.now.schema → IsDatabase old.now → Writes [] (cons_option row []) (λ proposals. proposals) old.now new.now
 
 -- the row of a proposal is added
 abbrev pub AddsProposal : Row → State → State → Type 0
