@@ -214,7 +214,7 @@ module _ (old after : Database) (has : HasTables old.schema) where
 
 -- ---- one write after another
 
-spare_then : (a : Database) (steps : List Database) (b : Database) (more : List Database) (c : Database) → SpareFrozen a steps b → SpareFrozen b more c → SpareFrozen a (steps ++ more) c
+pub spare_then : (a : Database) (steps : List Database) (b : Database) (more : List Database) (c : Database) → SpareFrozen a steps b → SpareFrozen b more c → SpareFrozen a (steps ++ more) c
 spare_then a [] b more c one two = subst (λ d. SpareFrozen d more c) one two
 spare_then a (x ∷ steps) b more c one two = (one.0, one.1, one.2, spare_then x steps b more c one.3 two)
 
