@@ -1,6 +1,6 @@
 -- What making a database promises. (this project's own)
 use Rattle.std.specs.Prelude.{◌≡◌, ◌≢◌, ◌⊎◌, ℕ, Bool, true, false, List, [], ◌∷◌, ◌++◌, Option, Some, None, Result, Ok, Err, IfErr, IfOk, IsPermutation, IsTrue, OnErr, OnOk, codes, pos, find, is_some, length, map, nat_lt, if◌then◌else◌, ◌||◌, ◌&&◌, not, unwrap_or}
-use Rattle.std.specs.List.{AllByRecursion, list_any}
+use Rattle.std.specs.List.{AllByRecursion, filter_map, list_any}
 use Rattle.std.specs.Option.{option_map}
 use Rattle.std.specs.Result.{result_unwrap_or}
 use Rattle.std.specs.Str.{IsUtf8, bytes_eq}
@@ -27,7 +27,7 @@ use Rattle.desk_core.specs.History.{IsHistory, newest_of}
 use Rattle.desk_core.specs.Judging.{is_of_seven, seven}
 use Rattle.desk_core.specs.Site.{IsConsistent}
 use Rattle.desk_store.specs.Desk.{IsSiteHistory, LeavesTables, Shown, Stands}
-use Rattle.desk_store.specs.History.{Holds}
+use Rattle.desk_store.specs.History.{Holds, approval_of}
 use Rattle.desk_core.specs.Views.{Kept}
 use Rattle.desk_store.specs.Tables.{HasTables, IsAtRest, IsFree, LeavesCommit, SpareFrozen, Writes, approval_table, are_referred, file_rev_table, has_later, has_table, meta_table, proposal_table, rows_of}
 use Rattle.desk_exports.specs.declared.profile.Profile.TheVariants.{Two}
@@ -242,13 +242,13 @@ pub record IsInside (s : State) : Type 0 where
   pub is_open : IsTrue s.is_open
   pub mode : s.in_transaction ≡ true
 
--- the rows are added, if the tables are there
+-- the rows are added, if the tables are there (without a row there is no statement after which the database could be opened)
 abbrev pub AddsRows : List Row → State → State → Type 0
-AddsRows rows old new = HasTables old.now.schema → Writes rows [] (λ proposals. proposals) old.now new.now
+AddsRows rows old new = HasTables old.now.schema → IsDatabase old.now → Writes rows [] (λ proposals. proposals) old.now new.now
 
--- the history is stored in new tables, if there is room for them
-abbrev pub Fills : List Entry → State → State → Type 0
-Fills history old new = HasRoom old.now.schema → IsHistory history → Makes history old.now new.now
+-- revisions that nobody approved are stored in new tables, if there is room for them
+abbrev pub Fills : List Revision → State → State → Type 0
+Fills revisions old new = HasRoom old.now.schema → IsHistory (map Revised revisions) → filter_map approval_of revisions ≡ [] → Makes (map Revised revisions) old.now new.now
 
 -- the trees are those of such a database
 abbrev pub MakesTables : List Entry → Database → Trees → Type 0

@@ -1,7 +1,7 @@
 //! Making a desk's tables in a database, with the first revisions of a site, in one transaction.
 
-ghost use Rattle.std.specs.Prelude.{◌≡◌, false, is_some, map, IsTrue};
-ghost use Rattle.std.specs.List.{list_any};
+ghost use Rattle.std.specs.Prelude.{◌≡◌, [], false, is_some, map, IsTrue};
+ghost use Rattle.std.specs.List.{filter_map, list_any};
 ghost use Rattle.sqlite.specs.Table.{Table as Declared};
 ghost use Rattle.sqlite.specs.Held.{state};
 ghost use Rattle.sqlite.specs.State.{HasCleanDisk};
@@ -10,7 +10,7 @@ ghost use Rattle.desk_core.specs.History.{IsHistory};
 ghost use Rattle.desk_core.specs.declared.entry.Entry.TheVariants.{Revised};
 ghost use Rattle.sqlite.specs.Rows.{sequence};
 ghost use Rattle.desk_store.specs.Create.{HasLaterRoom, HasRoom, IsCreated, IsOfMaking, LooksForRoom, has_one, AddsRows, Fills, IsInside, MakesLater, MakesRoom, Ran, RunsInside, StoresAll};
-ghost use Rattle.desk_store.specs.History.{row_of};
+ghost use Rattle.desk_store.specs.History.{approval_of, row_of};
 ghost use Rattle.desk_store.specs.Tables.{IsFree};
 
 use crate::declared::{are_referred, has_later, has_table};
@@ -76,7 +76,7 @@ fn add_revisions<S: Alter>(tx: &mut Transaction<'_, S>, heads: &[Head]) -> Resul
 /// Makes the tables with these revisions.
 fn fill<S: Alter>(tx: &mut Transaction<'_, S>, heads: &[Head]) -> Result<(), Error>
     ensures same_reference { tx.new.conn.ghost_name ≡ tx.old.conn.ghost_name }
-    ensures filled { RunsInside (state S.Store tx.old.conn.now) (state S.Store tx.new.conn.now) result (Fills (map Revised heads.now)) }
+    ensures filled { RunsInside (state S.Store tx.old.conn.now) (state S.Store tx.new.conn.now) result (Fills heads.now) }
 {
     make_tables(tx)?;
     add_revisions(tx, heads)
@@ -86,6 +86,7 @@ fn fill<S: Alter>(tx: &mut Transaction<'_, S>, heads: &[Head]) -> Result<(), Err
 fn store_history<S: Alter>(conn: &mut Connection<S>, heads: &[Head]) -> Result<(), Error>
     requires autocommit { (state S.Store conn.old).in_transaction ≡ false }
     requires history { IsHistory (map Revised heads.now) }
+    requires unapproved { filter_map approval_of heads.now ≡ [] }
     ensures stored { StoresAll (state S.Store conn.old) (state S.Store conn.new) (map Revised heads.now) result }
 {
     let mut tx = conn.transaction();
