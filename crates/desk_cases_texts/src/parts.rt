@@ -230,7 +230,8 @@ fn large_part(alloc: Global, site: &mut Site, out: &mut String, text: &str) -> A
 fn set_large(alloc: Global, index: &mut Index, out: &mut String, lines: u32) -> Asked {
     let text = large_text(alloc, lines)?;
     let tables = SiteTables::new(alloc);
-    let asked = set_part(alloc, index, out, &tables, FsId(0), text.as_str());
+    let profile = Profile::Two;
+    let asked = set_part(alloc, index, out, &tables, profile, FsId(0), text.as_str());
     drop(tables);
     asked
 }
