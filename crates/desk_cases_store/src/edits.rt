@@ -174,6 +174,7 @@ fn edit(alloc: Global, state: &mut State<Index>, out: &mut String, text: &str) -
 }
 
 /// What an edit is answered that is not refused.
+#[derive(Clone, Copy)]
 struct Answered {
     number: u32,
     already: bool,
