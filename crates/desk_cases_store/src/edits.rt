@@ -189,7 +189,7 @@ fn put(
 ) -> Result<Answered, ReadError<Refusal>> {
     match state.judge(alloc, edit)? {
         Judged::Accepted(accepted) => {
-            let done = answered(accepted.entry());
+            let done = answer_of(accepted.entry());
             state.apply(accepted);
             Ok(done)
         }
@@ -202,7 +202,7 @@ fn put(
 }
 
 /// Returns what is answered for what is stored: a proposal is answered with the number that its revision would have.
-fn answered(entry: &Entry) -> Answered {
+fn answer_of(entry: &Entry) -> Answered {
     let (number, proposed) = match entry {
         Entry::Revised(head) => (head.rev, false),
         Entry::Proposed(proposal) => (proposal.base.saturating_add(1), true),
