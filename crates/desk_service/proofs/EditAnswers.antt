@@ -1,5 +1,5 @@
 -- An edit that is made of a desk is made of the database that the desk was opened on, for `edits`.
-use Rattle.std.proofs.Common.{◌≡◌, ◌⊎◌, [], Result, Ok, arith, inl, inr}
+use Rattle.std.proofs.Common.{◌⊎◌, [], Result, Ok, arith, inl, inr}
 use Rattle.sqlite.specs.Held.{Held, state}
 use Rattle.sqlite.specs.State.{HasCleanDisk, State, Survives}
 use Rattle.sqlite.proofs.StateLemmas.{survives_then}

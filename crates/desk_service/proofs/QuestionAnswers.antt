@@ -1,5 +1,5 @@
 -- What a desk answers to a question is the answer by its history, for `questions`.
-use Rattle.std.proofs.Common.{◌≡◌, ◌==◌, ◌∙◌, ℕ, Bool, true, false, List, [], ◌∷◌, Option, Some, None, ap, arith, cond, eqb-true, inl, length, refl, subst, sym}
+use Rattle.std.proofs.Common.{◌≡◌, ◌==◌, ℕ, Bool, true, false, List, [], ◌∷◌, Option, Some, None, ap, arith, cond, eqb-true, inl, length, refl, subst, sym}
 use Rattle.std.proofs.lemmas.List.{nil_from_length}
 use Rattle.std.specs.Prelude.{find}
 use Rattle.sqlite_trees.specs.declared.store.Store.{Ghosts}
