@@ -27,8 +27,7 @@ use Rattle.std.specs.Ordering.{is_eq}
 use Rattle.desk_store.proofs.DeleteEffect.{Takes, deleting, does_delete}
 use Rattle.desk_store.proofs.DeleteText.{DeletesAnywhere, delete_proposal_means, delete_version_means, file_test}
 use Rattle.desk_store.proofs.InsertEffect.{Puts, cast_int, cast_null, does_insert}
-use Rattle.desk_store.proofs.InsertText.{InsertsAnywhere, approval_means, approval_terms, proposal_means, proposal_terms, revision_means, revision_terms, version_means, version_terms}
-use Rattle.desk_store.specs.Create.{insert_version}
+use Rattle.desk_store.proofs.InsertText.{InsertsAnywhere, approval_means, approval_terms, proposal_means, proposal_terms, revision_means, revision_terms}
 use Rattle.desk_store.specs.Tables.{AreKeys, Declares, IsKeyed, approval_row, approval_table, cells, delete_proposal, delete_version, file_rev_table, insert_approval, insert_proposal, insert_revision, meta_table, proposal_row, proposal_table, refers_to, revision_row, rowids_of, rows_of, table_in}
 
 -- the place of a table that is found by its name
@@ -96,9 +95,6 @@ approval_cast tree file rev approver = rw (cast_null, cast_int rev)
 proposal_cast : (tree : ℕ) (file : List ℕ) (base : ℕ) (author body : List ℕ) → cast_row (proposal_table tree) (Null ∷ proposal_row file base author body) ≡ Null ∷ proposal_row file base author body
 proposal_cast tree file base author body = rw (cast_null, cast_int base)
 
-version_cast : (tree : ℕ) → cast_row (meta_table tree) (Null ∷ Int (pos 2) ∷ []) ≡ Null ∷ Int (pos 2) ∷ []
-version_cast tree = rw (cast_null, cast_int 2)
-
 told : (b : Bool) → is_true (from_truth (Some b)) ≡ b
 told true = refl
 told false = refl
@@ -146,10 +142,6 @@ module _ (old new : State) (tree count : ℕ) where
   pub proposal_taken : (file : List ℕ) → Declares old.now.schema (codes "proposal") proposal_table tree → refers_to old.now.schema (codes "proposal") ≡ false → IsKeyed old.now (codes "proposal")
       → Executes delete_proposal (Words file ∷ []) old new (Ok count) → Soundly (Takes tree (is_proposal_of file)) old.now new.now
   proposal_taken file declared = deletes old new (codes "proposal") proposal_table tree declared (Words file ∷ []) count delete_proposal (file_test ∷ []) (is_proposal_of file) delete_proposal_means (λ n. refl) (file_passes file)
-
-  -- the row of version 2 is put in
-  pub version_put : Declares old.now.schema (codes "meta") meta_table tree → Executes insert_version [] old new (Ok count) → Soundly (Puts (meta_table tree) (Int (pos 2) ∷ [])) old.now new.now
-  version_put declared = inserts old new (codes "meta") meta_table tree declared [] count insert_version version_terms 2 (Null ∷ Int (pos 2) ∷ []) (Int (pos 2) ∷ []) version_means refl refl (version_cast tree) (λ id. refl)
 
   -- each row of the version is taken out
   pub versions_taken : Declares old.now.schema (codes "meta") meta_table tree → refers_to old.now.schema (codes "meta") ≡ false → IsKeyed old.now (codes "meta")
