@@ -18,6 +18,7 @@ pub mod KeysApart
 pub mod NamedRows
 pub mod NamedLook
 pub mod CrashLeaves
+pub mod Migrating
 pub mod CreateText
 pub mod CreateEffect
 pub mod HistoryStep

@@ -21,6 +21,10 @@ pub on_ok : {T E P Q : Type 0} (r : Result T E) → (P → Q) → OnOk r P → O
 on_ok (Ok x) f p = f p
 on_ok (Err e) f p = p
 
+pub ok_always : {T E P : Type 0} (r : Result T E) → P → OnOk r P
+ok_always (Ok x) p = p
+ok_always (Err e) p = tt
+
 -- one row that was read
 module _ (before rows : List Row) (same : IsPermutation before rows) where
   pub one_before : (a : Row) → rows ≡ a ∷ [] → before ≡ a ∷ []
@@ -55,7 +59,7 @@ module _ (revisions approvals proposals revised approved proposed : List Row) (r
 pub read_in : (name : List ℕ) (old mid : Database) (items now : List Row) → mid ≡ old → now ≡ items → IsPermutation (rows_of mid name) items → IsPermutation (rows_of old name) now
 read_in name old mid items now same is read = subst (λ (db : Database). IsPermutation (rows_of db name) now) same (subst (IsPermutation (rows_of mid name)) (sym is) read)
 
-none_left : {X : Type 0} (xs : List X) → IsPermutation xs [] → xs ≡ []
+pub none_left : {X : Type 0} (xs : List X) → IsPermutation xs [] → xs ≡ []
 none_left [] same = refl
 none_left (x ∷ xs) same = absurd (let long = length_permutation (x ∷ xs) [] same in omega (arith, long))
 
