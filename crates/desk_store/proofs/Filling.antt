@@ -17,7 +17,7 @@ use Rattle.desk_core.specs.History.{IsHistory}
 use Rattle.desk_core.specs.declared.entry.Entry.TheVariants.{Revised}
 use Rattle.desk_store.specs.Create.{AddsRow, AddsRows, Fills, HasRoom, Makes, MakesEmpty, MakesRoom, with_four, with_meta}
 use Rattle.desk_store.specs.History.{approval_of, proposed_row, revisions_in, row_of}
-use Rattle.desk_store.specs.Tables.{Declares, HasTables, Writes, approval_table, file_rev_table, is_written, proposal_table, rows_of}
+use Rattle.desk_store.specs.Tables.{Declares, HasTables, Writes, approval_table, file_rev_table, is_written, meta_table, proposal_table, rows_of}
 use Rattle.desk_store.proofs.Created.{each_both, old_part}
 use Rattle.desk_store.proofs.Entries.{spare_then, writes_then}
 use Rattle.desk_store.proofs.Revisions.{none_of_revised, revised_back}
@@ -73,7 +73,7 @@ not_here true named other own = absurd (let e = sym other ∙ own in cc)
 of_old : (schema : Schema) (P : Table → Type 0) → AllByRecursion P (with_four schema).tables → AllByRecursion P schema.tables
 of_old schema P all =
     let two = created (with_meta schema) (file_rev_table 0) in
-    old_part schema _ P (old_part (with_meta schema) (file_rev_table 0) P (old_part two (approval_table 0) P (old_part (created two (approval_table 0)) (proposal_table 0) P all)))
+    old_part schema (meta_table 0) P (old_part (with_meta schema) (file_rev_table 0) P (old_part two (approval_table 0) P (old_part (created two (approval_table 0)) (proposal_table 0) P all)))
 
 apart_from : (old new : Schema) (name : List ℕ) (of : ℕ → Table) (tree : ℕ) → new ≡ with_four old → Declares new name of tree → table_named old name ≡ None → AllByRecursion (λ (t : Table). tree ≢ t.tree) old.tables
 apart_from old new name of tree schema declared free =

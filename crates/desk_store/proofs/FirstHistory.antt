@@ -132,7 +132,7 @@ firsts texts (m ∷ ms) = ((refl, refl), firsts texts ms)
 
 all_first : (texts : SiteTexts) (ms : List Mount) → AreFirst (revisions_with texts ms)
 all_first texts ms =
-    let one = (refl, refl) in
+    let one : (◌≡◌ {A = ℕ} 1 1) × (◌≡◌ {A = Option (List ℕ)} None None) = (refl, refl) in
     (one, (one, (one, (one, (one, (one, (one, firsts texts ms)))))))
 
 unapproved : (rs : List Revision) → AreFirst rs → filter_map approval_of rs ≡ []

@@ -1,4 +1,4 @@
-use Rattle.std.proofs.Common.{◌+◌, ◌∙◌, arith, map, take, Ok, rules}
+use Rattle.std.proofs.Common.{◌+◌, ◌∙◌, [], arith, map, take, Ok, rules}
 use Rattle.sqlite.specs.Held.{state}
 use Rattle.desk_store.specs.Create.{AddsRow, AddsRows}
 use Rattle.desk_store.specs.History.{row_of}

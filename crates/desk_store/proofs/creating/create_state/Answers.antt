@@ -16,8 +16,8 @@ use Rattle.desk_store.proofs.creating.create_state.Goals as goal
 clean_so : (is_clean is_open : Bool) → (is_clean ≡ false → is_open ≡ false) → IsTrue is_open → doubt is_clean ≡ 0
 clean_so is_clean is_open law live = elim (cases_Bool is_clean) [ inl clean ↦ no_doubt is_clean clean | inr dirty ↦ absurd (both_ways is_open (law dirty) live) ]
 
-pub store_history-requires-unapproved : goal.store_history-requires-unapproved
-store_history-requires-unapproved g c = ap (filter_map approval_of) (c.heads.ensures ∙ c.in-Ok.ensures.made.heads_are) ∙ none_approved (texts_of c.args.site.now)
+pub store_history-requires-clause-unapproved : goal.store_history-requires-clause-unapproved
+store_history-requires-clause-unapproved g c = ap (filter_map approval_of) (c.heads.ensures ∙ c.in-Ok.ensures.made.heads_are) ∙ none_approved (texts_of c.args.site.now)
 
 pub returns-in-Ok-store_history : goal.returns-in-Ok-store_history
 returns-in-Ok-store_history g c =
