@@ -5,7 +5,7 @@ ghost use Rattle.std.specs.Prelude.{◌≡◌, ℕ, ◌<◌, List, length, None,
 
 use crate::desks::tell;
 use crate::sample::{FILESYSTEMS, site};
-use crate::stories::EDITED;
+use crate::stories::PLAIN;
 use desk_http::serve;
 use desk_index::Index;
 use desk_messages::{Bytes, End, Failed, Served, Source, StreamFault};
@@ -562,9 +562,9 @@ fn check_desk(
     steps: usize,
 ) -> Result<(), AllocError> {
     let mut found = String::new(alloc);
-    tell(alloc, &mut desk, &EDITED, &mut found)?;
+    tell(alloc, &mut desk, &PLAIN, &mut found)?;
     let found = found.as_str();
-    let wanted = EDITED.history_after(alloc, steps.saturating_sub(1))?;
+    let wanted = PLAIN.history_after(alloc, steps.saturating_sub(1))?;
     if found != wanted.as_str() {
         write!(subject.wrong, "the desk holds {found:?}\n")?;
     } else if steps == 1 {

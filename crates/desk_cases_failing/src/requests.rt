@@ -6,7 +6,7 @@ ghost use Rattle.std.specs.Prelude.{◌≡◌, false};
 use crate::connections::check_served;
 use crate::desks::{Answers, files_of, opened, options, tell};
 use crate::made::Made;
-use crate::stories::EDITED;
+use crate::stories::PLAIN;
 use crate::trials::{MOST_PASSES, Trial, failing_files, have_failed, written_files};
 use desk_http::serve;
 use desk_index::Index;
@@ -244,7 +244,7 @@ fn holds(
     steps: usize,
 ) -> Result<bool, AllocError> {
     let mut found = String::new(alloc);
-    tell(alloc, desk, &EDITED, &mut found)?;
-    let wanted = EDITED.history_after(alloc, steps.saturating_sub(1))?;
+    tell(alloc, desk, &PLAIN, &mut found)?;
+    let wanted = PLAIN.history_after(alloc, steps.saturating_sub(1))?;
     Ok(found.as_str() == wanted.as_str())
 }

@@ -41,7 +41,7 @@ pub struct Story {
 }
 
 /// An edit of the hosts file, and one of an exports file.
-pub const EDITED: Story = Story {
+pub const PLAIN: Story = Story {
     name: "",
     start: Start::Creates,
     filesystems: FILESYSTEMS,
