@@ -1,5 +1,6 @@
 -- What making a database comes to, from the look for room to the commit.
-use Rattle.std.proofs.Common.{◌≡◌, ◌∙◌, ap, sym, subst, inl, inr, [], IsTrue, Ok, Err, Result, false, arith}
+use Rattle.std.proofs.Common.{◌≡◌, ◌∙◌, ap, sym, subst, inl, inr, [], IsTrue, Ok, Err, Result, false, IsPermutation, arith, codes, map}
+use Rattle.std.proofs.lemmas.List.Sorted.{IsPermutation-sym}
 use Rattle.sqlite.specs.Effect.{Database}
 use Rattle.sqlite.specs.State.{HasCleanDisk, State, Survives}
 use Rattle.sqlite.specs.declared.error.Error.{Error}
@@ -10,12 +11,15 @@ use Rattle.desk_core.specs.Head.{newest_in}
 use Rattle.desk_core.specs.History.{newest_of, pending_in, standing_of}
 use Rattle.desk_core.specs.Standing.{Standing, proposals_in}
 use Rattle.desk_core.specs.State.{standing}
-use Rattle.desk_store.specs.Create.{HasRoom, IsCreated, IsFirstState, IsOfMaking, IsOfRoom, JudgesSite, LooksForRoom, Makes, MakesFirst, MakesTables, MayMake, RefusesRoom, RefusesSite, RefusesToCreate, StoresAll, first_history, first_revisions, has_one}
-use Rattle.desk_store.specs.Desk.{IsSiteHistory}
-use Rattle.desk_store.specs.Tables.{LeavesCommit}
+use Rattle.desk_store.specs.Create.{HasRoom, IsCreated, IsFirstState, IsMade, IsOfMaking, IsOfRoom, JudgesSite, LooksForRoom, Makes, MakesFirst, MakesTables, MayMake, RefusesRoom, RefusesSite, RefusesToCreate, StoresAll, first_history, first_revisions, has_one}
+use Rattle.desk_store.specs.Desk.{IsDesk, IsSiteHistory}
+use Rattle.desk_store.specs.History.{proposed_row}
+use Rattle.desk_store.specs.Tables.{LeavesCommit, rows_of}
 use Rattle.desk_store.specs.declared.error.CreateError.{CreateError}
 use Rattle.desk_store.specs.declared.error.CreateError.TheVariants as refused
+use Rattle.desk_store.proofs.Migrating.{keyed_if_empty}
 use Rattle.desk_store.proofs.Revisions.{none_of_revised}
+use Rattle.desk_store.proofs.RowsRead.{none_left}
 
 by_room : (old : State) (texts : SiteTexts) (e : CreateError) → RefusesRoom old.committed.schema e → RefusesToCreate old.committed.schema texts e
 by_room old texts refused.Schema h = h
@@ -130,3 +134,17 @@ module _ (old mid new : State) (texts : SiteTexts) (clean_if_open : IsTrue mid.i
         | inl memory ↦ subst (λ (f : CreateError). IsCreated {V = V} old new texts (Err f)) (sym memory) (record { judged = tt; heads = tt; made = λ clean. tt; refused = λ clean. tt; unchanged = same; crash = all; mode = stored.autocommit })
         | inr store ↦ subst (λ (f : CreateError). IsCreated {V = V} old new texts (Err f)) (sym store.2) (record { judged = store.1; heads = tt; made = λ clean. tt; refused = λ clean. store.1; unchanged = same; crash = all; mode = stored.autocommit })
       ]
+
+-- a database that was made has no proposal, so that a desk stands on it
+pub desk_made : {V : Type 0} (old new : State) (texts : SiteTexts) (state : Kept V) → IsMade old new texts state → IsDesk new state
+desk_made old new texts state made =
+    let db = new.committed in
+    let some : IsPermutation [] (rows_of db (codes "proposal")) =
+    subst (λ proposals. IsPermutation (map proposed_row proposals) (rows_of db (codes "proposal"))) (none_of_revised (first_revisions texts)) made.made.holds.proposals in
+    record {
+      rest = made.rest;
+      keyed = λ live. keyed_if_empty db (codes "proposal") (none_left (rows_of db (codes "proposal")) (IsPermutation-sym [] (rows_of db (codes "proposal")) some));
+      history = first_history texts;
+      pending = [];
+      stands = made.stands;
+    }
