@@ -19,6 +19,7 @@ pub mod NamedRows
 pub mod NamedLook
 pub mod CrashLeaves
 pub mod Migrating
+pub mod SecondMade
 pub mod CreateText
 pub mod CreateEffect
 pub mod HistoryStep
