@@ -1,7 +1,9 @@
 -- What is read of the rows of revisions and of approvals. (this project's own)
-use Rattle.std.specs.Prelude.{◌≡◌, ◌≢◌, ◌-◌, ◌==◌, ◌&&◌, ℕ, Bool, false, List, Option, None, Some, All, IsPermutation, codes, length, map, slice_get, if◌then◌else◌}
+use Rattle.std.specs.Prelude.{◌≡◌, ◌≢◌, ◌-◌, ◌==◌, ◌&&◌, ℕ, Bool, false, List, [], ◌∷◌, Option, None, Some, All, IsPermutation, codes, length, map, slice_get, if◌then◌else◌}
 use Rattle.std.specs.List.{AllPairs, filter_map}
+use Rattle.std.specs.Cmp.Lexicographic.{slice_cmp}
 use Rattle.std.specs.Option.{option_map_or}
+use Rattle.std.specs.Ordering.{is_lt, nat_cmp, ordering_then}
 use Rattle.std.specs.Str.{IsUtf8, bytes_eq}
 use Rattle.sqlite.specs.Effect.{Database}
 use Rattle.sqlite.specs.Order.{Row}
@@ -48,6 +50,37 @@ with_approval (Some approval) revision = record revision { approver = Some appro
 -- the row of an approval
 abbrev pub row_of_approval : Approval → Row
 row_of_approval approval = approval_row approval.file approval.rev approval.approver
+
+-- what the order of revisions and of their approvals is by: the file, and then the number
+abbrev pub Key : Type 0
+Key = List ℕ × ℕ
+
+abbrev pub revision_key : Revision → Key
+revision_key revision = (revision.file, revision.rev)
+
+abbrev pub approval_key : Approval → Key
+approval_key approval = (approval.file, approval.rev)
+
+abbrev pub is_below : Key → Key → Bool
+is_below one other = is_lt (ordering_then (slice_cmp nat_cmp one.0 other.0) (nat_cmp one.1 other.1))
+
+-- the first approval, if it is of this revision; and the approvals without it
+abbrev pub own_first : Revision → List Approval → Option Approval
+own_first revision [] = None
+own_first revision (approval ∷ later) = if is_approval_of revision approval then Some approval else None
+
+abbrev pub left_by : Revision → List Approval → List Approval
+left_by revision [] = []
+left_by revision (approval ∷ later) = if is_approval_of revision approval then later else approval ∷ later
+
+-- revisions, one after another, each with the first of the approvals that are left, if it is of it; and the approvals left behind them
+abbrev pub approved_all : List Revision → List Approval → List Revision
+approved_all [] approvals = []
+approved_all (revision ∷ later) approvals = with_approval (own_first revision approvals) revision ∷ approved_all later (left_by revision approvals)
+
+abbrev pub left_after : List Revision → List Approval → List Approval
+left_after [] approvals = approvals
+left_after (revision ∷ later) approvals = left_after later (left_by revision approvals)
 
 -- The rows of revisions, of approvals and of proposals are those of a history.
 pub record AreRowsOf (history : List Entry) (revisions approvals proposals : List Row) : Type 0 where
