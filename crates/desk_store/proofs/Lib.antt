@@ -56,3 +56,7 @@ pub mod LongerHistory
 pub mod Members
 pub mod Revisions
 pub mod PendingOnce
+pub mod Counts
+pub mod ApprovalKeys
+pub mod Approved
+pub mod TakenApprovals

@@ -1,9 +1,9 @@
 -- Elements of lists: of those that pass a test, of those that a function gives, and in any order.
-use Rattle.std.proofs.Common.{◌≡◌, ◌∙◌, sym, ap, subst, refl, inl, inr, ℕ, zero, suc, ◌<◌, Bool, true, false, cond, List, [], ◌∷◌, Option, Some, None, find, filter, map, length, get_or, arith}
+use Rattle.std.proofs.Common.{◌≡◌, ◌∙◌, sym, ap, subst, refl, inl, inr, ℕ, zero, suc, ◌<◌, ◌++◌, Bool, true, false, cond, List, [], ◌∷◌, Option, Some, None, find, filter, map, length, get_or, arith}
 use Rattle.std.specs.Prelude.{All, AllPairs, Contains, IsPermutation}
 use Rattle.std.specs.List.{cons_option, filter_map}
 use Rattle.std.proofs.lemmas.Bool.{cases_Bool}
-use Rattle.std.proofs.lemmas.List.Elements.{All-cons, All-head, All-tail}
+use Rattle.std.proofs.lemmas.List.Elements.{All-cons, All-head, All-push, All-tail}
 use Rattle.std.proofs.lemmas.List.Kept.{AllPairs-cons}
 use Rattle.std.proofs.lemmas.List.Sorted.{All-permutation, IsPermutation-cons, IsPermutation-middle, IsPermutation-refl, IsPermutation-trans}
 use Rattle.sqlite_trees.proofs.ListLemmas.{along_permutation}
@@ -113,29 +113,35 @@ find_none p (x ∷ xs) fails =
 
 -- ---- pairs in any order
 
+module _ {X : Type 0} (R : X → X → Type 0) where
+  pub pairs_tail : (x : X) (xs : List X) → AllPairs R (x ∷ xs) → AllPairs R xs
+  pairs_tail x xs all = λ i j d lt within. all (suc i) (suc j) d (omega arith) (omega arith)
+
+  pub pairs_head : (x : X) (xs : List X) → AllPairs R (x ∷ xs) → All (R x) xs
+  pairs_head x xs all = λ k d below. all 0 (suc k) d (omega arith) (omega arith)
+
+  pub AllPairs-push : (xs : List X) (y : X) → AllPairs R xs → All (λ x. R x y) xs → AllPairs R (xs ++ y ∷ [])
+  AllPairs-push [] y all each = λ i j d lt within. absurd (omega arith)
+  AllPairs-push (x ∷ xs) y all each =
+      AllPairs-cons R x (xs ++ y ∷ []) (All-push (R x) xs y (pairs_head x xs all) (each 0 x (omega arith))) (AllPairs-push xs y (pairs_tail x xs all) (λ k d below. each (suc k) d (omega arith)))
+
 -- what holds of each pair of a list, either way round, holds of each pair in any order of its elements
 module _ {X : Type 0} (R : X → X → Type 0) (back : (x y : X) → R x y → R y x) where
-  tail : (x : X) (xs : List X) → AllPairs R (x ∷ xs) → AllPairs R xs
-  tail x xs all = λ i j d lt within. all (suc i) (suc j) d (omega arith) (omega arith)
-
-  head : (x : X) (xs : List X) → AllPairs R (x ∷ xs) → All (R x) xs
-  head x xs all = λ k d below. all 0 (suc k) d (omega arith) (omega arith)
-
   abbrev Moves : List X → List X → Type 0
   Moves xs ys = IsPermutation xs ys × (AllPairs R xs → AllPairs R ys)
 
   turned : (x y : X) (xs : List X) → AllPairs R (x ∷ y ∷ xs) → AllPairs R (y ∷ x ∷ xs)
   turned x y xs all =
-      let rest = head x (y ∷ xs) all in
-      let more = tail x (y ∷ xs) all in
-      AllPairs-cons R y (x ∷ xs) (All-cons (R y) x xs (back x y (All-head (R x) y xs rest)) (head y xs more))
-      (AllPairs-cons R x xs (All-tail (R x) y xs rest) (tail y xs more))
+      let rest = pairs_head R x (y ∷ xs) all in
+      let more = pairs_tail R x (y ∷ xs) all in
+      AllPairs-cons R y (x ∷ xs) (All-cons (R y) x xs (back x y (All-head (R x) y xs rest)) (pairs_head R y xs more))
+      (AllPairs-cons R x xs (All-tail (R x) y xs rest) (pairs_tail R y xs more))
 
   pub AllPairs-permutation : (xs ys : List X) → IsPermutation xs ys → AllPairs R xs → AllPairs R ys
   AllPairs-permutation xs ys same =
       (along_permutation Moves
       (λ xs. (IsPermutation-refl xs, λ all. all))
-      (λ x xs ys h. (IsPermutation-cons x xs ys h.0, λ all. AllPairs-cons R x ys (All-permutation (R x) xs ys h.0 (head x xs all)) (h.1 (tail x xs all))))
+      (λ x xs ys h. (IsPermutation-cons x xs ys h.0, λ all. AllPairs-cons R x ys (All-permutation (R x) xs ys h.0 (pairs_head R x xs all)) (h.1 (pairs_tail R x xs all))))
       (λ x y xs. (IsPermutation-middle (x ∷ []) y xs, turned x y xs))
       (λ xs ys zs h k. (IsPermutation-trans xs ys zs h.0 k.0, λ all. k.1 (h.1 all)))
       xs ys same).1

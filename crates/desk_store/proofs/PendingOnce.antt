@@ -1,11 +1,13 @@
 -- Of the proposals that are pending no two are of one file, so that it does not matter in which order they are.
-use Rattle.std.proofs.Common.{◌≡◌, ◌≢◌, ◌∙◌, sym, ap, subst, refl, ℕ, zero, suc, ◌<◌, ◌||◌, Bool, true, false, cond, List, [], ◌∷◌, Option, Some, None, find, get_or, length, map, arith}
+use Rattle.std.proofs.Common.{◌≡◌, ◌≢◌, ◌∙◌, sym, ap, subst, refl, ℕ, zero, suc, ◌+◌, ◌<◌, ◌++◌, ◌||◌, Bool, true, false, cond, not, take, List, [], ◌∷◌, Option, Some, None, find, get_or, length, map, arith}
 use Rattle.std.specs.Prelude.{All, AllPairs, Contains, IsPermutation}
-use Rattle.std.specs.List.{cons_option, list_any}
+use Rattle.std.specs.List.{cons_option, list_all, list_any}
 use Rattle.std.specs.Str.{bytes_eq}
 use Rattle.std.proofs.Math.Path.{fun_ext}
 use Rattle.std.proofs.lemmas.Bool.{false≢true}
+use Rattle.std.proofs.lemmas.List.{get_or-take, length-take-le, take_more}
 use Rattle.std.proofs.lemmas.List.Kept.{AllPairs-cons}
+use Rattle.std.proofs.lemmas.List.Sums.{AllPass-from_list_all, list_all-from_AllPass}
 use Rattle.std.proofs.lemmas.List.Sorted.{IsPermutation-cons, IsPermutation-middle, IsPermutation-refl, IsPermutation-trans}
 use Rattle.std.proofs.lemmas.Slice.Eq.{bytes_eq-Decides}
 use Rattle.sqlite_trees.proofs.ListLemmas.{along_permutation}
@@ -15,7 +17,7 @@ use Rattle.desk_core.specs.declared.entry.Entry.{Entry}
 use Rattle.desk_core.specs.declared.entry.Entry.TheVariants.{Proposed, Revised}
 use Rattle.desk_core.specs.declared.proposal.Proposal.{Proposal}
 use Rattle.desk_store.proofs.LongerHistory.{none_pending}
-use Rattle.desk_store.proofs.Members.{AllPairs-permutation, default}
+use Rattle.desk_store.proofs.Members.{AllPairs-permutation, AllPairs-push, default}
 
 abbrev pub Apart : Proposal → Proposal → Type 0
 Apart p later = p.file ≢ later.file
@@ -111,3 +113,34 @@ all_pending [] all = refl
 all_pending (p ∷ ps) all =
     ap (λ b. cons_option (cond b None (Some p)) (pending_in (map Proposed ps))) (none_of p ps (λ k d below. all 0 (suc k) d (omega arith) (omega arith)))
     ∙ ap (λ qs. p ∷ qs) (all_pending ps (λ i j d lt within. all (suc i) (suc j) d (omega arith) (omega arith)))
+
+-- ---- one proposal after another
+
+test_true : (a b : List ℕ) → a ≢ b → not (bytes_eq a b) ≡ true
+test_true a b apart = step (bytes_eq a b) refl
+  where
+    step : (c : Bool) → bytes_eq a b ≡ c → not c ≡ true
+    step true e = absurd (apart ((bytes_eq-Decides a b).0 e))
+    step false e = refl
+
+from_test : (a b : List ℕ) → not (bytes_eq a b) ≡ true → a ≢ b
+from_test a b h same = let e : bytes_eq a b ≡ true = (bytes_eq-Decides a b).1 same in false≢true (sym (ap not e) ∙ h)
+
+abbrev first_test : Proposal → Proposal → Bool
+first_test p other = not (bytes_eq other.file p.file)
+
+module _ (ps : List Proposal) (i : ℕ) (p : Proposal) (below : i < length ps) (is : p ≡ get_or ps i p) where
+  -- no earlier one is of its file
+  pub one_more_apart : list_all (first_test p) (take i ps) ≡ true → AllPairs Apart (take i ps) → AllPairs Apart (take (i + 1) ps)
+  one_more_apart first all =
+      let passes = AllPass-from_list_all (first_test p) (take i ps) first in
+      subst (AllPairs Apart) (sym (take_more ps i p below ∙ ap (λ x. take i ps ++ x ∷ []) (sym is)))
+      (AllPairs-push Apart (take i ps) p all (λ k d within. from_test (get_or (take i ps) k d).file p.file (passes k d within)))
+
+  pub not_apart : list_all (first_test p) (take i ps) ≡ false → AllPairs Apart ps → ⊥
+  not_apart first all =
+      false≢true (sym first ∙ list_all-from_AllPass (first_test p) (take i ps) (λ k d within.
+      let k_below : k < i = omega (arith, within, length-take-le i ps (omega arith)) in
+      let q : Proposal = get_or (take i ps) k d in
+      let there : q ≡ get_or ps k d = get_or-take i ps k d k_below in
+      test_true q.file p.file (λ same. all k i d k_below below (ap (λ (x : Proposal). x.file) (sym there) ∙ same ∙ ap (λ (x : Proposal). x.file) (is ∙ default ps i p d below)))))
