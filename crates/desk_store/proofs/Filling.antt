@@ -1,5 +1,5 @@
 -- Revisions that are added to new tables.
-use Rattle.std.proofs.Common.{◌≡◌, ◌≢◌, ◌∙◌, sym, ap, subst, inl, inr, refl, ℕ, ◌+◌, ◌<◌, ◌++◌, ◌==◌, ◌||◌, Bool, not, false, true, List, [], ◌∷◌, Some, None, length, map, take, get_or, codes, arith, append-nil, append_assoc}
+use Rattle.std.proofs.Common.{◌≡◌, ◌≢◌, ◌∙◌, sym, ap, subst, inl, inr, refl, ℕ, ◌+◌, ◌<◌, ◌++◌, ◌==◌, ◌||◌, Bool, not, false, true, List, [], ◌∷◌, Some, None, length, map, take, get_or, codes, append-nil, append_assoc}
 use Rattle.std.specs.Prelude.{IsPermutation}
 use Rattle.std.specs.List.{AllByRecursion, filter_map, list_all, position_from}
 use Rattle.std.proofs.lemmas.Bool.{cases_Bool, eqb-false, ne_eqb}

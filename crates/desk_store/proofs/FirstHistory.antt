@@ -22,7 +22,7 @@ use Rattle.desk_tables.specs.declared.filesystems.Mount.{Mount}
 use Rattle.desk_policy.specs.Site.{SiteTexts}
 use Rattle.desk_policy.specs.SiteFault.{exports_name}
 use Rattle.desk_core.specs.Head.{CanBeKept, Revision, newest_in, longest_revision}
-use Rattle.desk_core.specs.History.{IsHistory, newest_of, pending_in, revisions_of}
+use Rattle.desk_core.specs.History.{IsHistory, newest_of, revisions_of}
 use Rattle.desk_core.specs.declared.entry.Entry.TheVariants.{Revised}
 use Rattle.desk_core.specs.Judging.{IsFileName, seven}
 use Rattle.desk_core.specs.Site.{IsConsistent, site_in}

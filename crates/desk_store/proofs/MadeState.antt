@@ -7,7 +7,6 @@ use Rattle.sqlite.specs.declared.error.Error.{Error}
 use Rattle.sqlite.proofs.StateLemmas.{survives_then}
 use Rattle.desk_policy.specs.Site.{SiteTexts}
 use Rattle.desk_core.specs.Views.{Kept}
-use Rattle.desk_core.specs.Head.{newest_in}
 use Rattle.desk_core.specs.History.{newest_of, pending_in, standing_of}
 use Rattle.desk_core.specs.Standing.{Standing, proposals_in}
 use Rattle.desk_core.specs.State.{standing}

@@ -1,17 +1,16 @@
 -- What making a database promises. (this project's own)
-use Rattle.std.specs.Prelude.{◌≡◌, ◌≢◌, ◌⊎◌, ℕ, Bool, true, false, List, [], ◌∷◌, ◌++◌, Option, Some, None, Result, Ok, Err, IfErr, IfOk, IsPermutation, IsTrue, OnErr, OnOk, codes, pos, find, is_some, length, map, nat_lt, if◌then◌else◌, ◌||◌, ◌&&◌, not, unwrap_or}
-use Rattle.std.specs.List.{AllByRecursion, filter_map, list_any}
+use Rattle.std.specs.Prelude.{◌≡◌, ◌⊎◌, ℕ, Bool, true, false, List, [], ◌∷◌, ◌++◌, Option, Some, None, Result, Ok, Err, IfErr, IfOk, IsTrue, OnErr, OnOk, codes, pos, find, length, map, nat_lt, if◌then◌else◌, ◌||◌}
+use Rattle.std.specs.List.{AllByRecursion, filter_map}
 use Rattle.std.specs.Option.{option_map}
 use Rattle.std.specs.Result.{result_unwrap_or}
 use Rattle.std.specs.Str.{IsUtf8, bytes_eq}
 use Rattle.sqlite.specs.Held.{Held}
 use Rattle.sqlite.specs.State.{Executes, HasCleanDisk, KeepsCommit, Shows, State, Survives}
-use Rattle.sqlite.specs.Effect.{Database, IsDatabase, SparesFrozen}
+use Rattle.sqlite.specs.Effect.{Database, IsDatabase}
 use Rattle.sqlite.specs.Order.{Row}
 use Rattle.sqlite.specs.Schema.{Schema}
 use Rattle.sqlite.specs.declared.error.Error.{Error}
 use Rattle.sqlite.specs.declared.types.Value.TheVariants.{Int}
-use Rattle.sqlite.specs.Table.{Table}
 use Rattle.sqlite.specs.Tree.{Trees}
 use Rattle.sqlite.specs.Does.{lacks_sequence}
 use Rattle.sqlite.specs.Change.{created}

@@ -1,4 +1,4 @@
-use Rattle.std.proofs.Common.{◌≡◌, sym, subst, refl, arith, codes, IsTrue}
+use Rattle.std.proofs.Common.{sym, subst, refl, arith, codes, IsTrue}
 use Rattle.std.proofs.lemmas.Bool.{both_ways}
 use Rattle.desk_store.specs.Tables.{Declares, file_rev_table}
 use Rattle.desk_store.proofs.FirstTables.{one_tree}
