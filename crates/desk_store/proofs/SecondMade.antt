@@ -1,5 +1,5 @@
 -- What the statements come to that make a database of version 1 one of version 2.
-use Rattle.std.proofs.Common.{◌≡◌, ◌≢◌, ◌∙◌, ap, inl, refl, subst, sym, ℕ, pos, ◌==◌, ◌++◌, false, true, List, [], ◌∷◌, Some, IsPermutation, codes, filter, length, map}
+use Rattle.std.proofs.Common.{◌≡◌, ◌≢◌, ◌∙◌, ap, inl, refl, subst, sym, ℕ, pos, ◌==◌, ◌++◌, false, true, List, [], ◌∷◌, Some, IsPermutation, IsTrue, codes, filter, length, map}
 use Rattle.std.specs.List.{AllByRecursion, filter_map}
 use Rattle.std.specs.Option.{option_map_or}
 use Rattle.std.proofs.lemmas.Bool.{eq-eqb}
@@ -7,7 +7,7 @@ use Rattle.std.proofs.lemmas.List.Sorted.{IsPermutation-refl}
 use Rattle.sqlite.specs.Effect.{Database}
 use Rattle.sqlite.specs.Order.{Row}
 use Rattle.sqlite.specs.Schema.{Schema}
-use Rattle.sqlite.specs.State.{State}
+use Rattle.sqlite.specs.State.{HasCleanDisk, State}
 use Rattle.sqlite.specs.Table.{Table}
 use Rattle.sqlite.specs.Tree.{rowid}
 use Rattle.sqlite.specs.declared.types.Value.TheVariants.{Int}
@@ -15,9 +15,9 @@ use Rattle.desk_core.specs.History.{pending_in}
 use Rattle.desk_store.specs.Create.{HasLaterRoom, LaterAreMade, MakesLater, Ran, insert_version}
 use Rattle.desk_store.specs.Desk.{History}
 use Rattle.desk_store.specs.History.{Holds, HoldsFirst, approval_of, proposed_row, revisions_in, row_of}
-use Rattle.desk_store.specs.Open.{Migrates, is_meta}
+use Rattle.desk_store.specs.Open.{IsFirst, Migrates, is_meta}
 use Rattle.desk_store.specs.Storing.{MakesSecond}
-use Rattle.desk_store.specs.Tables.{AreKeys, Declares, HasFirstTables, HasTables, IsKeyed, approval_table, delete_version, file_rev_table, meta_table, proposal_table, rows_of, table_in}
+use Rattle.desk_store.specs.Tables.{AreKeys, Declares, HasFirstTables, HasTables, IsAtRestWith, IsKeyed, approval_table, delete_version, file_rev_table, meta_table, proposal_table, rows_of, table_in}
 use Rattle.desk_store.proofs.Created.{each_both, tree_stays}
 use Rattle.desk_store.proofs.DeleteEffect.{Takes}
 use Rattle.desk_store.proofs.Entries.{apart_trees, kept_rows, spare_then, unreferred_two}
@@ -118,3 +118,14 @@ second_made a b c d makes deleted inserted room keyed history first =
     let taken = versions_taken b c has_first.meta_tree deleted.0 meta (unreferred_two b.now.schema tables.first.unreferred).0 (keyed_now a.now b.now c.now d.now room later has_first keyed) deleted.1 in
     let put = version_put c d has_first.meta_tree inserted.0 (subst (λ s. Declares s (codes "meta") meta_table has_first.meta_tree) (sym taken.did.schema) meta) inserted.1 in
     migrates a.now b.now c.now d.now room later has_first taken put
+
+-- begun at rest on a database of version 1 in which there is room, they make of its last commit one of version 2
+pub makes_migrated : (old begun end : State) → begun.now ≡ old.now → (HasCleanDisk old → IsAtRestWith false old) → (HasCleanDisk old → IsTrue old.is_open → IsFirst old.committed)
+    → (HasCleanDisk old → IsTrue old.is_open → IsKeyed old.committed (codes "meta")) → (HasCleanDisk old → IsTrue old.is_open → HasLaterRoom old.committed.schema)
+    → HasCleanDisk old → IsTrue old.is_open → MakesSecond begun end → Migrates old.committed end.now
+makes_migrated old begun end same rest first keyed room clean live made =
+    let is : begun.now ≡ old.committed = same ∙ (rest clean).settled live in
+    let it = first clean live in
+    subst (λ (db : Database). Migrates db end.now) is (
+      made (subst (λ (db : Database). HasLaterRoom db.schema) (sym is) (room clean live)) (subst (λ (db : Database). IsKeyed db (codes "meta")) (sym is) (keyed clean live)) it.0
+      (subst (λ (db : Database). HoldsFirst db it.0) (sym is) it.1))

@@ -1,3 +1,4 @@
+use Rattle.std.proofs.Common.{Ok}
 use Rattle.sqlite.specs.Held.{state}
 use Rattle.sqlite.specs.State.{State}
 use Rattle.desk_store.specs.Create.{MakesLater, Ran, insert_version}
@@ -14,5 +15,5 @@ returns-clause-made g c =
     let two = state g.S.Store c.run.new.tx.conn.now in
     let end = state g.S.Store c.run-2.new.tx.conn.now in
     let First : State → State → Type 0 = λ s t. MakesLater s one × Ran delete_version one t in
-    let first = inside_then start one two _ _ MakesLater (Ran delete_version) First c.in_ok-make_later.ensures.made c.in_ok-run.ensures.ran (λ a b. (a, b)) in
-    inside_then start two end _ c.run-2.result First (Ran insert_version) MakesSecond first c.run-2.ensures.ran (λ before last. second_made start one two end before.0 before.1 last)
+    let first = inside_then start one two (tt {0}) (Ok (tt {0})) MakesLater (Ran delete_version) First c.in_ok-make_later.ensures.made c.in_ok-run.ensures.ran (λ a b. (a, b)) in
+    inside_then start two end (tt {0}) c.run-2.result First (Ran insert_version) MakesSecond first c.run-2.ensures.ran (λ before last. second_made start one two end before.0 before.1 last)
