@@ -1,12 +1,11 @@
 -- A statement that only looked changes nothing, and nor do two such statements, one after the other.
-use Rattle.std.proofs.Common.{◌≡◌, ◌⊎◌, inl, inr, Bool, ℕ, List, Err, false, IsTrue, sym, subst, ◌∙◌, arith}
+use Rattle.std.proofs.Common.{◌≡◌, ◌⊎◌, inl, inr, Bool, ℕ, List, false, IsTrue, sym, subst, ◌∙◌, arith}
 use Rattle.sqlite.specs.Effect.{Database}
 use Rattle.sqlite.specs.Order.{Row}
 use Rattle.sqlite.specs.State.{ExecutesIn, HasCleanDisk, IsNotRun, IsRolledBack, IsUnchanged, State, Survives}
 use Rattle.sqlite.specs.declared.error.Error.{Error}
 use Rattle.sqlite.proofs.InsideLemmas.{fails_whole}
 use Rattle.sqlite.proofs.StateLemmas.{survives_then}
-use Rattle.desk_store.specs.Desk.{CommitsAtMost}
 use Rattle.desk_store.specs.Looks.{ChangesNothing}
 use Rattle.desk_store.specs.Tables.{HasThese, IsAtRestWith}
 

@@ -1,5 +1,5 @@
 -- Keys that rise differ, and they do so in any order.
-use Rattle.std.proofs.Common.{◌≡◌, ◌≢◌, ◌⊎◌, ◌∙◌, inl, inr, ℕ, ℤ, ◌+◌, ◌<◌, ◌<ℤ◌, Bool, true, List, [], ◌∷◌, ◌++◌, Option, Some, None, All, pos, IsTrue, IsPermutation, get_or, length, map, take, sym, ap, subst, refl, arith}
+use Rattle.std.proofs.Common.{◌≡◌, ◌≢◌, ◌⊎◌, ◌∙◌, inl, inr, ℕ, ℤ, ◌+◌, ◌<◌, ◌<ℤ◌, List, [], ◌∷◌, ◌++◌, Option, Some, None, All, pos, IsTrue, IsPermutation, get_or, length, map, take, sym, ap, subst, refl, arith}
 use Rattle.std.specs.List.{AllByRecursion, AllPairs}
 use Rattle.std.specs.Cmp.{int_chain, int_ranks}
 use Rattle.std.specs.Int.Signed.{<ℤ_irrefl}

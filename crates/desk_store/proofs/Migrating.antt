@@ -1,5 +1,5 @@
 -- What a migration leaves, and an opening that may migrate.
-use Rattle.std.proofs.Common.{◌≡◌, IsTrue, inl, refl, sym, ap, subst, false, ℕ, List, [], ◌∷◌, Option, Some, None, Err, IsPermutation, arith, codes, map}
+use Rattle.std.proofs.Common.{◌≡◌, IsTrue, inl, refl, sym, subst, false, ℕ, List, [], ◌∷◌, Option, Some, None, Err, IsPermutation, arith, codes, map}
 use Rattle.std.specs.Prelude.{option_map, unwrap_or}
 use Rattle.std.proofs.lemmas.List.Sorted.{IsPermutation-sym}
 use Rattle.sqlite.specs.Order.{Row}
@@ -8,9 +8,9 @@ use Rattle.sqlite.specs.Tree.{rowid}
 use Rattle.sqlite.specs.Effect.{Database}
 use Rattle.sqlite.specs.State.{HasCleanDisk, State}
 use Rattle.desk_store.specs.Desk.{CommitsAtMost, History}
-use Rattle.desk_store.specs.History.{Holds, HoldsFirst, proposed_row}
+use Rattle.desk_store.specs.History.{HoldsFirst, proposed_row}
 use Rattle.desk_store.specs.Open.{Migrates}
-use Rattle.desk_store.specs.Tables.{AreKeys, IsKeyed, cells, rowids_of, rows_of, table_in}
+use Rattle.desk_store.specs.Tables.{AreKeys, IsKeyed, cells, rows_of, table_in}
 use Rattle.desk_store.proofs.RowsRead.{none_left}
 
 -- nothing was tried

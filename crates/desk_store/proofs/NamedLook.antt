@@ -1,5 +1,5 @@
 -- What the queries read of a database with the tables of version 1, or with all four.
-use Rattle.std.proofs.Common.{◌≡◌, ◌^◌, ◌<◌, ◌==◌, ◌∙◌, ℕ, pos, Bool, List, [], ◌∷◌, Some, true, false, nat_le, nat_lt, codes, filter, map, ap, arith, sym, subst}
+use Rattle.std.proofs.Common.{◌≡◌, ◌^◌, ◌<◌, ◌∙◌, ℕ, pos, Bool, List, [], ◌∷◌, Some, true, false, nat_le, nat_lt, codes, filter, map, ap, arith, sym, subst}
 use Rattle.std.specs.Prelude.{IsPermutation}
 use Rattle.std.proofs.lemmas.Bool.{lt-leb, lt-ltb}
 use Rattle.sqlite.specs.Effect.{Database, Reads}

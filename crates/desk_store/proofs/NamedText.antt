@@ -1,41 +1,21 @@
 -- What the queries for the revisions and the approvals of one file mean, whatever other tables the schema has.
-use Rattle.std.proofs.Common.{nat_le, nat_lt, ◌^◌, ◌≡◌, ◌-◌, pos, negsuc, refl, Some, None, Ok, ℕ, Option, ap, subst, sym, suc, ◌∙◌, ◌++◌, option_map, option_and_then, Bool, true, false, slice_get, codes, List, [], ◌∷◌, ◌==◌, map}
+use Rattle.std.proofs.Common.{nat_le, nat_lt, ◌^◌, ◌≡◌, ◌-◌, refl, Some, Ok, ℕ, ◌∙◌, true, false, slice_get, codes, List, [], ◌∷◌, ◌==◌}
 use Rattle.std.specs.List.{find}
-use Rattle.sqlite_value.specs.declared.keys.Collation.TheVariants.{Binary}
-use Rattle.sqlite_sql.specs.declared.ops.BinaryOp.TheVariants.{And, Compare}
-use Rattle.sqlite_sql.specs.declared.ops.CompareOp.TheVariants.{Eq}
+use Rattle.sqlite_sql.specs.declared.ops.BinaryOp.TheVariants.{And}
 use Rattle.sqlite.specs.Schema.{Schema}
 use Rattle.sqlite.specs.Table.{Table}
 use Rattle.sqlite.specs.Query.{Query}
-use Rattle.sqlite.specs.Term.{Term, lit, col, op2}
-use Rattle.sqlite_schema.specs.declared.schema.Column.{Column as Declared}
+use Rattle.sqlite.specs.Term.{op2}
 use Rattle.sqlite_schema.specs.Names.{same_name, table_named}
-use Rattle.sqlite_ast.specs.declared.Expr.{Expr, out-Expr}
-use Rattle.sqlite_ast.specs.declared.Expr.TheOpen.{Expr-F, Shown-F}
+use Rattle.sqlite_ast.specs.declared.Expr.{Expr}
 use Rattle.sqlite_ast.specs.declared.Expr.TheVariants as written
 use Rattle.sqlite_ast.specs.declared.Binary.TheVariants as by
-use Rattle.sqlite_ast.specs.declared.Origin.TheVariants as origin
-use Rattle.sqlite_ast.specs.declared.Source.{Source, out-Source, roll-Source}
-use Rattle.sqlite_ast.specs.declared.Core.{Core, out-Core, roll-Core}
-use Rattle.sqlite_ast.specs.declared.Select as written_select
 use Rattle.sqlite_ast.specs.declared.Shown as written_shown
-use Rattle.sqlite_ast.specs.declared.Shown.TheVariants.{One}
-use Rattle.sqlite_ast.specs.declared.Statement.TheVariants as statement
-use Rattle.sqlite_syntax.specs.declared.statement.Parsed.{Parsed}
-use Rattle.sqlite.specs.Compile as compile
-use Rattle.sqlite.specs.Compile.{compiled, first, meaning, planned, read, returning, timed, with_command}
-use Rattle.sqlite.specs.Listing.{reads_listing, understood}
-use Rattle.sqlite.specs.Command.{Command}
+use Rattle.sqlite.specs.Compile.{first, read}
 use Rattle.sqlite.specs.Command.TheVariants.{Select}
 use Rattle.sqlite_resolve.specs.Program as program
-use Rattle.sqlite.proofs.Callers.{IsPlain, command_of}
-use Rattle.sqlite_schema.specs.declared.program.Program.{Program}
 use Rattle.sqlite_tied.specs.Compute.{everything}
-use Rattle.sqlite_resolve.specs.declared.scope.Bound.{Bound}
 use Rattle.sqlite_resolve.specs.declared.scope.Output.{Output}
-use Rattle.sqlite_resolve.specs.declared.scope.Found.TheVariants.{Column}
-use Rattle.sqlite_resolve.specs.declared.state.State.{State}
-use Rattle.sqlite_resolve.specs.declared.state.Carried.{Carried}
 use Rattle.sqlite_resolve.specs.Lowering as lowering
 use Rattle.sqlite_resolve.specs.Lowering.{fresh, max_budget, nothing}
 use Rattle.sqlite_resolve.specs.Scope as scope
@@ -44,16 +24,7 @@ use Rattle.sqlite_resolve.specs.Body as body
 use Rattle.sqlite_resolve.specs.Expr as expr
 use Rattle.sqlite_resolve.specs.Expr.{lower}
 use Rattle.sqlite_resolve.specs.Compare as compare
-use Rattle.sqlite_draft.specs.declared.join.Step.TheVariants.{Inner}
-use Rattle.sqlite_draft.specs.declared.query.Draft.{Draft}
-use Rattle.sqlite_draft.specs.Join.{chain}
-use Rattle.sqlite_resolve.specs.Order as ordering
-use Rattle.sqlite_resolve.specs.Select as selecting
-use Rattle.sqlite_resolve.specs.Select.{outermost}
-use Rattle.sqlite.specs.declared.types.Value.TheVariants.{Int}
-use Rattle.sqlite_value.specs.declared.keys.Collation.{Collation}
-use Rattle.desk_store.proofs.SelectText.{Means, MeansAnywhere}
-use Rattle.sqlite_resolve.specs.Terms.{conjuncts}
+use Rattle.desk_store.proofs.SelectText.{MeansAnywhere}
 use Rattle.desk_store.proofs.QueryText.{IsColumn, IsPlainTest, Opens, and_open, at, by_bytes, draft, means_so, named, one_equal, one_read, one_shown, output, own_column, own_table, parsed, select, tests_by, unfold_lower, within}
 use Rattle.desk_store.proofs.NamedRows.{approver_columns, approvers_columns, file_test, number_columns, query, rev_test, text_columns}
 use Rattle.desk_store.specs.Looks.{select_approver, select_approvers, select_numbers, select_revision}

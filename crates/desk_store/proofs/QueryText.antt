@@ -1,15 +1,13 @@
 -- What a query of one table means, whatever other tables the schema has.
-use Rattle.std.proofs.Common.{nat_le, nat_lt, ◌^◌, ◌≡◌, ◌-◌, pos, negsuc, refl, Some, None, Ok, ℕ, Option, ap, subst, sym, suc, ◌∙◌, ◌++◌, option_map, option_and_then, Bool, true, false, slice_get, codes, List, [], ◌∷◌, ◌==◌, map}
-use Rattle.std.specs.List.{find}
+use Rattle.std.proofs.Common.{nat_lt, ◌≡◌, ◌-◌, pos, negsuc, refl, Some, None, Ok, ℕ, Option, ap, subst, sym, suc, ◌∙◌, ◌++◌, Bool, true, false, slice_get, List, [], ◌∷◌, map}
 use Rattle.sqlite_value.specs.declared.keys.Collation.TheVariants.{Binary}
-use Rattle.sqlite_sql.specs.declared.ops.BinaryOp.TheVariants.{And, Compare}
+use Rattle.sqlite_sql.specs.declared.ops.BinaryOp.TheVariants.{Compare}
 use Rattle.sqlite_sql.specs.declared.ops.CompareOp.TheVariants.{Eq}
 use Rattle.sqlite.specs.Schema.{Schema}
 use Rattle.sqlite.specs.Table.{Table}
 use Rattle.sqlite.specs.Query.{Query}
 use Rattle.sqlite.specs.Term.{Term, lit, col, op2}
-use Rattle.sqlite_schema.specs.declared.schema.Column.{Column as Declared}
-use Rattle.sqlite_schema.specs.Names.{same_name, table_named}
+use Rattle.sqlite_schema.specs.Names.{table_named}
 use Rattle.sqlite_ast.specs.declared.Expr.{Expr, out-Expr}
 use Rattle.sqlite_ast.specs.declared.Expr.TheOpen.{Expr-F, Shown-F}
 use Rattle.sqlite_ast.specs.declared.Expr.TheVariants as written
@@ -52,7 +50,7 @@ use Rattle.sqlite_resolve.specs.Select as selecting
 use Rattle.sqlite_resolve.specs.Select.{outermost}
 use Rattle.sqlite.specs.declared.types.Value.TheVariants.{Int}
 use Rattle.sqlite_value.specs.declared.keys.Collation.{Collation}
-use Rattle.desk_store.proofs.SelectText.{Means, MeansAnywhere}
+use Rattle.desk_store.proofs.SelectText.{Means}
 use Rattle.sqlite_resolve.specs.Terms.{conjuncts}
 
 -- a column, as it is written

@@ -1,5 +1,5 @@
 -- What rows say that were read in any order, the rows of the database say.
-use Rattle.std.proofs.Common.{◌≡◌, ap, false, refl, subst, sym, ℕ, List, [], ◌∷◌, Result, Ok, Err, IfOk, IsPermutation, OnOk, arith, codes, map}
+use Rattle.std.proofs.Common.{◌≡◌, false, refl, subst, sym, ℕ, List, [], ◌∷◌, Result, Ok, Err, IfOk, IsPermutation, OnOk, arith, codes, map}
 use Rattle.std.specs.List.{filter_map}
 use Rattle.std.proofs.lemmas.List.Sorted.{IsPermutation-refl, IsPermutation-sym, IsPermutation-trans, length_permutation}
 use Rattle.sqlite.specs.Effect.{Database}

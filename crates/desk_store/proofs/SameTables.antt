@@ -1,5 +1,5 @@
 -- The trees of a sound database say which tables it has: so what one reading of them holds, another holds too.
-use Rattle.std.proofs.Common.{◌≡◌, ◌⊎◌, ◌∙◌, inl, inr, sym, ap, subst, refl, ℕ, ◌+◌, ◌==◌, ◌&&◌, ◌||◌, not, Bool, true, false, List, [], ◌∷◌, Option, Some, None, Ok, Result, codes, filter, find, get_or, length, map, pos, slice_get, arith}
+use Rattle.std.proofs.Common.{◌≡◌, ◌∙◌, inl, inr, sym, ap, subst, refl, ℕ, ◌+◌, ◌==◌, ◌&&◌, ◌||◌, not, Bool, true, false, List, [], ◌∷◌, Option, Some, None, Ok, Result, codes, filter, find, get_or, length, map, pos, slice_get, arith}
 use Rattle.std.specs.Prelude.{IsPermutation, is_some, option_and_then, option_map, unwrap_or}
 use Rattle.std.specs.List.{AllZip, filter_map, list_all, list_any, position_from}
 use Rattle.sqlite.specs.Order.{Row}
@@ -19,7 +19,7 @@ use Rattle.sqlite.specs.Schema.{Schema}
 use Rattle.desk_store.specs.Desk.{History}
 use Rattle.desk_store.specs.Open.{IsProject}
 use Rattle.desk_store.specs.History.{Holds, HoldsFirst, approval_of, proposed_row, revisions_in, row_of}
-use Rattle.desk_store.specs.Tables.{Declares, HasFirstTables, HasTables, are_referred, cells, has_later, has_table, is_kept_table, rows_of, table_in}
+use Rattle.desk_store.specs.Tables.{Declares, HasFirstTables, HasTables, cells, has_later, has_table, is_kept_table, rows_of}
 use Rattle.desk_store.proofs.Placed.{placed}
 
 ok_injective : {A B : Type 0} {a b : A} → ◌≡◌ {A = Result A B} (Ok a) (Ok b) → a ≡ b

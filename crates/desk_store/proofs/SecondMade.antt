@@ -1,5 +1,5 @@
 -- What the statements come to that make a database of version 1 one of version 2.
-use Rattle.std.proofs.Common.{◌≡◌, ◌≢◌, ◌∙◌, ap, inl, refl, subst, sym, ℕ, pos, ◌==◌, ◌++◌, false, true, List, [], ◌∷◌, Some, IsPermutation, IsTrue, codes, filter, length, map}
+use Rattle.std.proofs.Common.{◌≡◌, ◌≢◌, ◌∙◌, ap, inl, refl, subst, sym, ℕ, pos, ◌==◌, ◌++◌, false, true, List, [], ◌∷◌, Some, IsPermutation, IsTrue, codes, filter, map}
 use Rattle.std.specs.List.{AllByRecursion, filter_map}
 use Rattle.std.specs.Option.{option_map_or}
 use Rattle.std.proofs.lemmas.Bool.{eq-eqb}

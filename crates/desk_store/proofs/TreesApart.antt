@@ -1,5 +1,5 @@
 -- That a table is the only one with its tree, and that its tree is low, follows from what the database lists.
-use Rattle.std.proofs.Common.{◌≡◌, ◌≢◌, ◌∙◌, arith, refl, inl, inr, not, ◌&&◌, ◌||◌, sym, ap, subst, ℕ, pos, zero, suc, ◌+◌, ◌<◌, ◌==◌, Bool, true, false, cond, List, [], ◌∷◌, Some, slice_get, codes, filter, find}
+use Rattle.std.proofs.Common.{◌≡◌, ◌≢◌, ◌∙◌, arith, refl, inl, inr, not, ◌&&◌, ◌||◌, sym, ap, subst, ℕ, pos, zero, suc, ◌+◌, ◌<◌, ◌==◌, Bool, true, false, cond, List, [], ◌∷◌, Some, slice_get, filter, find}
 use Rattle.std.specs.Prelude.{option_and_then}
 use Rattle.std.specs.List.{AllByRecursion, AllZip, list_all, position_from}
 use Rattle.std.specs.declared.cmp.Ordering.TheVariants.{Less}

@@ -12,7 +12,7 @@ use Rattle.sqlite.specs.Effect.{Database, IsDatabase}
 use Rattle.sqlite.specs.Tree.{Trees}
 use Rattle.desk_policy.specs.Policy.{Content}
 use Rattle.desk_core.specs.Edit.{Already, Answer, Edit, Pending, Proposed, Refused, Stored, revision_of}
-use Rattle.desk_core.specs.Head.{Newest, Revision, last_revision, longest_revision, newest_in, put}
+use Rattle.desk_core.specs.Head.{Revision, last_revision, longest_revision, put}
 use Rattle.desk_core.specs.History.{IsAnswered, IsHistory, added_if, newest_of, pending_in, revisions_of, standing_of}
 use Rattle.desk_core.specs.Judging.{Answers, IsExportsName, IsFileName, answer_of, entry_of, first_case, seven}
 use Rattle.desk_core.specs.Site.{IsConsistent, site_in}
