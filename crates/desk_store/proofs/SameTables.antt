@@ -119,8 +119,8 @@ module _ (a b : Database) (sound : IsDatabase a) (sound' : IsDatabase b) (trees 
     tree = h.tree;
     file_rev = declares (codes "file_rev") _ h.tree h.file_rev;
     unreferred =
-      ap (λ ts. list_any (λ name. list_any (λ (t : Table). list_any (λ (ref : Reference). same_name ref.parent name) t.references) ts) (codes "meta" ∷ codes "file_rev" ∷ codes "approval" ∷ codes "proposal" ∷ [])) (sym tables)
-      ∙ h.unreferred;
+        ap (λ ts. list_any (λ name. list_any (λ (t : Table). list_any (λ (ref : Reference). same_name ref.parent name) t.references) ts) (codes "meta" ∷ codes "file_rev" ∷ codes "approval" ∷ codes "proposal" ∷ [])) (sym tables)
+        ∙ h.unreferred;
   }
 
   has : HasTables a.schema → HasTables b.schema

@@ -127,5 +127,5 @@ makes_migrated old begun end same rest first keyed room clean live made =
     let is : begun.now ≡ old.committed = same ∙ (rest clean).settled live in
     let it = first clean live in
     subst (λ (db : Database). Migrates db end.now) is (
-      made (subst (λ (db : Database). HasLaterRoom db.schema) (sym is) (room clean live)) (subst (λ (db : Database). IsKeyed db (codes "meta")) (sym is) (keyed clean live)) it.0
-      (subst (λ (db : Database). HoldsFirst db it.0) (sym is) it.1))
+    made (subst (λ (db : Database). HasLaterRoom db.schema) (sym is) (room clean live)) (subst (λ (db : Database). IsKeyed db (codes "meta")) (sym is) (keyed clean live)) it.0
+    (subst (λ (db : Database). HoldsFirst db it.0) (sym is) it.1))

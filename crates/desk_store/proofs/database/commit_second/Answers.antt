@@ -19,8 +19,8 @@ returns g c =
     let back : c.commit.new.self.0 ≡ c.conn-2-1.given.0 = search rules in
     let after = state g.S.Store c.commit.new.self.0 in
     let done : CommitsAtMost Migrates old after c.commit.result =
-        commit_tried old begun end after Migrates MakesSecond (λ live. live) refl
-        (λ P s. record { clean = s.clean; shield = s.shield; counts = s.counts; limit = s.limit; closes = s.closes; crash = s.crash }) (tt {0}) step
-        (λ clean live. makes_migrated old begun end refl c.requires.rest c.requires.first c.requires.keyed c.requires.room (early clean) live) c.commit.ensures.ended c.commit.ensures.survives
-        c.commit.result c.commit.ensures.ok c.commit.ensures.err (λ live trees may. g.met.S.Store.settled c.commit.new.self.0.store trees live may) in
+    commit_tried old begun end after Migrates MakesSecond (λ live. live) refl
+    (λ P s. record { clean = s.clean; shield = s.shield; counts = s.counts; limit = s.limit; closes = s.closes; crash = s.crash }) (tt {0}) step
+    (λ clean live. makes_migrated old begun end refl c.requires.rest c.requires.first c.requires.keyed c.requires.room (early clean) live) c.commit.ensures.ended c.commit.ensures.survives
+    c.commit.result c.commit.ensures.ok c.commit.ensures.err (λ live trees may. g.met.S.Store.settled c.commit.new.self.0.store trees live may) in
     record { migrated = subst (λ conn. CommitsAtMost Migrates old (state g.S.Store conn) c.commit.result) back done }
