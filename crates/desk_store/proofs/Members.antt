@@ -86,6 +86,20 @@ pub from_filter_map : {X Y : Type 0} (h : X → Option Y) (xs : List X) (y : Y) 
 from_filter_map h [] y (k, below, is) = absurd (omega arith)
 from_filter_map h (x ∷ xs) y there = from_step h x xs y (h x) refl (from_filter_map h xs y) there
 
+swapped : {Y : Type 0} (a b : Option Y) (rest : List Y) → IsPermutation (cons_option a (cons_option b rest)) (cons_option b (cons_option a rest))
+swapped None b rest = IsPermutation-refl (cons_option b rest)
+swapped (Some x) None rest = IsPermutation-refl (x ∷ rest)
+swapped (Some x) (Some y) rest = IsPermutation-middle (x ∷ []) y rest
+
+under : {Y : Type 0} (o : Option Y) (xs ys : List Y) → IsPermutation xs ys → IsPermutation (cons_option o xs) (cons_option o ys)
+under None xs ys same = same
+under (Some x) xs ys same = IsPermutation-cons x xs ys same
+
+pub IsPermutation-filter_map : {X Y : Type 0} (h : X → Option Y) (xs ys : List X) → IsPermutation xs ys → IsPermutation (filter_map h xs) (filter_map h ys)
+IsPermutation-filter_map h =
+    along_permutation (λ xs ys. IsPermutation (filter_map h xs) (filter_map h ys)) (λ xs. IsPermutation-refl (filter_map h xs)) (λ x xs ys same. under (h x) (filter_map h xs) (filter_map h ys) same)
+    (λ x y xs. swapped (h x) (h y) (filter_map h xs)) (λ xs ys zs one two. IsPermutation-trans (filter_map h xs) (filter_map h ys) (filter_map h zs) one two)
+
 -- ---- what is found
 
 -- the only one that passes is found

@@ -1,5 +1,5 @@
 -- Revisions whose numbers follow one another, file by file, and the newest of them.
-use Rattle.std.proofs.Common.{◌≡◌, ◌∙◌, sym, ap, subst, inl, inr, refl, ℕ, zero, suc, ◌+◌, ◌-◌, ◌<◌, ◌==◌, ◌++◌, Bool, true, false, cond, List, [], ◌∷◌, Some, find, map, length, get_or, take, drop, unwrap_or, arith, append-nil}
+use Rattle.std.proofs.Common.{◌≡◌, ◌∙◌, sym, ap, subst, inl, inr, refl, All, ℕ, zero, suc, ◌+◌, ◌-◌, ◌<◌, ◌≤◌, ◌==◌, ◌++◌, Bool, true, false, cond, List, [], ◌∷◌, Some, find, map, length, get_or, take, drop, unwrap_or, arith, append-nil}
 use Rattle.std.specs.Prelude.{◌≢◌, Contains, String, filter, slice_get, string_bytes}
 use Rattle.std.specs.List.{range_with_len}
 use Rattle.std.specs.Str.{bytes_eq}
@@ -13,15 +13,16 @@ use Rattle.std.proofs.lemmas.List.{length-append, map-append, take_more}
 use Rattle.std.proofs.lemmas.List.Elements.{filter-append}
 use Rattle.std.proofs.lemmas.List.FromFn.{get_or-range_with_len}
 use Rattle.std.proofs.lemmas.Slice.Eq.{bytes_eq-Decides}
-use Rattle.desk_core.specs.Head.{Newest, Revision, newest_in, newest_number}
+use Rattle.desk_core.specs.Head.{Newest, Revision, last_revision, newest_in, newest_number}
 use Rattle.desk_core.specs.History.{IsHistory, newest_of}
 use Rattle.desk_core.specs.Laws.{StandingOfALongerHistory}
 use Rattle.desk_core.specs.Standing.{Standing}
 use Rattle.desk_core.specs.declared.entry.Entry.{Entry}
 use Rattle.desk_core.specs.declared.entry.Entry.TheVariants.{Revised}
+use Rattle.desk_store.specs.Desk.{IsStorable}
 use Rattle.desk_store.specs.Newest.{AreNewest, number_in}
 use Rattle.desk_store.proofs.Members.{default, find_none, find_only, from_filter, in_filter}
-use Rattle.desk_store.proofs.Revisions.{AreNumbered, IsNumbered, history_of, newest_by, newest_revised, numbered_in, one_number, own, rev_at}
+use Rattle.desk_store.proofs.Revisions.{AreNumbered, IsNumbered, history_of, newest_by, last, newest_revised, numbered_in, one_number, own, rev_at}
 
 number_get : (xs : List Revision) (i : ℕ) → newest_number (slice_get xs i) ≡ get_or (map (λ (r : Revision). r.rev) xs) i 0
 number_get [] i = refl
@@ -138,6 +139,22 @@ pub slice_at : (xs : List Revision) (k : ℕ) (d : Revision) → k < length xs �
 slice_at [] k d below = absurd (omega arith)
 slice_at (x ∷ xs) zero d below = refl
 slice_at (x ∷ xs) (suc k) d below = slice_at xs k d (omega arith)
+
+-- the number of a newest revision is one that a revision may have
+low_in : (xs : List Revision) (file : List ℕ) (zs : List Revision) → own file xs ≡ zs → All IsStorable xs → newest_number (last zs) ≤ last_revision
+low_in xs file [] is each = omega arith
+low_in xs file (z ∷ zs) is each =
+    let all : List Revision = z ∷ zs in
+    let below : length all - 1 < length all = omega arith in
+    let end : Revision = get_or all (length all - 1) z in
+    let from = from_filter (λ (r : Revision). bytes_eq r.file file) xs end (subst (λ rs. Contains rs end) (sym is) (length all - 1, below, default all (length all - 1) end z below)) in
+    let storable : IsStorable end = subst IsStorable from.0.2 (each from.0.0 end from.0.1) in
+    let low : end.rev ≤ last_revision = storable.rev in
+    let number : newest_number (last all) ≡ end.rev = ap newest_number (slice_at all (length all - 1) z below) in
+    omega (arith, number, low)
+
+pub low_newest : (xs : List Revision) → All IsStorable xs → (file : List ℕ) → newest_number (newest_by xs file) ≤ last_revision
+low_newest xs each file = low_in xs file (own file xs) refl each
 
 -- those that have the number of their file's newest revision are the newest revisions
 module _ {Y : Type 0} (numbers : BTreeMap (String Y) ℕ) (xs : List Revision) (h : IsNumbered xs) (newest : AreNewest numbers (map Revised xs)) where

@@ -27,8 +27,7 @@ use Rattle.desk_store.specs.Desk.{IsInUtf8, IsSiteHistory, IsStorable, MayPend}
 use Rattle.desk_store.specs.History.{revisions_in}
 use Rattle.desk_store.specs.Laws.{AnsweredEditsKeepSiteHistories}
 use Rattle.desk_store.proofs.LongerHistory.{others, others_keep, own_more, pending_more, revisions_more}
-use Rattle.desk_store.proofs.NextNumbers.{slice_at}
-use Rattle.desk_store.proofs.Members.{default, from_filter}
+use Rattle.desk_store.proofs.NextNumbers.{low_newest}
 
 some_more : {X : Type 0} (xs ys : List X) → xs ≢ [] → xs ++ ys ≢ []
 some_more [] ys h e = h refl
@@ -36,23 +35,11 @@ some_more (x ∷ xs) ys h e = cc
 
 -- ---- the numbers of revisions
 
-low_in : (history : List Entry) (file : List ℕ) (xs : List Revision) → revisions_of file history ≡ xs → All IsStorable (revisions_in history) → newest_number (slice_get xs (length xs - 1)) ≤ last_revision
-low_in history file [] is each = omega arith
-low_in history file (x ∷ xs) is each =
-    let all : List Revision = x ∷ xs in
-    let below : length all - 1 < length all = omega arith in
-    let last : Revision = get_or all (length all - 1) x in
-    let from = from_filter (λ (r : Revision). bytes_eq r.file file) (revisions_in history) last (subst (λ rs. Contains rs last) (sym is) (length all - 1, below, default all (length all - 1) last x below)) in
-    let storable : IsStorable last = subst IsStorable from.0.2 (each from.0.0 last from.0.1) in
-    let low : last.rev ≤ last_revision = storable.rev in
-    let number : newest_number (slice_get all (length all - 1)) ≡ last.rev = ap newest_number (slice_at all (length all - 1) x below) in
-    omega (arith, number, low)
-
 -- the base of an edit that takes effect is not the last number
 next_number : (history : List Entry) (e : Edit) → All IsStorable (revisions_in history) → MayBeAccepted (standing_of history) e → e.base + 1 ≤ last_revision
 unfolding newest_of
 next_number history e each may =
-    let low = low_in history e.file (revisions_of e.file history) refl each in
+    let low = low_newest (revisions_in history) each e.file in
     let base = may.names_newest in
     let room = may.room in
     omega (arith, low, base, room)

@@ -90,6 +90,7 @@ fn state_of<V: PolicyView + Drop>(
     requires heads { All CanBeKept heads.items }
     requires proposals { All CanBePending proposals.items }
     ensures made { IfOk result (λ state. standing state ≡ standing_in heads.items proposals.items) }
+    ensures kept { IfOk result (λ state. state.heads ≡ heads.items) }
     ensures consistent { IfOk result (λ state. IsConsistent (site_in (newest_in heads.items))) }
     ensures foreign { result ≡ Err error.Schema → IsConsistent (site_in (newest_in heads.items)) → ⊥ }
     ensures errors { IfErr result IsOfRows }
