@@ -71,7 +71,7 @@ approval_row_of : (r : Revision) (a : List ℕ) → r.approver ≡ Some a → ap
 approval_row_of r a is = ap (option_map (approval_row r.file r.rev)) is
 
 -- the row of an approval is that of its revision
-row_parts : (file : List ℕ) (rev : ℕ) (approver : Option (List ℕ)) (row : Row) → option_map (approval_row file rev) approver ≡ Some row → (a : List ℕ) × (approver ≡ Some a) × (approval_row file rev a ≡ row)
+pub row_parts : (file : List ℕ) (rev : ℕ) (approver : Option (List ℕ)) (row : Row) → option_map (approval_row file rev) approver ≡ Some row → (a : List ℕ) × (approver ≡ Some a) × (approval_row file rev a ≡ row)
 row_parts file rev None row e = absurd (cc)
 row_parts file rev (Some a) row e = let same : approval_row file rev a ≡ row = cc in (a, refl, same)
 

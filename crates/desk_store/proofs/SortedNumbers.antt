@@ -10,7 +10,7 @@ use Rattle.std.proofs.lemmas.List.Sums.{sum_by-cons}
 use Rattle.desk_core.specs.Head.{Revision}
 use Rattle.desk_store.proofs.Revisions.{IsNumbered, own}
 
-abbrev Rises : List ℕ → Type 0
+abbrev pub Rises : List ℕ → Type 0
 Rises [] = Unit {0}
 Rises (x ∷ xs) = AllByRecursion (λ y. x ≤ y) xs × Rises xs
 
@@ -60,6 +60,17 @@ is_range (x ∷ xs) a (suc n) up same =
     let rest_count = count k (range_with_len (a + 1) n) in
     cancel (x == k) (count k xs) rest_count (same k ∙ ap (λ y. cond (y == k) (suc rest_count) rest_count) (sym first)) in
     ap (λ y. y ∷ xs) first ∙ ap (λ ys. a ∷ ys) (is_range xs (a + 1) n up.1 rest)
+
+counts : (k : ℕ) (xs : List ℕ) → count k xs ≡ sum_by (λ x. one_if (x == k)) xs
+counts k [] = refl
+counts k (x ∷ xs) = add (x == k) (count k xs) (sum_by (λ x. one_if (x == k)) xs) (counts k xs) ∙ sym (sum_by-cons (λ x. one_if (x == k)) x xs)
+
+-- a rising list with the numbers of a range in some order is that range
+pub same_range : (xs ys : List ℕ) (a n : ℕ) → Rises xs → IsPermutation xs ys → ys ≡ range_with_len a n → xs ≡ range_with_len a n
+same_range xs ys a n up same is =
+    is_range xs a n up (λ k. counts k xs ∙ sym (sum_by-IsPermutation (λ x. one_if (x == k)) xs ys same) ∙ sym (counts k ys) ∙ ap (count k) is)
+
+-- ---- the revisions of a file
 
 abbrev number_if : List ℕ → ℕ → Revision → ℕ
 number_if file k r = cond (bytes_eq r.file file) (one_if (r.rev == k)) 0
