@@ -1,5 +1,5 @@
 -- A desk that was opened stands at the history of its database.
-use Rattle.std.proofs.Common.{◌≡◌, ◌⊎◌, ◌∙◌, IsTrue, inl, inr, subst, sym, [], List, codes}
+use Rattle.std.proofs.Common.{◌≡◌, ◌∙◌, inl, inr, subst, sym, [], codes}
 use Rattle.sqlite.specs.Effect.{Database, IsDatabase}
 use Rattle.sqlite.specs.State.{State}
 use Rattle.desk_core.specs.History.{standing_of}

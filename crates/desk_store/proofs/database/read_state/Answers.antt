@@ -1,4 +1,4 @@
-use Rattle.std.proofs.Common.{IfOk, Some, subst, true}
+use Rattle.std.proofs.Common.{Some, subst, true}
 use Rattle.sqlite.specs.Held.{state}
 use Rattle.desk_store.specs.Looks.{SeesTables}
 use Rattle.desk_store.proofs.ChangesNothing.{early}
