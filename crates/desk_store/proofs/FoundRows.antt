@@ -25,7 +25,7 @@ use Rattle.desk_store.specs.Desk.{IsDesk, Stands, Stays, revision_at, stored_of}
 use Rattle.desk_store.specs.History.{Holds, approval_of, revisions_in, row_of}
 use Rattle.desk_store.specs.Rows.{Finds, Says, SaysWho}
 use Rattle.desk_store.specs.Looks.{ChangesNothing, approver_in, approver_of, are_equal, author_profile_and_text, is_at, is_of, revision_in}
-use Rattle.desk_store.specs.Tables.{IsKeyed, approval_row, rows_of}
+use Rattle.desk_store.specs.Tables.{IsAtRest, IsKeyed, approval_row, rows_of}
 use Rattle.desk_store.specs.declared.error.DeskError.{DeskError}
 use Rattle.desk_store.specs.declared.desk.Revision.{Revision as Found}
 use Rattle.desk_store.proofs.HistoryStep.{same_text}
@@ -198,3 +198,9 @@ module _ {V : Type 0} (old new : State) (kept : Kept V) (look : ChangesNothing o
         pending = d.pending;
         stands = stands_still clean d.history d.pending d.stands;
       }
+
+  -- it is at rest where the desk was
+  pub rest_still : (HasCleanDisk old → IsDesk old kept) → HasCleanDisk new → IsAtRest new
+  rest_still desk clean =
+      let start : HasCleanDisk old = omega (arith, clean, look.leaves.crash.clean) in
+      look.rest clean true (desk start).rest

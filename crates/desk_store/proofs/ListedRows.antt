@@ -157,6 +157,16 @@ module _ (db : Database) (history : List Entry) (rows : List Row) (holds : Holds
         let here = in_map number_and_approver (filter (is_of file) whole) row passes in
         in_map listed approvals (number_and_approver row) (Contains-permutation (approvers_in file db) approvals (number_and_approver row) same_approvals here)
 
+    -- what the row of an approval tells is of its revision
+    approval_file : (r : Revision) (row : Row) → approval_of r ≡ Some row → is_of file row ≡ true → bytes_eq r.file file ≡ true
+    approval_file r row is passes = let parts = row_parts r.file r.rev r.approver row is in sym (same_text r.file file) ∙ ap (is_of file) parts.2 ∙ passes
+
+    approval_pair : (r : Revision) (row : Row) (one : ℕ × List ℕ) → approval_of r ≡ Some row → listed (number_and_approver row) ≡ one → (r.rev ≡ one.0) × (r.approver ≡ Some one.1)
+    approval_pair r row one is told =
+        let parts = row_parts r.file r.rev r.approver row is in
+        let pair_is : (r.rev, parts.0) ≡ one = ap (λ row. listed (number_and_approver row)) parts.2 ∙ told in
+        (ap (λ p. p.0) pair_is, parts.1 ∙ ap (λ (p : ℕ × List ℕ). Some p.1) pair_is)
+
     -- and each of them approved one
     who : (one : ℕ × List ℕ) → Contains approved one → (r : Revision) × Contains mine r × (r.rev ≡ one.0) × (r.approver ≡ Some one.1)
     who one there =
@@ -164,11 +174,8 @@ module _ (db : Database) (history : List Entry) (rows : List Row) (holds : Holds
         let seen = from_map number_and_approver (filter (is_of file) whole) at.0 (Contains-permutation approvals (approvers_in file db) at.0 (IsPermutation-sym (approvers_in file db) approvals same_approvals) at.1) in
         let passes = from_filter (is_of file) whole seen.0 seen.1 in
         let it = from_filter_map approval_of stored seen.0 (Contains-permutation whole (filter_map approval_of stored) seen.0 (IsPermutation-sym (filter_map approval_of stored) whole holds.approvals) passes.0) in
-        let r : Revision = it.0 in
-        let parts = row_parts r.file r.rev r.approver seen.0 it.2 in
-        let name : bytes_eq r.file file ≡ true = sym (same_text r.file file) ∙ ap (is_of file) parts.2 ∙ passes.1 in
-        let pair_is : (r.rev, parts.0) ≡ one = ap (λ row. listed (number_and_approver row)) parts.2 ∙ ap listed seen.2 ∙ at.2 in
-        (r, in_filter (λ (x : Revision). bytes_eq x.file file) stored r it.1 name, ap (λ p. p.0) pair_is, parts.1 ∙ ap (λ (p : ℕ × List ℕ). Some p.1) pair_is)
+        let its = approval_pair it.0 seen.0 one it.2 (ap listed seen.2 ∙ at.2) in
+        (it.0, in_filter (λ (x : Revision). bytes_eq x.file file) stored it.0 it.1 (approval_file it.0 seen.0 it.2 passes.1), its.0, its.1)
 
     one_of : (r s : Revision) → Contains mine r → Contains mine s → r.rev ≡ s.rev → r ≡ s
     one_of r s h k same = one_number mine r s (holds.numbers.numbered file) h k same
