@@ -88,9 +88,12 @@ same_found file ps qs same =
     (along_permutation (SameFound file)
     (λ xs. (IsPermutation-refl xs, λ all. refl))
     (λ x xs ys h. (IsPermutation-cons x xs ys h.0, λ all. ap (cond (bytes_eq x.file file) (Some x)) (h.1 (λ i j d lt within. all (suc i) (suc j) d (omega arith) (omega arith)))))
-    (λ x y xs. (IsPermutation-middle (x ∷ []) y xs, λ all.
-    swapped (bytes_eq x.file file) (bytes_eq y.file file) x y (found file xs)
-    (λ h k. all 0 1 x (omega arith) (omega arith) ((bytes_eq-Decides x.file file).0 h ∙ sym ((bytes_eq-Decides y.file file).0 k)))))
+    (λ x y xs. (
+      IsPermutation-middle (x ∷ []) y xs,
+      λ all.
+          swapped (bytes_eq x.file file) (bytes_eq y.file file) x y (found file xs)
+          (λ h k. all 0 1 x (omega arith) (omega arith) ((bytes_eq-Decides x.file file).0 h ∙ sym ((bytes_eq-Decides y.file file).0 k))),
+    ))
     (λ xs ys zs h k. (IsPermutation-trans xs ys zs h.0 k.0, λ all. h.1 all ∙ k.1 (apart_permutation xs ys h.0 all)))
     ps qs same).1
 

@@ -54,9 +54,9 @@ returns-clause-foreign c = λ schema history rows own.
     let sorted = c.sort_revisions.new.revisions.items in
     let turned = IsPermutation-trans approvals ordered (reverse ordered) c.sort_approvals.ensures.same (IsPermutation-reverse ordered) in
     let fit =
-        rows_fit history sorted (reverse ordered)
-        (IsPermutation-trans _ _ _ rows (IsPermutation-map row_of c.args.revisions.now.items sorted c.sort_revisions.ensures.same))
-        (IsPermutation-trans _ _ _ own (IsPermutation-map row_of_approval approvals (reverse ordered) turned)) in
+    rows_fit history sorted (reverse ordered)
+    (IsPermutation-trans _ _ _ rows (IsPermutation-map row_of c.args.revisions.now.items sorted c.sort_revisions.ensures.same))
+    (IsPermutation-trans _ _ _ own (IsPermutation-map row_of_approval approvals (reverse ordered) turned)) in
     let up = on_ok c.sort_revisions.result _ (sym c.is_err.ensures.value ∙ c.if-is_err.false) c.sort_revisions.ensures.order in
     let down = on_ok c.sort_approvals.result _ (sym c.is_err-else-is_err.ensures.value ∙ c.if-is_err-2.false) c.sort_approvals.ensures.order in
     let rises = rises_from revision_key sorted (sorted_far (λ (one other : Revision). is_below (revision_key one) (revision_key other)) of_revisions sorted up) in
