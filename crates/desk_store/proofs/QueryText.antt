@@ -57,6 +57,7 @@ use Rattle.sqlite_resolve.specs.Terms.{conjuncts}
 abbrev pub named : List ℕ → Expr
 named name = written.Column None name
 
+-- the one table of FROM
 abbrev pub source_of : List ℕ → Source
 source_of name = roll-Source (record { is_left = false; origin = origin.Table name; alias = None; on = None; using = [] })
 
@@ -67,6 +68,7 @@ core name shown test = roll-Core (record { distinct = false; shown = shown; from
 abbrev pub select : List ℕ → List written_shown.Shown → Option Expr → written_select.Select
 select name shown test = written_select.roll-Select (record { with = []; first = core name shown test; others = []; order = []; limit = None; offset = None })
 
+-- a column of the result, under its own name
 abbrev pub own_column : List ℕ → written_shown.Shown
 own_column name = One (named name) None name
 
@@ -79,6 +81,7 @@ pub source_open : (name : List ℕ) → out-Source (source_of name) ≡ record {
 unfolding everything
 source_open name = refl
 
+-- a query opens as it is written (which computes for a text alone)
 abbrev pub Opens : List ℕ → List written_shown.Shown → Option Expr → Type 0
 Opens name shown test = out-Core (core name shown test) ≡ record { distinct = false; shown = shown; from = source_of name ∷ []; filter = test; group = []; having = None }
 
@@ -111,6 +114,7 @@ shown_open name = refl
 abbrev pub at : ℕ → Carried → State
 at budget last = record { next = 2; steps = []; aggregates = []; budget = budget; written = None; last = last }
 
+-- a column of text without another collation
 abbrev pub by_bytes : Carried
 by_bytes = record { collation = Some Binary; is_written = false }
 
