@@ -1,11 +1,11 @@
 -- What a DELETE does, from any table that nothing refers to: the rows that pass its test are gone.
-use Rattle.std.proofs.Common.{nat_le, ◌^◌, ◌≡◌, ◌≢◌, ◌∙◌, sym, ap, subst, subst₂, refl, inl, inr, ℕ, suc, ℤ, pos, negsuc, Bool, true, false, cond, not, ◌&&◌, ◌||◌, ◌==◌, List, [], ◌∷◌, ◌++◌, if◌then◌else◌, filter, map, slice_get, Some, None, Option, Ok, IsTrue, arith}
-use Rattle.std.specs.Prelude.{All, IsPermutation, option_and_then, option_map}
+use Rattle.std.proofs.Common.{nat_le, ◌^◌, ◌≡◌, ◌≢◌, ◌∙◌, sym, ap, subst, refl, inl, inr, ℕ, suc, ℤ, Bool, true, false, cond, not, ◌&&◌, ◌||◌, ◌==◌, List, [], ◌∷◌, if◌then◌else◌, filter, map, slice_get, Some, None, Option, Ok, IsTrue, arith}
+use Rattle.std.specs.Prelude.{IsPermutation, option_and_then, option_map}
 use Rattle.std.specs.List.{AllByRecursion, AllPairs, filter_map, find, flat_map, list_all, list_any}
 use Rattle.std.proofs.lemmas.Bool.{cases_Bool}
 use Rattle.std.proofs.lemmas.Bool.Decides.{Decides-int_eq}
 use Rattle.std.proofs.lemmas.Cmp.{tied_itself}
-use Rattle.std.proofs.lemmas.List.Sorted.{IsPermutation-map, list_any-IsPermutation}
+use Rattle.std.proofs.lemmas.List.Sorted.{list_any-IsPermutation}
 use Rattle.sqlite_value.specs.declared.keys.Order.{Order}
 use Rattle.sqlite_value.proofs.OrderLemmas.{value_cmp-Int, value_cmp_total}
 use Rattle.sqlite_catalog.proofs.SoundLemmas.{lowered}
@@ -13,9 +13,7 @@ use Rattle.sqlite.specs.declared.types.Value.{Value}
 use Rattle.sqlite.specs.declared.types.Value.TheVariants.{Null, Int, Real, Text as Words, Blob as Bytes}
 use Rattle.sqlite.specs.Order.{Row, column}
 use Rattle.sqlite.specs.Tree.{Trees, rowid, has_rowid, without_rowid}
-use Rattle.sqlite.specs.Program.{overlay, IsProgramAnswer}
-use Rattle.sqlite.specs.Term.{Env, Term, col, eval_all, holds, lit}
-use Rattle.sqlite.specs.Query.{Query, inner, end, Output, output, IsAnswer}
+use Rattle.sqlite.specs.Term.{Term, col, holds}
 use Rattle.sqlite.specs.Schema.{Schema}
 use Rattle.sqlite.specs.Table.{Table}
 use Rattle.sqlite.specs.Command.TheVariants.{Delete}
@@ -35,63 +33,14 @@ use Rattle.sqlite_schema.specs.Rules.{ParentKey, declared_order, key_in, key_pla
 use Rattle.sqlite_schema.specs.declared.program.Program.{Program}
 use Rattle.sqlite_schema.specs.declared.schema.Keys.{Keys}
 use Rattle.sqlite_schema.specs.declared.schema.Reference.{Reference}
+use Rattle.desk_store.proofs.OwnRowids.{each_id, neither, one_id}
+use Rattle.desk_store.proofs.RowsAnswered.{filter_all, query, rows_answered}
 use Rattle.desk_store.proofs.InsertEffect.{same_value, went}
 use Rattle.desk_store.specs.Tables.{AreKeys, is_own_tree, refers_to}
-
--- the query of one table: these columns of the rows that pass these tests
-abbrev pub query : List Term → List Term → ℕ → Query
-query tests project tree = record {
-  from = inner tree end;
-  filter = tests;
-  group = None;
-  project = project;
-  distinct = false;
-  collations = [];
-  order = [];
-  limit = lit (Int (negsuc 0));
-  offset = lit (Int (pos 0));
-}
-
--- It answers what it shows of the rows that pass, in some order. (A row has its rowid first.)
-module _ (tests project : List Term) (tree : ℕ) (params : Row) (test : Row → Bool) (shown : Row → Row)
-    (passes : (row : Row) → list_all (holds (params ∷ row ∷ [])) tests ≡ test row) (shows : (row : Row) → eval_all project (params ∷ row ∷ []) ≡ shown row) where
-  abbrev whole : Query
-  whole = query tests project tree
-
-  abbrev rows_shown : List Env → List Row
-  rows_shown envs = map (λ (o : Output). o.1) (map (output whole) envs)
-
-  abbrev passing : Row → List Env
-  passing row = cond (list_all (holds (params ∷ row ∷ [])) tests) ((params ∷ row ∷ []) ∷ []) []
-
-  one_row : (b : Bool) (row : Row) (more : List Env) (others : List Row) → rows_shown more ≡ map shown others
-      → rows_shown (cond b ((params ∷ row ∷ []) ∷ []) [] ++ more) ≡ map shown (cond b (row ∷ others) others)
-  one_row true row more others rest = ap (λ r. r ∷ rows_shown more) (shows row) ∙ ap (λ all. shown row ∷ all) rest
-  one_row false row more others rest = rest
-
-  all_shown : (rows : List Row) → rows_shown (flat_map passing rows) ≡ map shown (filter test rows)
-  all_shown [] = refl
-  all_shown (row ∷ rows) =
-      ap (λ b. rows_shown (cond b ((params ∷ row ∷ []) ∷ []) [] ++ flat_map passing rows)) (passes row)
-      ∙ one_row (test row) row (flat_map passing rows) (filter test rows) (all_shown rows)
-
-  pub rows_answered : (low : nat_le (2 ^ 31) tree ≡ false) (db : Trees) (rows : List Row) → IsProgramAnswer [] whole db params rows
-      → IsPermutation (map shown (filter test (db tree))) rows
-  rows_answered low db rows h =
-      let a : IsAnswer whole (overlay db []) params rows = h Null in
-      let same : overlay db [] tree ≡ db tree = rw low in
-      let staged : a.staged ≡ flat_map passing (db tree) = a.grouped ∙ ap (flat_map passing) same in
-      let kept : map (λ (o : Output). o.1) a.kept ≡ map shown (filter test (db tree)) =
-      ap (map (λ (o : Output). o.1)) (a.distinct ∙ ap (map (output whole)) staged) ∙ all_shown (db tree) in
-      subst₂ IsPermutation kept (sym a.shown) (IsPermutation-map (λ (o : Output). o.1) a.kept a.ordered a.same)
 
 -- ---- lists
 
 module _ {X : Type 0} where
-  filter_all : (xs : List X) → filter (λ x. true) xs ≡ xs
-  filter_all [] = refl
-  filter_all (x ∷ xs) = ap (λ more. x ∷ more) (filter_all xs)
-
   filter_again : (p q : X → Bool) (xs : List X) → filter (λ x. not (p x)) (filter (λ x. not (q x)) xs) ≡ filter (λ x. not (q x || p x)) xs
   filter_again p q [] = refl
   filter_again p q (x ∷ xs) = elim (q x) as (λ b. filter (λ y. not (p y)) (cond (not b) (x ∷ filter (λ y. not (q y)) xs) (filter (λ y. not (q y)) xs)) ≡ cond (not (b || p x)) (x ∷ filter (λ y. not (q y || p y)) xs) (filter (λ y. not (q y || p y)) xs)) [
@@ -146,9 +95,6 @@ left_without : (ids : List ℤ) (rows : List Row) → without_all rows ids ≡ f
 left_without [] rows = sym (filter_all rows)
 left_without (id ∷ ids) rows = left_without ids (without_rowid id rows) ∙ filter_again (λ r. list_any (λ i. has_rowid i r) ids) (has_rowid id) rows
 
-abbrev one_id : Row → Row
-one_id row = rowid row ∷ []
-
 abbrev pub have_one_id : Row → Row → Bool
 have_one_id a b = has_rowid (id_in (rowid a)) b
 
@@ -173,11 +119,7 @@ apart_ids (Int m) (Real x) r s e f h k other = absurd (cc)
 apart_ids (Int m) (Words t) r s e f h k other = absurd (cc)
 apart_ids (Int m) (Bytes b) r s e f h k other = absurd (cc)
 
-each_id : (P : Value → Type 0) (rows : List Row) → All (λ row. P (column row 0)) (map one_id rows) → AllByRecursion (λ row. P (rowid row)) rows
-each_id P [] h = tt
-each_id P (row ∷ rows) h = (h 0 [] (omega arith), each_id P rows (λ k d within. h (suc k) d (omega arith)))
-
-pub all_whole : (rows : List Row) → AreKeys (map one_id rows) → AllByRecursion (λ row. IsTrue (is_int (rowid row))) rows
+all_whole : (rows : List Row) → AreKeys (map one_id rows) → AllByRecursion (λ row. IsTrue (is_int (rowid row))) rows
 all_whole rows keyed = each_id (λ v. IsTrue (is_int v)) rows keyed.whole
 
 own_ids : (rows : List Row) → AllByRecursion (λ row. IsTrue (is_int (rowid row))) rows → AllByRecursion (λ row. have_one_id row row ≡ true) rows
@@ -205,10 +147,6 @@ taken_out test rows shown keyed same =
     ∙ filter_same (λ row. not (list_any (λ id. has_rowid id row) (ids_of shown))) (λ row. not (test row)) rows (all_and _ _ _ rows (λ row h _. ap not (any row ∙ h)) found found)
 
 -- ---- what follows by foreign keys
-
-neither : (a b : Bool) → (a || b) ≡ false → (a ≡ false) × (b ≡ false)
-neither true b h = absurd (cc)
-neither false b h = (refl, h)
 
 both : (a b : Bool) → (a && b) ≡ true → (a ≡ true) × (b ≡ true)
 both true b h = (refl, h)

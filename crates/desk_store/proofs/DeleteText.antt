@@ -1,12 +1,9 @@
 -- What the two DELETEs mean, whatever other tables the schema has.
-use Rattle.std.proofs.Common.{nat_le, ◌^◌, ◌≡◌, ◌∙◌, ap, subst, sym, refl, Some, None, Ok, ℕ, suc, pos, negsuc, slice_get, codes, List, [], ◌∷◌, ◌==◌, false}
+use Rattle.std.proofs.Common.{nat_le, ◌^◌, ◌≡◌, ap, subst, sym, refl, Some, None, Ok, ℕ, slice_get, codes, List, [], ◌∷◌, ◌==◌, false}
 use Rattle.std.specs.List.{find}
 use Rattle.sqlite.specs.Schema.{Schema}
 use Rattle.sqlite.specs.Table.{Table}
-use Rattle.sqlite.specs.Term.{Term, col, lit, op2}
-use Rattle.sqlite_value.specs.declared.keys.Collation.TheVariants.{Binary}
-use Rattle.sqlite_sql.specs.declared.ops.BinaryOp.TheVariants.{Compare}
-use Rattle.sqlite_sql.specs.declared.ops.CompareOp.TheVariants.{Eq}
+use Rattle.sqlite.specs.Term.{Term, col}
 use Rattle.sqlite.specs.Compile.{command, compiled, delete, first, meaning, planned, returning, shows, timed, with_command}
 use Rattle.sqlite.specs.Command.TheVariants.{Delete}
 use Rattle.sqlite.specs.Listing.{understood}
@@ -14,29 +11,19 @@ use Rattle.sqlite.proofs.Callers.{IsPlain, command_of}
 use Rattle.sqlite_schema.specs.Names.{same_name, table_named}
 use Rattle.sqlite_tied.specs.Compute.{everything}
 use Rattle.sqlite_syntax.specs.declared.statement.Parsed.{Parsed}
-use Rattle.sqlite_ast.specs.declared.Expr.TheVariants as written
-use Rattle.sqlite_ast.specs.declared.Binary.TheVariants as by
 use Rattle.sqlite_ast.specs.declared.Statement.TheVariants as statement
-use Rattle.sqlite_ast.specs.declared.Expr.{Expr, out-Expr}
-use Rattle.sqlite_ast.specs.declared.Expr.TheOpen.{Expr-F}
-use Rattle.sqlite_draft.specs.declared.join.Step.TheVariants.{Inner}
 use Rattle.sqlite_draft.specs.declared.query.Draft.{Draft}
-use Rattle.sqlite_draft.specs.Join.{chain}
-use Rattle.sqlite_resolve.specs.declared.scope.Found.TheVariants.{Column}
-use Rattle.sqlite_resolve.specs.declared.state.State.{State}
-use Rattle.sqlite_resolve.specs.declared.state.Carried.{Carried}
 use Rattle.sqlite_resolve.specs.Body as body
 use Rattle.sqlite_resolve.specs.Compare as compare
-use Rattle.sqlite_resolve.specs.Expr as expr
-use Rattle.sqlite_resolve.specs.Expr.{lower}
-use Rattle.sqlite_resolve.specs.Lowering as lowering
-use Rattle.sqlite_resolve.specs.Lowering.{nothing}
+use Rattle.sqlite_resolve.specs.Lowering.{max_budget, nothing}
 use Rattle.sqlite_resolve.specs.Program as program
 use Rattle.sqlite_resolve.specs.Scope as scope
 use Rattle.sqlite_resolve.specs.Scope.{Context, column}
 use Rattle.sqlite_resolve.specs.Write as write
 use Rattle.sqlite_resolve.specs.Write.{over}
-use Rattle.sqlite.specs.declared.types.Value.TheVariants.{Int}
+use Rattle.desk_store.proofs.NamedRows.{file_test}
+use Rattle.desk_store.proofs.NamedText.{of_file}
+use Rattle.desk_store.proofs.QueryText.{IsColumn, IsPlainTest, draft, one_equal}
 use Rattle.desk_store.proofs.DeleteEffect.{deleting}
 use Rattle.desk_store.specs.Tables.{delete_proposal, delete_version, meta_table, proposal_table}
 
@@ -55,16 +42,7 @@ pub delete_version_means : DeletesAnywhere delete_version (codes "meta") meta_ta
 unfolding understood everything
 delete_version_means schema at tree found there alone low = record { is = rw (found, there, low, alone); plain = rw (found, there, low, alone) (refl, refl) }
 
--- ---- the one with WHERE, step by step
-
-abbrev pub file_test : Term
-file_test = op2 (Compare Eq Binary) (col 1 1) (col 0 0)
-
-abbrev file_name : Expr
-file_name = written.Column None (codes "file")
-
-abbrev of_file : Expr
-of_file = written.Binary by.Eq file_name (written.Parameter 1)
+-- ---- the one with WHERE
 
 abbrev delete_parsed : Parsed
 delete_parsed = record { statement = statement.Delete (codes "proposal") (Some of_file) []; names = codes "?1" ∷ []; formats = []; start = 0; end = 36; tail = 36 }
@@ -73,78 +51,25 @@ delete_first : first delete_proposal ≡ Ok delete_parsed
 unfolding everything
 delete_first = refl
 
-name_open : out-Expr file_name ≡ Expr-F.Column None (codes "file")
-unfolding everything
-name_open = refl
+module _ (schema : Schema) (place tree : ℕ) (found : table_named schema (codes "proposal") ≡ Some place) (there : slice_get schema.tables place ≡ Some (proposal_table tree)) where
+  proposal_file : IsColumn schema (codes "proposal") place (codes "file") 0 1
+  unfolding scope.find scope.in_level scope.only scope.hit scope.column_in scope.is_among same_name column scope.term_of scope.column_at body.declared
+  proposal_file = record { found = λ shown may_aggregate. rw there; read = λ shown may_aggregate budget last. rw (there, there); declared = rw there }
 
-parameter_open : out-Expr (written.Parameter 1) ≡ Expr-F.Parameter 1
-unfolding everything
-parameter_open = refl
-
-equal_open : out-Expr of_file ≡ Expr-F.Binary by.Eq file_name (written.Parameter 1)
-unfolding everything
-equal_open = refl
-
--- what is collected before and after a name is read
-abbrev at_budget : ℕ → Carried → State
-at_budget budget last = record { next = 2; steps = []; aggregates = []; budget = budget; written = None; last = last }
-
-abbrev by_bytes : Carried
-by_bytes = record { collation = Some Binary; is_written = false }
-
-unfold_lower : (depth : ℕ) (cx : Context) (e : Expr) (s : State) → expr.lower_to (suc depth) cx e s ≡ expr.node (expr.lower_to depth) cx e s
-unfolding expr.lower_to
-unfold_lower depth cx e s = refl
-
-module _ (schema : Schema) (place tree : ℕ) (there : slice_get schema.tables place ≡ Some (proposal_table tree)) where
-  abbrev table_context : Context
-  table_context = over schema place (codes "proposal")
-
-  file_found : scope.find table_context None (codes "file") ≡ Ok (Column 1 place 0)
-  unfolding scope.find scope.in_level scope.only scope.hit scope.column_in scope.is_among same_name
-  file_found = rw there
-
-  file_column : (budget : ℕ) (last : Carried) → column table_context None (codes "file") (at_budget budget last) ≡ Ok (col 1 1, at_budget budget by_bytes)
-  unfolding column scope.term_of scope.column_at
-  file_column budget last = rw (file_found, there)
-
-  name_lowered : (depth : ℕ) → expr.lower_to (suc depth) table_context file_name (at_budget 99999 nothing) ≡ Ok (col 1 1, at_budget 99998 by_bytes)
-  unfolding expr.lower_to expr.node expr.opened expr.passes lowering.spend lowering.begin lowering.finish
-  name_lowered depth = rw (name_open, file_column)
-
-  parameter_lowered : (depth : ℕ) → expr.lower_to (suc depth) table_context (written.Parameter 1) (at_budget 99998 by_bytes) ≡ Ok (col 0 0, at_budget 99997 nothing)
-  unfolding expr.lower_to expr.node expr.opened expr.passes lowering.spend lowering.begin lowering.finish
-  parameter_lowered depth = rw (parameter_open)
-
-  file_plain : compare.compared table_context (Compare Eq Binary) (col 1 1) (col 0 0) ≡ file_test
+  proposal_plain : IsPlainTest schema (codes "proposal") place 1 0
   unfolding compare.compared compare.affinity_of compare.of_column compare.converted compare.may_be_text compare.spelled compare.is_parameter
-  file_plain = rw there
+  proposal_plain shown = rw there
 
-  tested : lower table_context of_file (at_budget 100000 nothing) ≡ Ok (file_test, at_budget 99997 nothing)
-  unfolding expr.node expr.opened expr.passes lowering.spend lowering.begin lowering.finish
-      expr.operation expr.wanted_truth expr.both expr.tests_truth expr.tests_alias expr.combine
-      lowering.chosen lowering.first_found lowering.alone
-  tested = unfold_lower 699 table_context of_file (at_budget 100000 nothing) ∙ rw (equal_open, name_lowered 698, parameter_lowered 698, file_plain)
+  -- the rowids of the rows that pass
+  abbrev deleted_draft : Draft
+  deleted_draft = draft schema (codes "proposal") place (proposal_table tree) found there (file_test ∷ []) (col 1 0 ∷ [])
 
-  abbrev draft : Draft
-  draft = record {
-    from = chain (Inner tree ∷ []);
-    filter = file_test ∷ [];
-    group = None;
-    project = col 1 0 ∷ [];
-    distinct = false;
-    collations = [];
-    order = [];
-    limit = lit (Int (negsuc 0));
-    offset = lit (Int (pos 0));
-  }
-
-  drafted : write.deleted schema place (proposal_table tree) (Some of_file) ≡ Ok draft
+  drafted : write.deleted schema place (proposal_table tree) (Some of_file) ≡ Ok deleted_draft
   unfolding write.deleted write.picked body.tests
-  drafted = rw (tested)
+  drafted = rw (one_equal schema (codes "proposal") place (proposal_table tree) found there 698 (codes "file") 0 1 1 proposal_file proposal_plain [] max_budget nothing refl refl refl)
 
-  module _ (found : table_named schema (codes "proposal") ≡ Some place) (alone : find (λ (t : Table). t.tree == tree) schema.tables ≡ Some (proposal_table tree)) (low : nat_le (2 ^ 31) tree ≡ false) where
-    accepted : program.program schema [] draft ≡ Ok (deleting (file_test ∷ []) tree)
+  module _ (alone : find (λ (t : Table). t.tree == tree) schema.tables ≡ Some (proposal_table tree)) (low : nat_le (2 ^ 31) tree ≡ false) where
+    accepted : program.program schema [] deleted_draft ≡ Ok (deleting (file_test ∷ []) tree)
     unfolding program.program
     accepted = rw (low, alone)
 
@@ -158,4 +83,4 @@ module _ (schema : Schema) (place tree : ℕ) (there : slice_get schema.tables p
 
 pub delete_proposal_means : DeletesAnywhere delete_proposal (codes "proposal") proposal_table (file_test ∷ [])
 delete_proposal_means schema at tree found there alone low =
-    let known = understood_so schema at tree there found alone low in record { is = ap command_of known; plain = subst IsPlain (sym known) (refl, refl) }
+    let known = understood_so schema at tree found there alone low in record { is = ap command_of known; plain = subst IsPlain (sym known) (refl, refl) }

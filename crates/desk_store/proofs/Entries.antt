@@ -1,5 +1,5 @@
 -- What is written into the tables of a desk: one row put in or a file's proposal taken out, and one write after another.
-use Rattle.std.proofs.Common.{◌≡◌, ◌≢◌, ◌⊎◌, ◌∙◌, ap, sym, subst, subst₂, refl, inl, inr, ℕ, Bool, true, false, cond, not, ◌||◌, ◌==◌, List, [], ◌∷◌, ◌++◌, length, map, filter, codes, Option, Some, Ok, append-nil, append_assoc}
+use Rattle.std.proofs.Common.{◌≡◌, ◌≢◌, ◌⊎◌, ◌∙◌, ap, sym, subst, subst₂, refl, inl, inr, ℕ, Bool, true, false, cond, not, ◌==◌, List, [], ◌∷◌, ◌++◌, length, map, filter, codes, Option, Some, Ok, append-nil, append_assoc}
 use Rattle.std.specs.Prelude.{IsPermutation}
 use Rattle.std.specs.List.{AllByRecursion}
 use Rattle.std.specs.Option.{option_map_or}
@@ -14,8 +14,9 @@ use Rattle.sqlite.specs.State.{Executes, State}
 use Rattle.sqlite.specs.Table.{Table}
 use Rattle.desk_store.proofs.DeleteEffect.{Takes}
 use Rattle.desk_store.proofs.InsertEffect.{Puts, numbered_row, put_permutes}
-use Rattle.desk_store.proofs.Inserting.{Soundly, approval_put, is_proposal_of, placed, proposal_put, proposal_taken, revision_put, rowids_are, rows_are}
-use Rattle.desk_store.proofs.OwnRowids.{keys_kept, keys_put}
+use Rattle.desk_store.proofs.Inserting.{Soundly, approval_put, is_proposal_of, proposal_put, proposal_taken, revision_put}
+use Rattle.desk_store.proofs.Placed.{placed, rowids_are, rows_are}
+use Rattle.desk_store.proofs.OwnRowids.{keys_kept, keys_put, neither}
 use Rattle.desk_store.specs.Tables.{AreKeys, Declares, HasTables, IsKeyed, SpareFrozen, Stores, Writes, approval_row, approval_table, are_referred, cells, delete_proposal, file_rev_table, insert_approval, insert_proposal, insert_revision, is_row_of, is_written, meta_table, proposal_row, proposal_table, refers_to, revision_row, rowids_of, rows_of, table_at, table_in, without_file}
 
 -- ---- trees
@@ -84,10 +85,6 @@ pub left_rowids : (old after : Database) (name : List ℕ) (table : Table) (p : 
 left_rowids old after name table p before later took keyed =
     subst AreKeys (ap (map (λ r. column r 0 ∷ [])) (sym took.rows) ∙ sym (rowids_are after name table later))
     (keys_kept (λ row. not (p row)) (old.trees table.tree) (subst AreKeys (rowids_are old name table before) keyed))
-
-neither : (a b : Bool) → (a || b) ≡ false → (a ≡ false) × (b ≡ false)
-neither true b h = absurd (cc)
-neither false b h = (refl, h)
 
 -- what is said of a write of one tree, among the four tables
 module _ (old after : Database) (has : HasTables old.schema) (tree : ℕ) (schema : after.schema ≡ old.schema)

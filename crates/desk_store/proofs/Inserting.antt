@@ -1,15 +1,11 @@
 -- What the INSERTs and DELETEs of the desk do to what a connection sees.
-use Rattle.std.proofs.Common.{◌≡◌, ◌∙◌, ap, sym, subst, refl, ℤ, ℕ, ◌<◌, ◌^◌, ◌/◌, pos, nat_le, w64, to_z, of_z, Bool, true, false, codes, ◌&&◌, List, [], ◌∷◌, length, map, slice_get, Some, None, Ok, arith}
-use Rattle.std.specs.Prelude.{option_and_then, option_map, unwrap_or}
+use Rattle.std.proofs.Common.{◌≡◌, ◌∙◌, ap, sym, subst, refl, ℕ, ◌<◌, ◌^◌, ◌/◌, nat_le, Bool, true, false, codes, List, [], ◌∷◌, length, slice_get, Some, None, Ok, arith}
 use Rattle.std.specs.List.{list_all}
 use Rattle.std.proofs.lemmas.Bool.{lt-leb}
-use Rattle.std.proofs.lemmas.Int.{to_z_pos}
 use Rattle.sqlite.specs.declared.types.Value.{Value}
-use Rattle.sqlite.specs.declared.types.Value.TheVariants.{Null, Int, Real, Text as Words, Blob as Bytes}
+use Rattle.sqlite.specs.declared.types.Value.TheVariants.{Null, Text as Words}
 use Rattle.sqlite.specs.Order.{Row, column, value_cmp}
-use Rattle.sqlite.specs.Ops.{binary, from_truth, is_true}
 use Rattle.sqlite.specs.Term.{Term, holds}
-use Rattle.sqlite.specs.Schema.{Schema}
 use Rattle.sqlite.specs.Table.{Table}
 use Rattle.sqlite.specs.Effect.{Database, IsDatabase, SparesFrozen, value_rows}
 use Rattle.sqlite.specs.Rows.{stamped}
@@ -19,37 +15,18 @@ use Rattle.sqlite.specs.Source.TheVariants.{Values}
 use Rattle.sqlite.specs.Listing.{understood}
 use Rattle.sqlite.proofs.Callers.{runs_as, statement_of}
 use Rattle.sqlite_schema.specs.Names.{table_named}
-use Rattle.sqlite_value.specs.declared.keys.Collation.TheVariants.{Binary}
-use Rattle.sqlite_sql.specs.declared.ops.BinaryOp.TheVariants.{Compare}
-use Rattle.sqlite_sql.specs.declared.ops.CompareOp.TheVariants.{Eq}
 use Rattle.sqlite_rules.specs.Cast.{cast_row}
 use Rattle.std.specs.Ordering.{is_eq}
 use Rattle.desk_store.proofs.DeleteEffect.{Takes, deleting, does_delete}
-use Rattle.desk_store.proofs.DeleteText.{DeletesAnywhere, delete_proposal_means, delete_version_means, file_test}
+use Rattle.desk_store.proofs.DeleteText.{DeletesAnywhere, delete_proposal_means, delete_version_means}
 use Rattle.desk_store.proofs.InsertEffect.{Puts, cast_int, cast_null, does_insert}
 use Rattle.desk_store.proofs.InsertText.{InsertsAnywhere, approval_means, approval_terms, proposal_means, proposal_terms, revision_means, revision_terms}
-use Rattle.desk_store.specs.Tables.{AreKeys, Declares, IsKeyed, approval_row, approval_table, cells, delete_proposal, delete_version, file_rev_table, insert_approval, insert_proposal, insert_revision, meta_table, proposal_row, proposal_table, refers_to, revision_row, rowids_of, rows_of, table_in}
-
--- the place of a table that is found by its name
-pub placed : (schema : Schema) (name : List ℕ) (table : Table) → table_in schema name ≡ Some table
-    → (at : ℕ) × (table_named schema name ≡ Some at) × (slice_get schema.tables at ≡ Some table)
-placed schema name table = elim (table_named schema name) as (λ o. option_and_then (slice_get schema.tables) o ≡ Some table → (at : ℕ) × (o ≡ Some at) × (slice_get schema.tables at ≡ Some table)) [
-  | Some at ↦ λ h. (at, refl, h)
-  | None ↦ λ h. absurd (cc)
-]
-
-pub rows_are : (db : Database) (name : List ℕ) (table : Table) → table_in db.schema name ≡ Some table → rows_of db name ≡ map (cells table) (db.trees table.tree)
-rows_are db name table found = ap (λ o. unwrap_or (option_map (λ (t : Table). map (cells t) (db.trees t.tree)) o) []) found
-
-pub rowids_are : (db : Database) (name : List ℕ) (table : Table) → table_in db.schema name ≡ Some table → rowids_of db name ≡ map (λ row. column row 0 ∷ []) (db.trees table.tree)
-rowids_are db name table found = ap (λ o. unwrap_or (option_map (λ (t : Table). map (λ row. column row 0 ∷ []) (db.trees t.tree)) o) []) found
+use Rattle.desk_store.proofs.NamedRows.{file_passes, file_test}
+use Rattle.desk_store.proofs.Placed.{placed, rowids_are}
+use Rattle.desk_store.specs.Tables.{AreKeys, Declares, IsKeyed, approval_row, approval_table, cells, delete_proposal, delete_version, file_rev_table, insert_approval, insert_proposal, insert_revision, meta_table, proposal_row, proposal_table, refers_to, revision_row}
 
 pub low_tree : (tree : ℕ) → tree < 65536 → nat_le (2 ^ 31) tree ≡ false
 low_tree tree low = lt-leb (2 ^ 31) tree (omega arith)
-
--- a number as an integer parameter
-pub signed : (x : ℤ) (n : ℕ) → x ≡ pos n → n < 2 ^ 32 → to_z w64 (of_z w64 x) ≡ pos n
-signed x n e low = ap (λ z. to_z w64 (of_z w64 z)) e ∙ to_z_pos w64 n (omega arith)
 
 -- a statement did this, spared what SQL here does not understand, and left a database that can be opened
 pub record Soundly (Did : Database → Database → Type 0) (old new : Database) : Type 0 where
@@ -94,26 +71,6 @@ approval_cast tree file rev approver = rw (cast_null, cast_int rev)
 
 proposal_cast : (tree : ℕ) (file : List ℕ) (base : ℕ) (author body : List ℕ) → cast_row (proposal_table tree) (Null ∷ proposal_row file base author body) ≡ Null ∷ proposal_row file base author body
 proposal_cast tree file base author body = rw (cast_null, cast_int base)
-
-told : (b : Bool) → is_true (from_truth (Some b)) ≡ b
-told true = refl
-told false = refl
-
--- a value in place of a text, as SQL compares them
-by_text : (a : Value) (t : List ℕ) → is_true (binary (Compare Eq Binary) a (Words t)) ≡ is_eq (value_cmp a (Words t))
-unfolding binary value_cmp
-by_text Null t = refl
-by_text (Int n) t = refl
-by_text (Real x) t = refl
-by_text (Words s) t = told (is_eq (value_cmp (Words s) (Words t)))
-by_text (Bytes b) t = refl
-
-and_true : (b : Bool) → (b && true) ≡ b
-and_true true = refl
-and_true false = refl
-
-file_passes : (file : List ℕ) (row : Row) → list_all (holds ((Words file ∷ []) ∷ row ∷ [])) (file_test ∷ []) ≡ is_eq (value_cmp (column row 1) (Words file))
-file_passes file row = and_true _ ∙ by_text (column row 1) file
 
 -- the rows of the table of proposals that are of a file, with their rowids
 abbrev pub is_proposal_of : List ℕ → Row → Bool

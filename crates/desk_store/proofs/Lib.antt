@@ -1,3 +1,4 @@
+pub mod RowsAnswered
 pub mod DeleteEffect
 pub mod DeleteText
 pub mod OwnRowids

@@ -26,7 +26,8 @@ use Rattle.desk_store.proofs.CreateText.{Reads, approval_reads, create_compiled,
 use Rattle.desk_store.proofs.Created.{are_low, below_next, declared_now, declared_yet, each_both, free_yet, new_part, old_part, referred_so, rows_stay, there_yet, tree_stays}
 use Rattle.desk_store.proofs.Entries.{apart_trees, kept_rows, spare_then}
 use Rattle.desk_store.proofs.InsertEffect.{Puts}
-use Rattle.desk_store.proofs.Inserting.{Soundly, rows_are}
+use Rattle.desk_store.proofs.Inserting.{Soundly}
+use Rattle.desk_store.proofs.Placed.{rows_are}
 use Rattle.desk_store.proofs.VersionInsert.{only_version, version_put}
 
 -- ---- one table

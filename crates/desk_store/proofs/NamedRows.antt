@@ -1,8 +1,7 @@
 -- The rows that a query with WHERE answers: of those that pass what it shows, in some order.
-use Rattle.std.proofs.Common.{nat_le, ◌^◌, ◌≡◌, pos, negsuc, refl, None, ℕ, Bool, true, false, cond, List, [], ◌∷◌, ◌&&◌, ◌++◌, filter, map, ap, sym, subst₂, ◌∙◌}
-use Rattle.std.specs.List.{flat_map, list_all}
+use Rattle.std.proofs.Common.{nat_le, ◌^◌, ◌≡◌, pos, refl, ℕ, Bool, true, false, cond, List, [], ◌∷◌, ◌&&◌, filter, map, ap, subst, ◌∙◌}
+use Rattle.std.specs.List.{list_all}
 use Rattle.std.specs.Prelude.{IsPermutation}
-use Rattle.std.proofs.lemmas.List.Sorted.{IsPermutation-map}
 use Rattle.sqlite_sql.specs.declared.ops.BinaryOp.TheVariants.{Compare}
 use Rattle.sqlite_sql.specs.declared.ops.CompareOp.TheVariants.{Eq}
 use Rattle.sqlite.specs.Collation.TheVariants.{Binary}
@@ -10,59 +9,30 @@ use Rattle.sqlite.specs.Ops.{binary, from_truth, is_true}
 use Rattle.std.proofs.Common.{Some}
 use Rattle.sqlite.specs.Order.{Row, column, value_cmp}
 use Rattle.sqlite.specs.Tree.{Trees}
-use Rattle.sqlite.specs.Program.{overlay, IsProgramAnswer}
+use Rattle.sqlite.specs.Program.{IsProgramAnswer}
 use Rattle.sqlite.specs.Table.{Table}
-use Rattle.sqlite.specs.Term.{Env, Term, col, eval_all, holds, lit, op2}
-use Rattle.sqlite.specs.Query.{Query, inner, end, Output, output, IsAnswer}
+use Rattle.sqlite.specs.Term.{Term, col, eval_all, holds, op2}
 use Rattle.sqlite.specs.declared.types.Value.{Value}
 use Rattle.sqlite.specs.declared.types.Value.TheVariants.{Null, Int, Real, Text as Words, Blob as Bytes}
+use Rattle.desk_store.proofs.RowsAnswered.{query, rows_answered}
 use Rattle.desk_store.specs.Looks.{approver_of, are_equal, author_profile_and_text, is_at, is_of, number_and_approver, number_author_and_profile}
 use Rattle.desk_store.specs.Tables.{approval_table, cells, file_rev_table}
 
-abbrev pub query : List Term → List Term → ℕ → Query
-query tests project tree = record {
-  from = inner tree end;
-  filter = tests;
-  group = None;
-  project = project;
-  distinct = false;
-  collations = [];
-  order = [];
-  limit = lit (Int (negsuc 0));
-  offset = lit (Int (pos 0));
-}
-
 module _ (tests project : List Term) (table : Table) (params : Row) (test : Row → Bool) (shown : Row → Row)
     (passes : (row : Row) → list_all (holds (params ∷ row ∷ [])) tests ≡ test (cells table row)) (shows : (row : Row) → eval_all project (params ∷ row ∷ []) ≡ shown (cells table row)) where
-  abbrev whole : Query
-  whole = query tests project table.tree
+  one_kept : (b : Bool) (row : Row) (kept others : List Row) → map (λ r. shown (cells table r)) kept ≡ map shown others
+      → map (λ r. shown (cells table r)) (cond b (row ∷ kept) kept) ≡ map shown (cond b (cells table row ∷ others) others)
+  one_kept true row kept others same = ap (λ more. shown (cells table row) ∷ more) same
+  one_kept false row kept others same = same
 
-  abbrev rows_shown : List Env → List Row
-  rows_shown envs = map (λ (o : Output). o.1) (map (output whole) envs)
+  by_cells : (rows : List Row) → map (λ row. shown (cells table row)) (filter (λ row. test (cells table row)) rows) ≡ map shown (filter test (map (cells table) rows))
+  by_cells [] = refl
+  by_cells (row ∷ rows) = one_kept (test (cells table row)) row (filter (λ r. test (cells table r)) rows) (filter test (map (cells table) rows)) (by_cells rows)
 
-  abbrev passing : Row → List Env
-  passing row = cond (list_all (holds (params ∷ row ∷ [])) tests) ((params ∷ row ∷ []) ∷ []) []
-
-  one_row : (b : Bool) (row : Row) (more : List Env) (others : List Row) → rows_shown more ≡ map shown (filter test others)
-      → rows_shown (cond b ((params ∷ row ∷ []) ∷ []) [] ++ more) ≡ map shown (cond b (cells table row ∷ filter test others) (filter test others))
-  one_row true row more others rest = ap (λ r. r ∷ rows_shown more) (shows row) ∙ ap (λ all. shown (cells table row) ∷ all) rest
-  one_row false row more others rest = rest
-
-  all_shown : (rows : List Row) → rows_shown (flat_map passing rows) ≡ map shown (filter test (map (cells table) rows))
-  all_shown [] = refl
-  all_shown (row ∷ rows) =
-      ap (λ b. rows_shown (cond b ((params ∷ row ∷ []) ∷ []) [] ++ flat_map passing rows)) (passes row)
-      ∙ one_row (test (cells table row)) row (flat_map passing rows) (map (cells table) rows) (all_shown rows)
-
-  pub answered : (low : nat_le (2 ^ 31) table.tree ≡ false) (db : Trees) (rows : List Row) → IsProgramAnswer [] whole db params rows
+  pub answered : (low : nat_le (2 ^ 31) table.tree ≡ false) (db : Trees) (rows : List Row) → IsProgramAnswer [] (query tests project table.tree) db params rows
       → IsPermutation (map shown (filter test (map (cells table) (db table.tree)))) rows
   answered low db rows h =
-      let a : IsAnswer whole (overlay db []) params rows = h Null in
-      let same : overlay db [] table.tree ≡ db table.tree = rw low in
-      let staged : a.staged ≡ flat_map passing (db table.tree) = a.grouped ∙ ap (flat_map passing) same in
-      let kept : map (λ (o : Output). o.1) a.kept ≡ map shown (filter test (map (cells table) (db table.tree))) =
-      ap (map (λ (o : Output). o.1)) (a.distinct ∙ ap (map (output whole)) staged) ∙ all_shown (db table.tree) in
-      subst₂ IsPermutation kept (sym a.shown) (IsPermutation-map (λ (o : Output). o.1) a.kept a.ordered a.same)
+      subst (λ all. IsPermutation all rows) (by_cells (db table.tree)) (rows_answered tests project table.tree params (λ row. test (cells table row)) (λ row. shown (cells table row)) passes shows low db rows h)
 
 told : (b : Bool) → is_true (from_truth (Some b)) ≡ b
 told true = refl
@@ -107,7 +77,7 @@ abbrev pub approvers_columns : List Term
 approvers_columns = col 1 2 ∷ col 1 3 ∷ []
 
 -- the tests of a file, and of its revision with a number, pass where these rows pass
-file_passes : (file : List ℕ) (row : Row) → list_all (holds ((Words file ∷ []) ∷ row ∷ [])) (file_test ∷ []) ≡ are_equal (column row 1) (Words file)
+pub file_passes : (file : List ℕ) (row : Row) → list_all (holds ((Words file ∷ []) ∷ row ∷ [])) (file_test ∷ []) ≡ are_equal (column row 1) (Words file)
 file_passes file row = and_true _ ∙ by_text (column row 1) file
 
 both_pass : (file : List ℕ) (rev : ℕ) (row : Row) → list_all (holds ((Words file ∷ Int (pos rev) ∷ []) ∷ row ∷ [])) (file_test ∷ rev_test ∷ []) ≡ (are_equal (column row 1) (Words file) && are_equal (column row 2) (Int (pos rev)))

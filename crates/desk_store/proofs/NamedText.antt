@@ -26,7 +26,8 @@ use Rattle.sqlite_resolve.specs.Expr.{lower}
 use Rattle.sqlite_resolve.specs.Compare as compare
 use Rattle.desk_store.proofs.SelectText.{MeansAnywhere}
 use Rattle.desk_store.proofs.QueryText.{IsColumn, IsPlainTest, Opens, and_open, at, by_bytes, draft, means_so, named, one_equal, one_read, one_shown, output, own_column, own_table, parsed, select, tests_by, unfold_lower, within}
-use Rattle.desk_store.proofs.NamedRows.{approver_columns, approvers_columns, file_test, number_columns, query, rev_test, text_columns}
+use Rattle.desk_store.proofs.NamedRows.{approver_columns, approvers_columns, file_test, number_columns, rev_test, text_columns}
+use Rattle.desk_store.proofs.RowsAnswered.{query}
 use Rattle.desk_store.specs.Looks.{select_approver, select_approvers, select_numbers, select_revision}
 use Rattle.desk_store.specs.Tables.{approval_table, file_rev_table}
 

@@ -16,7 +16,7 @@ use Rattle.sqlite_trees.specs.View.{is_int}
 use Rattle.sqlite_rules.specs.Edit.{is_taken}
 use Rattle.desk_store.specs.Tables.{AreKeys}
 
-abbrev one_id : Row → Row
+abbrev pub one_id : Row → Row
 one_id row = rowid row ∷ []
 
 abbrev IsWhole : Row → Type 0
@@ -27,7 +27,8 @@ abbrev Apart : List Row → Type 0
 Apart [] = Unit {0}
 Apart (row ∷ rows) = AllByRecursion (λ later. rowid row ≢ rowid later) rows × Apart rows
 
-each_id : (P : Value → Type 0) (rows : List Row) → All (λ row. P (column row 0)) (map one_id rows) → AllByRecursion (λ row. P (rowid row)) rows
+-- what each rowid is, by recursion
+pub each_id : (P : Value → Type 0) (rows : List Row) → All (λ row. P (column row 0)) (map one_id rows) → AllByRecursion (λ row. P (rowid row)) rows
 each_id P [] h = tt
 each_id P (row ∷ rows) h = (h 0 [] (omega arith), each_id P rows (λ k d within. h (suc k) d (omega arith)))
 
@@ -76,7 +77,7 @@ put_too P new (row ∷ rows) own h = elim (value_cmp (rowid row) (rowid new)) as
   | Greater ↦ (own, h)
 ]
 
-neither : (a b : Bool) → (a || b) ≡ false → (a ≡ false) × (b ≡ false)
+pub neither : (a b : Bool) → (a || b) ≡ false → (a ≡ false) × (b ≡ false)
 neither true b h = absurd (cc)
 neither false b h = (refl, h)
 

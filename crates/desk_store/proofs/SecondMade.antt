@@ -22,7 +22,8 @@ use Rattle.desk_store.proofs.Created.{each_both, tree_stays}
 use Rattle.desk_store.proofs.DeleteEffect.{Takes}
 use Rattle.desk_store.proofs.Entries.{apart_trees, kept_rows, spare_then, unreferred_two}
 use Rattle.desk_store.proofs.InsertEffect.{Puts}
-use Rattle.desk_store.proofs.Inserting.{Soundly, rowids_are, versions_taken}
+use Rattle.desk_store.proofs.Inserting.{Soundly, versions_taken}
+use Rattle.desk_store.proofs.Placed.{rowids_are}
 use Rattle.desk_store.proofs.Making.{declared_later, four_tables, of_each, rows_later}
 use Rattle.desk_store.proofs.VersionInsert.{only_version, version_put}
 

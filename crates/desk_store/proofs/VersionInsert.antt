@@ -17,7 +17,8 @@ use Rattle.desk_store.specs.Create.{insert_version}
 use Rattle.desk_store.specs.Tables.{Declares, cells, meta_table, rows_of}
 use Rattle.desk_store.proofs.InsertEffect.{Puts, cast_int, cast_null, numbered_row}
 use Rattle.desk_store.proofs.InsertText.{InsertsAnywhere, inserting, means_to_insert}
-use Rattle.desk_store.proofs.Inserting.{Soundly, inserts, rows_are}
+use Rattle.desk_store.proofs.Inserting.{Soundly, inserts}
+use Rattle.desk_store.proofs.Placed.{rows_are}
 
 abbrev version_columns : List (List ℕ)
 version_columns = codes "version" ∷ []

@@ -6,7 +6,7 @@ use Rattle.desk_store.specs.History.{approval_of}
 use Rattle.desk_store.specs.Storing.{AddsApproval}
 use Rattle.desk_store.specs.Tables.{Writes, approval_row, insert_approval}
 use Rattle.desk_store.proofs.Entries.{approval_added, writes_nothing}
-use Rattle.desk_store.proofs.Inserting.{signed}
+use Rattle.desk_store.proofs.Placed.{signed}
 use Rattle.desk_store.proofs.Inside.{did_so, no_step, ran_inside}
 use Rattle.desk_store.proofs.storing.add_approval.Goals as goal
 

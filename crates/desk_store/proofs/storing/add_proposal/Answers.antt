@@ -5,7 +5,7 @@ use Rattle.desk_store.specs.History.{proposed_row}
 use Rattle.desk_store.specs.Storing.{AddsProposal}
 use Rattle.desk_store.specs.Tables.{insert_proposal}
 use Rattle.desk_store.proofs.Entries.{proposal_added}
-use Rattle.desk_store.proofs.Inserting.{signed}
+use Rattle.desk_store.proofs.Placed.{signed}
 use Rattle.desk_store.proofs.Inside.{did_so, ran_inside}
 use Rattle.desk_store.proofs.storing.add_proposal.Goals as goal
 

@@ -9,7 +9,7 @@ use Rattle.desk_store.specs.Create.{AddsRow}
 use Rattle.desk_store.specs.History.{row_of}
 use Rattle.desk_store.specs.Tables.{insert_revision}
 use Rattle.desk_store.proofs.Entries.{revision_added}
-use Rattle.desk_store.proofs.Inserting.{signed}
+use Rattle.desk_store.proofs.Placed.{signed}
 use Rattle.desk_store.proofs.Inside.{did_so, failed_inside, ran_inside, stays_so}
 use Rattle.desk_store.proofs.storing.add_revision.Goals as goal
 
