@@ -34,13 +34,6 @@ module _ (old begun end new : State) (Change : Database → Database → Type 0)
       crash = crash;
     }
 
-  -- the step failed
-  pub step_failed : {T U E : Type 0} (said : Error) (e : E) → RunsInside {T = T} begun end (Err said) Did → new.in_transaction ≡ false → (HasCleanDisk new → IsRolledBack end new) → Survives end new (λ _. ⊥)
-      → CommitsAtMost {T = U} Change old new (Err e)
-  step_failed said e step ended back survives =
-      rolled_back (Err said) step ended back (λ clean. omega (arith, survives.clean)) e
-      (begins _ (survives_then begun end new (λ _. ⊥) (λ _. ⊥) (λ trees. IsTrue old.is_open × LeadsTo Change old.committed trees) (λ clean trees none. absurd none) (λ clean trees none. absurd none) step.crash survives))
-
   -- the step was run, and its commit was tried
   module _ {T : Type 0} (x : T) (step : RunsInside begun end (Ok x) Did) (makes : HasCleanDisk end → IsTrue old.is_open → Did begun end → Change old.committed end.now) (ended : new.in_transaction ≡ false)
       (survives : Survives end new (λ trees. trees ≡ end.now.trees)) where

@@ -1,5 +1,5 @@
 -- What a DELETE does, from any table that nothing refers to: the rows that pass its test are gone.
-use Rattle.std.proofs.Common.{nat_le, ◌^◌, ◌≡◌, ◌≢◌, ◌∙◌, sym, ap, subst, refl, inl, inr, ℕ, suc, ℤ, Bool, true, false, cond, not, ◌&&◌, ◌||◌, ◌==◌, List, [], ◌∷◌, if◌then◌else◌, filter, map, slice_get, Some, None, Option, Ok, IsTrue, arith}
+use Rattle.std.proofs.Common.{nat_le, ◌^◌, ◌≡◌, ◌≢◌, ◌∙◌, sym, ap, subst, refl, inl, inr, ℕ, suc, ℤ, Bool, true, false, cond, not, ◌&&◌, ◌||◌, ◌==◌, List, [], ◌∷◌, filter, map, slice_get, Some, None, Option, Ok, IsTrue, arith}
 use Rattle.std.specs.Prelude.{IsPermutation, option_and_then, option_map}
 use Rattle.std.specs.List.{AllByRecursion, AllPairs, filter_map, find, flat_map, list_all, list_any}
 use Rattle.std.proofs.lemmas.Bool.{cases_Bool}
@@ -26,7 +26,7 @@ use Rattle.sqlite.proofs.Callers.{one_step}
 use Rattle.sqlite_trees.specs.View.{is_int}
 use Rattle.sqlite_rules.specs.Calls.{ids_of}
 use Rattle.sqlite_rules.specs.Edit.{edit_of, id_in, taken_by, without_all}
-use Rattle.sqlite_rules.specs.Action.{Work, pairs, work_by, work_for, works}
+use Rattle.sqlite_rules.specs.Action.{pairs, work_by, work_for, works}
 use Rattle.sqlite_rules.specs.declared.action.Deed.{Deed}
 use Rattle.sqlite_schema.specs.Names.{same_name}
 use Rattle.sqlite_schema.specs.Rules.{ParentKey, declared_order, key_in, key_places, parent_key}
@@ -187,9 +187,6 @@ module _ (schema : Schema) (name : List ℕ) (tree : ℕ) (own : is_own_tree sch
   no_key ref (Some t) is other key h =
       let it = found_in (λ (t : Table). same_name t.name ref.parent) (λ (t : Table). not (t.tree == tree) || same_name t.name name) schema.tables t own is in
       subst (λ n. (n == tree) ≡ false) (sym (key_tree t (key_places t ref.parent_columns) key h)) (elsewhere t ref.parent other it.0 it.1)
-
-  off : (b : Bool) (x : Option Work) → (if false && b then x else None) ≡ None
-  off b x = refl
 
   idle : (keys : Keys) (olds : List Row) (child : Table) (ref : Reference) (deed : Option Deed) (key : Option ParentKey) → ((k : ParentKey) → key ≡ Some k → (k.0 == tree) ≡ false)
       → work_by 0 tree (pairs olds []) child ref deed key ≡ None

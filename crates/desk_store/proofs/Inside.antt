@@ -24,10 +24,6 @@ module _ {T U : Type 0} (a b c : State) (x : T) (result : Result U Error) (One T
     done = λ clean. let early : HasCleanDisk b = omega (arith, two.crash.clean) in done_then one two both result early (two.done clean);
   }
 
--- a step that failed did whatever else a success would have done
-pub failed_so : {T U : Type 0} (a b : State) (e f : Error) (One Both : State → State → Type 0) → RunsInside {T = T} a b (Err e) One → RunsInside {T = U} a b (Err f) Both
-failed_so a b e f One Both h = record { kept = h.kept; crash = h.crash; done = λ clean. tt }
-
 -- a statement ran within a transaction, which it neither began nor ended
 pub ran_inside : {T : Type 0} (a b : State) (sql : List ℕ) (params : Row) (count : ℕ) (x : T) (said : Error) (Same : Type 0)
     → (a.in_transaction ≡ false → (◌≡◌ {A = Result ℕ Error} (Ok count) (Err said)) × Same)
