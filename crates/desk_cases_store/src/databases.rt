@@ -59,6 +59,7 @@ fn of_connection(
     match question {
         "sql" => sql(conn, out, text),
         "insert" => insert(conn, out, text),
+        "insert_proposal" => insert_proposal(conn, out, text),
         "query" => query(conn, out, text),
         "declares" => declares(conn, out, text),
         "limit" => limit(conn, out, text),
@@ -103,6 +104,32 @@ fn insert_row(
         body.as_bytes()
     ];
     match conn.execute("INSERT INTO file_rev VALUES(?1, ?2, ?3, ?4, ?5)", values) {
+        Ok(_) => say(out, "done"),
+        Err(error) => say_error(out, error),
+    }
+}
+
+/// `insert_proposal FILE BASE AUTHOR TEXT`: `done`, or what SQLite says. Adds a row to `proposal`.
+fn insert_proposal(conn: &mut Connection<MemStore>, out: &mut String, text: &str) -> Asked {
+    let (file, rest) = split(text);
+    let (base, rest) = split(rest);
+    let (author, body) = split(rest);
+    match number(base) {
+        Some(base) => insert_proposed(conn, out, file, base, author, body),
+        None => Ok(false),
+    }
+}
+
+fn insert_proposed(
+    conn: &mut Connection<MemStore>,
+    out: &mut String,
+    file: &str,
+    base: u32,
+    author: &str,
+    body: &str,
+) -> Asked {
+    let values = params![file, i64::from(base), author, body.as_bytes()];
+    match conn.execute("INSERT INTO proposal VALUES(?1, ?2, ?3, ?4)", values) {
         Ok(_) => say(out, "done"),
         Err(error) => say_error(out, error),
     }
