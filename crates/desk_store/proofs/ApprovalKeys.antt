@@ -1,17 +1,16 @@
 -- The order of files and numbers, in which revisions and approvals are, and how often one is in a list.
-use Rattle.std.proofs.Common.{◌≡◌, ◌∙◌, sym, ap, subst, refl, inl, inr, ℕ, suc, ◌+◌, ◌<◌, ◌≤◌, ◌++◌, ◌==◌, ◌&&◌, Bool, true, false, List, [], ◌∷◌, length, get_or, reverse, arith}
+use Rattle.std.proofs.Common.{◌≡◌, ◌∙◌, sym, ap, subst, refl, ℕ, suc, ◌<◌, ◌≤◌, ◌++◌, ◌==◌, ◌&&◌, Bool, true, false, List, [], ◌∷◌, length, get_or, reverse, arith}
 use Rattle.std.specs.List.{AllByRecursion, sum_by}
-use Rattle.std.specs.Cmp.{Equal-is, IsStrictWeakOrder, IsTotalOrder, nat_cmp_total, on_total, ranks, then_total, tied_then}
+use Rattle.std.specs.Cmp.{IsStrictWeakOrder, IsTotalOrder, nat_cmp_total, on_total, ranks, then_total, tied_then}
 use Rattle.std.specs.Cmp.Lexicographic.{nat_list_cmp_total, slice_cmp}
 use Rattle.std.specs.declared.cmp.Ordering.{Ordering}
 use Rattle.std.specs.Ordering.{MatchOrdering, is_eq, is_lt, nat_cmp, ordering_reverse, ordering_then}
 use Rattle.std.specs.declared.cmp.Ordering.TheVariants.{Less, Equal, Greater}
 use Rattle.std.specs.Str.{bytes_eq}
-use Rattle.std.proofs.lemmas.Bool.{cases_Bool, eq-eqb, eqb-true}
+use Rattle.std.proofs.lemmas.Bool.{eq-eqb, eqb-true}
 use Rattle.std.proofs.lemmas.List.{reverse-append}
 use Rattle.std.proofs.lemmas.List.Elements.{recursion_from_All}
 use Rattle.std.proofs.lemmas.List.Sorted.{IsPermutation-reverse, IsStrictWeakOrder-flip, ranks_by}
-use Rattle.std.proofs.lemmas.List.Sums.{sum_by-cons}
 use Rattle.std.proofs.lemmas.Map.Text.{is_eq-slice_cmp}
 use Rattle.std.proofs.lemmas.Slice.Eq.{bytes_eq-Decides}
 use Rattle.sqlite_trees.proofs.ListLemmas.{all-append, all-permutation}
@@ -19,6 +18,7 @@ use Rattle.desk_core.specs.Head.{Revision}
 use Rattle.desk_store.specs.StoredRows.{Key, approval_key, is_below, revision_key}
 use Rattle.desk_store.specs.declared.stored.Approval.{Approval}
 use Rattle.desk_store.proofs.Counts.{one_if}
+use Rattle.desk_store.proofs.Members.{both_true}
 
 -- ---- the order
 
@@ -43,10 +43,6 @@ not_below : (o : Ordering) → is_lt o ≡ false → is_lt (ordering_reverse o) 
 not_below Less one other = absurd (cc)
 not_below Equal one other = refl
 not_below Greater one other = absurd (cc)
-
-both_true : (b c : Bool) → (b && c) ≡ true → (b ≡ true) × (c ≡ true)
-both_true true c h = (refl, h)
-both_true false c h = absurd (cc)
 
 level : (m n : ℕ) (o : Ordering) → MatchOrdering o (m < n) (m ≡ n) (n < m) → is_eq o ≡ true → m ≡ n
 level m n Less h e = absurd (cc)

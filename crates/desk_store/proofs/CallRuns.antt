@@ -1,5 +1,5 @@
 -- Edits and looks on a good disk are answered by histories, and the edits are a run.
-use Rattle.std.proofs.Common.{◌≡◌, sym, subst, refl, ◌≤◌, ◌++◌, List, [], ◌∷◌, arith}
+use Rattle.std.proofs.Common.{sym, subst, refl, ◌≤◌, ◌++◌, List, [], ◌∷◌, arith}
 use Rattle.sqlite_trees.specs.declared.store.Store.{Ghosts}
 use Rattle.sqlite_trees.specs.View.{doubt}
 use Rattle.sqlite.specs.Held.{state}

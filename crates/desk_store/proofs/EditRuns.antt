@@ -1,5 +1,5 @@
 -- Edits on a good disk are a run.
-use Rattle.std.proofs.Common.{◌≡◌, sym, subst, refl, ◌≤◌, List, [], ◌∷◌, map, arith}
+use Rattle.std.proofs.Common.{sym, subst, refl, ◌≤◌, List, [], ◌∷◌, map, arith}
 use Rattle.sqlite_trees.specs.declared.store.Store.{Ghosts}
 use Rattle.sqlite_trees.specs.View.{doubt}
 use Rattle.sqlite.specs.Held.{state}

@@ -1,6 +1,6 @@
 -- What an edit does to a desk, by what became of it.
 use Rattle.std.proofs.Common.{◌≡◌, ◌≢◌, ◌∙◌, sym, ap, subst, refl, inl, inr, ℕ, ◌+◌, ◌≤◌, ◌++◌, Bool, true, false, cond, List, [], ◌∷◌, Option, Some, None, Ok, Err, IfOk, IsTrue, arith, append-nil, codes}
-use Rattle.std.specs.Prelude.{Contains, Result}
+use Rattle.std.specs.Prelude.{Result}
 use Rattle.std.proofs.lemmas.Bool.{false≢true}
 use Rattle.std.proofs.lemmas.List.Elements.{Contains-append_left, Contains-append_right}
 use Rattle.sqlite.specs.Effect.{Database}

@@ -29,16 +29,12 @@ use Rattle.desk_store.specs.Tables.{IsAtRest, IsKeyed, approval_row, rows_of}
 use Rattle.desk_store.specs.declared.error.DeskError.{DeskError}
 use Rattle.desk_store.specs.declared.desk.Revision.{Revision as Found}
 use Rattle.desk_store.proofs.HistoryStep.{same_text}
-use Rattle.desk_store.proofs.Members.{find_none, find_only, from_filter, from_filter_map, from_map, in_filter, in_filter_map, in_map}
-use Rattle.desk_store.proofs.OneOrder.{approval_parts, same_profile}
+use Rattle.desk_store.proofs.Members.{find_none, find_only, from_filter, from_filter_map, from_map, in_filter, in_filter_map, in_map, both_true}
+use Rattle.desk_store.proofs.OneOrder.{same_profile}
 use Rattle.desk_store.proofs.Revisions.{one_number}
 
 in_nothing : (row : Row) → Contains [] row → ⊥
 in_nothing row (k, below, is) = omega arith
-
-and_both : (b c : Bool) → (b && c) ≡ true → (b ≡ true) × (c ≡ true)
-and_both true c h = (refl, h)
-and_both false c h = absurd (cc)
 
 -- the row of a revision passes if it is the revision that is looked for, and only then
 pub of_file : (r : Revision) (file : List ℕ) → is_of file (row_of r) ≡ bytes_eq r.file file
@@ -60,7 +56,7 @@ at_rev own number rest file rev name same =
 
 rev_at_row : (own : List ℕ) (number : ℕ) (rest : Row) (file : List ℕ) (rev : ℕ) → is_at file rev (Words own ∷ Int (pos number) ∷ rest) ≡ true → (own ≡ file) × (number ≡ rev)
 rev_at_row own number rest file rev h =
-    let both = and_both (is_of file (Words own ∷ Int (pos number) ∷ rest)) (are_equal (Int (pos number)) (Int (pos rev))) h in
+    let both = both_true (is_of file (Words own ∷ Int (pos number) ∷ rest)) (are_equal (Int (pos number)) (Int (pos rev))) h in
     ((bytes_eq-Decides own file).0 (sym (same_text own file) ∙ both.0), rev_of number rev both.1)
 
 -- what follows a file and a number in the row of a revision

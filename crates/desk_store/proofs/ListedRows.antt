@@ -1,15 +1,13 @@
 -- What the rows of a file's revisions and of their approvals tell, in ascending order of the numbers, is told by its revisions.
-use Rattle.std.proofs.Common.{◌≡◌, ◌∙◌, sym, ap, subst, refl, ℕ, zero, suc, ◌+◌, ◌<◌, ◌≤◌, ◌==◌, Bool, true, List, [], ◌∷◌, ◌++◌, Option, Some, None, Result, Ok, Err, IfOk, IsPermutation, codes, filter, filter_map, find, get_or, length, map, option_map, take, arith}
+use Rattle.std.proofs.Common.{◌≡◌, ◌∙◌, sym, ap, subst, refl, ℕ, zero, suc, ◌+◌, ◌<◌, ◌≤◌, ◌==◌, Bool, true, List, [], ◌∷◌, ◌++◌, Option, Some, None, Result, Ok, Err, IfOk, IsPermutation, codes, filter, filter_map, get_or, length, map, option_map, take, arith}
 use Rattle.std.specs.Prelude.{Contains}
 use Rattle.std.specs.List.{AllByRecursion, range_with_len}
 use Rattle.std.specs.List.Sorted.{IsNonDecreasingBy}
 use Rattle.std.specs.Str.{bytes_eq}
 use Rattle.std.proofs.lemmas.Bool.{eq-eqb, eqb-true}
-use Rattle.std.proofs.lemmas.List.{map-append, take_more}
-use Rattle.std.proofs.lemmas.List.Elements.{recursion_from_All}
-use Rattle.std.proofs.lemmas.List.FromFn.{get_or-range_with_len}
+use Rattle.std.proofs.lemmas.List.{map-append, take_more, get_or-map, length-map}
+use Rattle.std.proofs.lemmas.List.FromFn.{get_or-range_with_len, length-range_with_len}
 use Rattle.std.proofs.lemmas.List.Sorted.{Contains-permutation, IsPermutation-map, IsPermutation-sym, IsPermutation-trans}
-use Rattle.std.proofs.lemmas.Slice.Eq.{bytes_eq-Decides}
 use Rattle.sqlite.specs.Order.{Row}
 use Rattle.sqlite.specs.Effect.{Database}
 use Rattle.sqlite_trees.proofs.ListLemmas.{IsPermutation-filter, all_of, filter-map, filter_same}
@@ -43,30 +41,17 @@ module _ {X : Type 0} (key : X → ℕ) where
       above [] h = tt
       above (y ∷ ys) h = (h 0 y (omega arith), above ys (λ k d below. h (suc k) d (omega arith)))
 
-  key_get : (xs : List X) (k : ℕ) (d : X) → k < length xs → get_or (map key xs) k 0 ≡ key (get_or xs k d)
-  key_get [] k d below = absurd (omega arith)
-  key_get (x ∷ xs) zero d below = refl
-  key_get (x ∷ xs) (suc k) d below = key_get xs k d (omega arith)
-
-  key_length : (xs : List X) → length (map key xs) ≡ length xs
-  key_length [] = refl
-  key_length (x ∷ xs) = ap suc (key_length xs)
-
   -- the key of each of numbered elements
   key_at : (xs : List X) (n k : ℕ) (d : X) → map key xs ≡ range_with_len 1 n → k < length xs → key (get_or xs k d) ≡ 1 + k
   key_at xs n k d numbered below =
-      let long : length xs ≡ n = sym (key_length xs) ∙ ap length numbered ∙ length_range 1 n in
-      sym (key_get xs k d below) ∙ ap (λ ns. get_or ns k 0) numbered ∙ get_or-range_with_len 1 n k 0 (omega (arith, below, long))
-    where
-      length_range : (a n : ℕ) → length (range_with_len a n) ≡ n
-      length_range a zero = refl
-      length_range a (suc n) = ap suc (length_range (a + 1) n)
+      let long : length xs ≡ n = sym (length-map xs key) ∙ ap length numbered ∙ length-range_with_len 1 n in
+      sym (get_or-map key xs k d 0 below) ∙ ap (λ ns. get_or ns k 0) numbered ∙ get_or-range_with_len 1 n k 0 (omega (arith, below, long))
 
   -- ascending elements that are numbered ones in some order are these
   pub in_order : (xs ys : List X) (n : ℕ) → IsNonDecreasingBy key xs → IsPermutation xs ys → map key ys ≡ range_with_len 1 n → xs ≡ ys
   in_order xs ys n up same numbered =
       let mine = same_range (map key xs) (map key ys) 1 n (rises_from xs up) (IsPermutation-map key xs ys same) numbered in
-      let long : length xs ≡ length ys = sym (key_length xs) ∙ ap length (mine ∙ sym numbered) ∙ key_length ys in
+      let long : length xs ≡ length ys = sym (length-map xs key) ∙ ap length (mine ∙ sym numbered) ∙ length-map ys key in
       same_lists xs ys long (λ k d below.
       let x : X = get_or xs k d in
       let there = Contains-permutation xs ys x same (k, below, default xs k x d below) in

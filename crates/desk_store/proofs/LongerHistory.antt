@@ -1,6 +1,6 @@
 -- Histories with one entry more: their revisions, and the proposals that are pending.
-use Rattle.std.proofs.Common.{◌≡◌, ◌∙◌, sym, ap, refl, ◌++◌, ◌||◌, Bool, true, false, cond, not, ℕ, List, [], ◌∷◌, Option, Some, None, All}
-use Rattle.std.specs.List.{AllByRecursion, cons_option, filter, list_any}
+use Rattle.std.proofs.Common.{◌≡◌, ◌∙◌, sym, ap, refl, ◌++◌, ◌||◌, Bool, true, false, cond, not, ℕ, List, [], ◌∷◌, Some, None, All}
+use Rattle.std.specs.List.{cons_option, filter, list_any}
 use Rattle.std.specs.Str.{bytes_eq}
 use Rattle.std.proofs.lemmas.List.Elements.{All-from_recursion, filter_map-append, filter-append, recursion_from_All}
 use Rattle.std.proofs.lemmas.Slice.Eq.{bytes_eq-Decides}

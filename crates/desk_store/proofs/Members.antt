@@ -1,12 +1,17 @@
 -- Elements of lists: of those that pass a test, of those that a function gives, and in any order.
-use Rattle.std.proofs.Common.{◌≡◌, ◌∙◌, sym, ap, subst, refl, inl, inr, ℕ, zero, suc, ◌<◌, ◌++◌, Bool, true, false, cond, List, [], ◌∷◌, Option, Some, None, find, filter, map, length, get_or, arith}
+use Rattle.std.proofs.Common.{◌≡◌, ◌∙◌, sym, ap, subst, refl, inl, inr, ℕ, zero, suc, ◌<◌, ◌++◌, ◌&&◌, Bool, true, false, cond, List, [], ◌∷◌, Option, Some, None, find, filter, map, length, get_or, arith}
 use Rattle.std.specs.Prelude.{All, AllPairs, Contains, IsPermutation}
 use Rattle.std.specs.List.{cons_option, filter_map}
 use Rattle.std.proofs.lemmas.Bool.{cases_Bool}
 use Rattle.std.proofs.lemmas.List.Elements.{All-cons, All-head, All-push, All-tail}
 use Rattle.std.proofs.lemmas.List.Kept.{AllPairs-cons}
-use Rattle.std.proofs.lemmas.List.Sorted.{All-permutation, IsPermutation-cons, IsPermutation-middle, IsPermutation-refl, IsPermutation-trans}
+use Rattle.std.proofs.lemmas.List.Sorted.{All-permutation, IsPermutation-cons, IsPermutation-middle, IsPermutation-refl, IsPermutation-trans, IsPermutation-sym}
 use Rattle.sqlite_trees.proofs.ListLemmas.{along_permutation}
+
+-- where two tests pass together each passes
+pub both_true : (b c : Bool) → (b && c) ≡ true → (b ≡ true) × (c ≡ true)
+both_true true c h = (refl, h)
+both_true false c h = absurd (cc)
 
 pub shift : {X : Type 0} (y : X) (xs : List X) (x : X) → Contains xs x → Contains (y ∷ xs) x
 shift y xs x h = (suc h.0, omega (arith, h.1), h.2)
@@ -125,7 +130,11 @@ find_none p (x ∷ xs) fails =
       | inr other ↦ ap (λ b. cond b (Some x) (find p xs)) other ∙ rest
     ]
 
--- ---- pairs in any order
+-- ---- in any order
+
+-- lists that are told by one list in any order are each other's
+pub told_by_one : {X : Type 0} (xs ys rows : List X) → IsPermutation xs rows → IsPermutation ys rows → IsPermutation xs ys
+told_by_one xs ys rows one two = IsPermutation-trans xs rows ys one (IsPermutation-sym ys rows two)
 
 module _ {X : Type 0} (R : X → X → Type 0) where
   pub pairs_tail : (x : X) (xs : List X) → AllPairs R (x ∷ xs) → AllPairs R xs

@@ -9,23 +9,20 @@ use Rattle.desk_core.specs.History.{IsHistory, newest_of, pending_in, revisions_
 use Rattle.desk_core.specs.Standing.{Proposals, Standing, proposals_in}
 use Rattle.desk_core.specs.declared.entry.Entry.{Entry}
 use Rattle.desk_store.specs.Laws.{OneHistory}
-use Rattle.desk_store.specs.History.{Holds, approval_of, proposed_row, revisions_in, row_of}
+use Rattle.desk_store.specs.History.{Holds, approval_of, revisions_in, row_of}
 use Rattle.desk_store.specs.StoredRows.{AreRowsIn, AreRowsOf}
 use Rattle.desk_store.proofs.OneOrder.{proposals_say, same_newest, same_own}
 use Rattle.desk_store.proofs.PendingOnce.{pending_apart, same_pending}
 use Rattle.desk_store.proofs.Revisions.{newest_is}
-
--- lists that are told by one list in any order are each other's
-both : {X : Type 0} (xs ys rows : List X) → IsPermutation xs rows → IsPermutation ys rows → IsPermutation xs ys
-both xs ys rows one two = IsPermutation-trans xs rows ys one (IsPermutation-sym ys rows two)
+use Rattle.desk_store.proofs.Members.{told_by_one}
 
 module _ (history other : List Entry) (numbered : IsHistory history) (numbered' : IsHistory other) (revisions approvals proposals : List Row)
     (rows : AreRowsOf history revisions approvals proposals) (rows' : AreRowsOf other revisions approvals proposals) where
   revised : IsPermutation (map row_of (revisions_in history)) (map row_of (revisions_in other))
-  revised = both _ _ revisions rows.revised rows'.revised
+  revised = told_by_one _ _ revisions rows.revised rows'.revised
 
   approved : IsPermutation (filter_map approval_of (revisions_in history)) (filter_map approval_of (revisions_in other))
-  approved = both _ _ approvals rows.approved rows'.approved
+  approved = told_by_one _ _ approvals rows.approved rows'.approved
 
   pub same_revisions : (file : List ℕ) → revisions_of file history ≡ revisions_of file other
   same_revisions file = same_own (revisions_in history) (revisions_in other) numbered.numbered numbered'.numbered revised approved file
@@ -34,7 +31,7 @@ module _ (history other : List Entry) (numbered : IsHistory history) (numbered' 
   newest = newest_is history ∙ same_newest (revisions_in history) (revisions_in other) numbered.numbered numbered'.numbered revised approved ∙ sym (newest_is other)
 
   pending : proposals_in (pending_in history) ≡ proposals_in (pending_in other)
-  pending = same_pending (pending_in history) (pending_in other) (proposals_say (pending_in history) (pending_in other) (both _ _ proposals rows.proposed rows'.proposed)) (pending_apart history)
+  pending = same_pending (pending_in history) (pending_in other) (proposals_say (pending_in history) (pending_in other) (told_by_one _ _ proposals rows.proposed rows'.proposed)) (pending_apart history)
 
   pub same_standing : standing_of history ≡ standing_of other
   same_standing =

@@ -1,5 +1,5 @@
 -- It does not matter in which order rows are: revisions that they say are numbered, and of numbered ones each file has the same.
-use Rattle.std.proofs.Common.{◌≡◌, ◌∙◌, sym, ap, subst, refl, inl, inr, ℕ, pos, suc, ◌∷◌, Bool, true, false, cond, List, [], Option, Some, None, IsPermutation, length, map}
+use Rattle.std.proofs.Common.{◌≡◌, ◌∙◌, sym, ap, subst, refl, ℕ, suc, ◌∷◌, Bool, true, false, cond, List, [], Option, Some, None, IsPermutation, length, map}
 use Rattle.std.specs.Prelude.{Contains}
 use Rattle.std.specs.List.{filter_map, range_with_len}
 use Rattle.std.specs.Option.{option_map}
@@ -16,7 +16,8 @@ use Rattle.desk_core.specs.declared.proposal.Proposal.{Proposal}
 use Rattle.desk_store.specs.History.{approval_of, proposed_row, row_of}
 use Rattle.desk_store.specs.Tables.{approval_row}
 use Rattle.desk_store.proofs.Members.{from_filter, from_filter_map, from_map, in_filter, in_filter_map, in_map}
-use Rattle.desk_store.proofs.Revisions.{AreNumbered, IsNumbered, last, newest_by, one_number, own, same_numbered}
+use Rattle.desk_store.proofs.Revisions.{IsNumbered, last, newest_by, one_number, own, same_numbered}
+use Rattle.std.proofs.lemmas.List.{length-map}
 
 -- ---- numbers are told by rows
 
@@ -38,10 +39,6 @@ own_numbers (x ∷ xs) (y ∷ ys) file same =
     let number : x.rev ≡ y.rev = cc in
     own_step (bytes_eq x.file file) (bytes_eq y.file file) x y (own file xs) (own file ys) (ap (λ f. bytes_eq f file) name) number (own_numbers xs ys file rest)
 
-length_numbers : (xs : List Revision) → length (map (λ (r : Revision). r.rev) xs) ≡ length xs
-length_numbers [] = refl
-length_numbers (x ∷ xs) = ap suc (length_numbers xs)
-
 -- where the rows of one list are those of another, in any order, that other has an order in which they are numbered
 pub numbered_so : (xs ys : List Revision) → IsPermutation (map row_of xs) (map row_of ys) → IsNumbered xs → (zs : List Revision) × IsPermutation ys zs × IsNumbered zs
 numbered_so xs ys same numbered =
@@ -51,7 +48,7 @@ numbered_so xs ys same numbered =
       it.1,
       λ file.
           let numbers = own_numbers xs zs file it.2 in
-          let long : length (own file xs) ≡ length (own file zs) = sym (length_numbers (own file xs)) ∙ ap length numbers ∙ length_numbers (own file zs) in
+          let long : length (own file xs) ≡ length (own file zs) = sym (length-map (own file xs) (λ (r : Revision). r.rev)) ∙ ap length numbers ∙ length-map (own file zs) (λ (r : Revision). r.rev) in
           sym numbers ∙ numbered file ∙ ap (range_with_len 1) long,
     )
 

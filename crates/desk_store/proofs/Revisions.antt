@@ -1,18 +1,19 @@
 -- Lists of revisions, of each file numbered 1, 2, .. without a gap: those of a history.
 use Rattle.std.proofs.Common.{◌≡◌, ◌∙◌, sym, ap, subst, refl, ℕ, zero, suc, ◌+◌, ◌-◌, ◌<◌, ◌≤◌, List, [], ◌∷◌, Option, All, map, length, get_or, arith}
-use Rattle.std.specs.Prelude.{Contains, IsPermutation, filter, slice_get}
-use Rattle.std.specs.List.{filter_map, range_with_len}
+use Rattle.std.specs.Prelude.{Contains, filter, slice_get}
+use Rattle.std.specs.List.{range_with_len}
 use Rattle.std.specs.Str.{bytes_eq}
 use Rattle.std.proofs.lemmas.List.Elements.{All-from_recursion}
 use Rattle.std.proofs.lemmas.List.FromFn.{get_or-range_with_len}
 use Rattle.desk_core.specs.Head.{Newest, Revision, newest_number}
-use Rattle.desk_core.specs.History.{IsHistory, newest_of, pending_in, revision_in}
+use Rattle.desk_core.specs.History.{IsHistory, newest_of, pending_in}
 use Rattle.desk_core.specs.declared.entry.Entry.{Entry}
 use Rattle.desk_core.specs.declared.entry.Entry.TheVariants.{Revised}
 use Rattle.desk_core.specs.declared.proposal.Proposal.{Proposal}
 use Rattle.desk_store.specs.History.{revisions_in}
 use Rattle.desk_store.proofs.LongerHistory.{none_pending}
 use Rattle.desk_store.proofs.Members.{default, same_lists}
+use Rattle.std.proofs.lemmas.List.{get_or-map}
 
 -- the revisions of a file, and the newest of each file
 abbrev pub own : List ℕ → List Revision → List Revision
@@ -60,13 +61,8 @@ newest_revised xs = newest_is (map Revised xs) ∙ ap newest_by (revised_back xs
 
 -- ---- numbered revisions
 
-rev_get : (xs : List Revision) (k : ℕ) (d : Revision) → k < length xs → get_or (map (λ r. r.rev) xs) k 0 ≡ (get_or xs k d).rev
-rev_get [] k d below = absurd (omega arith)
-rev_get (x ∷ xs) zero d below = refl
-rev_get (x ∷ xs) (suc k) d below = rev_get xs k d (omega arith)
-
 pub rev_at : (xs : List Revision) (k : ℕ) (d : Revision) → AreNumbered xs → k < length xs → (get_or xs k d).rev ≡ 1 + k
-rev_at xs k d numbered below = sym (rev_get xs k d below) ∙ ap (λ ns. get_or ns k 0) numbered ∙ get_or-range_with_len 1 (length xs) k 0 below
+rev_at xs k d numbered below = sym (get_or-map (λ (r : Revision). r.rev) xs k d 0 below) ∙ ap (λ ns. get_or ns k 0) numbered ∙ get_or-range_with_len 1 (length xs) k 0 below
 
 -- two with one number are one
 pub one_number : (xs : List Revision) (a b : Revision) → AreNumbered xs → Contains xs a → Contains xs b → a.rev ≡ b.rev → a ≡ b

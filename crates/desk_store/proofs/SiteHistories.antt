@@ -1,6 +1,6 @@
 -- For the law `answered_edits_keep_site_histories`.
-use Rattle.std.proofs.Common.{◌≡◌, ◌≢◌, ◌∙◌, sym, ap, subst, inl, inr, refl, ◌+◌, ◌-◌, ◌<◌, ◌≤◌, ◌++◌, ℕ, Bool, true, false, cond, not, List, [], ◌∷◌, Option, Some, None, All, get_or, length, arith, append-nil}
-use Rattle.std.specs.Prelude.{Contains, codes, find, nat_lt, position, slice_get, slice_index_or}
+use Rattle.std.proofs.Common.{◌≡◌, ◌≢◌, ◌∙◌, sym, ap, subst, inl, inr, refl, ◌+◌, ◌≤◌, ◌++◌, ℕ, Bool, true, false, cond, not, List, [], ◌∷◌, Option, Some, None, All, length, arith, append-nil}
+use Rattle.std.specs.Prelude.{codes, find, nat_lt, position, slice_index_or}
 use Rattle.std.specs.List.{AllByRecursion, cons_option, position_or_len, prefix_len}
 use Rattle.std.specs.Option.{option_map_or}
 use Rattle.std.specs.Str.{IsUtf8, bytes_eq}
@@ -13,10 +13,10 @@ use Rattle.desk_tables.specs.FileSystemsText.{is_guarded}
 use Rattle.desk_tables.specs.declared.filesystems.Mount.{Mount}
 use Rattle.desk_policy.specs.Site.{no_exports}
 use Rattle.desk_policy.specs.SiteFault.{exports_name}
-use Rattle.desk_core.specs.Edit.{Already, Edit, Pending, Proposed, Refused, Stored, approved_revision, proposal_of, revision_by, revision_of}
-use Rattle.desk_core.specs.Head.{Newest, Revision, last_revision, newest_number, put}
-use Rattle.desk_core.specs.History.{IsHistory, newest_of, pending_in, revision_in, revisions_of, standing_of}
-use Rattle.desk_core.specs.Judging.{IsExportsName, exports_place, is_guarded_file, is_of_seven, seven, table_in}
+use Rattle.desk_core.specs.Edit.{Already, Edit, Pending, Proposed, Refused, Stored, proposal_of, revision_by, revision_of}
+use Rattle.desk_core.specs.Head.{Newest, Revision, last_revision, put}
+use Rattle.desk_core.specs.History.{IsHistory, newest_of, pending_in, revisions_of, standing_of}
+use Rattle.desk_core.specs.Judging.{IsExportsName, is_guarded_file, is_of_seven, seven, table_in}
 use Rattle.desk_core.specs.Laws.{AnsweredEditsKeepTheNumbers, AnswersAreRight, KnownFilesHaveNames, MayBeAccepted, StandingOfALongerHistory}
 use Rattle.desk_core.specs.Site.{IsConsistent, revision_text, site_by, site_in}
 use Rattle.desk_core.specs.Standing.{proposals_in}

@@ -1,5 +1,5 @@
 -- The rows of the history of a site, and the state of its newest revisions and its proposals.
-use Rattle.std.proofs.Common.{◌≡◌, ◌≢◌, ◌∙◌, sym, ap, subst, inl, inr, refl, ℕ, ◌-◌, ◌≤◌, ◌++◌, ◌||◌, Bool, true, false, cond, List, [], ◌∷◌, Option, Some, Result, Ok, Err, IfOk, All, find, filter_map, get_or, length, map, arith, append-nil}
+use Rattle.std.proofs.Common.{◌≡◌, ◌≢◌, ◌∙◌, sym, ap, subst, inl, inr, refl, ℕ, ◌-◌, ◌++◌, ◌||◌, Bool, true, false, cond, List, [], ◌∷◌, Option, Some, Result, Ok, Err, IfOk, All, find, filter_map, get_or, length, map, arith, append-nil}
 use Rattle.std.specs.Prelude.{Contains, IsPermutation, is_some, slice_get}
 use Rattle.std.specs.List.{AllPass, list_all, list_any}
 use Rattle.std.specs.Str.{bytes_eq}
@@ -8,7 +8,7 @@ use Rattle.std.proofs.lemmas.List.Elements.{filter_map-append}
 use Rattle.std.proofs.lemmas.List.Sorted.{All-permutation, IsPermutation-map, IsPermutation-refl, IsPermutation-sym, IsPermutation-trans}
 use Rattle.std.proofs.lemmas.List.Sums.{AllPass-from_list_all, list_all-from_AllPass}
 use Rattle.sqlite.specs.Order.{Row}
-use Rattle.desk_core.specs.Head.{CanBeKept, Newest, Revision, last_revision, newest_in, newest_number}
+use Rattle.desk_core.specs.Head.{CanBeKept, Newest, Revision, newest_in, newest_number}
 use Rattle.desk_core.specs.History.{IsHistory, newest_of, pending_in, revision_in, revisions_of, standing_of}
 use Rattle.desk_core.specs.Judging.{seven}
 use Rattle.desk_core.specs.Site.{IsConsistent, site_in}
@@ -22,19 +22,15 @@ use Rattle.desk_store.specs.Newest.{has_revision}
 use Rattle.desk_store.specs.StoredRows.{AreNewestOf, AreRowsOf, MayFollow, row_of_approval}
 use Rattle.desk_store.specs.declared.stored.Approval.{Approval}
 use Rattle.desk_store.proofs.LongerHistory.{none_pending}
-use Rattle.desk_store.proofs.Members.{IsPermutation-filter_map, default}
+use Rattle.desk_store.proofs.Members.{IsPermutation-filter_map, default, told_by_one}
 use Rattle.desk_store.proofs.NextNumbers.{low_newest, slice_at}
 use Rattle.desk_store.proofs.OneOrder.{numbered_so, proposals_say, same_newest}
 use Rattle.desk_store.proofs.PendingOnce.{all_pending, apart_permutation, pending_apart}
-use Rattle.desk_store.proofs.Revisions.{AreNumbered, history_of, last, newest_by, newest_is, newest_revised, numbered_in, own, revised_back}
+use Rattle.desk_store.proofs.Revisions.{AreNumbered, history_of, newest_by, newest_is, newest_revised, numbered_in, own, revised_back}
 
 pub if_both : {T E : Type 0} (r : Result T E) (P Q R : T → Type 0) → ((x : T) → P x → Q x → R x) → IfOk r P → IfOk r Q → IfOk r R
 if_both (Ok x) P Q R f p q = f x p q
 if_both (Err e) P Q R f p q = p
-
--- lists that are told by one list in any order are each other's
-both : {X : Type 0} (xs ys rows : List X) → IsPermutation xs rows → IsPermutation ys rows → IsPermutation xs ys
-both xs ys rows one two = IsPermutation-trans xs rows ys one (IsPermutation-sym ys rows two)
 
 -- what is told of slices
 pub may_read : {heads own : List Revision} {ps qs : List Proposal} → heads ≡ own → ps ≡ qs → MayFollow (newest_in heads) ps → MayFollow (newest_in own) qs
@@ -212,7 +208,7 @@ module _ (rows approvals proposals : List Row) (heads : List Revision) (found : 
     same_heads : newest_in heads ≡ newest_of history
     same_heads =
         newest_told
-        ∙ same_newest rs (revisions_in history) numbered site.numbered.numbered (both _ _ rows found.1.revised same.revised) (both _ _ approvals found.1.approved same.approved)
+        ∙ same_newest rs (revisions_in history) numbered site.numbered.numbered (told_by_one _ _ rows found.1.revised same.revised) (told_by_one _ _ approvals found.1.approved same.approved)
         ∙ sym (newest_is history)
 
     pub lacks_one : list_all (has_revision heads) seven ≡ false → ⊥

@@ -9,6 +9,8 @@ use Rattle.std.proofs.lemmas.List.Sorted.{sum_by-IsPermutation}
 use Rattle.std.proofs.lemmas.List.Sums.{sum_by-cons}
 use Rattle.desk_core.specs.Head.{Revision}
 use Rattle.desk_store.proofs.Revisions.{IsNumbered, own}
+use Rattle.std.proofs.lemmas.List.{length-map}
+use Rattle.std.proofs.lemmas.List.FromFn.{length-range_with_len}
 
 abbrev pub Rises : List ℕ → Type 0
 Rises [] = Unit {0}
@@ -108,14 +110,6 @@ rising file (x ∷ xs) h =
     step true above more = (above, more)
     step false above more = more
 
-length_map : (xs : List Revision) → length (map (λ (r : Revision). r.rev) xs) ≡ length xs
-length_map [] = refl
-length_map (x ∷ xs) = ap suc (length_map xs)
-
-length_range : (a n : ℕ) → length (range_with_len a n) ≡ n
-length_range a zero = refl
-length_range a (suc n) = ap suc (length_range (a + 1) n)
-
 pub sorted_numbers : (xs ys : List Revision) → IsNonDecreasingBy (λ (r : Revision). r.rev) xs → IsPermutation xs ys → IsNumbered ys → IsNumbered xs
 sorted_numbers xs ys up same h file =
     let n = length (own file ys) in
@@ -123,5 +117,5 @@ sorted_numbers xs ys up same h file =
     let counts : (k : ℕ) → count k numbers ≡ count k (range_with_len 1 n) = λ k.
     counted file k xs ∙ sym (sum_by-IsPermutation (number_if file k) xs ys same) ∙ sym (counted file k ys) ∙ ap (count k) (h file) in
     let is : numbers ≡ range_with_len 1 n = is_range numbers 1 n (rising file xs up) counts in
-    let long : n ≡ length (own file xs) = sym (length_range 1 n) ∙ ap length (sym is) ∙ length_map (own file xs) in
+    let long : n ≡ length (own file xs) = sym (length-range_with_len 1 n) ∙ ap length (sym is) ∙ length-map (own file xs) (λ (r : Revision). r.rev) in
     is ∙ ap (range_with_len 1) long

@@ -1,15 +1,13 @@
-use Rattle.std.proofs.Common.{◌≡◌, ◌∙◌, ap, sym, subst, true, false, Err, List}
+use Rattle.std.proofs.Common.{◌≡◌, ◌∙◌, ap, sym, subst, Err, List}
 use Rattle.std.specs.List.{list_all}
 use Rattle.std.proofs.lemmas.Bool.{false≢true}
 use Rattle.std.proofs.lemmas.Result.{err_from_is_err_and}
-use Rattle.desk_core.specs.Head.{Revision, StandOnce, newest_in}
+use Rattle.desk_core.specs.Head.{Revision, StandOnce}
 use Rattle.desk_core.specs.History.{pending_in}
 use Rattle.desk_core.specs.Judging.{seven}
 use Rattle.desk_core.specs.State.{standing}
-use Rattle.desk_core.specs.declared.proposal.Proposal.{Proposal}
 use Rattle.desk_store.specs.History.{revisions_in}
 use Rattle.desk_store.specs.Newest.{has_revision}
-use Rattle.desk_store.specs.StoredRows.{MayFollow}
 use Rattle.desk_store.specs.declared.error.DeskError.TheVariants as error
 use Rattle.desk_store.proofs.Revisions.{history_of}
 use Rattle.desk_store.proofs.SiteRows.{can_be_pending, if_both, lacks_one, may_read, not_consistent, not_following, not_read, pending_low, site_history}
