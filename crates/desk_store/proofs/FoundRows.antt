@@ -1,5 +1,5 @@
 -- What the rows say of a revision is what the history says, and a look leaves a desk as it was.
-use Rattle.std.proofs.Common.{Bool, Err, List, None, Ok, Option, Result, Some, [], ap, arith, codes, false, filter_map, inl, inr, map, pos, refl, subst, sym, true, ℕ, ◌==◌, ◌&&◌, ◌∙◌, ◌∷◌, ◌≡◌, filter}
+use Rattle.std.proofs.Common.{Err, List, None, Ok, Option, Result, Some, [], ap, arith, codes, filter_map, inl, inr, map, pos, refl, subst, sym, true, ℕ, ◌==◌, ◌&&◌, ◌∙◌, ◌∷◌, ◌≡◌, filter}
 use Rattle.std.specs.Prelude.{Contains, IfOk, IsPermutation}
 use Rattle.std.specs.Option.{option_map}
 use Rattle.std.specs.Cmp.{Equal-is, int_cmp_is}

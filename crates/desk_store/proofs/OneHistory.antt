@@ -1,7 +1,6 @@
 -- The same tables hold one history, file by file, and its files stand in one way.
 use Rattle.std.proofs.Common.{◌≡◌, ◌∙◌, sym, ap, ℕ, List, map, IsPermutation}
 use Rattle.std.specs.List.{filter_map}
-use Rattle.std.proofs.lemmas.List.Sorted.{IsPermutation-sym, IsPermutation-trans}
 use Rattle.sqlite.specs.Effect.{Database}
 use Rattle.sqlite.specs.Order.{Row}
 use Rattle.desk_core.specs.Head.{Newest}

@@ -1,5 +1,5 @@
 -- It does not matter in which order rows are: revisions that they say are numbered, and of numbered ones each file has the same.
-use Rattle.std.proofs.Common.{◌≡◌, ◌∙◌, sym, ap, subst, refl, ℕ, suc, ◌∷◌, Bool, true, false, cond, List, [], Option, Some, None, IsPermutation, length, map}
+use Rattle.std.proofs.Common.{◌≡◌, ◌∙◌, sym, ap, subst, refl, ℕ, ◌∷◌, Bool, true, false, cond, List, [], Option, Some, None, IsPermutation, length, map}
 use Rattle.std.specs.Prelude.{Contains}
 use Rattle.std.specs.List.{filter_map, range_with_len}
 use Rattle.std.specs.Option.{option_map}
