@@ -27,10 +27,10 @@ pub fn run_impact<I: BufRead>(
 }
 
 /// Answers by the text of FILE, which is read before the database is.
-fn ask_file<I: BufRead>(
+fn ask_file<'a, I: BufRead>(
     rt: &HostRuntime,
-    words: ImpactWords<'_>,
-    file: &str,
+    words: ImpactWords<'a>,
+    file: &'a str,
     input: &mut I,
 ) -> Result<Output, Failure>
     ensures { AnswersFile (given_impact words.entry) file.now (I.remaining input.old) result }
