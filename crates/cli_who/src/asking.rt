@@ -1,6 +1,6 @@
 //! What a desk on a copy of a database tells of a text that a file might have, as the proposal of a guarded one.
 
-ghost use Rattle.std.specs.Prelude.{◌≡◌, false};
+ghost use Rattle.std.specs.Prelude.{◌≡◌, false, None};
 ghost use Rattle.sqlite.specs.Held.{state};
 ghost use Rattle.sqlite.specs.State.{HasCleanDisk};
 ghost use Rattle.desk_core.specs.Head.{newest_in};
@@ -43,6 +43,23 @@ pub(crate) struct NewText<'a> {
     pub all: bool,
     /// The proposal that has the text, if one has.
     pub proposal: Option<&'a Proposal>,
+}
+
+/// A text that a file might have, by FILE: no proposal has it.
+pub(crate) fn given_text<'a>(name: &'a str, file: &'a str, text: &'a str, all: bool) -> NewText<'a>
+    ensures name { result.name.now ≡ name.now }
+    ensures file { result.file.now ≡ file.now }
+    ensures text { result.text.now ≡ text.now }
+    ensures all { result.all ≡ all }
+    ensures none { result.proposal ≡ None }
+{
+    NewText {
+        name,
+        file,
+        text,
+        all,
+        proposal: None,
+    }
 }
 
 /// What is asked.

@@ -3,7 +3,7 @@
 ghost use Rattle.cli_words.specs.Words.{given_impact};
 ghost use Rattle.cli_who.specs.ImpactCommand.{AnswersFile, AnswersImpact};
 
-use crate::asking::{Asked, NewText, ask_copy};
+use crate::asking::{Asked, ask_copy, given_text};
 use cli_files::failure::Failure;
 use cli_files::files::{FileArgument, read_if_given};
 use cli_output::output::Output;
@@ -36,12 +36,6 @@ fn ask_file<'a, I: BufRead>(
     ensures { AnswersFile (given_impact words.entry) file.now (I.remaining input.old) result }
 {
     let text = read_if_given(rt, FileArgument::File, Some(file), input)?;
-    let new = NewText {
-        name: words.name,
-        file,
-        text: text.as_str(),
-        all: words.all,
-        proposal: None,
-    };
+    let new = given_text(words.name, file, text.as_str(), words.all);
     ask_copy(rt, words.db, Asked::Text(new))
 }
