@@ -1,5 +1,5 @@
 -- FILE is read first.
-use Rattle.std.proofs.Common.{◌∷◌, [], Err, List, Ok, inl, refl, subst, ℕ}
+use Rattle.std.proofs.Common.{◌∷◌, [], Bool, Err, List, Ok, inl, refl, subst, ◌∙◌, ℕ}
 use Rattle.std.proofs.lemmas.Result.{err_from_is_err_and}
 use Rattle.std.specs.String.{string_bytes}
 use Rattle.cli_who.specs.Asking.{OfText, TellsAtPath}
@@ -15,6 +15,8 @@ returns g c = record {
   read = Ok (string_bytes c.in_ok-text.text ∷ []);
   reads = (c.in_ok-text.ensures.text, (g.I.Read.remaining c.read_if_given.new.input, (c.read_if_given.ensures.left, refl)));
   answers =
-      subst (λ (text : List ℕ). TellsAtPath c.args.words.db.now (OfText (record { name = c.args.words.name.now; text = text; all = c.args.words.all })) c.ask_copy.result) c.as_str.ensures.value
-      c.ask_copy.ensures;
+      subst (λ (name : List ℕ). TellsAtPath c.args.words.db.now (OfText (record { name = name; text = string_bytes c.in_ok-text.text; all = c.args.words.all })) c.ask_copy.result) c.given_text-new.ensures.name
+      (subst (λ (text : List ℕ). TellsAtPath c.args.words.db.now (OfText (record { name = c.given_text-new.result.name.now; text = text; all = c.args.words.all })) c.ask_copy.result) (c.given_text-new.ensures.text ∙ c.as_str.ensures.value)
+      (subst (λ (all : Bool). TellsAtPath c.args.words.db.now (OfText (record { name = c.given_text-new.result.name.now; text = c.given_text-new.result.text.now; all = all })) c.ask_copy.result) c.given_text-new.ensures.all
+      c.ask_copy.ensures));
 }
