@@ -126,6 +126,7 @@ QUESTIONS = [
     HISTORY,
     Message("/v1/mount?host=192.0.2.1", 400, refusal(108, "BadQuery")),
     Message("/v1/file?name=hosts&rev=2", 404, refusal(111, "NoRevision")),
+    Message("/v1/proposal?name=exports:/u", 404, refusal(111, "NoRevision")),
     Message("/v2", 404, refusal(106, "NoRoute")),
     Message("/v1/file", 405, refusal(107, "BadMethod"), "DELETE"),
 ]

@@ -5,8 +5,8 @@ _exportdesk()
     local command=${COMP_WORDS[1]} count=0 is_value=no place
     COMPREPLY=()
     if [ "$COMP_CWORD" -eq 1 ]; then
-        choices='try split check clients compare init ask show exports who put impact log cat files write serve
-            --help --version'
+        choices='try split check clients compare init ask show exports who put impact log cat proposal files
+            write serve --help --version'
         mapfile -t COMPREPLY < <(compgen -W "$choices" -- "$word")
         return
     fi
@@ -30,7 +30,7 @@ _exportdesk()
     clients) choices='--hosts --networks --passwd --group --netgroup --help' ;;
     compare) choices='--hosts --networks --passwd --group --netgroup --all --help' ;;
     ask) choices='--as --help' ;;
-    impact) choices='--all --help' ;;
+    impact) choices='--all --proposal --help' ;;
     put) choices='--base --caller --key-file --key --help' ;;
     cat) choices='--rev --help' ;;
     serve) choices='--port --connections --timeout --help' ;;
@@ -60,7 +60,7 @@ _exportdesk()
     *:-?*) mapfile -t COMPREPLY < <(compgen -W "$choices" -- "$word") ;;
     *)
         case $command:$count in
-        put:1 | impact:1 | log:1 | cat:1)
+        put:1 | impact:1 | log:1 | cat:1 | proposal:1)
             choices='custodians filesystems hosts networks passwd group netgroup exports:'
             mapfile -t COMPREPLY < <(compgen -W "$choices" -- "$word")
             [ "${COMPREPLY[*]}" != exports: ] || compopt -o nospace
@@ -70,7 +70,8 @@ _exportdesk()
         compopt -o filenames
         case $command:$count in
         try:0 | check:0 | clients:0 | compare:[01] | split:[01]) mapfile -t COMPREPLY < <(compgen -f -- "$word") ;;
-        init:0 | ask:0 | show:0 | exports:0 | who:0 | put:[02] | impact:[02] | log:0 | cat:0 | files:0 | write:0 | serve:0)
+        files:0 | write:0 | serve:0) mapfile -t COMPREPLY < <(compgen -f -- "$word") ;;
+        init:0 | ask:0 | show:0 | exports:0 | who:0 | put:[02] | impact:[02] | log:0 | cat:0 | proposal:0)
             mapfile -t COMPREPLY < <(compgen -f -- "$word")
             ;;
         try:1 | ask:1) ;;

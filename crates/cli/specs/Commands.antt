@@ -3,7 +3,7 @@ use Rattle.std.specs.Prelude.{◌≡◌, ◌≢◌, ◌⊎◌, ℕ, List, [], �
 use Rattle.std.specs.Io.BufRead.{take_through}
 use Rattle.clap.specs.declared.error.ErrorKind.{ErrorKind}
 use Rattle.clap.specs.declared.error.ErrorKind.TheVariants.{DisplayHelp, DisplayVersion, OutOfMemory}
-use Rattle.cli_line.specs.CommandLine.{Ask, AskForHelp, Cat, Check, Clients, CommandWords, Compare, Exports, Files, Impact, Init, Log, Put, Serve, Show, Split, Try, Who, Write, command_found, faults_of}
+use Rattle.cli_line.specs.CommandLine.{Ask, AskForHelp, Cat, Check, Clients, CommandWords, Compare, Exports, Files, Impact, Init, Log, Proposal, Put, Serve, Show, Split, Try, Who, Write, command_found, faults_of}
 use Rattle.cli_files.specs.Files.{IsUnreadLine}
 use Rattle.cli_files.specs.Input.{first_line}
 use Rattle.cli_words.specs.LineWords.{IsBadWord, words_of}
@@ -20,7 +20,7 @@ use Rattle.cli_texts.specs.SplitCommand.{AnswersSplit}
 use Rattle.cli_texts.specs.TryCommand.{AnswersTry}
 use Rattle.cli_output.specs.declared.output.Output.{Output}
 use Rattle.cli_output.specs.declared.output.Output.TheVariants.{Help}
-use Rattle.cli_database.specs.QuestionCommands.{AnswersAsk, AnswersCat, AnswersExports, AnswersLog, AnswersShow, AnswersWho}
+use Rattle.cli_database.specs.QuestionCommands.{AnswersAsk, AnswersCat, AnswersExports, AnswersLog, AnswersProposal, AnswersShow, AnswersWho}
 use Rattle.cli_database.specs.InitCommand.{AnswersInit}
 use Rattle.cli_database.specs.PutCommand.{AnswersPut}
 use Rattle.cli_serve.specs.ServeCommand.{AnswersServe}
@@ -59,6 +59,7 @@ AnswersGiven (Put words) known result = AnswersPut words known result
 AnswersGiven (Impact words) known result = AnswersImpact words known result
 AnswersGiven (Log words) known result = AnswersLog words result
 AnswersGiven (Cat words) known result = AnswersCat words result
+AnswersGiven (Proposal words) known result = AnswersProposal words result
 AnswersGiven (Files words) known result = AnswersFiles words result
 AnswersGiven (Write words) known result = AnswersWrite words result
 AnswersGiven (Serve words) known result = AnswersServe words result

@@ -11,7 +11,9 @@ use clap::ArgMatches;
 use clap::error::ErrorKind;
 use cli_database::init_command::run_init;
 use cli_database::put_command::run_put;
-use cli_database::question_commands::{run_ask, run_cat, run_exports, run_log, run_show, run_who};
+use cli_database::question_commands::{
+    run_ask, run_cat, run_exports, run_log, run_proposal, run_show, run_who,
+};
 use cli_files::failure::{Failure, ReadFailure};
 use cli_files::input::{first_line, read_line};
 use cli_line::command;
@@ -94,6 +96,7 @@ fn run_found<I: BufRead>(
         CommandWords::Impact(words) => printing(run_impact(rt, words, input)),
         CommandWords::Log(words) => printing(run_log(rt, words)),
         CommandWords::Cat(words) => printing(run_cat(rt, words)),
+        CommandWords::Proposal(words) => printing(run_proposal(rt, words)),
         CommandWords::Files(words) => printing(run_files(rt, words)),
         CommandWords::Write(words) => printing(run_write(rt, words)),
         CommandWords::Serve(words) => run_serve(rt, words),

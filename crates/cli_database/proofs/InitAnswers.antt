@@ -12,7 +12,8 @@ use Rattle.desk_tables.specs.Rules.{TableFault}
 use Rattle.desk_tables.specs.declared.filesystems.Mount.{Mount}
 use Rattle.desk_exports.specs.Splitting.{split_text}
 use Rattle.desk_exports.specs.declared.rules.Rule.{Rule}
-use Rattle.desk_policy.specs.Site.{SiteTexts}
+use Rattle.desk_policy.specs.Site.{SiteTexts, no_exports}
+use Rattle.desk_policy.specs.declared.site.ExportsText.{ExportsText}
 use Rattle.desk_policy.specs.declared.site_fault.SiteFault.{SiteFault}
 use Rattle.desk_core.specs.declared.edit.Refusal.TheVariants.{Fault as SiteRefusal}
 use Rattle.desk_store.specs.declared.error.CreateError.TheVariants as create
@@ -25,13 +26,13 @@ use Rattle.cli_output.specs.declared.output.Output.{Output}
 use Rattle.cli_output.specs.declared.output.Output.TheVariants.{Refused}
 use Rattle.cli_output.specs.declared.refused.Refused.{Refused as Why}
 use Rattle.cli_output.specs.declared.refused.Refused.TheVariants as refused
-use Rattle.cli_database.specs.InitCommand.{AnswersInitBy, AnswersInitOf, AnswersInitSite, AnswersInitSplit, AnswersInitTexts, AnswersInitWith, ComesTo, IsRefusedFor, SplitsExports, Stores, TellsSplitFault, part_of}
+use Rattle.cli_database.specs.InitCommand.{AnswersInitBy, AnswersInitOf, AnswersInitSite, AnswersInitSplit, AnswersInitTexts, AnswersInitWith, ComesTo, IsRefusedFor, SplitsExports, Stores, TellsSplitFault, new_exports, part_of}
 use Rattle.cli_database.specs.RefusedOutputs.{IsRefusedAs, IsRefusedByDesk}
 use Rattle.cli_database.specs.declared.init_command.NotMade.{NotMade}
 use Rattle.cli_database.specs.declared.init_command.NotMade.TheVariants as not_made
 
 -- the site of these seven texts and exports
-abbrev site_by : SiteFiles → (List ℕ → List ℕ) → SiteTexts
+abbrev site_by : SiteFiles → (List ℕ → ExportsText) → SiteTexts
 site_by texts exports = record {
   custodians = string_bytes texts.custodians;
   filesystems = string_bytes texts.filesystems;
@@ -44,11 +45,11 @@ site_by texts exports = record {
 }
 
 -- memory runs out
-pub memory_with : {Y : Type 0} (texts : SiteFiles) (exports : BTreeMap (String Y) (List ℕ)) → AnswersInitWith (site_list texts) exports (Err Memory)
-memory_with texts exports = (site_by texts (λ name. unwrap_or (get_by_text exports name) []), record { seven = refl; exports_are = λ name. refl }, refl)
+pub memory_with : {Y : Type 0} (texts : SiteFiles) (exports : BTreeMap (String Y) ExportsText) → AnswersInitWith (site_list texts) exports (Err Memory)
+memory_with texts exports = (site_by texts (λ name. unwrap_or (get_by_text exports name) no_exports), record { seven = refl; exports_are = λ name. refl }, refl)
 
 memory_of : (texts : SiteFiles) (mounts : List Mount) (parts : List (List ℕ)) → AnswersInitOf (take 7 (site_list texts)) mounts parts (Err Memory)
-memory_of texts mounts parts = (site_by texts (part_of mounts parts), record { files = refl; exports = λ name. refl }, refl)
+memory_of texts mounts parts = (site_by texts (λ name. new_exports (part_of mounts parts name)), record { files = refl; exports = λ name. refl }, refl)
 
 memory_split : (texts : SiteFiles) (mounts : List Mount) (split : Result (List (List ℕ)) (LineFault Rule)) → AnswersInitSplit (take 7 (site_list texts)) mounts split (Err Memory)
 memory_split texts mounts (Ok parts) = memory_of texts mounts parts
@@ -62,14 +63,14 @@ pub memory_texts : (texts : SiteFiles) → AnswersInitTexts (Ok (site_list texts
 memory_texts texts = memory_by texts (string_bytes texts.exports) (read_filesystems (string_bytes texts.filesystems))
 
 -- the exports text is split
-with_read : {Y : Type 0} (texts : SiteFiles) (text : List ℕ) (exports : BTreeMap (String Y) (List ℕ)) (read : Result (List Mount) TableFault) (result : Result Output Failure) → SplitsExports read text (Ok exports) → AnswersInitWith (site_list texts) exports result → AnswersInitBy (take 7 (site_list texts)) text read result
+with_read : {Y : Type 0} (texts : SiteFiles) (text : List ℕ) (exports : BTreeMap (String Y) ExportsText) (read : Result (List Mount) TableFault) (result : Result Output Failure) → SplitsExports read text (Ok exports) → AnswersInitWith (site_list texts) exports result → AnswersInitBy (take 7 (site_list texts)) text read result
 with_read texts text exports (Ok table) result splits answers =
     subst (λ (s : Result (List (List ℕ)) (LineFault Rule)). AnswersInitSplit (take 7 (site_list texts)) table s result) (sym splits.1)
     (answers.0, record { files = answers.1.seven; exports = λ name. answers.1.exports_are name ∙ splits.2 name }, answers.2)
 with_read texts text exports (Err bad) result splits answers =
     (answers.0, record { files = answers.1.seven; exports = λ name. answers.1.exports_are name ∙ splits name }, answers.2)
 
-pub with_exports : {Y : Type 0} (texts : SiteFiles) (exports : BTreeMap (String Y) (List ℕ)) (result : Result Output Failure) → SplitsExports (read_filesystems (string_bytes texts.filesystems)) (string_bytes texts.exports) (Ok exports) → AnswersInitWith (site_list texts) exports result → AnswersInitTexts (Ok (site_list texts)) result
+pub with_exports : {Y : Type 0} (texts : SiteFiles) (exports : BTreeMap (String Y) ExportsText) (result : Result Output Failure) → SplitsExports (read_filesystems (string_bytes texts.filesystems)) (string_bytes texts.exports) (Ok exports) → AnswersInitWith (site_list texts) exports result → AnswersInitTexts (Ok (site_list texts)) result
 with_exports texts exports result = with_read texts (string_bytes texts.exports) exports (read_filesystems (string_bytes texts.filesystems)) result
 
 tells_split : (fault : LineFault Rule) (result : Result Output Failure) → IsRefusedAs (refused.Split fault) result → TellsSplitFault fault result

@@ -1,7 +1,6 @@
 -- What a desk answers to an edit is told, for `put_command`.
-use Rattle.std.proofs.Common.{◌≡◌, ◌∙◌, ◌+◌, ◌++◌, ℕ, Bool, true, false, List, [], ◌∷◌, inl, inr, Option, Some, None, Result, Ok, Err, String, cond, refl, subst, sym}
+use Rattle.std.proofs.Common.{◌≡◌, ◌∙◌, ◌+◌, ℕ, Bool, true, false, List, [], ◌∷◌, inl, inr, Option, Some, None, Result, Ok, Err, String, cond, refl, subst, sym}
 use Rattle.std.specs.Prelude.{IfOk, codes}
-use Rattle.std.specs.Fmt.{decimal}
 use Rattle.std.specs.String.{string_bytes}
 use Rattle.sqlite_wal.specs.Recovery.{Image}
 use Rattle.sqlite_trees.specs.declared.store.Store.{Ghosts}
@@ -9,7 +8,7 @@ use Rattle.sqlite.specs.Held.{Held, state}
 use Rattle.sqlite.specs.State.{State}
 use Rattle.desk_policy.specs.Policy.{Content}
 use Rattle.desk_core.specs.Edit.{Edit}
-use Rattle.desk_core.specs.Head.{newest_in}
+use Rattle.desk_core.specs.State.{standing}
 use Rattle.desk_store.specs.Open.{IsOfOpening}
 use Rattle.desk_store.specs.declared.desk.Done.{Done}
 use Rattle.desk_store.specs.declared.error.DeskError.{DeskError}
@@ -28,21 +27,24 @@ use Rattle.cli_output.specs.declared.output.Output.TheVariants.{Done as Prints}
 use Rattle.cli_output.specs.declared.refused.Refused.{Refused as Why}
 use Rattle.cli_output.specs.declared.refused.Refused.TheVariants as refused
 use Rattle.cli_database.specs.Opening.{TellsNoDesk}
-use Rattle.cli_database.specs.PutCommand.{AnswersEdit, AnswersPutFiles, AnswersPutKey, GivesKeyBy, HasReplies, PutsFrom, TellsAnswer, TellsReply, key_file_in, key_in, put_files, with_first}
+use Rattle.cli_database.specs.PutCommand.{AnswersEdit, AnswersPutFiles, AnswersPutKey, GivesKeyBy, HasReplies, PutsFrom, TellsAnswer, TellsReply, key_file_in, key_in, line_of, put_files, with_first}
 use Rattle.cli_database.specs.RefusedOutputs.{IsRefusedByDesk, TellsError}
 use Rattle.cli_database.proofs.NoDesk.{by_opening, by_store}
 use Rattle.cli_database.specs.declared.put_command.KeySource.{KeySource}
 use Rattle.cli_database.specs.declared.put_command.KeySource.TheVariants.{InFile, Word}
 
 -- the replies are the lines of the answer
-line : {A : Type 0} (already : Bool) (rev number : ℕ) (replies : Replies (String A)) → HasReplies number replies → rev ≡ number
-    → string_bytes (cond already replies.already replies.accepted) ≡ cond already (codes "already rev ") (codes "accepted rev ") ++ decimal rev ++ 10 ∷ []
-line true rev number replies has is = rw is has.already
-line false rev number replies has is = rw is has.accepted
+line : {A : Type 0} (proposed already : Bool) (rev number : ℕ) (replies : Replies (String A)) → HasReplies number replies → rev ≡ number
+    → string_bytes (cond proposed (cond already replies.already_proposed replies.proposed) (cond already replies.already replies.accepted))
+    ≡ line_of (cond proposed (cond already (codes "already proposed rev ") (codes "proposed rev ")) (cond already (codes "already rev ") (codes "accepted rev "))) rev
+line true true rev number replies has is = rw is has.already_proposed
+line true false rev number replies has is = rw is has.proposed
+line false true rev number replies has is = rw is has.already
+line false false rev number replies has is = rw is has.accepted
 
 tells_answer : {A : Type 0} (e : Edit) (replies : Replies (String A)) (answer : Result Done DeskError) (result : Result Output Failure) → HasReplies (e.base + 1) replies
     → IfOk answer (λ done. done.rev ≡ e.base + 1) → TellsReply (reply_to replies answer) result → TellsAnswer answer result
-tells_answer e replies (Ok done) (Ok (Prints text)) has number tells = tells ∙ line done.already done.rev (e.base + 1) replies has number
+tells_answer e replies (Ok done) (Ok (Prints text)) has number tells = tells ∙ line done.proposed done.already done.rev (e.base + 1) replies has number
 tells_answer e replies (Ok done) (Ok output) has number tells = absurd tells
 tells_answer e replies (Ok done) (Err failure) has number tells = absurd tells
 tells_answer e replies (Err failed) result has number tells = tells
@@ -70,7 +72,7 @@ answered path old new e answer (Err failure) put tells = failed_so path e answer
 answered path old new e answer (Ok (Refused (refused.Desk by_desk.Store) told)) put tells = tt
 answered path old new e answer (Ok (Refused (refused.Desk by_desk.Schema) told)) put tells = tt
 answered path old new e answer (Ok output) put tells = record {
-  newest = newest_in put.before.heads;
+  standing = standing put.before;
   consistent = put.judged.consistent;
   answer = answer;
   answers = put.judged.answers;

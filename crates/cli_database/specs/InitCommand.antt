@@ -16,10 +16,12 @@ use Rattle.desk_tables.specs.FileSystemsText.{read_filesystems}
 use Rattle.desk_tables.specs.Rules.{TableFault}
 use Rattle.desk_tables.specs.declared.filesystems.Mount.{Mount}
 use Rattle.desk_exports.specs.Splitting.{split_text}
+use Rattle.desk_exports.specs.declared.profile.Profile.TheVariants.{Two}
 use Rattle.desk_exports.specs.declared.rules.Rule.{Rule}
 use Rattle.desk_policy.specs.Parsing.{read_site}
 use Rattle.desk_policy.specs.Policy.{Content}
-use Rattle.desk_policy.specs.Site.{HaveLengthsWithin, SiteTexts}
+use Rattle.desk_policy.specs.Site.{HaveLengthsWithin, SiteTexts, no_exports}
+use Rattle.desk_policy.specs.declared.site.ExportsText.{ExportsText}
 use Rattle.desk_policy.specs.Warning.{kind_name}
 use Rattle.desk_policy.specs.declared.site_fault.SiteFault.{SiteFault}
 use Rattle.desk_policy.specs.declared.warning.Warning.{Warning}
@@ -62,7 +64,7 @@ pub record IsReadyText (site : SiteTexts) (text : List ℕ) : Type 0 where
   pub short : HaveLengthsWithin longest_revision site → text ≡ ready_text (warnings_in (read_site site))
   pub long : ¬ HaveLengthsWithin longest_revision site → text ≡ ready_text []
 
--- A database was made of a site: none of the two tables was there, and they now hold revision 1 of each file, which is the history
+-- A database was made of a site: none of the four tables was there, and they now hold revision 1 of each file, which is the history
 -- of a site, beside what was there; and a crash leaves just that.
 pub record HasMade (old new : State) (site : SiteTexts) : Type 0 where
   pub none : has_one old.committed.schema ≡ false
@@ -128,13 +130,17 @@ part_of [] parts name = []
 part_of (mount ∷ mounts) [] name = []
 part_of (mount ∷ mounts) (part ∷ parts) name = if bytes_eq (path_text mount.path) name then part else part_of mounts parts name
 
+-- an exports text of a new database: it is read by profile 2
+abbrev pub new_exports : List ℕ → ExportsText
+new_exports text = record { profile = Two; body = text }
+
 -- the exports texts that a site has are those of these mount points
-abbrev pub AreParts : {Y : Type 0} → List Mount → List (List ℕ) → BTreeMap (String Y) (List ℕ) → Type 0
-AreParts mounts parts exports = (name : List ℕ) → unwrap_or (get_by_text exports name) [] ≡ part_of mounts parts name
+abbrev pub AreParts : {Y : Type 0} → List Mount → List (List ℕ) → BTreeMap (String Y) ExportsText → Type 0
+AreParts mounts parts exports = (name : List ℕ) → unwrap_or (get_by_text exports name) no_exports ≡ new_exports (part_of mounts parts name)
 
 -- The exports texts by how the file systems are read: those that the exports text is split into, or its fault; none if the file
 -- systems have a fault. Out of memory says nothing.
-abbrev pub SplitsExports : {Y : Type 0} → Result (List Mount) TableFault → List ℕ → Result (BTreeMap (String Y) (List ℕ)) (ReadError (LineFault Rule)) → Type 0
+abbrev pub SplitsExports : {Y : Type 0} → Result (List Mount) TableFault → List ℕ → Result (BTreeMap (String Y) ExportsText) (ReadError (LineFault Rule)) → Type 0
 SplitsExports (Ok table) text (Ok exports) = (parts : List (List ℕ)) × (split_text table text ≡ Ok parts) × AreParts table parts exports
 SplitsExports (Ok table) text (Err (Fault fault)) = split_text table text ≡ Err fault
 SplitsExports (Err bad) text (Ok exports) = AreParts [] [] exports
@@ -148,19 +154,19 @@ seven_of site = site.custodians ∷ site.filesystems ∷ site.hosts ∷ site.net
 -- a site has these texts of its seven files, and of the exports of these mount points
 pub record HasTexts (seven : List (List ℕ)) (mounts : List Mount) (parts : List (List ℕ)) (site : SiteTexts) : Type 0 where
   pub files : seven_of site ≡ seven
-  pub exports : (name : List ℕ) → site.exports name ≡ part_of mounts parts name
+  pub exports : (name : List ℕ) → site.exports name ≡ new_exports (part_of mounts parts name)
 
 -- the answer to a site of these texts
 abbrev pub AnswersInitOf : List (List ℕ) → List Mount → List (List ℕ) → Result Output Failure → Type 0
 AnswersInitOf seven mounts parts result = (site : SiteTexts) × HasTexts seven mounts parts site × AnswersInitSite site result
 
 -- a site has the first seven of these texts, and these exports texts
-pub record IsSiteWith {Y : Type 0} (texts : List (List ℕ)) (exports : BTreeMap (String Y) (List ℕ)) (site : SiteTexts) : Type 0 where
+pub record IsSiteWith {Y : Type 0} (texts : List (List ℕ)) (exports : BTreeMap (String Y) ExportsText) (site : SiteTexts) : Type 0 where
   pub seven : seven_of site ≡ take 7 texts
-  pub exports_are : (name : List ℕ) → site.exports name ≡ unwrap_or (get_by_text exports name) []
+  pub exports_are : (name : List ℕ) → site.exports name ≡ unwrap_or (get_by_text exports name) no_exports
 
 -- the answer to such a site
-abbrev pub AnswersInitWith : {Y : Type 0} → List (List ℕ) → BTreeMap (String Y) (List ℕ) → Result Output Failure → Type 0
+abbrev pub AnswersInitWith : {Y : Type 0} → List (List ℕ) → BTreeMap (String Y) ExportsText → Result Output Failure → Type 0
 AnswersInitWith texts exports result = (site : SiteTexts) × IsSiteWith texts exports site × AnswersInitSite site result
 
 -- the output tells the fault for which the exports text is not split; out of memory says nothing

@@ -1,3 +1,4 @@
+pub mod FileOutputs
 pub mod InitCommand
 pub mod Opening
 pub mod PutCommand

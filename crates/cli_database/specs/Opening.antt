@@ -1,12 +1,12 @@
 -- How a database is opened for edits, and why it is not. (this project's own)
-use Rattle.std.specs.Prelude.{ℕ, List, Result, Ok, Err}
+use Rattle.std.specs.Prelude.{◌≡◌, ◌⊎◌, ℕ, List, IsTrue, Result, Ok, Err}
 use Rattle.sqlite_wal.specs.Recovery.{Image}
 use Rattle.sqlite_trees.specs.declared.store.Store.{Ghosts}
 use Rattle.sqlite.specs.Held.{Held, state}
 use Rattle.sqlite.specs.Start.{FindsIn}
-use Rattle.sqlite.specs.State.{HasCleanDisk, Opens}
+use Rattle.sqlite.specs.State.{HasCleanDisk, Opens, State, Survives}
 use Rattle.desk_store.specs.Desk.{HasGoodDisk, Shown}
-use Rattle.desk_store.specs.Open.{OpensAt}
+use Rattle.desk_store.specs.Open.{LeavesOpened, MayMigrate, OpensAt}
 use Rattle.desk_service.specs.declared.refused.Refused.TheVariants as by_desk
 use Rattle.cli_files.specs.Files.{IsUnread}
 use Rattle.cli_files.specs.declared.failure.Failure.{Failure}
@@ -28,3 +28,8 @@ pub record OpensDesk {S V : Type 0} (g : Ghosts S) (image : Image) (desk : Shown
   pub conn : Held S
   pub found : HasCleanDisk (state g conn) → Opens (state g conn) × FindsIn image (state g conn)
   pub stands : HasGoodDisk g desk → OpensAt g (state g conn).committed desk
+
+-- The tables are as before, or a database of version 1 was migrated; and a crash leaves what it could before, or that migration.
+pub record OnlyMigrates (old new : State) : Type 0 where
+  pub tables : HasCleanDisk new → IsTrue new.is_open → (new.committed ≡ old.committed) ⊎ LeavesOpened old.committed new.committed
+  pub crash : Survives old new (MayMigrate old)

@@ -10,8 +10,8 @@ use Rattle.sqlite.specs.Start.{FindsIn}
 use Rattle.sqlite.specs.State.{HasCleanDisk, Opens, State}
 use Rattle.desk_policy.specs.Policy.{Content}
 use Rattle.desk_core.specs.Edit.{Edit}
-use Rattle.desk_core.specs.Head.{Newest}
 use Rattle.desk_core.specs.Site.{IsConsistent, site_in}
+use Rattle.desk_core.specs.Standing.{Standing}
 use Rattle.desk_store.specs.Desk.{AnswersBy}
 use Rattle.desk_store.specs.declared.desk.Done.{Done}
 use Rattle.desk_store.specs.declared.error.DeskError.{DeskError}
@@ -38,17 +38,29 @@ use Rattle.cli_database.specs.declared.put_command.KeySource.TheVariants.{InFile
 abbrev pub IsKeyIn : List ℕ → List ℕ → Type 0
 IsKeyIn text key = ((length text ≡ 0) × (key ≡ [])) ⊎ ((rest : List ℕ) × IsFirstLine text key rest)
 
--- what is printed of an edit that is not refused, as `accepted rev 2`
+-- a line that is printed of an edit, by its words and the number of the edit's revision, as `accepted rev 2`
+abbrev pub line_of : List ℕ → ℕ → List ℕ
+line_of words rev = words ++ decimal rev ++ 10 ∷ []
+
+-- the words of it: the edit is stored or proposed, or was before
+abbrev pub reply_words : Done → List ℕ
+reply_words done =
+    if done.proposed then (if done.already then codes "already proposed rev " else codes "proposed rev ")
+    else (if done.already then codes "already rev " else codes "accepted rev ")
+
+-- what is printed of an edit that is not refused
 abbrev pub reply_line : Done → List ℕ
-reply_line done = (if done.already then codes "already rev " else codes "accepted rev ") ++ decimal done.rev ++ 10 ∷ []
+reply_line done = line_of (reply_words done) done.rev
 
--- the two lines that may be printed of an edit whose revision has this number
+-- the four lines that may be printed of an edit whose revision has this number
 pub record HasReplies {A : Type 0} (rev : ℕ) (replies : Replies (String A)) : Type 0 where
-  pub accepted : string_bytes replies.accepted ≡ codes "accepted rev " ++ decimal rev ++ 10 ∷ []
-  pub already : string_bytes replies.already ≡ codes "already rev " ++ decimal rev ++ 10 ∷ []
+  pub accepted : string_bytes replies.accepted ≡ line_of (codes "accepted rev ") rev
+  pub already : string_bytes replies.already ≡ line_of (codes "already rev ") rev
+  pub proposed : string_bytes replies.proposed ≡ line_of (codes "proposed rev ") rev
+  pub already_proposed : string_bytes replies.already_proposed ≡ line_of (codes "already proposed rev ") rev
 
--- The result tells the answer of a desk to an edit. That an edit is stored, or was, is always told, since its lines are made
--- before; a refusal or a fault may be told as out of memory.
+-- The result tells the answer of a desk to an edit. That an edit is stored or proposed, or was, is always told, since its lines are
+-- made before; a refusal or a fault may be told as out of memory.
 abbrev pub TellsAnswer : Result Done DeskError → Result Output Failure → Type 0
 TellsAnswer (Ok done) (Ok (Prints text)) = string_bytes text ≡ reply_line done
 TellsAnswer (Ok done) result = ⊥
@@ -74,13 +86,13 @@ PutsFrom {S} g image e replies result (Some left) =
     (conn : Held S) × (HasCleanDisk (state g conn) → Opens (state g conn) × FindsIn image (state g conn)) × TellsPut (state g conn) (state g left) e replies result
 PutsFrom g image e replies result None = IsRefusedByDesk by_desk.Store result
 
--- An edit is judged by the newest revisions of some desk, which write a consistent site, and its answer is told. Which desk that
--- was, no clause can name, since the connection to its database is made and dropped inside.
+-- An edit is judged by how files stand in some desk, whose newest revisions write a consistent site, and its answer is told. Which
+-- desk that was, no clause can name, since the connection to its database is made and dropped inside.
 pub record PutsInto (e : Edit) (output : Output) : Type 0 where
-  pub newest : Newest
-  pub consistent : IsConsistent (site_in newest)
+  pub standing : Standing
+  pub consistent : IsConsistent (site_in standing.newest)
   pub answer : Result Done DeskError
-  pub answers : AnswersBy newest e answer
+  pub answers : AnswersBy standing e answer
   pub told : TellsAnswer answer (Ok output)
 
 -- The answer to an edit of the database at a path: that of a desk, or that the database cannot be read. That SQLite does not open

@@ -1,4 +1,4 @@
--- The output of `ask`, `show`, `exports`, `who`, `log` and `cat` by their words. (this project's own)
+-- The output of `ask`, `show`, `exports`, `who`, `log`, `cat` and `proposal` by their words. (this project's own)
 use Rattle.std.specs.Prelude.{ℕ, List, [], Option, Some, None, Result, Ok, Err, IsErrAnd}
 use Rattle.desk_text.specs.Address.{read_addr}
 use Rattle.desk_text.specs.Path.{read_path}
@@ -8,10 +8,10 @@ use Rattle.desk_tables.specs.Groups.{read_groups}
 use Rattle.desk_tables.specs.Users.{read_users}
 use Rattle.desk_tables.specs.declared.credential_text.CredFault.{CredFault}
 use Rattle.desk_tables.specs.declared.credentials.Cred.{Cred}
-use Rattle.desk_service.specs.Questions.{Exports, Listing, Mount, OnFile, OnPolicy, Revisions, Text, Who}
+use Rattle.desk_service.specs.Questions.{Exports, Listing, Mount, OnFile, OnPolicy, Proposal, Revisions, Text, Who}
 use Rattle.cli_files.specs.BadArgument.{IsRefusal}
 use Rattle.cli_words.specs.Arguments.{IsBadNumber, IsBadOwn, good_own, own_answer, revision_number}
-use Rattle.cli_line.specs.CommandLine.{AskWords, CatWords, ExportsWords, LogWords, ShowWords, WhoWords}
+use Rattle.cli_line.specs.CommandLine.{AskWords, CatWords, ExportsWords, LogWords, ProposalWords, ShowWords, WhoWords}
 use Rattle.cli_files.specs.declared.bad_argument.Argument.TheVariants as name
 use Rattle.cli_files.specs.declared.bad_argument.ArgumentFault.TheVariants as fault
 use Rattle.cli_files.specs.declared.failure.Failure.{Failure}
@@ -70,3 +70,7 @@ AnswersCatBy words (Some word) result = AnswersCatAt words word (revision_number
 -- the answer of `cat` to its words: to the question, or that N cannot be parsed
 abbrev pub AnswersCat : CatWords → Result Output Failure → Type 0
 AnswersCat words result = AnswersCatBy words words.rev result
+
+-- the answer of `proposal` to its words
+abbrev pub AnswersProposal : ProposalWords → Result Output Failure → Type 0
+AnswersProposal words result = AnswersQuestion words.db (OnFile (Proposal words.name)) None result

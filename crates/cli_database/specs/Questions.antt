@@ -1,15 +1,13 @@
 -- What is asked of a database without changing it, and what is printed of the answers. (this project's own)
-use Rattle.std.specs.Prelude.{◌≡◌, ℕ, ◌++◌, ◌∷◌, List, [], Option, None, Result, Ok, Err, codes}
-use Rattle.std.specs.Fmt.{decimal}
-use Rattle.std.specs.List.{flat_map}
+use Rattle.std.specs.Prelude.{◌≡◌, ℕ, List, [], Option, None, Result, Ok, Err}
 use Rattle.std.specs.String.{string_bytes}
 use Rattle.sqlite.specs.Effect.{Database}
 use Rattle.desk_tables.specs.declared.credentials.Cred.{Cred}
 use Rattle.desk_policy.specs.ListingPrints.{all_exports, listing_text}
 use Rattle.desk_who.specs.WhoPrints.{who_text}
-use Rattle.desk_core.specs.Head.{Revision}
+use Rattle.desk_store.specs.Desk.{History}
 use Rattle.desk_store.specs.Open.{IsOurs, IsProject}
-use Rattle.desk_service.specs.Questions.{Answer, AnswersByHistory, ByFile, ByPolicy, ExportsAre, ListingIs, OnFile, OnPolicy, Question, RangesAre, VerdictIs, file_question, policy_question}
+use Rattle.desk_service.specs.Questions.{Answer, AnswersByHistory, ByFile, ByPolicy, ExportsAre, FileQuestion, ListingIs, OnFile, OnPolicy, Proposal, Question, RangesAre, Revisions, Text, VerdictIs, file_question, policy_question}
 use Rattle.desk_service.specs.declared.questions.FileAnswer.TheVariants as found
 use Rattle.desk_service.specs.declared.refused.Refused.TheVariants as by_desk
 use Rattle.desk_check.specs.TryText.{answer_of, answer_on}
@@ -18,8 +16,9 @@ use Rattle.cli_files.specs.declared.failure.Failure.{Failure}
 use Rattle.cli_files.specs.declared.failure.Failure.TheVariants.{Memory}
 use Rattle.cli_files.specs.declared.files.FileArgument.TheVariants.{Database as DatabaseFile}
 use Rattle.cli_output.specs.declared.output.Output.{Output}
-use Rattle.cli_output.specs.declared.output.Output.TheVariants.{Done, Refused, Tried}
+use Rattle.cli_output.specs.declared.output.Output.TheVariants.{Done, Noted, Refused, Tried}
 use Rattle.cli_output.specs.declared.refused.Refused.TheVariants as refused
+use Rattle.cli_database.specs.FileOutputs.{log_text}
 use Rattle.cli_database.specs.declared.questions.SiteQuestion.{SiteQuestion}
 use Rattle.cli_database.specs.declared.questions.SiteQuestion.TheVariants as site
 
@@ -33,36 +32,41 @@ abbrev pub credential_in : SiteQuestion → Option Cred
 credential_in (site.OnPolicy question own) = own.now
 credential_in (site.OnFile question) = None
 
--- the line of a revision, as `rev 2 site`
-abbrev pub revision_line : ℕ × List ℕ → List ℕ
-revision_line revision = codes "rev " ++ decimal revision.0 ++ 32 ∷ revision.1 ++ 10 ∷ []
+-- the file that is asked for
+abbrev pub file_asked : FileQuestion → List ℕ
+file_asked (Text file rev) = file
+file_asked (Revisions file) = file
+file_asked (Proposal file) = file
 
-abbrev pub log_text : List (ℕ × List ℕ) → List ℕ
-log_text revisions = flat_map revision_line revisions
+-- the file that a question is on; one on the policy in force is on none
+abbrev pub file_in : Question → List ℕ
+file_in (OnPolicy question) = []
+file_in (OnFile question) = file_asked question
 
--- The output prints an answer: a verdict as `try` does, with as whom the client acts if its credential is given; a text as it is; and
--- lists of revisions and of ranges in lines.
-abbrev pub Prints : Option Cred → Answer → Output → Type 0
-Prints own (ByPolicy (VerdictIs content verdict)) (Tried tried) = answer_of tried ≡ answer_on content own verdict
-Prints own (ByPolicy (ListingIs content listing)) (Done text) = string_bytes text ≡ listing_text content listing
-Prints own (ByPolicy (ExportsAre content)) (Done text) = string_bytes text ≡ all_exports content
-Prints own (ByPolicy (RangesAre content ranges)) (Done text) = string_bytes text ≡ who_text content ranges
-Prints own (ByFile (found.Text file)) (Done text) = string_bytes text ≡ file.body
-Prints own (ByFile (found.Revisions revisions)) (Done text) = string_bytes text ≡ log_text revisions
-Prints own (ByFile found.NoRevision) (Refused (refused.Desk by_desk.NoRevision) told) = Unit {0}
-Prints own answer output = ⊥
+-- The output prints an answer on a file: a verdict as `try` does, with as whom the client acts if its credential is given; a text as it
+-- is, of a revision or of a proposal; and lists of revisions and of ranges in lines.
+abbrev pub Prints : Option Cred → List ℕ → Answer → Output → Type 0
+Prints own file (ByPolicy (VerdictIs content verdict)) (Tried tried) = answer_of tried ≡ answer_on content own verdict
+Prints own file (ByPolicy (ListingIs content listing)) (Done text) = string_bytes text ≡ listing_text content listing
+Prints own file (ByPolicy (ExportsAre content)) (Done text) = string_bytes text ≡ all_exports content
+Prints own file (ByPolicy (RangesAre content ranges)) (Done text) = string_bytes text ≡ who_text content ranges
+Prints own file (ByFile (found.Text stored)) (Noted text told) = string_bytes text ≡ stored.body
+Prints own file (ByFile (found.Revisions revisions)) (Done text) = string_bytes text ≡ log_text file revisions
+Prints own file (ByFile (found.Proposal proposal)) (Noted text told) = string_bytes text ≡ proposal.body
+Prints own file (ByFile found.NoRevision) (Refused (refused.Desk by_desk.NoRevision) told) = Unit {0}
+Prints own file answer output = ⊥
 
 -- an answer is printed, or memory ran out
-abbrev pub PrintsAnswer : Option Cred → Answer → Result Output Failure → Type 0
-PrintsAnswer own answer (Ok output) = Prints own answer output
-PrintsAnswer own answer (Err failure) = failure ≡ Memory
+abbrev pub PrintsAnswer : Option Cred → List ℕ → Answer → Result Output Failure → Type 0
+PrintsAnswer own file answer (Ok output) = Prints own file answer output
+PrintsAnswer own file answer (Err failure) = failure ≡ Memory
 
 -- the output prints the answer to a question by a history
-abbrev pub OutputByHistory : List Revision → Question → Option Cred → Output → Type 0
-OutputByHistory history question own output = (answer : Answer) × AnswersByHistory history question answer × Prints own answer output
+abbrev pub OutputByHistory : History → Question → Option Cred → Output → Type 0
+OutputByHistory history question own output = (answer : Answer) × AnswersByHistory history question answer × Prints own (file_in question) answer output
 
 -- What is told of a question by a history. That a statement was refused, and that there is no memory, say nothing.
-abbrev pub TellsByHistory : List Revision → Question → Option Cred → Result Output Failure → Type 0
+abbrev pub TellsByHistory : History → Question → Option Cred → Result Output Failure → Type 0
 TellsByHistory history question own (Ok (Refused (refused.Desk by_desk.Store) told)) = Unit {0}
 TellsByHistory history question own (Ok output) = OutputByHistory history question own output
 TellsByHistory history question own (Err failure) = failure ≡ Memory
@@ -72,7 +76,7 @@ TellsByHistory history question own (Err failure) = failure ≡ Memory
 abbrev pub AnswersByDatabase : Database → Question → Option Cred → Result Output Failure → Type 0
 AnswersByDatabase db question own (Ok (Refused (refused.Desk by_desk.Schema) told)) = IsOurs db → ⊥
 AnswersByDatabase db question own (Ok (Refused (refused.Desk by_desk.Store) told)) = Unit {0}
-AnswersByDatabase db question own (Ok output) = IsOurs db × ((history : List Revision) → IsProject db history → OutputByHistory history question own output)
+AnswersByDatabase db question own (Ok output) = IsOurs db × ((history : History) → IsProject db history → OutputByHistory history question own output)
 AnswersByDatabase db question own (Err failure) = failure ≡ Memory
 
 -- The answer to a question on the database at a path: by what it holds; or that it cannot be read, or that SQLite does not open

@@ -1,15 +1,15 @@
 //! The command `init`: a new database of a site's files.
 
-ghost use Rattle.std.specs.Prelude.{◌≡◌, ◌≤◌, ◌++◌, ℕ, [], Err, false, IfOk, List, Ok, OnOk, if◌then◌else◌, length, map, string_bytes, unwrap_or};
+ghost use Rattle.std.specs.Prelude.{◌≡◌, ◌≤◌, ◌++◌, ℕ, Err, false, IfOk, List, Ok, OnOk, if◌then◌else◌, length, map, string_bytes, unwrap_or};
 ghost use Rattle.std.specs.BTreeMap.{get_by_text};
 ghost use Rattle.std.specs.List.{flat_map};
 ghost use Rattle.std.specs.Str.{bytes_eq};
 ghost use Rattle.sqlite.specs.Held.{state};
 ghost use Rattle.desk_tables.specs.FileSystemsText.{read_filesystems};
-ghost use Rattle.desk_policy.specs.Site.{texts_of};
+ghost use Rattle.desk_policy.specs.Site.{no_exports, texts_of};
 ghost use Rattle.cli_output.specs.SiteFolder.{AreShortFiles, site_list};
 ghost use Rattle.cli_output.specs.declared.refused.Refused.TheVariants as refused;
-ghost use Rattle.cli_database.specs.InitCommand.{AnswersInit, AnswersInitSite, AnswersInitTexts, AnswersInitWith, AreParts, ComesTo, Creates, IsReadyText, IsRefusedFor, IsSiteWith, SplitsExports, Stores, ready_text, warning_line};
+ghost use Rattle.cli_database.specs.InitCommand.{AnswersInit, AnswersInitSite, AnswersInitTexts, AnswersInitWith, AreParts, ComesTo, Creates, IsReadyText, IsRefusedFor, IsSiteWith, SplitsExports, Stores, new_exports, ready_text, warning_line};
 ghost use Rattle.cli_database.specs.RefusedOutputs.{IsRefusedAs, IsRefusedByDesk};
 ghost use Rattle.desk_service.specs.declared.refused.Refused.TheVariants as by_desk;
 ghost use Rattle.desk_core.specs.declared.edit.Refusal.TheVariants.{Fault as SiteRefusal};
@@ -30,8 +30,8 @@ use cli_words::database_words::InitWords;
 use desk_check::split_text::SplitFault;
 use desk_check::{SiteSources, Source, WholeSources, tell_site_fault, tell_split_fault};
 use desk_core::{LONGEST_REVISION, Refusal};
-use desk_exports::{Rule, split};
-use desk_policy::{Site, SiteFault, SiteFile, Warning, mount_of, parse};
+use desk_exports::{Profile, Rule, split};
+use desk_policy::{ExportsText, Site, SiteFault, SiteFile, Warning, mount_of, parse};
 use desk_service::Refused as ByDesk;
 use desk_store::{CreateError, Desk};
 use desk_tables::{FileSystems, Mount};
@@ -95,7 +95,7 @@ fn not_split(
 fn split_exports(
     alloc: Global,
     texts: &SiteFiles,
-) -> Result<BTreeMap<String, Text>, ReadError<LineFault<Rule>>>
+) -> Result<BTreeMap<String, ExportsText>, ReadError<LineFault<Rule>>>
     requires { AreShortFiles texts.now }
     ensures { SplitsExports (read_filesystems (string_bytes texts.now.filesystems)) (string_bytes texts.now.exports) result }
 {
@@ -110,7 +110,7 @@ fn split_for(
     alloc: Global,
     text: &str,
     table: &FileSystems,
-) -> Result<BTreeMap<String, Text>, ReadError<LineFault<Rule>>>
+) -> Result<BTreeMap<String, ExportsText>, ReadError<LineFault<Rule>>>
     requires { length text.now ≤ 16777216 }
     ensures { SplitsExports (Ok table.now) text.now result }
 {
@@ -124,7 +124,7 @@ fn by_mount(
     alloc: Global,
     mounts: &[Mount],
     parts: &[String],
-) -> Result<BTreeMap<String, Text>, AllocError>
+) -> Result<BTreeMap<String, ExportsText>, AllocError>
     requires { length parts.now ≡ length mounts.now }
     ensures { IfOk result (AreParts mounts.now (map string_bytes parts.now)) }
 {
@@ -141,15 +141,19 @@ fn by_mount(
 /// Puts a text under a mount point.
 fn put_part(
     alloc: Global,
-    exports: &mut BTreeMap<String, Text>,
+    exports: &mut BTreeMap<String, ExportsText>,
     mount: &str,
     text: &str,
 ) -> Result<(), AllocError>
-    ensures { OnOk result ((name : List ℕ) → unwrap_or (get_by_text exports.new name) []
-        ≡ (if bytes_eq mount.now name then text.now else unwrap_or (get_by_text exports.old name) [])) }
+    ensures { OnOk result ((name : List ℕ) → unwrap_or (get_by_text exports.new name) no_exports
+        ≡ (if bytes_eq mount.now name then new_exports text.now else unwrap_or (get_by_text exports.old name) no_exports)) }
 {
     let mount = String::from_str(alloc, mount)?;
-    let text = Text::copy(alloc, text)?;
+    let body = Text::copy(alloc, text)?;
+    let text = ExportsText {
+        profile: Profile::Two,
+        body,
+    };
     exports.insert(mount, text)?;
     Ok(())
 }
@@ -160,7 +164,7 @@ fn build_site(
     db: &str,
     paths: &SiteFiles,
     texts: &SiteFiles,
-    exports: BTreeMap<String, Text>,
+    exports: BTreeMap<String, ExportsText>,
 ) -> Result<Output, Failure>
     ensures { AnswersInitWith (site_list texts.now) exports result }
 {
@@ -175,7 +179,7 @@ fn build_site(
 fn site_of(
     alloc: Global,
     texts: &SiteFiles,
-    exports: BTreeMap<String, Text>,
+    exports: BTreeMap<String, ExportsText>,
 ) -> Result<Site, AllocError>
     ensures { IfOk result (λ site. IsSiteWith (site_list texts.now) exports (texts_of site)) }
 {
@@ -420,6 +424,11 @@ fn faulty(
     ensures { IsRefusedByDesk (by_desk.Edit (SiteRefusal fault)) result }
 {
     let name = fault.file.as_str();
-    let told = tell_site_fault(alloc, with_exports(sources, site, name), &fault)?;
+    let told = tell_site_fault(
+        alloc,
+        Profile::Two,
+        with_exports(sources, site, name),
+        &fault,
+    )?;
     Ok(Output::Refused(Refused::Desk(ByDesk::Edit(Refusal::Fault(fault))), told))
 }

@@ -1,13 +1,14 @@
 //! The command `put`: an edit of a file.
 
 ghost use Rattle.std.specs.Prelude.{◌≡◌, ◌+◌, false, IfOk};
+ghost use Rattle.std.specs.String.{string_bytes};
 ghost use Rattle.sqlite_wal.specs.Files.{image_at};
 ghost use Rattle.sqlite.specs.Files.{over_files};
 ghost use Rattle.sqlite.specs.Held.{state};
 ghost use Rattle.desk_core.specs.Edit.{asked};
 ghost use Rattle.desk_service.specs.declared.refused.Refused.TheVariants as by_desk;
 ghost use Rattle.cli_words.specs.Words.{given_put};
-ghost use Rattle.cli_database.specs.PutCommand.{AnswersEdit, AnswersKeyFile, AnswersPut, AnswersPutFiles, GivesKey, HasReplies, IsKeyIn, PutsFrom, TellsPut, TellsReply, edit_of, key_in, key_file_in};
+ghost use Rattle.cli_database.specs.PutCommand.{AnswersEdit, AnswersKeyFile, AnswersPut, AnswersPutFiles, GivesKey, HasReplies, IsKeyIn, PutsFrom, TellsPut, TellsReply, edit_of, key_in, key_file_in, line_of};
 ghost use Rattle.cli_database.specs.RefusedOutputs.{IsRefusedByDesk};
 
 use crate::View;
@@ -24,7 +25,8 @@ use cli_words::arguments::read_number;
 use cli_words::database_words::PutWords;
 use desk_check::{SiteSources, Source, TableSources, WholeSources, tell_site_fault};
 use desk_core::{Edit, Refusal};
-use desk_policy::SiteFile;
+use desk_exports::Profile;
+use desk_policy::{SiteFault, SiteFile};
 use desk_service::{Refused as ByDesk, Replies, put_over};
 use desk_store::{Desk, DeskError};
 use sqlite::{Alter, Connection, Start, Wary};
@@ -158,9 +160,23 @@ fn remove_new_log(rt: &HostRuntime, words: PutWords<'_>, edit: &Edit<'_>) -> Res
 fn replies_of(alloc: Global, rev: u64) -> Result<Replies<String>, AllocError>
     ensures { IfOk result (HasReplies rev) }
 {
-    let accepted = format!(in alloc; "accepted rev {rev}\n")?;
-    let already = format!(in alloc; "already rev {rev}\n")?;
-    Ok(Replies { accepted, already })
+    let accepted = line_of(alloc, "accepted rev ", rev)?;
+    let already = line_of(alloc, "already rev ", rev)?;
+    let proposed = line_of(alloc, "proposed rev ", rev)?;
+    let already_proposed = line_of(alloc, "already proposed rev ", rev)?;
+    Ok(Replies {
+        accepted,
+        already,
+        proposed,
+        already_proposed,
+    })
+}
+
+/// Writes a line of these words and a number.
+fn line_of(alloc: Global, words: &str, rev: u64) -> Result<String, AllocError>
+    ensures { IfOk result (λ line. string_bytes line ≡ line_of words.now rev) }
+{
+    format!(in alloc; "{words}{rev}\n")
 }
 
 /// Opens the database at a path, and puts an edit into it. Beside the answer is the connection, if there is one.
@@ -234,11 +250,35 @@ pub fn refused<S: Alter + Drop>(
 {
     let told = match &refusal {
         Refusal::Fault(fault) => {
-            tell_site_fault(alloc, sources_of(desk, edit, fault.file.as_str()), fault)?
+            let profile = profile_of(desk, edit, fault.file.as_str());
+            fault_told(alloc, profile, desk, edit, fault)?
         }
         _ => refusal_told(alloc, path, edit, &refusal)?,
     };
     Ok(Output::Refused(Refused::Desk(ByDesk::Edit(refusal)), told))
+}
+
+/// Tells the fault of the site with an edit, as `check` does, by the profile by which its file is read.
+pub fn fault_told<S: Alter + Drop>(
+    alloc: Global,
+    profile: Profile,
+    desk: &Desk<S, View>,
+    edit: &Edit<'_>,
+    fault: &SiteFault,
+) -> Result<String, AllocError> {
+    let sources = sources_of(desk, edit, fault.file.as_str());
+    tell_site_fault(alloc, profile, sources, fault)
+}
+
+/// Returns the profile by which a file is read in the site with an edit.
+fn profile_of<S: Alter + Drop>(desk: &Desk<S, View>, edit: &Edit<'_>, file: &str) -> Profile {
+    if edit.file == file {
+        return Profile::Two;
+    }
+    match desk.newest(file) {
+        Some(head) => head.profile,
+        None => Profile::Two,
+    }
 }
 
 /// Lends the texts of the site with an edit, and of the exports the file of this name.

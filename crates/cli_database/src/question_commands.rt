@@ -1,16 +1,18 @@
 //! The commands that ask a database: `ask`, `show`, `exports` and `who` by the policy in force, `log` and `cat` by the revisions of a
-//! file.
+//! file, and `proposal` by its proposal.
 
 ghost use Rattle.std.specs.Prelude.{◌≡◌};
-ghost use Rattle.cli_words.specs.Words.{given_ask, given_cat, given_exports, given_log, given_show, given_who};
-ghost use Rattle.cli_database.specs.QuestionCommands.{AnswersAsk, AnswersCat, AnswersExports, AnswersLog, AnswersShow, AnswersWho};
+ghost use Rattle.cli_words.specs.Words.{given_ask, given_cat, given_exports, given_log, given_proposal, given_show, given_who};
+ghost use Rattle.cli_database.specs.QuestionCommands.{AnswersAsk, AnswersCat, AnswersExports, AnswersLog, AnswersProposal, AnswersShow, AnswersWho};
 
 use crate::questions::{SiteQuestion, answer_question};
 use cli_files::bad_argument::Argument;
 use cli_files::failure::Failure;
 use cli_output::output::Output;
 use cli_words::arguments::{read_credential, read_host, read_number, read_path};
-use cli_words::database_words::{AskWords, CatWords, ExportsWords, LogWords, ShowWords, WhoWords};
+use cli_words::database_words::{
+    AskWords, CatWords, ExportsWords, LogWords, ProposalWords, ShowWords, WhoWords,
+};
 use desk_service::{FileQuestion, PolicyQuestion};
 
 /// Answers `ask DB HOST DIR [--as CRED]`. The arguments are parsed from left to right, CRED without users and groups.
@@ -68,5 +70,13 @@ pub fn run_cat(rt: &HostRuntime, words: CatWords<'_>) -> Result<Output, Failure>
         None => None,
     };
     let question = FileQuestion::Text(words.name, rev);
+    answer_question(rt, words.db, SiteQuestion::OnFile(question))
+}
+
+/// Answers `proposal DB NAME`.
+pub fn run_proposal(rt: &HostRuntime, words: ProposalWords<'_>) -> Result<Output, Failure>
+    ensures { AnswersProposal (given_proposal words.entry) result }
+{
+    let question = FileQuestion::Proposal(words.name);
     answer_question(rt, words.db, SiteQuestion::OnFile(question))
 }

@@ -1,29 +1,27 @@
 //! Questions on the site in a database, and how their answers are printed.
 
-ghost use Rattle.std.specs.Prelude.{◌≡◌, ◌++◌, [], false, IfOk, None, OnOk};
-ghost use Rattle.std.specs.String.{string_bytes};
+ghost use Rattle.std.specs.Prelude.{◌≡◌, [], false, None};
 ghost use Rattle.sqlite.specs.Held.{state};
 ghost use Rattle.sqlite.specs.State.{HasCleanDisk};
-ghost use Rattle.desk_store.specs.Desk.{HasGoodDisk, History, LeavesTables, StandsAt};
-ghost use Rattle.desk_service.specs.Questions.{ByFile, ByPolicy, OnFile, OnPolicy, OnlyLooks, file_question, policy_answer_of, policy_question};
-ghost use Rattle.cli_database.specs.Questions.{AnswersByDatabase, AnswersQuestion, PrintsAnswer, TellsByHistory, credential_in, log_text, question_in, revision_line};
+ghost use Rattle.desk_store.specs.Desk.{HasGoodDisk, History, StandsAt};
+ghost use Rattle.desk_service.specs.Questions.{ByPolicy, OnFile, OnPolicy, OnlyLooks, file_question, policy_answer_of, policy_question};
+ghost use Rattle.cli_database.specs.Opening.{OnlyMigrates};
+ghost use Rattle.cli_database.specs.Questions.{AnswersByDatabase, AnswersQuestion, PrintsAnswer, TellsByHistory, credential_in, question_in};
 
 use crate::View;
-use crate::refused_outputs::{no_revision, not_opened_at, refused_by_copy};
+use crate::file_outputs::file_output;
+use crate::refused_outputs::{not_opened_at, refused_by_copy};
 use cli_database_files::copy::{Unopened, open_copy};
 use cli_files::failure::Failure;
 use cli_output::output::Output;
 use desk_check::try_text::printed_verdict;
 use desk_policy::{all_exports, listing_text};
-use desk_service::{
-    FileAnswer, FileQuestion, PolicyAnswer, PolicyQuestion, answer_by_desk, answer_in_force,
-};
+use desk_service::{FileQuestion, PolicyAnswer, PolicyQuestion, answer_by_desk, answer_in_force};
 use desk_store::Desk;
 use desk_tables::Cred;
-use desk_text::Text;
 use desk_who::who_text;
 use sqlite::{Alter, Connection};
-use std::alloc::{AllocError, Global};
+use std::alloc::Global;
 
 /// What is asked of the site in a database.
 #[derive(Clone, Copy)]
@@ -52,8 +50,8 @@ pub fn answer_question(
     }
 }
 
-/// Answers a question by the database of a connection, which is handed back. It is a copy in memory: an error of its disk is
-/// reported as out of memory.
+/// Answers a question by the database of a connection, which is handed back. It is a copy in memory: one of version 1 is
+/// migrated there, and an error of its disk is reported as out of memory.
 fn answer_over<S: Alter + Drop>(
     alloc: Global,
     db: &str,
@@ -63,7 +61,7 @@ fn answer_over<S: Alter + Drop>(
     requires { (state S.Store conn).in_transaction ≡ false }
     ensures answered { HasCleanDisk (state S.Store result.1)
         → AnswersByDatabase (state S.Store conn).committed (question_in question.entry) (credential_in question.entry) result.0 }
-    ensures tables { LeavesTables (state S.Store conn) (state S.Store result.1) }
+    ensures tables { OnlyMigrates (state S.Store conn) (state S.Store result.1) }
     ensures mode { HasCleanDisk (state S.Store result.1) → (state S.Store result.1).in_transaction ≡ false }
 {
     let opened: Result<Desk<S, View>, _> = Desk::open(alloc, conn);
@@ -116,7 +114,7 @@ fn policy_output(
     answer: PolicyAnswer<'_>,
     own: &Option<Cred>,
 ) -> Result<Output, Failure>
-    ensures { PrintsAnswer own.now (ByPolicy (policy_answer_of answer.entry)) result }
+    ensures { PrintsAnswer own.now [] (ByPolicy (policy_answer_of answer.entry)) result }
 {
     match answer {
         PolicyAnswer::Verdict(policy, verdict) => {
@@ -132,7 +130,7 @@ fn policy_output(
     }
 }
 
-/// Answers a question on the revisions of a file by a desk.
+/// Answers a question on a file by a desk.
 fn by_file<S: Alter + Drop>(
     alloc: Global,
     db: &str,
@@ -147,39 +145,4 @@ fn by_file<S: Alter + Drop>(
         Ok(answer) => file_output(alloc, question, answer),
         Err(error) => refused_by_copy(alloc, db, error),
     }
-}
-
-/// Prints the answer to a question on the revisions of a file.
-fn file_output(
-    alloc: Global,
-    question: FileQuestion<'_>,
-    answer: FileAnswer,
-) -> Result<Output, Failure>
-    ensures { PrintsAnswer None (ByFile answer) result }
-{
-    match answer {
-        FileAnswer::Text(text) => { Ok(Output::Done(String::from_str(alloc, text.body.as_str())?)) }
-        FileAnswer::Revisions(revisions) => {
-            Ok(Output::Done(log_text(alloc, revisions.as_slice())?))
-        }
-        FileAnswer::NoRevision => no_revision(alloc, question),
-    }
-}
-
-/// Writes a line for each revision: its number and its author.
-fn log_text(alloc: Global, revisions: &[(u32, Text)]) -> Result<String, AllocError>
-    ensures { IfOk result (λ text. string_bytes text ≡ log_text revisions.now) }
-{
-    let mut text = String::new(alloc);
-    for revision in revisions {
-        push_revision(revision.0, revision.1.as_str(), &mut text)?;
-    }
-    Ok(text)
-}
-
-/// Writes the line of a revision.
-fn push_revision(rev: u32, author: &str, text: &mut String) -> Result<(), AllocError>
-    ensures { OnOk result (string_bytes text.new ≡ string_bytes text.old ++ revision_line (rev, author.now)) }
-{
-    write!(text, "rev {rev} {author}\n")
 }

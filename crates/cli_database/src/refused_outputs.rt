@@ -17,7 +17,7 @@ use sqlite::{Error, ErrorCode};
 use std::alloc::{AllocError, Global};
 use std::io;
 
-/// Answers that the file of a question, or its revision of the number that is asked for, is not there.
+/// Answers that the file of a question, its revision of the number that is asked for, or its proposal is not there.
 pub fn no_revision(alloc: Global, question: FileQuestion<'_>) -> Result<Output, Failure>
     ensures { IsRefusedByDesk by_desk.NoRevision result }
 {
@@ -27,6 +27,9 @@ pub fn no_revision(alloc: Global, question: FileQuestion<'_>) -> Result<Output, 
         }
         FileQuestion::Text(name, None) | FileQuestion::Revisions(name) => {
             format!(in alloc; "exportdesk: NAME {name:?}: it has no revision\n")?
+        }
+        FileQuestion::Proposal(name) => {
+            format!(in alloc; "exportdesk: NAME {name:?}: it has no proposal\n")?
         }
     };
     Ok(Output::Refused(Refused::Desk(ByDesk::NoRevision), told))
@@ -107,7 +110,7 @@ pub fn refused_by_table(alloc: Global, db: &str) -> Result<Output, Failure>
     ensures { IsRefusedByDesk by_desk.Schema result }
 {
     let told = format!(in alloc;
-        "exportdesk: DB {db:?}: it has a table meta or file_rev already (put changes a desk)\n"
+        "exportdesk: DB {db:?}: it has a table meta, file_rev, approval or proposal already, or one that refers to such a table (put changes a desk)\n"
     )?;
     Ok(Output::Refused(Refused::Desk(ByDesk::Schema), told))
 }
@@ -136,7 +139,7 @@ fn store_told(alloc: Global, db: &str, fault: StoreFault) -> Result<String, Allo
 /// Says that a database is not one of this project.
 fn schema_told(alloc: Global, db: &str) -> Result<String, AllocError> {
     format!(in alloc;
-        "exportdesk: DB {db:?}: it is not a database of exportdesk, or its log (DB-wal) is not beside it, or it was changed by hand\n"
+        "exportdesk: DB {db:?}: it is not a database of exportdesk, of version 1 or 2, or its log (DB-wal) is not beside it, or it was changed by hand\n"
     )
 }
 
@@ -170,19 +173,20 @@ pub fn too_large_told(
 /// Says what a statement was for.
 fn task_text(task: Task) -> &'static str {
     match task {
-        Task::AddRevision => "adding the revision",
+        Task::AddEntry => "adding the revision or the proposal",
         Task::ReadRevisions => "reading the revisions",
         Task::FindTables => "looking for the tables",
         Task::ReadVersion => "reading the version",
         Task::MakeTables => "making the tables",
+        Task::Migrate => "making it a database of version 2",
     }
 }
 
 /// Says what to do about a statement that was refused.
 fn advice_text(task: Task) -> &'static str {
     match task {
-        Task::AddRevision => {
-            "; the revision may be stored all the same, as log tells, and the same put can be made again"
+        Task::AddEntry => {
+            "; it may be stored all the same, as log and proposal tell, and the same put can be made again"
         }
         _ => "",
     }

@@ -31,6 +31,8 @@ pub enum Failure {
     Missing(&'static str),
     /// This word cannot be given with `--site`.
     BesideSite(&'static str),
+    /// FILE is given beside `--proposal`.
+    BesideProposal,
     /// An argument cannot be parsed.
     Argument(BadArgument),
     /// There are more than 256 different mount points.
@@ -162,6 +164,7 @@ impl fmt::Display for Failure {
             Failure::Usage(text) => f.write_str(text.as_str()),
             Failure::Missing(name) => write!(f, "{name}: it is missing"),
             Failure::BesideSite(name) => write!(f, "{name}: it cannot be given with --site"),
+            Failure::BesideProposal => f.write_str("FILE: it cannot be given with --proposal"),
             Failure::Argument(bad) => bad.fmt(f),
             Failure::TooManyMounts => f.write_str("MOUNT: over 256 different mount points"),
             Failure::FirstLine(failure) => failure.fmt(f),

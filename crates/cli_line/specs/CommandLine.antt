@@ -121,9 +121,10 @@ abbrev pub put_command : App
 put_command =
     with_rule (with_rule (with_rule (with_rule put_arguments (required_option (codes "base"))) (required_option (codes "caller"))) (option (codes "key"))) (option (codes "key-file"))
 
--- `impact DB NAME FILE [--all]`
+-- `impact DB NAME FILE [--all]`, or `--proposal` in the place of FILE
 abbrev pub impact_command : App
-impact_command = with_rule (with_rule (with_rule (with_rule (new_app (codes "impact")) (word (codes "DB"))) (word (codes "NAME"))) (word (codes "FILE"))) (flag (codes "all"))
+impact_command =
+    with_rule (with_rule (with_rule (with_rule (with_rule (new_app (codes "impact")) (word (codes "DB"))) (word (codes "NAME"))) (optional_word (codes "FILE"))) (flag (codes "all"))) (flag (codes "proposal"))
 
 -- `log DB NAME`
 abbrev pub log_command : App
@@ -132,6 +133,10 @@ log_command = with_rule (with_rule (new_app (codes "log")) (word (codes "DB"))) 
 -- `cat DB NAME [--rev N]`
 abbrev pub cat_command : App
 cat_command = with_rule (with_rule (with_rule (new_app (codes "cat")) (word (codes "DB"))) (word (codes "NAME"))) (option (codes "rev"))
+
+-- `proposal DB NAME`
+abbrev pub proposal_command : App
+proposal_command = with_rule (with_rule (new_app (codes "proposal")) (word (codes "DB"))) (word (codes "NAME"))
 
 -- `files DB`
 abbrev pub files_command : App
@@ -154,7 +159,7 @@ with_desk_commands app =
 -- a program with the commands on the files of a database
 abbrev pub with_file_commands : App → App
 with_file_commands app =
-    with_subcommand (with_subcommand (with_subcommand (with_subcommand (with_subcommand (with_subcommand app put_command.top) impact_command.top) log_command.top) cat_command.top) files_command.top) write_command.top
+    with_subcommand (with_subcommand (with_subcommand (with_subcommand (with_subcommand (with_subcommand (with_subcommand app put_command.top) impact_command.top) log_command.top) cat_command.top) proposal_command.top) files_command.top) write_command.top
 
 -- the program's command line: its subcommands
 abbrev pub command_line : App
@@ -354,11 +359,12 @@ words_of_put db name file base caller key key_file = record { db = db; name = na
 pub record ImpactWords : Type 0 where
   pub db : List ℕ
   pub name : List ℕ
-  pub file : List ℕ
+  pub file : Option (List ℕ)
   pub all : Bool
+  pub proposed : Bool
 
-abbrev pub words_of_impact : List ℕ → List ℕ → List ℕ → Bool → ImpactWords
-words_of_impact db name file all = record { db = db; name = name; file = file; all = all }
+abbrev pub words_of_impact : List ℕ → List ℕ → Option (List ℕ) → Bool → Bool → ImpactWords
+words_of_impact db name file all proposed = record { db = db; name = name; file = file; all = all; proposed = proposed }
 
 -- the words of `log`
 pub record LogWords : Type 0 where
@@ -376,6 +382,14 @@ pub record CatWords : Type 0 where
 
 abbrev pub words_of_cat : List ℕ → List ℕ → Option (List ℕ) → CatWords
 words_of_cat db name rev = record { db = db; name = name; rev = rev }
+
+-- the words of `proposal`
+pub record ProposalWords : Type 0 where
+  pub db : List ℕ
+  pub name : List ℕ
+
+abbrev pub words_of_proposal : List ℕ → List ℕ → ProposalWords
+words_of_proposal db name = record { db = db; name = name }
 
 -- the words of `files`
 pub record FilesWords : Type 0 where
@@ -423,9 +437,9 @@ abbrev pub put_words_from : Option (List ℕ) → Option (List ℕ) → Option (
 put_words_from (Some db) (Some name) (Some file) (Some base) (Some caller) key key_file = Some (words_of_put db name file base caller key key_file)
 put_words_from db name file base caller key key_file = None
 
-abbrev pub impact_words_from : Option (List ℕ) → Option (List ℕ) → Option (List ℕ) → Bool → Option ImpactWords
-impact_words_from (Some db) (Some name) (Some file) all = Some (words_of_impact db name file all)
-impact_words_from db name file all = None
+abbrev pub impact_words_from : Option (List ℕ) → Option (List ℕ) → Option (List ℕ) → Bool → Bool → Option ImpactWords
+impact_words_from (Some db) (Some name) file all proposed = Some (words_of_impact db name file all proposed)
+impact_words_from db name file all proposed = None
 
 abbrev pub log_words_from : Option (List ℕ) → Option (List ℕ) → Option LogWords
 log_words_from (Some db) (Some name) = Some (words_of_log db name)
@@ -434,6 +448,10 @@ log_words_from db name = None
 abbrev pub cat_words_from : Option (List ℕ) → Option (List ℕ) → Option (List ℕ) → Option CatWords
 cat_words_from (Some db) (Some name) rev = Some (words_of_cat db name rev)
 cat_words_from db name rev = None
+
+abbrev pub proposal_words_from : Option (List ℕ) → Option (List ℕ) → Option ProposalWords
+proposal_words_from (Some db) (Some name) = Some (words_of_proposal db name)
+proposal_words_from db name = None
 
 abbrev pub write_words_from : Option (List ℕ) → Option (List ℕ) → Option WriteWords
 write_words_from (Some db) (Some dir) = Some (words_of_write db dir)
@@ -465,13 +483,17 @@ put_words_in rows =
     (first_of (codes "key") rows) (first_of (codes "key-file") rows)
 
 abbrev pub impact_words_in : List Row → Option ImpactWords
-impact_words_in rows = impact_words_from (first_of (codes "DB") rows) (first_of (codes "NAME") rows) (first_of (codes "FILE") rows) (is_set (codes "all") rows)
+impact_words_in rows =
+    impact_words_from (first_of (codes "DB") rows) (first_of (codes "NAME") rows) (first_of (codes "FILE") rows) (is_set (codes "all") rows) (is_set (codes "proposal") rows)
 
 abbrev pub log_words_in : List Row → Option LogWords
 log_words_in rows = log_words_from (first_of (codes "DB") rows) (first_of (codes "NAME") rows)
 
 abbrev pub cat_words_in : List Row → Option CatWords
 cat_words_in rows = cat_words_from (first_of (codes "DB") rows) (first_of (codes "NAME") rows) (first_of (codes "rev") rows)
+
+abbrev pub proposal_words_in : List Row → Option ProposalWords
+proposal_words_in rows = proposal_words_from (first_of (codes "DB") rows) (first_of (codes "NAME") rows)
 
 abbrev pub files_words_in : List Row → Option FilesWords
 files_words_in rows = option_map words_of_files (first_of (codes "DB") rows)
@@ -499,6 +521,7 @@ pub data CommandWords : Type 0 where
   Impact : ImpactWords → CommandWords
   Log : LogWords → CommandWords
   Cat : CatWords → CommandWords
+  Proposal : ProposalWords → CommandWords
   Files : FilesWords → CommandWords
   Write : WriteWords → CommandWords
   Serve : ServeWords → CommandWords
@@ -511,10 +534,11 @@ file_command_in name rows =
     else (if bytes_eq name (codes "impact") then option_map Impact (impact_words_in rows)
     else (if bytes_eq name (codes "log") then option_map Log (log_words_in rows)
     else (if bytes_eq name (codes "cat") then option_map Cat (cat_words_in rows)
+    else (if bytes_eq name (codes "proposal") then option_map Proposal (proposal_words_in rows)
     else (if bytes_eq name (codes "files") then option_map Files (files_words_in rows)
     else (if bytes_eq name (codes "write") then option_map Write (write_words_in rows)
     else (if bytes_eq name (codes "serve") then option_map Serve (serve_words_in rows)
-    else None))))))
+    else None)))))))
 
 -- the command of this name on a database, with its words among the arguments that clap finds, if none is missing
 abbrev pub desk_command_in : List ℕ → List Row → Option CommandWords

@@ -6,7 +6,7 @@ use Rattle.clap.specs.Words.{App, Rule, app_of, rule_of, with_rule, with_subcomm
 use Rattle.clap.specs.declared.builder.Arg.{Arg}
 use Rattle.clap.specs.declared.builder.Command.{Command}
 use Rattle.clap.specs.declared.builder.Command.TheViews.{out-Command}
-use Rattle.cli_line.specs.CommandLine.{ask_command, cat_command, check_command, clients_command, compare_command, exports_command, files_command, flag, impact_command, init_command, log_command, option, optional_word, put_command, required_option, serve_command, show_command, split_command, try_command, who_command, word, write_command}
+use Rattle.cli_line.specs.CommandLine.{ask_command, cat_command, check_command, clients_command, compare_command, exports_command, files_command, flag, impact_command, init_command, log_command, option, optional_word, proposal_command, put_command, required_option, serve_command, show_command, split_command, try_command, who_command, word, write_command}
 use Rattle.cli_line.specs.declared.command_line.Subcommand.{Subcommand}
 use Rattle.cli_line.specs.declared.command_line.Subcommand.TheVariants as command
 use Rattle.cli_line.specs.declared.arguments.Argument.{Argument}
@@ -69,6 +69,7 @@ app_for command.Put = put_command
 app_for command.Impact = impact_command
 app_for command.Log = log_command
 app_for command.Cat = cat_command
+app_for command.Proposal = proposal_command
 app_for command.Files = files_command
 app_for command.Write = write_command
 app_for command.Serve = serve_command

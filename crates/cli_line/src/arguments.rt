@@ -87,7 +87,7 @@ fn with_help<'a>(command: Command<'a>, help: Option<&'a str>) -> Command<'a>
 }
 
 /// Adds arguments to a command, in their order.
-fn with_arguments<'a>(
+pub fn with_arguments<'a>(
     alloc: Global,
     command: Command<'a>,
     arguments: &[Argument<'a>],

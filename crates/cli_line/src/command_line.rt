@@ -6,6 +6,9 @@ ghost use Rattle.cli_line.specs.CommandLine as spec;
 ghost use Rattle.cli_line.specs.PrivateArguments.{IsCommand, IsMade, app_for, with_commands};
 
 use crate::arguments::{Argument, Kind, Title, made};
+use crate::text_commands::{
+    check_command, clients_command, compare_command, split_command, try_command,
+};
 use clap::Command;
 use std::alloc::{AllocError, Global};
 
@@ -26,6 +29,7 @@ pub enum Subcommand {
     Impact,
     Log,
     Cat,
+    Proposal,
     Files,
     Write,
     Serve,
@@ -53,6 +57,7 @@ pub fn command<'a>(alloc: Global) -> Result<Command<'a>, AllocError>
             Subcommand::Impact,
             Subcommand::Log,
             Subcommand::Cat,
+            Subcommand::Proposal,
             Subcommand::Files,
             Subcommand::Write,
             Subcommand::Serve,
@@ -94,6 +99,7 @@ fn command_of<'a>(alloc: Global, subcommand: Subcommand) -> Result<Command<'a>, 
         Subcommand::Impact => impact_command(alloc),
         Subcommand::Log => log_command(alloc),
         Subcommand::Cat => cat_command(alloc),
+        Subcommand::Proposal => proposal_command(alloc),
         Subcommand::Files => files_command(alloc),
         Subcommand::Write => write_command(alloc),
         Subcommand::Serve => serve_command(alloc),
@@ -116,320 +122,6 @@ fn program<'a>(alloc: Global) -> Command<'a>
         )
         .disable_help_subcommand(true)
         .subcommand_required(true)
-}
-
-/// Makes the command line of `try FILE HOST DIR MOUNT...`, with its options.
-fn try_command<'a>(alloc: Global) -> Result<Command<'a>, AllocError>
-    ensures { IsMade spec.try_command result }
-{
-    let title = Title {
-        name: "try",
-        about: "Decides one mount request by an exports file",
-        usage: None,
-        help: Some(
-            "A table that is not given is empty: names of hosts then stand for nothing, credentials are\n\
-             written in numbers with a colon (0:0), and names of networks are unknown. One file may be -,\n\
-             standard input.",
-        ),
-    };
-    made(
-        alloc,
-        title,
-        &[
-            Argument {
-                name: "FILE",
-                kind: Kind::Word,
-                help: "The exports text; - is standard input",
-            },
-            Argument {
-                name: "HOST",
-                kind: Kind::Word,
-                help: "The IPv4 address of the client",
-            },
-            Argument {
-                name: "DIR",
-                kind: Kind::Word,
-                help: "The directory that it asks for",
-            },
-            Argument {
-                name: "MOUNT",
-                kind: Kind::Words,
-                help: "The mount points of the file systems",
-            },
-            Argument {
-                name: "hosts",
-                kind: Kind::Valued("FILE"),
-                help: "The addresses of names, as in hosts(5)",
-            },
-            Argument {
-                name: "networks",
-                kind: Kind::Valued("FILE"),
-                help: "The numbers of networks, as in networks(5)",
-            },
-            Argument {
-                name: "passwd",
-                kind: Kind::Valued("FILE"),
-                help: "The users, as in passwd(5)",
-            },
-            Argument {
-                name: "group",
-                kind: Kind::Valued("FILE"),
-                help: "The groups, as in group(5)",
-            },
-            Argument {
-                name: "netgroup",
-                kind: Kind::Valued("FILE"),
-                help: "The netgroups, as in netgroup(5)",
-            },
-            Argument {
-                name: "as",
-                kind: Kind::Valued("CRED"),
-                help: "The client's credential, as USER or USER:GROUP:...; a granted line says as whom it acts",
-            },
-        ],
-    )
-}
-
-/// Makes the command line of `split FILE FILESYSTEMS`.
-fn split_command<'a>(alloc: Global) -> Result<Command<'a>, AllocError>
-    ensures { IsMade spec.split_command result }
-{
-    let title = Title {
-        name: "split",
-        about: "Splits an exports file among file systems",
-        usage: None,
-        help: Some(
-            "For each file system, in byte order of the mount points, it prints a line `== MOUNT` and the\n\
-             lines of FILE that are for it, as they are written. A line is for the file system of its first\n\
-             directory, a V4: line for the first file system. Comments are left out.",
-        ),
-    };
-    made(
-        alloc,
-        title,
-        &[
-            Argument {
-                name: "FILE",
-                kind: Kind::Word,
-                help: "The exports text; - is standard input",
-            },
-            Argument {
-                name: "FILESYSTEMS",
-                kind: Kind::Word,
-                help: "The file systems, each a line `MOUNT CUSTODIAN...`; - is standard input",
-            },
-        ],
-    )
-}
-
-/// Makes the command line of `check FILE MOUNT...` or `check --site DIR`, with its options.
-fn check_command<'a>(alloc: Global) -> Result<Command<'a>, AllocError>
-    ensures { IsMade spec.check_command result }
-{
-    let title = Title {
-        name: "check",
-        about: "Reports every fault and warning of an exports file and its tables",
-        usage: Some(
-            "exportdesk check [OPTIONS] <FILE> <MOUNT>...\n       exportdesk check [OPTIONS] --site <DIR>",
-        ),
-        help: Some(
-            "Each finding is a line `PATH:LINE:COLUMN: fault RULE NAME: ...` or `.. warning ..`, behind which\n\
-             stands the line of the file with a mark below the words that it is about. Exports are looked at\n\
-             only once the tables have no fault. A table that is not given is empty. One file may be -,\n\
-             standard input.",
-        ),
-    };
-    made(
-        alloc,
-        title,
-        &[
-            Argument {
-                name: "FILE",
-                kind: Kind::MaybeWord,
-                help: "The exports text; - is standard input",
-            },
-            Argument {
-                name: "MOUNT",
-                kind: Kind::MaybeWords,
-                help: "The mount points of the file systems",
-            },
-            Argument {
-                name: "hosts",
-                kind: Kind::Valued("FILE"),
-                help: "The addresses of names, as in hosts(5)",
-            },
-            Argument {
-                name: "networks",
-                kind: Kind::Valued("FILE"),
-                help: "The numbers of networks, as in networks(5)",
-            },
-            Argument {
-                name: "passwd",
-                kind: Kind::Valued("FILE"),
-                help: "The users, as in passwd(5)",
-            },
-            Argument {
-                name: "group",
-                kind: Kind::Valued("FILE"),
-                help: "The groups, as in group(5)",
-            },
-            Argument {
-                name: "netgroup",
-                kind: Kind::Valued("FILE"),
-                help: "The netgroups, as in netgroup(5)",
-            },
-            Argument {
-                name: "site",
-                kind: Kind::Valued("DIR"),
-                help: "The folder of a site's files: custodians, filesystems, hosts, networks, passwd, group, netgroup, exports",
-            },
-            Argument {
-                name: "brief",
-                kind: Kind::Flag,
-                help: "Leaves out the lines of the files and the marks below them",
-            },
-            Argument {
-                name: "strict",
-                kind: Kind::Flag,
-                help: "Ends with the status 3 where there is a warning, too",
-            },
-            Argument {
-                name: "json",
-                kind: Kind::Flag,
-                help: "Prints the findings as one compact JSON list",
-            },
-        ],
-    )
-}
-
-/// Makes the command line of `clients FILE DIR MOUNT...`, with its options.
-fn clients_command<'a>(alloc: Global) -> Result<Command<'a>, AllocError>
-    ensures { IsMade spec.clients_command result }
-{
-    let title = Title {
-        name: "clients",
-        about: "Lists who may mount a directory by an exports file",
-        usage: None,
-        help: Some(
-            "Each line is `FIRST-LAST` and the verdict on every client of that range, as try prints it; together\n\
-             they have every address once. A table that is not given is empty. One file may be -, standard input.",
-        ),
-    };
-    made(
-        alloc,
-        title,
-        &[
-            Argument {
-                name: "FILE",
-                kind: Kind::Word,
-                help: "The exports text; - is standard input",
-            },
-            Argument {
-                name: "DIR",
-                kind: Kind::Word,
-                help: "The directory that the clients ask for",
-            },
-            Argument {
-                name: "MOUNT",
-                kind: Kind::Words,
-                help: "The mount points of the file systems",
-            },
-            Argument {
-                name: "hosts",
-                kind: Kind::Valued("FILE"),
-                help: "The addresses of names, as in hosts(5)",
-            },
-            Argument {
-                name: "networks",
-                kind: Kind::Valued("FILE"),
-                help: "The numbers of networks, as in networks(5)",
-            },
-            Argument {
-                name: "passwd",
-                kind: Kind::Valued("FILE"),
-                help: "The users, as in passwd(5)",
-            },
-            Argument {
-                name: "group",
-                kind: Kind::Valued("FILE"),
-                help: "The groups, as in group(5)",
-            },
-            Argument {
-                name: "netgroup",
-                kind: Kind::Valued("FILE"),
-                help: "The netgroups, as in netgroup(5)",
-            },
-        ],
-    )
-}
-
-/// Makes the command line of `compare OLD NEW MOUNT...`, with its options.
-fn compare_command<'a>(alloc: Global) -> Result<Command<'a>, AllocError>
-    ensures { IsMade spec.compare_command result }
-{
-    let title = Title {
-        name: "compare",
-        about: "Tells what another exports file would change",
-        usage: None,
-        help: Some(
-            "For each directory that changes it prints a line `== DIR`, or `== other directories of MOUNT` for all that\n\
-             no line writes, and below it for each range of addresses the verdict by OLD behind `- ` and that by NEW\n\
-             behind `+ `. The last line counts: a change of a line or a reason alone does not matter to a client. A\n\
-             table that is not given is empty. One file may be -, standard input. Status: 0 nothing changes for a\n\
-             client; 1 something does; 3 a text has a fault.",
-        ),
-    };
-    made(
-        alloc,
-        title,
-        &[
-            Argument {
-                name: "OLD",
-                kind: Kind::Word,
-                help: "The exports text before; - is standard input",
-            },
-            Argument {
-                name: "NEW",
-                kind: Kind::Word,
-                help: "The exports text after; - is standard input",
-            },
-            Argument {
-                name: "MOUNT",
-                kind: Kind::Words,
-                help: "The mount points of the file systems",
-            },
-            Argument {
-                name: "hosts",
-                kind: Kind::Valued("FILE"),
-                help: "The addresses of names, as in hosts(5)",
-            },
-            Argument {
-                name: "networks",
-                kind: Kind::Valued("FILE"),
-                help: "The numbers of networks, as in networks(5)",
-            },
-            Argument {
-                name: "passwd",
-                kind: Kind::Valued("FILE"),
-                help: "The users, as in passwd(5)",
-            },
-            Argument {
-                name: "group",
-                kind: Kind::Valued("FILE"),
-                help: "The groups, as in group(5)",
-            },
-            Argument {
-                name: "netgroup",
-                kind: Kind::Valued("FILE"),
-                help: "The netgroups, as in netgroup(5)",
-            },
-            Argument {
-                name: "all",
-                kind: Kind::Flag,
-                help: "Lists the ranges whose line or reason alone changes, too",
-            },
-        ],
-    )
 }
 
 /// Makes the command line of `init DB DIR`.
@@ -595,7 +287,8 @@ fn put_command<'a>(alloc: Global) -> Result<Command<'a>, AllocError>
         help: Some(
             "NAME is custodians, filesystems, hosts, networks, passwd, group or netgroup, which site keeps, or\n\
              exports: and a mount point, as exports:/usr, which the custodians of that mount point keep. Nothing\n\
-             is stored unless the site is consistent with the new text.",
+             is stored unless the site is consistent with the new text. If the mount point is guarded, the text is\n\
+             proposed; it is put in force by another of its custodians, who puts the same text with the same base.",
         ),
     };
     made(
@@ -641,20 +334,22 @@ fn put_command<'a>(alloc: Global) -> Result<Command<'a>, AllocError>
     )
 }
 
-/// Makes the command line of `impact DB NAME FILE`, with its option.
+/// Makes the command line of `impact DB NAME FILE` or `impact DB NAME --proposal`, with its option.
 fn impact_command<'a>(alloc: Global) -> Result<Command<'a>, AllocError>
     ensures { IsMade spec.impact_command result }
 {
     let title = Title {
         name: "impact",
         about: "Tells what a new text of a file would change, and stores nothing",
-        usage: None,
+        usage: Some(
+            "exportdesk impact [OPTIONS] <DB> <NAME> <FILE>\n       exportdesk impact [OPTIONS] <DB> <NAME> --proposal",
+        ),
         help: Some(
             "For each directory that changes it prints a line `== DIR`, or `== other directories of MOUNT` for all that\n\
              no line writes, and below it for each range of addresses the verdict now behind `- ` and that with the new\n\
              text behind `+ `. The last line counts: a change of a line or a reason alone does not matter to a client.\n\
-             NAME is as in put; no key is asked. Status: 0 nothing changes for a client; 1 something does, or the text\n\
-             is refused; 3 the text has a fault.",
+             NAME is as in put; no key is asked. Status: 0 nothing changes for a client; 1 something does, the text is\n\
+             refused, or there is no proposal; 3 the text has a fault.",
         ),
     };
     made(
@@ -673,13 +368,18 @@ fn impact_command<'a>(alloc: Global) -> Result<Command<'a>, AllocError>
             },
             Argument {
                 name: "FILE",
-                kind: Kind::Word,
+                kind: Kind::MaybeWord,
                 help: "The new text; - is standard input",
             },
             Argument {
                 name: "all",
                 kind: Kind::Flag,
                 help: "Lists the ranges whose line or reason alone changes, too",
+            },
+            Argument {
+                name: "proposal",
+                kind: Kind::Flag,
+                help: "Takes the pending proposal of the file for the new text",
             },
         ],
     )
@@ -693,7 +393,10 @@ fn log_command<'a>(alloc: Global) -> Result<Command<'a>, AllocError>
         name: "log",
         about: "Lists the revisions of a file with their authors",
         usage: None,
-        help: None,
+        help: Some(
+            "Each line is a revision with its number and its author, as `rev 2 ulf`. Behind it stands who approved it, as\n\
+             `, approved by site`, and `, profile 1` if its networks may have the masks of their classes.",
+        ),
     };
     made(
         alloc,
@@ -746,6 +449,37 @@ fn cat_command<'a>(alloc: Global) -> Result<Command<'a>, AllocError>
     )
 }
 
+/// Makes the command line of `proposal DB NAME`.
+fn proposal_command<'a>(alloc: Global) -> Result<Command<'a>, AllocError>
+    ensures { IsMade spec.proposal_command result }
+{
+    let title = Title {
+        name: "proposal",
+        about: "Prints the text that is proposed for a guarded file",
+        usage: None,
+        help: Some(
+            "Standard error says who proposed it, and which revision it follows. Another custodian of the mount point\n\
+             puts it in force by a put of this text, with the number of that revision as its base.",
+        ),
+    };
+    made(
+        alloc,
+        title,
+        &[
+            Argument {
+                name: "DB",
+                kind: Kind::Word,
+                help: "The file of the database",
+            },
+            Argument {
+                name: "NAME",
+                kind: Kind::Word,
+                help: "The name of the file",
+            },
+        ],
+    )
+}
+
 /// Makes the command line of `files DB`.
 fn files_command<'a>(alloc: Global) -> Result<Command<'a>, AllocError>
     ensures { IsMade spec.files_command result }
@@ -756,7 +490,8 @@ fn files_command<'a>(alloc: Global) -> Result<Command<'a>, AllocError>
         usage: None,
         help: Some(
             "Each line is a file with the number and the author of its newest revision, as `hosts rev 1 site`. An exports\n\
-             file whose mount point is not listed now has `unlisted` behind it.",
+             file has `guarded` behind it if its mount point is, and `unlisted` if that is not listed now. Below it stands\n\
+             its proposal, if one is pending, as `exports:/usr proposed rev 2 ulf`.",
         ),
     };
     made(

@@ -11,5 +11,6 @@
 
 mod arguments;
 mod command_line;
+mod text_commands;
 
 pub use command_line::command;

@@ -7,7 +7,7 @@ use Rattle.cli_files.specs.declared.failure.Failure.{Failure}
 use Rattle.cli_files.specs.declared.failure.Failure.TheVariants.{Memory}
 use Rattle.cli_output.specs.Refused.{refused_line, refused_status}
 use Rattle.cli_output.specs.declared.output.Output.{Output}
-use Rattle.cli_output.specs.declared.output.Output.TheVariants.{Changes, Checked, Done, Faulty, Help, NotSplit, Refused, Split, Tried}
+use Rattle.cli_output.specs.declared.output.Output.TheVariants.{Changes, Checked, Done, Faulty, Foreseen, Help, Noted, NotSplit, Refused, Split, Tried}
 
 -- the exit status of a command whose output is printed
 abbrev pub status_of : Result Output Failure → ℕ
@@ -18,7 +18,9 @@ status_of (Ok (Split text)) = 0
 status_of (Ok (NotSplit fault told)) = 3
 status_of (Ok (Checked checked)) = if checked.passes then 0 else 3
 status_of (Ok (Changes report)) = if report.mattering == 0 then 0 else 1
+status_of (Ok (Foreseen report told)) = if report.mattering == 0 then 0 else 1
 status_of (Ok (Done text)) = 0
+status_of (Ok (Noted text told)) = 0
 status_of (Ok (Refused refused told)) = refused_status refused
 status_of (Err Memory) = 4
 status_of (Err failure) = 2
@@ -33,7 +35,9 @@ output_text (Split text) = string_bytes text
 output_text (NotSplit fault told) = split_fault_line fault ++ 10 ∷ []
 output_text (Checked checked) = string_bytes checked.text
 output_text (Changes report) = string_bytes report.text
+output_text (Foreseen report told) = string_bytes report.text
 output_text (Done text) = string_bytes text
+output_text (Noted text told) = string_bytes text
 output_text (Refused refused told) = refused_line refused
 
 -- what is printed of an answer: of a failure nothing

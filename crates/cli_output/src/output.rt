@@ -34,8 +34,12 @@ pub enum Output {
     Checked(Checked),
     /// What another text would change.
     Changes(Report),
+    /// What an edit would change, and the sentence that standard error tells of it, or none.
+    Foreseen(Report, String),
     /// What a command on a database prints that is not refused, but for a verdict.
     Done(String),
+    /// What a command on a database prints that is not refused, and the sentence that standard error tells of it, or none.
+    Noted(String, String),
     /// Why a command on a database is refused, and the sentence that standard error tells of it.
     Refused(Refused, String),
 }
@@ -69,10 +73,16 @@ pub fn report<O: Write, E: Write>(
     }
 }
 
-/// Tells the finding of a fault, or that `check` did not look at the exports text, if it did not.
+/// Tells the finding of a fault, what is said beside an answer, or that `check` did not look at the exports text, if it did not.
 fn note<E: Write>(answer: &Result<Output, Failure>, err: &mut E) {
     match answer {
-        Ok(Output::Faulty(_, told) | Output::NotSplit(_, told) | Output::Refused(_, told)) => {
+        Ok(
+            Output::Faulty(_, told)
+            | Output::NotSplit(_, told)
+            | Output::Foreseen(_, told)
+            | Output::Noted(_, told)
+            | Output::Refused(_, told),
+        ) => {
             let _ = err.write_all(told.as_bytes());
         }
         Ok(Output::Checked(checked)) if !checked.read_exports => {
@@ -90,11 +100,13 @@ fn status_of(answer: &Result<Output, Failure>) -> u8
     ensures { result ≡ spec.status_of answer.now }
 {
     match answer {
-        Ok(Output::Help(_) | Output::Split(_) | Output::Done(_)) => 0,
+        Ok(Output::Help(_) | Output::Split(_) | Output::Done(_) | Output::Noted(..)) => 0,
         Ok(Output::Tried(tried)) => { if tried.granted { 0 } else { 1 } }
         Ok(Output::Faulty(..) | Output::NotSplit(..)) => 3,
         Ok(Output::Checked(checked)) => { if checked.passes { 0 } else { 3 } }
-        Ok(Output::Changes(report)) => { if report.mattering == 0 { 0 } else { 1 } }
+        Ok(Output::Changes(report) | Output::Foreseen(report, _)) => {
+            if report.mattering == 0 { 0 } else { 1 }
+        }
         Ok(Output::Refused(refused, _)) => refused.status(),
         Err(Failure::Memory) => 4,
         Err(_) => 2,
@@ -118,6 +130,14 @@ fn output_text(alloc: Global, output: Output) -> Result<String, AllocError>
         }
         Output::Checked(checked) => return Ok(checked.text),
         Output::Changes(report) => return Ok(report.text),
+        Output::Foreseen(report, told) => {
+            drop(told);
+            return Ok(report.text);
+        }
+        Output::Noted(text, told) => {
+            drop(told);
+            return Ok(text);
+        }
         Output::Refused(refused, told) => {
             drop(told);
             return refused.line(alloc);

@@ -3,7 +3,7 @@ use Rattle.std.specs.Prelude.{IfOk}
 use Rattle.std.proofs.Common.{◌≡◌, ℕ, List, inl, Option, Some, None, Result, Ok, Err, subst, sym}
 use Rattle.cli_line.specs.CommandLine.{ServeWords}
 use Rattle.cli_files.specs.declared.failure.Failure.{Failure}
-use Rattle.cli_words.specs.Arguments.{count_number, port_number}
+use Rattle.cli_words.specs.Arguments.{count_number}
 use Rattle.cli_output.specs.declared.output.Output.{Output}
 use Rattle.cli_output.specs.declared.output.Output.TheVariants.{Done}
 use Rattle.cli_database.specs.Opening.{TellsNoDesk}

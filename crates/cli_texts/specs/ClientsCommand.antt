@@ -7,6 +7,7 @@ use Rattle.desk_text.specs.declared.reading.ReadError.{ReadError}
 use Rattle.desk_text.specs.declared.reading.ReadError.TheVariants as read_error
 use Rattle.desk_tables.specs.FileSystems.{IsTableOf}
 use Rattle.desk_tables.specs.declared.filesystems.Mount.{Mount}
+use Rattle.desk_exports.specs.declared.profile.Profile.TheVariants.{Two}
 use Rattle.desk_policy.specs.Parsing.{read_tables, read_whole_with}
 use Rattle.desk_policy.specs.Policy.{Content}
 use Rattle.desk_policy.specs.Verdict.{Grant}
@@ -55,9 +56,9 @@ Tells read path (Ok (Faulty fault told)) = IsFaultOf read fault
 Tells read path (Err Memory) = Unit {0}
 Tells read path result = ⊥
 
--- it does so by these tables and an exports text, or tells the fault of a table
+-- it does so by these tables and an exports text, which is of profile 2, or tells the fault of a table
 abbrev pub TellsWith : Result SiteTables SiteFault → List ℕ → List Mount → List (List ℕ) → Result Output Failure → Type 0
-TellsWith (Ok tables) text table path result = Tells (read_whole_with tables table text) path result
+TellsWith (Ok tables) text table path result = Tells (read_whole_with Two tables table text) path result
 TellsWith (Err fault) text table path result = TellsFault fault result
 
 -- the answer by the texts that were read, in the order of the files; or why a file has no text

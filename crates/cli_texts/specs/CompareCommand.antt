@@ -3,6 +3,7 @@ use Rattle.std.specs.Prelude.{◌≡◌, ◌⊎◌, ℕ, Bool, true, false, List
 use Rattle.std.specs.String.{string_bytes}
 use Rattle.desk_tables.specs.FileSystems.{IsTableOf}
 use Rattle.desk_tables.specs.declared.filesystems.Mount.{Mount}
+use Rattle.desk_exports.specs.declared.profile.Profile.TheVariants.{Two}
 use Rattle.desk_policy.specs.Parsing.{read_whole_with}
 use Rattle.desk_policy.specs.Policy.{Content}
 use Rattle.desk_policy.specs.View.{IsFaultOf}
@@ -65,10 +66,10 @@ TellsOld read table sources result = ⊥
 abbrev pub Compares : Result Content SiteFault → Result Content SiteFault → List Mount → Bool → WholeSources → WholeSources → Result Output Failure → Type 0
 Compares read changed table all old_sources new_sources result = TellsOld read table old_sources result ⊎ ComparesFrom read changed table all new_sources result
 
--- the same by these tables, or the fault of a table
+-- the same by these tables, of two texts of profile 2; or the fault of a table
 abbrev pub ComparesWith : Result SiteTables SiteFault → List Mount → Bool → WholeSources → WholeSources → Result Output Failure → Type 0
 ComparesWith (Ok tables) table all old_sources new_sources result =
-    Compares (read_whole_with tables table old_sources.exports.text.now) (read_whole_with tables table new_sources.exports.text.now) table all old_sources new_sources result
+    Compares (read_whole_with Two tables table old_sources.exports.text.now) (read_whole_with Two tables table new_sources.exports.text.now) table all old_sources new_sources result
 ComparesWith (Err fault) table all old_sources new_sources result = MatchResult result (IsToldFaulty old_sources table fault) (λ failure. failure ≡ Memory)
 
 -- the answer by two exports texts, with the tables beside OLD

@@ -6,6 +6,7 @@ use Rattle.desk_tables.specs.Groups.{read_groups}
 use Rattle.desk_tables.specs.Users.{read_users}
 use Rattle.desk_tables.specs.declared.credential_text.CredFault.{CredFault}
 use Rattle.desk_tables.specs.declared.credentials.Cred.{Cred}
+use Rattle.desk_exports.specs.declared.profile.Profile.TheVariants.{Two}
 use Rattle.desk_policy.specs.Parsing.{read_tables, read_whole_with}
 use Rattle.desk_policy.specs.Policy.{Content}
 use Rattle.desk_policy.specs.View.{IsFaultOf}
@@ -40,9 +41,9 @@ TellsFault fault (Ok (Faulty found told)) = found ≡ fault
 TellsFault fault (Err Memory) = Unit {0}
 TellsFault fault result = ⊥
 
--- the output answers a request by these tables, or tells the fault of one, and by an exports text
+-- the output answers a request by these tables, or tells the fault of one, and by an exports text, which is of profile 2
 abbrev pub TellsWith : Result SiteTables SiteFault → List ℕ → Option Cred → Request → Result Output Failure → Type 0
-TellsWith (Ok tables) text own request result = Tells (read_whole_with tables request.filesystems text) own (number_of request.address) request.path result
+TellsWith (Ok tables) text own request result = Tells (read_whole_with Two tables request.filesystems text) own (number_of request.address) request.path result
 TellsWith (Err fault) text own request result = TellsFault fault result
 
 -- the same by what CRED stands for; if it is bad, that comes first

@@ -2,6 +2,7 @@
 
 ghost use Rattle.std.specs.Prelude.{◌≤◌, IfOk, Ok, length};
 ghost use Rattle.desk_check.specs.CheckFaults.{AreReadable};
+ghost use Rattle.desk_exports.specs.declared.profile.Profile.TheVariants.{Two};
 ghost use Rattle.desk_policy.specs.Parsing.{read_whole_with};
 ghost use Rattle.cli_files.specs.Files.{name_input_twice};
 ghost use Rattle.cli_words.specs.Words.{given_clients};
@@ -125,7 +126,8 @@ fn answer_with(
     }
 }
 
-/// Writes who may mount a path by a whole exports text, these tables and these file systems; or returns the text's fault.
+/// Writes who may mount a path by a whole exports text, of profile 2, these tables and these file systems; or returns the
+/// text's fault.
 fn clients_text(
     alloc: Global,
     text: &str,
@@ -134,7 +136,7 @@ fn clients_text(
     path: &Path,
 ) -> Result<String, ReadError<SiteFault>>
     requires { length text.now ≤ 4294967294 }
-    ensures { ListsClients (read_whole_with tables.now filesystems text.now) path.now result }
+    ensures { ListsClients (read_whole_with Two tables.now filesystems text.now) path.now result }
 {
     let view: View = view_of(alloc, text, tables, filesystems)?;
     let ranges = who(alloc, &view, path)?;

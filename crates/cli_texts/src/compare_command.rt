@@ -3,6 +3,7 @@
 ghost use Rattle.std.specs.Prelude.{◌≡◌, ◌∷◌, ◌≤◌, [], Ok, length, map};
 ghost use Rattle.std.specs.String.{string_bytes};
 ghost use Rattle.desk_check.specs.CheckFaults.{AreReadable};
+ghost use Rattle.desk_exports.specs.declared.profile.Profile.TheVariants.{Two};
 ghost use Rattle.desk_policy.specs.Parsing.{read_whole_with};
 ghost use Rattle.cli_files.specs.Files.{name_input_twice};
 ghost use Rattle.cli_words.specs.Words.{given_compare, given_tables};
@@ -172,7 +173,7 @@ fn answer_after(
 ) -> Result<Output, Failure>
     requires tables { AreReadable sources.tables }
     requires exports { length sources.exports.text.now ≤ 4294967294 }
-    ensures { ComparesAfter before.now (read_whole_with tables.now filesystems sources.entry.exports.text.now) filesystems all sources.entry result }
+    ensures { ComparesAfter before.now (read_whole_with Two tables.now filesystems sources.entry.exports.text.now) filesystems all sources.entry result }
 {
     let own = filesystems.copy()?;
     match view_of::<View>(alloc, sources.exports.text, tables, own) {

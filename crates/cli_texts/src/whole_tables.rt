@@ -3,10 +3,12 @@
 ghost use Rattle.std.specs.Prelude.{◌≤◌, length};
 ghost use Rattle.desk_text.specs.Reading.{Reads};
 ghost use Rattle.desk_check.specs.CheckFaults.{AreReadable};
+ghost use Rattle.desk_exports.specs.declared.profile.Profile.TheVariants.{Two};
 ghost use Rattle.desk_policy.specs.Parsing.{read_whole_with};
 ghost use Rattle.cli_texts.specs.WholeTables.{Views, tables_read};
 
 use desk_check::TableSources;
+use desk_exports::Profile;
 use desk_policy::{
     PerTable, PolicyView, SiteFault, SiteTables, parse_whole_without_warnings,
     warnings_change_no_answer,
@@ -33,8 +35,8 @@ pub fn read_tables(
     SiteTables::read(alloc, texts)
 }
 
-/// Makes a view of the policy that a whole exports text writes, with these tables and file systems, but for its warnings; or
-/// returns the text's fault: its first faulty line, or else its least contradiction.
+/// Makes a view of the policy that a whole exports text writes, by profile 2, with these tables and file systems, but for its
+/// warnings; or returns the text's fault: its first faulty line, or else its least contradiction.
 #[tactic(auto, using(crate::proofs::Viewed::faulty_read))]
 pub fn view_of<V: PolicyView>(
     alloc: Global,
@@ -43,9 +45,9 @@ pub fn view_of<V: PolicyView>(
     filesystems: FileSystems,
 ) -> Result<V, ReadError<SiteFault>>
     requires { length text.now ≤ 4294967294 }
-    ensures { Views V.in_force (read_whole_with tables.now filesystems text.now) result }
+    ensures { Views V.in_force (read_whole_with Two tables.now filesystems text.now) result }
 {
-    let policy = parse_whole_without_warnings(alloc, text, filesystems, tables)?;
+    let policy = parse_whole_without_warnings(alloc, Profile::Two, text, filesystems, tables)?;
     // No verdict and no fault rests on the warnings, which are left out.
     warnings_change_no_answer();
     V::build(alloc, policy)

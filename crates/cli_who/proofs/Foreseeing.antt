@@ -1,5 +1,5 @@
 -- A revision before the others is the newest of its file, for `foreseen`.
-use Rattle.std.proofs.Common.{◌≡◌, ◌∷◌, ℕ, List, Result, Ok, Err, refl, subst}
+use Rattle.std.proofs.Common.{◌≡◌, ◌∷◌, [], ℕ, List, Result, Ok, Err, refl, subst}
 use Rattle.desk_text.specs.declared.reading.ReadError.{ReadError}
 use Rattle.desk_text.specs.declared.reading.ReadError.TheVariants.{Fault, Memory}
 use Rattle.desk_policy.specs.Policy.{Content}
@@ -17,7 +17,7 @@ unfolding newest_in
 in_front heads file text = refl
 
 -- the state that starts from heads is foreseen by the newest revisions that they give
-pub starts : (heads : List Head) (newest : Newest) (result : Result (Kept Content) (ReadError SiteFault)) → newest_in heads ≡ newest → Starts (λ content. content) heads result → Foresees newest result
-starts heads newest (Ok state) is begun = subst (λ (n : Newest). IsInForce (site_in n) state.view) is begun.1
+pub starts : (heads : List Head) (newest : Newest) (result : Result (Kept Content) (ReadError SiteFault)) → newest_in heads ≡ newest → Starts (λ content. content) heads [] result → Foresees newest result
+starts heads newest (Ok state) is begun = subst (λ (n : Newest). IsInForce (site_in n) state.view) is begun.2
 starts heads newest (Err (Fault fault)) is begun = subst (λ (n : Newest). HasFault (site_in n) fault) is begun
 starts heads newest (Err Memory) is begun = tt

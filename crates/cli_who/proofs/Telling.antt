@@ -1,4 +1,4 @@
--- What is told of a text that a file might have, for `asking::ask_desk` and `asking::compare`.
+-- What is told of a text that a file might have, for `asking::ask_text` and `asking::compare`.
 use Rattle.std.proofs.Common.{◌≡◌, ◌<◌, ◌≤◌, Bool, true, false, Result, Ok, Err, length}
 use Rattle.desk_policy.specs.Policy.{Content}
 use Rattle.desk_policy.specs.View.{HasFault}
@@ -12,7 +12,7 @@ use Rattle.desk_service.specs.declared.refused.Refused.TheVariants as by_desk
 use Rattle.cli_files.specs.declared.failure.Failure.{Failure}
 use Rattle.cli_files.specs.declared.failure.Failure.TheVariants.{Memory}
 use Rattle.cli_output.specs.declared.output.Output.{Output}
-use Rattle.cli_output.specs.declared.output.Output.TheVariants.{Changes}
+use Rattle.cli_output.specs.declared.output.Output.TheVariants.{Foreseen}
 use Rattle.cli_database.specs.RefusedOutputs.{IsRefusedByDesk}
 use Rattle.cli_who.specs.Asking.{NewText, ReportsFrom, TellsChangesTo, TellsImpact, is_known_by}
 use Rattle.cli_who.specs.Foreseen.{with_text}
@@ -35,7 +35,7 @@ faulty newest new fault result known short fault_is is =
 
 pub changed : (newest : Newest) (new : NewText) (after : Content) (result : Result Output Failure) → is_known_by newest new ≡ true → length new.text ≤ longest_revision → IsInForce (site_in (with_text newest new.name new.text)) after
     → TellsChangesTo newest after new.all result → TellsImpact newest new result
-changed newest new after (Ok (Changes report)) known short after_is tells = record { may = record { known = known; short = short }; after = after; after_is = after_is; reports = tells }
+changed newest new after (Ok (Foreseen report told)) known short after_is tells = record { may = record { known = known; short = short }; after = after; after_is = after_is; reports = tells }
 changed newest new after (Ok output) known short after_is tells = absurd tells
 changed newest new after (Err Memory) known short after_is tells = tt
 changed newest new after (Err failure) known short after_is tells = absurd tells

@@ -1,7 +1,8 @@
 -- What a site would be if a file had another text. (this project's own)
-use Rattle.std.specs.Prelude.{ℕ, List, [], Result, Ok, Err}
+use Rattle.std.specs.Prelude.{ℕ, List, [], None, Result, Ok, Err}
 use Rattle.desk_text.specs.declared.reading.ReadError.{ReadError}
 use Rattle.desk_text.specs.declared.reading.ReadError.TheVariants.{Fault, Memory}
+use Rattle.desk_exports.specs.declared.profile.Profile.TheVariants.{Two}
 use Rattle.desk_policy.specs.Policy.{Content}
 use Rattle.desk_policy.specs.View.{HasFault}
 use Rattle.desk_policy.specs.declared.site_fault.SiteFault.{SiteFault}
@@ -9,9 +10,9 @@ use Rattle.desk_core.specs.Head.{Newest, Revision, put}
 use Rattle.desk_core.specs.Site.{IsInForce, site_in}
 use Rattle.desk_core.specs.Views.{Kept}
 
--- a revision of a file with this text; its number and its author say nothing
+-- a revision of a file with this text, read by profile 2 as that of an edit is; its number and its author say nothing
 abbrev pub revision_with : List ℕ → List ℕ → Revision
-revision_with file text = record { file = file; rev = 1; author = []; body = text }
+revision_with file text = record { file = file; rev = 1; author = []; approver = None; profile = Two; body = text }
 
 -- the newest revisions, but that a file has this text
 abbrev pub with_text : Newest → List ℕ → List ℕ → Newest

@@ -8,6 +8,7 @@ ghost use Rattle.cli_who.specs.Foreseen.{Foresees, revision_with, with_text};
 
 use cli_database::View;
 use desk_core::{Head, State, can_be_kept};
+use desk_exports::Profile;
 use desk_policy::{SiteFault, SiteFile, mount_of};
 use desk_tables::{FileSystems, FsId};
 use desk_text::{ReadError, Text};
@@ -18,6 +19,16 @@ pub(crate) fn is_known(table: &FileSystems, file: &str) -> bool
     ensures { result ≡ judging.is_known table.now file.now }
 {
     is_of_seven(file) || exports_place(table, file).is_some()
+}
+
+/// Tests whether a file is guarded: it is the exports file of a mount point with the mark.
+pub(crate) fn is_guarded(table: &FileSystems, file: &str) -> bool
+    ensures { result ≡ judging.is_guarded_file table.now file.now }
+{
+    match exports_place(table, file) {
+        Some(place) => table.guarded(place),
+        None => false,
+    }
 }
 
 /// Tests whether a file is one of the seven that are not of one file system.
@@ -51,7 +62,7 @@ pub(crate) fn foresee(
     let changed = heads_with(alloc, heads, file, text)?;
     // The revisions of a desk are within the limits, and so is a text that is no longer than one may be.
     if can_be_kept(changed.as_slice()) {
-        State::from_heads(alloc, changed)
+        State::from_heads(alloc, changed, Vec::new(alloc))
     } else {
         drop(changed);
         Err(ReadError::Memory)
@@ -85,7 +96,7 @@ fn copies_behind(alloc: Global, first: Head, heads: &[Head]) -> Result<Vec<Head>
     Ok(copies)
 }
 
-/// Makes a revision of a file with this text, by nobody.
+/// Makes a revision of a file with this text, by nobody; it is read as an edit's is, by profile 2.
 fn head_of(alloc: Global, file: &str, text: &str) -> Result<Head, AllocError>
     ensures { IfOk result (λ head. head ≡ revision_with file.now text.now) }
 {
@@ -95,6 +106,8 @@ fn head_of(alloc: Global, file: &str, text: &str) -> Result<Head, AllocError>
         file,
         rev: 1,
         author: Text::from_string(String::new(alloc)),
+        approver: None,
+        profile: Profile::Two,
         body,
     })
 }
@@ -105,11 +118,24 @@ fn copy_of(alloc: Global, head: &Head) -> Result<Head, AllocError>
 {
     let file = Text::copy(alloc, head.file.as_str())?;
     let author = Text::copy(alloc, head.author.as_str())?;
+    let approver = copy_of_name(alloc, &head.approver)?;
     let body = Text::copy(alloc, head.body.as_str())?;
     Ok(Head {
         file,
         rev: head.rev,
         author,
+        approver,
+        profile: head.profile,
         body,
     })
+}
+
+/// Copies a name, if there is one.
+fn copy_of_name(alloc: Global, name: &Option<Text>) -> Result<Option<Text>, AllocError>
+    ensures { IfOk result (λ copy. copy ≡ name.now) }
+{
+    match name {
+        Some(name) => Ok(Some(Text::copy(alloc, name.as_str())?)),
+        None => Ok(None),
+    }
 }

@@ -10,6 +10,7 @@ use Rattle.cli_words.specs.declared.database_words.FilesWords.{FilesWords as Len
 use Rattle.cli_words.specs.declared.database_words.ImpactWords.{ImpactWords as LentImpactWords}
 use Rattle.cli_words.specs.declared.database_words.InitWords.{InitWords as LentInitWords}
 use Rattle.cli_words.specs.declared.database_words.LogWords.{LogWords as LentLogWords}
+use Rattle.cli_words.specs.declared.database_words.ProposalWords.{ProposalWords as LentProposalWords}
 use Rattle.cli_words.specs.declared.database_words.PutWords.{PutWords as LentPutWords}
 use Rattle.cli_words.specs.declared.database_words.ServeWords.{ServeWords as LentServeWords}
 use Rattle.cli_words.specs.declared.database_words.ShowWords.{ShowWords as LentShowWords}
@@ -83,13 +84,16 @@ given_put words =
     (option_map (λ word. word.now) words.key_file)
 
 abbrev pub given_impact : LentImpactWords → line.ImpactWords
-given_impact words = line.words_of_impact words.db.now words.name.now words.file.now words.all
+given_impact words = line.words_of_impact words.db.now words.name.now (option_map (λ word. word.now) words.file) words.all words.proposed
 
 abbrev pub given_log : LentLogWords → line.LogWords
 given_log words = line.words_of_log words.db.now words.name.now
 
 abbrev pub given_cat : LentCatWords → line.CatWords
 given_cat words = line.words_of_cat words.db.now words.name.now (option_map (λ word. word.now) words.rev)
+
+abbrev pub given_proposal : LentProposalWords → line.ProposalWords
+given_proposal words = line.words_of_proposal words.db.now words.name.now
 
 abbrev pub given_files : LentFilesWords → line.FilesWords
 given_files words = line.words_of_files words.db.now
@@ -115,6 +119,7 @@ given (lent.Put words) = line.Put (given_put words)
 given (lent.Impact words) = line.Impact (given_impact words)
 given (lent.Log words) = line.Log (given_log words)
 given (lent.Cat words) = line.Cat (given_cat words)
+given (lent.Proposal words) = line.Proposal (given_proposal words)
 given (lent.Files words) = line.Files (given_files words)
 given (lent.Write words) = line.Write (given_write words)
 given (lent.Serve words) = line.Serve (given_serve words)

@@ -3,8 +3,8 @@
 ghost use Rattle.std.specs.Prelude.{◌≡◌};
 ghost use Rattle.std.specs.Option.{option_map};
 ghost use Rattle.clap.specs.Words.{found_of, rows_of};
-ghost use Rattle.cli_line.specs.CommandLine.{ask_words_in, cat_words_in, exports_words_in, files_words_in, impact_words_in, init_words_in, log_words_in, put_words_in, serve_words_in, show_words_in, who_words_in, write_words_in};
-ghost use Rattle.cli_words.specs.Words.{given_ask, given_cat, given_exports, given_files, given_impact, given_init, given_log, given_put, given_serve, given_show, given_who, given_write};
+ghost use Rattle.cli_line.specs.CommandLine.{ask_words_in, cat_words_in, exports_words_in, files_words_in, impact_words_in, init_words_in, log_words_in, proposal_words_in, put_words_in, serve_words_in, show_words_in, who_words_in, write_words_in};
+ghost use Rattle.cli_words.specs.Words.{given_ask, given_cat, given_exports, given_files, given_impact, given_init, given_log, given_proposal, given_put, given_serve, given_show, given_who, given_write};
 
 use crate::words::{is_set, word};
 use clap::ArgMatches;
@@ -144,8 +144,10 @@ impl<'a> PutWords<'a> {
 pub struct ImpactWords<'a> {
     pub db: &'a str,
     pub name: &'a str,
-    pub file: &'a str,
+    pub file: Option<&'a str>,
     pub all: bool,
+    /// Whether the pending proposal stands in the place of FILE.
+    pub proposed: bool,
 }
 
 impl<'a> ImpactWords<'a> {
@@ -155,12 +157,12 @@ impl<'a> ImpactWords<'a> {
     {
         let db = word(found, "DB")?;
         let name = word(found, "NAME")?;
-        let file = word(found, "FILE")?;
         Some(ImpactWords {
             db,
             name,
-            file,
+            file: word(found, "FILE"),
             all: is_set(found, "all"),
+            proposed: is_set(found, "proposal"),
         })
     }
 }
@@ -203,6 +205,24 @@ impl<'a> CatWords<'a> {
             name,
             rev: word(found, "rev"),
         })
+    }
+}
+
+/// The words of `proposal`.
+#[derive(Clone, Copy)]
+pub struct ProposalWords<'a> {
+    pub db: &'a str,
+    pub name: &'a str,
+}
+
+impl<'a> ProposalWords<'a> {
+    /// Takes the words of `proposal` from what `clap` found, if it found each that it requires.
+    pub fn find(found: &ArgMatches<'a>) -> Option<ProposalWords<'a>>
+        ensures { option_map given_proposal result ≡ proposal_words_in (rows_of (found_of found.now)) }
+    {
+        let db = word(found, "DB")?;
+        let name = word(found, "NAME")?;
+        Some(ProposalWords { db, name })
     }
 }
 

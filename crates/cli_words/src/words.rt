@@ -7,8 +7,8 @@ ghost use Rattle.cli_line.specs.CommandLine.{command_in, command_of, desk_comman
 ghost use Rattle.cli_words.specs.Words.{Finds, given};
 
 use crate::database_words::{
-    AskWords, CatWords, ExportsWords, FilesWords, ImpactWords, InitWords, LogWords, PutWords,
-    ServeWords, ShowWords, WhoWords, WriteWords,
+    AskWords, CatWords, ExportsWords, FilesWords, ImpactWords, InitWords, LogWords, ProposalWords,
+    PutWords, ServeWords, ShowWords, WhoWords, WriteWords,
 };
 use crate::text_words::{CheckWords, ClientsWords, CompareWords, SplitWords, TryWords};
 use clap::ArgMatches;
@@ -31,6 +31,7 @@ pub enum CommandWords<'m, 'a> {
     Impact(ImpactWords<'a>),
     Log(LogWords<'a>),
     Cat(CatWords<'a>),
+    Proposal(ProposalWords<'a>),
     Files(FilesWords<'a>),
     Write(WriteWords<'a>),
     Serve(ServeWords<'a>),
@@ -87,6 +88,7 @@ fn found_file_words<'m, 'a>(name: &str, words: &'m ArgMatches<'a>) -> Option<Com
         "impact" => Some(CommandWords::Impact(ImpactWords::find(words)?)),
         "log" => Some(CommandWords::Log(LogWords::find(words)?)),
         "cat" => Some(CommandWords::Cat(CatWords::find(words)?)),
+        "proposal" => Some(CommandWords::Proposal(ProposalWords::find(words)?)),
         "files" => Some(CommandWords::Files(FilesWords::find(words)?)),
         "write" => Some(CommandWords::Write(WriteWords::find(words)?)),
         "serve" => Some(CommandWords::Serve(ServeWords::find(words)?)),

@@ -6,3 +6,4 @@ pub mod WrittenFiles
 pub mod NoCopiedDesk
 pub mod CommandAnswers
 pub mod TooLong
+pub mod SecondReading

@@ -1,8 +1,9 @@
 -- What is told of a database by a desk on a copy of it. (this project's own)
 use Rattle.std.specs.Prelude.{◌≡◌, ℕ, List, Result, Ok, Err}
 use Rattle.sqlite.specs.Effect.{Database}
-use Rattle.desk_core.specs.Head.{Newest, Revision}
-use Rattle.desk_core.specs.History.{newest_of}
+use Rattle.desk_core.specs.History.{standing_of}
+use Rattle.desk_core.specs.Standing.{Standing}
+use Rattle.desk_store.specs.Desk.{History}
 use Rattle.desk_store.specs.Open.{IsOurs, IsProject}
 use Rattle.desk_service.specs.declared.refused.Refused.TheVariants as by_desk
 use Rattle.cli_files.specs.Files.{IsUnread}
@@ -13,14 +14,14 @@ use Rattle.cli_output.specs.declared.output.Output.{Output}
 use Rattle.cli_output.specs.declared.output.Output.TheVariants.{Refused}
 use Rattle.cli_output.specs.declared.refused.Refused.TheVariants as refused
 
--- the database is one of this project, and these are the newest revisions of each history that it holds
-pub record AreNewestOf (db : Database) (newest : Newest) : Type 0 where
+-- the database is one of this project, and this is how files stand by each history that it holds
+pub record IsStandingOf (db : Database) (standing : Standing) : Type 0 where
   pub ours : IsOurs db
-  pub each : (history : List Revision) → IsProject db history → newest ≡ newest_of history
+  pub each : (history : History) → IsProject db history → standing ≡ standing_of history
 
--- these are the newest revisions of a database of this project
-abbrev pub AreNewest : Newest → Type 0
-AreNewest newest = (db : Database) × AreNewestOf db newest
+-- this is how files stand in a database of this project
+abbrev pub IsStanding : Standing → Type 0
+IsStanding standing = (db : Database) × IsStandingOf db standing
 
 -- There is no desk on a database: it is not one of this project. That a statement was refused, and that there is no memory, say
 -- nothing.

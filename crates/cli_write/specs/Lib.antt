@@ -1,4 +1,5 @@
 pub mod TextsBack
+pub mod Readable
 pub mod ListedFiles
 pub mod PrivateFiles
 pub mod CopiedDesk

@@ -31,4 +31,4 @@ listed_exports newest = exports_among (listed_now newest) newest
 
 -- the texts of the eight files: of each of the seven the newest text, empty if it has none, and the exports files, joined
 abbrev pub texts_back : Newest → List (List ℕ)
-texts_back newest = map (λ file. text_in newest (file_name file)) all_files ++ joined (listed_exports newest) ∷ []
+texts_back newest = map (λ file. (text_in newest (file_name file)).body) all_files ++ joined (listed_exports newest) ∷ []

@@ -2,8 +2,8 @@
 
 ghost use Rattle.std.specs.Prelude.{◌≡◌, false, IfErr, IfOk};
 ghost use Rattle.sqlite.specs.Files.{file_state};
-ghost use Rattle.desk_core.specs.Head.{newest_in};
-ghost use Rattle.cli_write.specs.CopiedDesk.{AreNewest, AreNewestOf, TellsNoDesk, TellsNoDeskOn};
+ghost use Rattle.desk_core.specs.State.{standing};
+ghost use Rattle.cli_write.specs.CopiedDesk.{IsStanding, IsStandingOf, TellsNoDesk, TellsNoDeskOn};
 
 use cli_database::View;
 use cli_database::refused_outputs::{not_opened_at, refused_by_copy};
@@ -23,7 +23,7 @@ pub(crate) fn open_copied_desk(
     rt: &HostRuntime,
     db: &str,
 ) -> Result<CopiedDesk, Result<Output, Failure>>
-    ensures opened { IfOk result (λ desk. AreNewest (newest_in desk.state.heads)) }
+    ensures opened { IfOk result (λ desk. IsStanding (standing desk.state)) }
     ensures refused { IfErr result (TellsNoDesk db.now) }
 {
     match open_copy(rt, db) {
@@ -33,11 +33,11 @@ pub(crate) fn open_copied_desk(
     }
 }
 
-/// Opens a desk on the database of a connection to a copy; or answers why there is none. An error of the copy's disk is reported as
-/// out of memory.
+/// Opens a desk on the database of a connection to a copy, where one of version 1 is migrated; or answers why there is none. An error
+/// of the copy's disk is reported as out of memory.
 fn open_desk(alloc: Global, db: &str, conn: Copied) -> Result<CopiedDesk, Result<Output, Failure>>
     requires { (file_state conn).in_transaction ≡ false }
-    ensures opened { IfOk result (λ desk. AreNewestOf (file_state conn).committed (newest_in desk.state.heads)) }
+    ensures opened { IfOk result (λ desk. IsStandingOf (file_state conn).committed (standing desk.state)) }
     ensures refused { IfErr result (TellsNoDeskOn (file_state conn).committed) }
 {
     match Desk::open(alloc, conn) {

@@ -1,6 +1,6 @@
 //! The command `files`: which files a database holds.
 
-ghost use Rattle.desk_core.specs.Head.{newest_in};
+ghost use Rattle.desk_core.specs.State.{standing};
 ghost use Rattle.cli_words.specs.Words.{given_files};
 ghost use Rattle.cli_write.specs.FilesCommand.{AnswersFiles, TellsFiles};
 
@@ -30,7 +30,7 @@ pub fn run_files(rt: &HostRuntime, words: FilesWords<'_>) -> Result<Output, Fail
 
 /// Tells the files of a desk.
 fn tell_files<S: Alter + Drop>(alloc: Global, desk: &Desk<S, View>) -> Result<Output, Failure>
-    ensures { TellsFiles (newest_in desk.now.state.heads) result }
+    ensures { TellsFiles (standing desk.now.state) result }
 {
     let text = files_text(alloc, desk)?;
     Ok(Output::Done(text))

@@ -1,28 +1,31 @@
-//! Which files have a revision, and their newest ones, told in lines.
+//! Which files have a revision or a proposal, told in lines.
 
-ghost use Rattle.std.specs.Prelude.{◌≡◌, ◌++◌, IfOk, OnOk, map, true};
+ghost use Rattle.std.specs.Prelude.{◌≡◌, ◌++◌, [], IfOk, OnOk, map};
 ghost use Rattle.std.specs.Option.{option_copied};
 ghost use Rattle.std.specs.String.{string_bytes};
 ghost use Rattle.desk_core.specs.Head.{newest_in};
+ghost use Rattle.desk_core.specs.State.{standing};
+ghost use Rattle.desk_core.specs.Standing.{proposals_in, standing_in};
 ghost use Rattle.desk_policy.specs.SiteFile.{file_name};
 ghost use Rattle.cli_write.specs.ListedFiles as spec;
-ghost use Rattle.cli_write.specs.PrivateFiles.{AreNamed, GainsNamed};
+ghost use Rattle.cli_write.specs.PrivateFiles.{AreNamed, GainsNamed, NamesMore};
 
 use crate::texts_back::listed_now;
-use desk_core::Head;
+use desk_core::{Head, Proposal};
 use desk_policy::{PolicyView, SiteFile, exports_file_name, mount_of};
 use desk_store::Desk;
 use desk_tables::FileSystems;
 use sqlite::Alter;
 use std::alloc::{AllocError, Global};
 
-/// Tells each file that has a revision, in the order of a site, with the number and the author of its newest one; and marks the
-/// exports files whose file systems are not listed now.
+/// Tells each file that has a revision or a proposal, in the order of a site, with the number and the author of its newest
+/// revision, and below it its proposal; and marks the exports files that are guarded, and those whose file systems are not listed
+/// now.
 pub(crate) fn files_text<S: Alter + Drop, V: PolicyView + Drop>(
     alloc: Global,
     desk: &Desk<S, V>,
 ) -> Result<String, AllocError>
-    ensures { IfOk result (λ text. spec.ListsFiles (newest_in desk.now.state.heads) (string_bytes text)) }
+    ensures { IfOk result (λ text. spec.ListsFiles (standing desk.now.state) (string_bytes text)) }
 {
     let mounts = exports_mounts(alloc, desk)?;
     let mut text = String::new(alloc);
@@ -54,9 +57,9 @@ fn push_one<S: Alter + Drop, V: PolicyView + Drop>(
     file: SiteFile,
     text: &mut String,
 ) -> Result<(), AllocError>
-    ensures { OnOk result (string_bytes text.new ≡ string_bytes text.old ++ spec.file_line true (newest_in desk.now.state.heads (file_name file))) }
+    ensures { OnOk result (string_bytes text.new ≡ string_bytes text.old ++ spec.file_line [] (newest_in desk.now.state.heads (file_name file))) }
 {
-    push_file(desk.newest(file.name()), true, text)
+    push_file(desk, file.name(), "", text)
 }
 
 /// Tells the exports files of these printed mount points.
@@ -67,7 +70,7 @@ fn push_exports<S: Alter + Drop, V: PolicyView + Drop>(
     mounts: &[&str],
     text: &mut String,
 ) -> Result<(), AllocError>
-    ensures { OnOk result (string_bytes text.new ≡ string_bytes text.old ++ spec.exports_lines filesystems.now (newest_in desk.now.state.heads) (map (λ mount. mount.now) mounts.now)) }
+    ensures { OnOk result (string_bytes text.new ≡ string_bytes text.old ++ spec.exports_lines filesystems.now (standing desk.now.state) (map (λ mount. mount.now) mounts.now)) }
 {
     for mount in mounts {
         push_mount(alloc, desk, filesystems, mount, text)?;
@@ -83,45 +86,68 @@ fn push_mount<S: Alter + Drop, V: PolicyView + Drop>(
     mount: &str,
     text: &mut String,
 ) -> Result<(), AllocError>
-    ensures { OnOk result (string_bytes text.new ≡ string_bytes text.old ++ spec.exports_line filesystems.now (newest_in desk.now.state.heads) mount.now) }
+    ensures { OnOk result (string_bytes text.new ≡ string_bytes text.old ++ spec.mount_lines filesystems.now (standing desk.now.state) mount.now) }
 {
     let name = exports_file_name(alloc, mount)?;
-    push_file(
-        desk.newest(name.as_str()),
-        is_listed(filesystems, mount),
-        text,
-    )
+    push_lines(desk, name.as_str(), mark_of(filesystems, mount), text)
 }
 
-/// Tests whether the file system of a printed mount point is listed.
-fn is_listed(filesystems: &FileSystems, mount: &str) -> bool
-    ensures { result ≡ spec.is_listed filesystems.now mount.now }
+/// Returns the mark of the exports file of a printed mount point: whether its file system is listed, and whether it is guarded.
+fn mark_of(filesystems: &FileSystems, mount: &str) -> &'static str
+    ensures { result.now ≡ spec.mark_of filesystems.now mount.now }
 {
-    filesystems.printed_as(mount).is_some()
-}
-
-/// Tells a file by its newest revision, if it has one.
-fn push_file(newest: Option<&Head>, is_listed: bool, text: &mut String) -> Result<(), AllocError>
-    ensures { OnOk result (string_bytes text.new ≡ string_bytes text.old ++ spec.file_line is_listed (option_copied newest.entry)) }
-{
-    match newest {
-        Some(head) => push_revision(head, is_listed, text),
-        None => Ok(()),
+    match filesystems.printed_as(mount) {
+        Some(place) => {
+            if filesystems.guarded(place) {
+                " guarded"
+            } else {
+                ""
+            }
+        }
+        None => " unlisted",
     }
 }
 
-/// Tells a revision.
-fn push_revision(head: &Head, is_listed: bool, text: &mut String) -> Result<(), AllocError>
-    ensures { OnOk result (string_bytes text.new ≡ string_bytes text.old ++ spec.revision_line is_listed head.now) }
+/// Tells a file by its newest revision, with a mark, and by its proposal, if it has them.
+fn push_lines<S: Alter + Drop, V: PolicyView + Drop>(
+    desk: &Desk<S, V>,
+    name: &str,
+    mark: &str,
+    text: &mut String,
+) -> Result<(), AllocError>
+    ensures { OnOk result (string_bytes text.new ≡ string_bytes text.old ++ spec.lines_of (standing desk.now.state) mark.now name.now) }
 {
-    let mark = if is_listed { "" } else { " unlisted" };
-    write_line(
-        head.file.as_str(),
-        head.rev,
-        head.author.as_str(),
-        mark,
-        text,
-    )
+    push_file(desk, name, mark, text)?;
+    push_proposal(desk, name, text)?;
+    Ok(())
+}
+
+/// Tells a file by its newest revision, if it has one, with a mark.
+fn push_file<S: Alter + Drop, V: PolicyView + Drop>(
+    desk: &Desk<S, V>,
+    name: &str,
+    mark: &str,
+    text: &mut String,
+) -> Result<(), AllocError>
+    ensures { OnOk result (string_bytes text.new ≡ string_bytes text.old ++ spec.file_line mark.now (newest_in desk.now.state.heads name.now)) }
+{
+    push_newest(desk.newest(name), mark, text)
+}
+
+/// Tells the newest revision of a file, if there is one, with a mark.
+fn push_newest(newest: Option<&Head>, mark: &str, text: &mut String) -> Result<(), AllocError>
+    ensures { OnOk result (string_bytes text.new ≡ string_bytes text.old ++ spec.file_line mark.now (option_copied newest.entry)) }
+{
+    match newest {
+        Some(head) => write_line(
+            head.file.as_str(),
+            head.rev,
+            head.author.as_str(),
+            mark,
+            text,
+        ),
+        None => Ok(()),
+    }
 }
 
 /// Writes the line of a revision.
@@ -137,42 +163,102 @@ fn write_line(
     write!(text, "{file} rev {rev} {author}{mark}\n")
 }
 
-/// Finds the printed mount points whose exports files have a revision in a desk, in byte order, each once.
+/// Tells the proposal of a file, if it has one.
+fn push_proposal<S: Alter + Drop, V: PolicyView + Drop>(
+    desk: &Desk<S, V>,
+    name: &str,
+    text: &mut String,
+) -> Result<(), AllocError>
+    ensures { OnOk result (string_bytes text.new ≡ string_bytes text.old ++ spec.proposal_line (proposals_in desk.now.state.proposals name.now)) }
+{
+    push_pending(desk.proposal(name), text)
+}
+
+/// Tells a proposal, if there is one.
+fn push_pending(proposal: Option<&Proposal>, text: &mut String) -> Result<(), AllocError>
+    ensures { OnOk result (string_bytes text.new ≡ string_bytes text.old ++ spec.proposal_line (option_copied proposal.entry)) }
+{
+    match proposal {
+        Some(proposal) => write_proposal(
+            proposal.file.as_str(),
+            u64::from(proposal.base) + 1,
+            proposal.author.as_str(),
+            text,
+        ),
+        None => Ok(()),
+    }
+}
+
+/// Writes the line of a proposal.
+fn write_proposal(file: &str, rev: u64, author: &str, text: &mut String) -> Result<(), AllocError>
+    ensures { OnOk result (string_bytes text.new ≡ string_bytes text.old ++ spec.proposed_line file.now rev author.now) }
+{
+    write!(text, "{file} proposed rev {rev} {author}\n")
+}
+
+/// Finds the printed mount points whose exports files have a revision or a proposal in a desk, in byte order, each once.
 fn exports_mounts<'a, S: Alter + Drop, V: PolicyView + Drop>(
     alloc: Global,
     desk: &'a Desk<S, V>,
 ) -> Result<Vec<&'a str>, AllocError>
-    ensures { IfOk result (λ mounts. spec.AreMountsWithExports (newest_in desk.now.state.heads) (map (λ mount. mount.now) mounts.items)) }
+    ensures { IfOk result (λ mounts. spec.AreMountsWithExports (standing desk.now.state) (map (λ mount. mount.now) mounts.items)) }
 {
-    mounts_with_exports(alloc, desk.heads())
+    mounts_with_exports(alloc, desk.heads(), desk.proposals())
 }
 
-/// Finds the printed mount points whose exports files are among these revisions, in byte order, each once.
-fn mounts_with_exports<'a>(alloc: Global, heads: &'a [Head]) -> Result<Vec<&'a str>, AllocError>
-    ensures { IfOk result (λ mounts. spec.AreMountsWithExports (newest_in heads.now) (map (λ mount. mount.now) mounts.items)) }
+/// Finds the printed mount points whose exports files are among those of these revisions and proposals, in byte order, each once.
+fn mounts_with_exports<'a>(
+    alloc: Global,
+    heads: &'a [Head],
+    proposals: &'a [Proposal],
+) -> Result<Vec<&'a str>, AllocError>
+    ensures { IfOk result (λ mounts. spec.AreMountsWithExports (standing_in heads.now proposals.now) (map (λ mount. mount.now) mounts.items)) }
 {
-    let mut mounts = named_mounts(alloc, heads)?;
+    let mut mounts = named_mounts(alloc, heads, proposals)?;
     mounts.sort_unstable();
     mounts.dedup();
     Ok(mounts)
 }
 
-/// Finds the printed mount points that the files of these revisions name, in their order.
-fn named_mounts<'a>(alloc: Global, heads: &'a [Head]) -> Result<Vec<&'a str>, AllocError>
-    ensures { IfOk result (λ mounts. AreNamed heads.now (map (λ mount. mount.now) mounts.items)) }
+/// Finds the printed mount points that the files of these revisions and proposals name, in their order.
+fn named_mounts<'a>(
+    alloc: Global,
+    heads: &'a [Head],
+    proposals: &'a [Proposal],
+) -> Result<Vec<&'a str>, AllocError>
+    ensures { IfOk result (λ mounts. AreNamed (map (λ head. head.file) heads.now ++ map (λ proposal. proposal.file) proposals.now) (map (λ mount. mount.now) mounts.items)) }
 {
     let mut mounts = Vec::new(alloc);
-    for head in heads {
-        push_named(head, &mut mounts)?;
-    }
+    push_revised(heads, &mut mounts)?;
+    push_proposed(proposals, &mut mounts)?;
     Ok(mounts)
 }
 
-/// Adds the printed mount point that the file of a revision names, if it is an exports file.
-fn push_named<'a>(head: &'a Head, mounts: &mut Vec<&'a str>) -> Result<(), AllocError>
-    ensures { OnOk result (GainsNamed head.now.file (map (λ mount. mount.now) mounts.old.items) (map (λ mount. mount.now) mounts.new.items)) }
+/// Adds the printed mount points that the files of these revisions name.
+fn push_revised<'a>(heads: &'a [Head], mounts: &mut Vec<&'a str>) -> Result<(), AllocError>
+    ensures { OnOk result (NamesMore (map (λ head. head.file) heads.now) (map (λ mount. mount.now) mounts.old.items) (map (λ mount. mount.now) mounts.new.items)) }
 {
-    match mount_of(head.file.as_str()) {
+    for head in heads {
+        push_named(head.file.as_str(), mounts)?;
+    }
+    Ok(())
+}
+
+/// Adds the printed mount points that the files of these proposals name.
+fn push_proposed<'a>(proposals: &'a [Proposal], mounts: &mut Vec<&'a str>) -> Result<(), AllocError>
+    ensures { OnOk result (NamesMore (map (λ proposal. proposal.file) proposals.now) (map (λ mount. mount.now) mounts.old.items) (map (λ mount. mount.now) mounts.new.items)) }
+{
+    for proposal in proposals {
+        push_named(proposal.file.as_str(), mounts)?;
+    }
+    Ok(())
+}
+
+/// Adds the printed mount point that a file names, if it is an exports file.
+fn push_named<'a>(file: &'a str, mounts: &mut Vec<&'a str>) -> Result<(), AllocError>
+    ensures { OnOk result (GainsNamed file.now (map (λ mount. mount.now) mounts.old.items) (map (λ mount. mount.now) mounts.new.items)) }
+{
+    match mount_of(file) {
         Some(mount) => {
             mounts.push(mount)?;
             Ok(())

@@ -46,7 +46,7 @@ fn newest_text<S: Alter + Drop, V: PolicyView + Drop>(
     desk: &Desk<S, V>,
     file: SiteFile,
 ) -> Result<String, AllocError>
-    ensures { IfOk result (λ text. string_bytes text ≡ text_in (newest_in desk.now.state.heads) (file_name file)) }
+    ensures { IfOk result (λ text. string_bytes text ≡ (text_in (newest_in desk.now.state.heads) (file_name file)).body) }
 {
     let text = String::from_str(alloc, body_of(desk, file.name()))?;
     Ok(text)
@@ -54,7 +54,7 @@ fn newest_text<S: Alter + Drop, V: PolicyView + Drop>(
 
 /// Lends the newest text of a file, empty if it has none.
 fn body_of<'a, S: Alter + Drop, V: PolicyView + Drop>(desk: &'a Desk<S, V>, name: &str) -> &'a str
-    ensures { result.now ≡ text_in (newest_in desk.now.state.heads) name.now }
+    ensures { result.now ≡ (text_in (newest_in desk.now.state.heads) name.now).body }
 {
     match desk.newest(name) {
         Some(head) => head.body.as_str(),

@@ -3,26 +3,34 @@
 ghost use Rattle.std.specs.Prelude.{◌≡◌, find, map, string_bytes};
 ghost use Rattle.std.specs.Option.{option_copied};
 ghost use Rattle.desk_core.specs.Head.{newest_in};
+ghost use Rattle.desk_core.specs.declared.edit.Refusal.TheVariants.{Fault as SiteRefusal};
+ghost use Rattle.desk_service.specs.declared.refused.Refused.TheVariants as by_desk;
+ghost use Rattle.cli_database.specs.RefusedOutputs.{IsRefusedByDesk};
 ghost use Rattle.cli_output.specs.SiteFolder.{site_list, site_paths};
 ghost use Rattle.cli_words.specs.Words.{given_write};
 ghost use Rattle.cli_write.specs.Replacing.{name_in, path_in, text_in};
-ghost use Rattle.cli_write.specs.WriteCommand.{AnswersWrite, RefusesTooLong, TellsDone, WritesNamed, WritesNewest, is_too_long, site_names};
+ghost use Rattle.cli_write.specs.WriteCommand.{AnswersWrite, RefusesTooLong, TellsDone, WritesBack, WritesNamed, WritesNewest, is_too_long, site_names};
 
 use crate::copied_desk::open_copied_desk;
+use crate::readable::read_by_second;
 use crate::replacing::{NewText, replace_files};
 use crate::texts_back::texts_back;
 use cli_database::View;
+use cli_database::put_command::fault_told;
 use cli_files::failure::Failure;
 use cli_files::input::LONGEST_INPUT;
 use cli_output::output::Output;
 use cli_output::refused::Refused;
 use cli_output::site_folder::{SiteFiles, paths_of};
 use cli_words::database_words::WriteWords;
-use desk_policy::SiteFile;
+use desk_core::{Edit, Refusal};
+use desk_exports::Profile;
+use desk_policy::{SiteFault, SiteFile};
+use desk_service::Refused as ByDesk;
 use desk_store::Desk;
-use desk_text::Text;
+use desk_text::{ReadError, Text};
 use sqlite::Alter;
-use std::alloc::Global;
+use std::alloc::{AllocError, Global};
 
 /// Answers `write DB DIR`.
 pub fn run_write(rt: &HostRuntime, words: WriteWords<'_>) -> Result<Output, Failure>
@@ -46,11 +54,58 @@ fn write_newest<S: Alter + Drop>(
 ) -> Result<Output, Failure>
     ensures { WritesNewest dir.now (newest_in desk.now.state.heads) result }
 {
+    match read_by_second(rt.alloc(), desk.heads()) {
+        Ok(()) => write_back(rt, dir, desk),
+        Err(ReadError::Fault(fault)) => refuse_faulty(rt.alloc(), desk, fault),
+        Err(ReadError::Memory) => Err(Failure::Memory),
+    }
+}
+
+/// Answers by the fault that `init` would find.
+fn refuse_faulty<S: Alter + Drop>(
+    alloc: Global,
+    desk: &Desk<S, View>,
+    fault: SiteFault,
+) -> Result<Output, Failure>
+    ensures { IsRefusedByDesk (by_desk.Edit (SiteRefusal fault)) result }
+{
+    let told = second_fault_told(alloc, desk, &fault)?;
+    Ok(Output::Refused(Refused::Desk(ByDesk::Edit(Refusal::Fault(fault))), told))
+}
+
+/// Tells the fault that `init` would find, as `check` does, and what to do about it.
+fn second_fault_told<S: Alter + Drop>(
+    alloc: Global,
+    desk: &Desk<S, View>,
+    fault: &SiteFault,
+) -> Result<String, AllocError> {
+    let no_edit = Edit {
+        file: "",
+        base: 0,
+        caller: "",
+        key: "",
+        text: "",
+    };
+    let finding = fault_told(alloc, Profile::Two, desk, &no_edit, fault)?;
+    let name = fault.file.as_str();
+    format!(in alloc;
+        "{finding}exportdesk: NAME {name:?}: its newest revision is of profile 1, and init reads by profile 2: put a text without this fault first\n"
+    )
+}
+
+/// Writes the newest texts of a desk into a folder, if none is too long for `init`.
+fn write_back<S: Alter + Drop>(
+    rt: &HostRuntime,
+    dir: &str,
+    desk: &Desk<S, View>,
+) -> Result<Output, Failure>
+    ensures { WritesBack dir.now (newest_in desk.now.state.heads) result }
+{
     let texts = texts_back(rt.alloc(), desk)?;
     write_texts(rt, dir, &texts)
 }
 
-/// Writes texts into a folder, each as the file of its name, if `init` can read them all.
+/// Writes texts into a folder, each as the file of its name, if none is too long for `init`.
 fn write_texts(rt: &HostRuntime, dir: &str, texts: &SiteFiles) -> Result<Output, Failure>
     ensures { WritesNamed site_names (site_paths dir.now) (site_list texts.now) result }
 {
@@ -98,7 +153,7 @@ fn new_text<'a>(name: &'a str, path: &'a String, text: &'a String) -> NewText<'a
     }
 }
 
-/// Writes files, if `init` can read them all.
+/// Writes files, if none is too long for `init`.
 fn write_files(rt: &HostRuntime, files: &[NewText<'_>]) -> Result<Output, Failure>
     ensures { WritesNamed (map name_in files.now) (map path_in files.now) (map text_in files.now) result }
 {

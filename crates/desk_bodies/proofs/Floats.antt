@@ -23,7 +23,7 @@ use Rattle.desk_bodies.specs.Edits.{refused_data}
 use Rattle.desk_bodies.specs.Exports.{dir_data, exports_data, system_data}
 use Rattle.desk_bodies.specs.Json.{count, entries, member_if}
 use Rattle.desk_bodies.specs.Ranges.{ended_range, range_data, who_data}
-use Rattle.desk_bodies.specs.Revisions.{revision_data, revisions_data}
+use Rattle.desk_bodies.specs.Revisions.{file_data, revision_data, revisions_data}
 use Rattle.desk_bodies.specs.Verdicts.{flavour_data, verdict_data}
 
 -- a list whose values have none
@@ -33,6 +33,10 @@ list_has_none write each (x ∷ xs) = rw (each x, list_has_none write each xs) r
 
 flavours_have_none : (flavours : List Flavour) → items_have_float (items_of (map flavour_data flavours)) ≡ false
 flavours_have_none flavours = list_has_none flavour_data (λ f. refl) flavours
+
+pub file_has_none : (name : List ℕ) (rev : ℕ) (author : List ℕ) (approver : Option (List ℕ)) (body : List ℕ) → has_float (file_data name rev author approver body) ≡ false
+file_has_none name rev author None body = refl
+file_has_none name rev author (Some approver) body = refl
 
 pub revisions_have_none : (name : List ℕ) (revisions : List (ℕ × List ℕ)) → has_float (revisions_data name revisions) ≡ false
 revisions_have_none name revisions = rw (list_has_none revision_data (λ r. refl) revisions) refl

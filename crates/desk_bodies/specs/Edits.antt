@@ -1,5 +1,5 @@
 -- The bodies of replies to an edit. (this project's own)
-use Rattle.std.specs.Prelude.{ℕ, List, [], ◌∷◌, ◌++◌, Bool, Option, codes}
+use Rattle.std.specs.Prelude.{ℕ, List, [], ◌∷◌, ◌++◌, Bool, true, Option, codes}
 use Rattle.std.specs.Option.{option_map}
 use Rattle.serde_json.specs.Data.{Data, boolean, string}
 use Rattle.desk_text.specs.Address.{addr_text, number_of}
@@ -13,6 +13,11 @@ use Rattle.desk_bodies.specs.Json.{count, entries, member_if}
 -- an edit that was stored, or that is the newest revision already
 abbrev pub done_data : Bool → ℕ → Data
 done_data already rev = entries ((codes "already", boolean already) ∷ (codes "rev", count rev) ∷ [])
+
+-- an edit that is proposed as this revision, or that was before, and waits for a second custodian
+abbrev pub proposed_data : Bool → ℕ → Data
+proposed_data already rev =
+    entries ((codes "already", boolean already) ∷ (codes "proposed", boolean true) ∷ (codes "rev", count rev) ∷ [])
 
 -- a refusal by its name and number
 abbrev pub plain_data : Refusal → Data

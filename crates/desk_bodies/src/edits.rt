@@ -4,7 +4,7 @@ ghost use Rattle.std.specs.Prelude.{◌≡◌, IfOk, None, Some};
 ghost use Rattle.std.specs.String.{string_bytes};
 ghost use Rattle.serde_json.specs.View.{view};
 ghost use Rattle.serde_json.specs.Written.{compact_text};
-ghost use Rattle.desk_bodies.specs.Edits.{done_data, fault_data, fault_entries, plain_data, refused_data, stale_data};
+ghost use Rattle.desk_bodies.specs.Edits.{done_data, fault_data, fault_entries, plain_data, proposed_data, refused_data, stale_data};
 
 use desk_core::Refusal;
 use desk_policy::SiteFault;
@@ -24,6 +24,21 @@ fn done_value(alloc: Global, already: bool, rev: u32) -> Result<Value, AllocErro
     ensures { IfOk result (λ value. view value ≡ done_data already rev) }
 {
     json!(in alloc; {"already": already, "rev": rev})
+}
+
+/// Writes the body for an edit that is proposed, or that was before.
+pub fn proposed_body(alloc: Global, already: bool, rev: u32) -> Result<String, AllocError>
+    ensures { IfOk result (λ body. string_bytes body ≡ compact_text (proposed_data already rev)) }
+{
+    let value = proposed_value(alloc, already, rev)?;
+    value.to_string(alloc)
+}
+
+/// Makes the value for an edit that is proposed.
+fn proposed_value(alloc: Global, already: bool, rev: u32) -> Result<Value, AllocError>
+    ensures { IfOk result (λ value. view value ≡ proposed_data already rev) }
+{
+    json!(in alloc; {"already": already, "proposed": true, "rev": rev})
 }
 
 /// Writes the body for an edit that is refused.

@@ -1,8 +1,8 @@
 //! The bodies of HTTP replies, as compact JSON with the keys of each object in byte order. (RFC 8259)
 //!
 //! Its promise: each body is the text of the JSON value that the definitions give for what is answered: for a verdict, for what a
-//! client may mount, for who may mount a directory, for a revision or the list of them, for an edit that is stored, and for one
-//! that is refused.
+//! client may mount, for who may mount a directory, for a revision or the list of them, for a proposal, for an edit that is stored
+//! or proposed, and for one that is refused.
 //!
 //! ```text
 //! verdict_body(alloc, policy, &verdict, &None)?    // {"fs":"/usr","line":3,"reason":3,"verdict":"denied"}
@@ -16,8 +16,8 @@ pub mod ranges;
 pub mod revisions;
 pub mod verdicts;
 
-pub use edits::{done_body, refusal_body};
+pub use edits::{done_body, proposed_body, refusal_body};
 pub use exports::exports_body;
 pub use ranges::who_body;
-pub use revisions::{file_body, revisions_body};
+pub use revisions::{file_body, proposal_body, revisions_body};
 pub use verdicts::verdict_body;

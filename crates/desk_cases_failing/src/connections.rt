@@ -4,7 +4,8 @@
 ghost use Rattle.std.specs.Prelude.{◌≡◌, ℕ, ◌<◌, List, length, None, false};
 
 use crate::desks::tell;
-use crate::sample::{history_after, site};
+use crate::sample::{FILESYSTEMS, site};
+use crate::stories::PLAIN;
 use desk_http::serve;
 use desk_index::Index;
 use desk_messages::{Bytes, End, Failed, Served, Source, StreamFault};
@@ -283,7 +284,7 @@ struct Subject {
 /// Tries all connections of a trial. Returns what is wrong.
 pub fn try_all(alloc: Global, trial: &Trial) -> Result<String, AllocError> {
     let mut subject = Subject {
-        site: site(alloc)?,
+        site: site(alloc, FILESYSTEMS)?,
         unused: None,
         wrong: String::new(alloc),
     };
@@ -561,9 +562,10 @@ fn check_desk(
     steps: usize,
 ) -> Result<(), AllocError> {
     let mut found = String::new(alloc);
-    tell(alloc, &mut desk, &mut found)?;
+    tell(alloc, &mut desk, &PLAIN, &mut found)?;
     let found = found.as_str();
-    if found != history_after(alloc, steps)?.as_str() {
+    let wanted = PLAIN.history_after(alloc, steps.saturating_sub(1))?;
+    if found != wanted.as_str() {
         write!(subject.wrong, "the desk holds {found:?}\n")?;
     } else if steps == 1 {
         subject.unused = Some(desk);

@@ -3,14 +3,18 @@
 ghost use Rattle.std.specs.Prelude.{◌≡◌, false, IfErr, IfOk};
 ghost use Rattle.sqlite.specs.Held.{state};
 
-use crate::sample::{EDITS, names};
-use desk_core::Edit;
+use crate::sample::names;
+use crate::stories::{Start, Story};
+use desk_core::{Edit, Head, Proposal};
 use desk_index::Index;
 use desk_policy::Site;
-use desk_store::{CreateError, Desk, DeskError};
-use sqlite::{Alter, Connection, Error, FileStore, Files, Options};
+use desk_store::{CreateError, Desk, DeskError, Done, Signature};
+use desk_text::Text;
+use sqlite::{Alter, Connection, Error, FileStore, Files, Options, Row};
 use sqlite_disk::Disk;
+use sqlite_value::value::ValueRef;
 use std::alloc::{AllocError, Global};
+use std::str;
 
 /// What a desk answered to the steps of a run.
 #[derive(Drop)]
@@ -43,17 +47,18 @@ impl Answers {
     }
 }
 
-/// Makes a desk of the site on new files and puts the edits. What is refused is tried once more. Gives the files back as
-/// they are then.
+/// Makes or opens a desk on the files, as the story has it, and puts its edits. What is refused is tried once more. Gives the
+/// files back as they are then.
 pub fn run<D: Disk + Drop>(
     alloc: Global,
     files: Files<D>,
     options: Options,
+    story: &Story,
     site: &Site,
     answers: &mut Answers,
 ) -> Files<D> {
     match opened(alloc, files, options, answers) {
-        Ok(conn) => files_of(edited(alloc, conn, site, answers)),
+        Ok(conn) => files_of(edited(alloc, conn, story, site, answers)),
         Err(files) => files,
     }
 }
@@ -110,36 +115,77 @@ pub fn files_of<D: Disk + Drop>(conn: Connection<FileStore<D>>) -> Files<D> {
     conn.into_store().close()
 }
 
-/// Makes a desk, and puts the edits.
+/// Makes or opens a desk, and puts the edits.
 fn edited<D: Disk + Drop>(
     alloc: Global,
     conn: Connection<FileStore<D>>,
+    story: &Story,
     site: &Site,
     answers: &mut Answers,
 ) -> Connection<FileStore<D>>
     requires { conn.in_transaction ≡ false }
 {
-    match created(alloc, conn, site, answers) {
+    match started(alloc, conn, story.start, site, answers) {
         Ok(mut desk) => {
-            answers.done = put_all(alloc, &mut desk, answers).saturating_add(1);
+            answers.done = put_all(alloc, &mut desk, story, answers).saturating_add(1);
             desk.into_connection()
         }
         Err(conn) => conn,
     }
 }
 
-/// Makes a desk, at the second time if need be.
-fn created<D: Disk + Drop>(
+/// Makes or opens a desk, at the second time if need be.
+fn started<D: Disk + Drop>(
     alloc: Global,
     conn: Connection<FileStore<D>>,
+    start: Start,
     site: &Site,
     answers: &mut Answers,
 ) -> Result<Desk<FileStore<D>, Index>, Connection<FileStore<D>>>
     requires { conn.in_transaction ≡ false }
 {
-    match create_once(alloc, conn, site, answers) {
+    match start_once(alloc, conn, start, site, answers) {
         Ok(desk) => Ok(desk),
-        Err(conn) => create_once(alloc, conn, site, answers),
+        Err(conn) => start_once(alloc, conn, start, site, answers),
+    }
+}
+
+/// Makes or opens a desk. If it is refused, the connection is given back.
+fn start_once<D: Disk + Drop>(
+    alloc: Global,
+    conn: Connection<FileStore<D>>,
+    start: Start,
+    site: &Site,
+    answers: &mut Answers,
+) -> Result<Desk<FileStore<D>, Index>, Connection<FileStore<D>>>
+    requires { conn.in_transaction ≡ false }
+    ensures { IfErr result (λ conn. conn.in_transaction ≡ false) }
+{
+    match start {
+        Start::Creates => create_once(alloc, conn, site, answers),
+        Start::Migrates => open_desk_once(alloc, conn, answers),
+    }
+}
+
+/// Opens a desk. If it is refused, the connection is given back.
+fn open_desk_once<D: Disk + Drop>(
+    alloc: Global,
+    conn: Connection<FileStore<D>>,
+    answers: &mut Answers,
+) -> Result<Desk<FileStore<D>, Index>, Connection<FileStore<D>>>
+    requires { conn.in_transaction ≡ false }
+    ensures { IfErr result (λ conn. conn.in_transaction ≡ false) }
+{
+    match Desk::open(alloc, conn) {
+        Ok(desk) => Ok(desk),
+        Err((DeskError::Store(fault), conn)) => {
+            answers.refused(fault.error);
+            Err(conn)
+        }
+        Err((_, conn)) => {
+            answers.is_odd = true;
+            Err(conn)
+        }
     }
 }
 
@@ -166,18 +212,20 @@ fn create_once<D: Disk + Drop>(
     }
 }
 
-/// Puts the edits, each at the second time if need be, until one is refused twice. Returns how many were answered as done.
+/// Puts the edits of a story, each at the second time if need be, until one is refused twice. Returns how many were answered as
+/// done.
 pub fn put_all<D: Disk + Drop>(
     alloc: Global,
     desk: &mut Desk<FileStore<D>, Index>,
+    story: &Story,
     answers: &mut Answers,
 ) -> usize {
-    for (place, edit) in EDITS.iter().enumerate() {
-        if !put(alloc, desk, edit, answers) && !put(alloc, desk, edit, answers) {
+    for (place, step) in story.edits.iter().enumerate() {
+        if !put(alloc, desk, &step.edit, answers) && !put(alloc, desk, &step.edit, answers) {
             return place;
         }
     }
-    EDITS.len()
+    story.edits.len()
 }
 
 /// Puts an edit, and tells whether it was answered as done. If not, the desk still stands at the revision before it.
@@ -188,7 +236,7 @@ fn put<D: Disk + Drop>(
     answers: &mut Answers,
 ) -> bool {
     let (is_done, rev) = match desk.edit(alloc, edit) {
-        Ok(done) => (true, done.rev),
+        Ok(done) => (true, newest_after(edit, done)),
         Err(DeskError::Store(fault)) => {
             answers.refused(fault.error);
             (false, edit.base)
@@ -204,6 +252,11 @@ fn put<D: Disk + Drop>(
     is_done
 }
 
+/// Returns the number of a file's newest revision after an edit that is answered so: a proposal is no revision.
+fn newest_after(edit: &Edit<'_>, done: Done) -> u32 {
+    if done.proposed { edit.base } else { done.rev }
+}
+
 /// Returns the number of a file's newest revision, by the desk.
 fn newest_number<D: Disk + Drop>(desk: &Desk<FileStore<D>, Index>, file: &str) -> u32 {
     match desk.newest(file) {
@@ -212,49 +265,102 @@ fn newest_number<D: Disk + Drop>(desk: &Desk<FileStore<D>, Index>, file: &str) -
     }
 }
 
-/// What a desk on files that were left holds: as it is opened, and once it is made, if it was not, and the edits are put.
+/// Which tables are in files that were left, and what a desk on them holds: as it is opened, and once it is made, if it was not,
+/// and the edits are put.
 #[derive(Drop)]
 pub struct Found {
+    pub tables: String,
     pub first: String,
     pub last: String,
 }
 
-/// Opens files that were left, and tells what a desk on them holds, at first and at last.
+/// Opens files that were left, and tells which tables they have and what a desk on them holds, at first and at last.
 pub fn look<D: Disk + Drop>(
     alloc: Global,
     files: Files<D>,
+    story: &Story,
     site: &Site,
 ) -> Result<Found, AllocError> {
     let mut found = Found {
+        tables: String::new(alloc),
         first: String::new(alloc),
         last: String::new(alloc),
     };
     let mut answers = Answers::new();
     match opened(alloc, files, options(1000), &mut answers) {
-        Ok(conn) => go_on(alloc, conn, site, &mut found)?,
-        Err(_) => found.first.push_str("no database")?,
+        Ok(conn) => go_on(alloc, conn, story, site, &mut found)?,
+        Err(_) => found.tables.push_str("no database")?,
     }
     Ok(found)
 }
 
-/// Tells what a desk holds, goes on, and tells what it holds then.
+/// Tells the tables, and what a desk holds; goes on, and tells what it holds then.
 fn go_on<D: Disk + Drop>(
     alloc: Global,
-    conn: Connection<FileStore<D>>,
+    mut conn: Connection<FileStore<D>>,
+    story: &Story,
     site: &Site,
     found: &mut Found,
 ) -> Result<(), AllocError>
     requires { conn.in_transaction ≡ false }
 {
-    let mut answers = Answers::new();
-    match reopened(alloc, conn, site, &mut found.first) {
-        Some(mut desk) => {
-            put_all(alloc, &mut desk, &mut answers);
-            let told = tell(alloc, &mut desk, &mut found.last);
-            drop(desk);
-            told
-        }
+    let told = tell_tables(&mut conn, &mut found.tables);
+    if told.is_err() || !conn.is_autocommit() {
+        drop(conn);
+        return told;
+    }
+    match reopened(alloc, conn, story, site, &mut found.first) {
+        Some(desk) => tell_last(alloc, desk, story, &mut found.last),
         None => Ok(()),
+    }
+}
+
+/// Puts the edits, and tells what the desk holds then.
+fn tell_last<D: Disk + Drop>(
+    alloc: Global,
+    mut desk: Desk<FileStore<D>, Index>,
+    story: &Story,
+    last: &mut String,
+) -> Result<(), AllocError> {
+    let mut answers = Answers::new();
+    put_all(alloc, &mut desk, story, &mut answers);
+    tell(alloc, &mut desk, story, last)
+}
+
+/// Tells the version of a database and the names of its tables, `version 2 approval file_rev meta proposal`, or `no tables`.
+fn tell_tables<D: Disk + Drop>(
+    conn: &mut Connection<FileStore<D>>,
+    out: &mut String,
+) -> Result<(), AllocError> {
+    match conn.query_all("SELECT version FROM meta", &[]) {
+        Ok(rows) => tell_values(out, "version", rows.as_slice())?,
+        Err(_) => return out.push_str("no tables"),
+    }
+    let names = "SELECT name FROM sqlite_schema WHERE type = 'table' ORDER BY name";
+    match conn.query_all(names, &[]) {
+        Ok(rows) => tell_values(out, "", rows.as_slice()),
+        Err(_) => out.push_str(" of which the names are refused"),
+    }
+}
+
+/// Tells the first value of each row, behind a blank.
+fn tell_values(out: &mut String, said: &str, rows: &[Row]) -> Result<(), AllocError> {
+    out.push_str(said)?;
+    for row in rows {
+        out.push(' ')?;
+        match row.get_ref(0) {
+            Ok(ValueRef::Int(number)) => write!(out, "{number}")?,
+            Ok(ValueRef::Text(bytes)) => add_bytes(out, bytes)?,
+            _ => out.push('?')?,
+        }
+    }
+    Ok(())
+}
+
+fn add_bytes(out: &mut String, bytes: &[u8]) -> Result<(), AllocError> {
+    match str::from_utf8(bytes) {
+        Ok(text) => out.push_str(text),
+        Err(_) => out.push('?'),
     }
 }
 
@@ -262,6 +368,7 @@ fn go_on<D: Disk + Drop>(
 fn reopened<D: Disk + Drop>(
     alloc: Global,
     conn: Connection<FileStore<D>>,
+    story: &Story,
     site: &Site,
     first: &mut String,
 ) -> Option<Desk<FileStore<D>, Index>>
@@ -269,51 +376,59 @@ fn reopened<D: Disk + Drop>(
 {
     match Desk::open(alloc, conn) {
         Ok(mut desk) => {
-            let _ = tell(alloc, &mut desk, first);
+            let _ = tell(alloc, &mut desk, story, first);
             Some(desk)
         }
         Err((DeskError::Schema, conn)) => {
-            let _ = first.push_str("no tables");
             let mut answers = Answers::new();
-            created(alloc, conn, site, &mut answers).ok()
+            started(alloc, conn, story.start, site, &mut answers).ok()
         }
         Err(_) => None,
     }
 }
 
-/// Tells the revisions of each file of the site: its name, the number, the author, and in the next lines the text. Of a file
-/// that is not edited only the newest is told.
+/// Tells the revisions of each file of the site: its name, the number, the author, who approved it, the profile, and in the next
+/// lines the text; and its proposal. Of a file that the story does not edit only the newest revision is told.
 pub fn tell<S: Alter + Drop>(
     alloc: Global,
     desk: &mut Desk<S, Index>,
+    story: &Story,
     out: &mut String,
 ) -> Result<(), AllocError> {
     for name in names(alloc)?.as_slice() {
-        if is_edited(name.as_str()) {
-            tell_revisions(alloc, desk, name.as_str(), out)?;
+        let name = name.as_str();
+        if story.edits_file(name) {
+            tell_revisions(alloc, desk, name, out)?;
+            tell_proposal(name, desk.proposal(name), out)?;
         } else {
-            tell_newest(desk, name.as_str(), out)?;
+            tell_newest(name, desk.newest(name), out)?;
         }
     }
     Ok(())
 }
 
-/// Tests whether one of the edits is of this file.
-fn is_edited(name: &str) -> bool {
-    EDITS.iter().any(|edit| edit.file == name)
-}
-
 /// Tells the newest revision of a file.
-fn tell_newest<S: Alter + Drop>(
-    desk: &Desk<S, Index>,
-    name: &str,
-    out: &mut String,
-) -> Result<(), AllocError> {
-    let Some(head) = desk.newest(name) else {
+fn tell_newest(name: &str, head: Option<&Head>, out: &mut String) -> Result<(), AllocError> {
+    let Some(head) = head else {
         return out.push_str("no file");
     };
-    let (rev, author, text) = (head.rev, head.author.as_str(), head.body.as_str());
-    write!(out, "{name} {rev} {author}\n{text}")
+    let (rev, author) = (head.rev, head.author.as_str());
+    let (profile, text) = (head.profile.number(), head.body.as_str());
+    write!(out, "{name} {rev} {author} profile {profile}\n{text}")
+}
+
+/// Tells the proposal of a file, if it has one.
+fn tell_proposal(
+    name: &str,
+    proposal: Option<&Proposal>,
+    out: &mut String,
+) -> Result<(), AllocError> {
+    let Some(proposal) = proposal else {
+        return Ok(());
+    };
+    let (base, author) = (proposal.base, proposal.author.as_str());
+    let text = proposal.body.as_str();
+    write!(out, "{name} proposed behind {base} by {author}\n{text}")
 }
 
 /// Tells all revisions of a file.
@@ -323,15 +438,33 @@ fn tell_revisions<S: Alter + Drop>(
     name: &str,
     out: &mut String,
 ) -> Result<(), AllocError> {
-    let Ok(revisions) = desk.revisions(alloc, name) else {
+    let Ok(signatures) = desk.signatures(alloc, name) else {
         return out.push_str("a list was refused");
     };
-    for (rev, author) in revisions.as_slice() {
-        let author = author.as_str();
-        write!(out, "{name} {rev} {author}\n")?;
-        tell_body(alloc, desk, name, *rev, out)?;
+    for signature in signatures.as_slice() {
+        tell_signature(name, signature, out)?;
+        tell_body(alloc, desk, name, signature.rev, out)?;
     }
     Ok(())
+}
+
+/// Tells the number of a revision, and who stands behind it.
+fn tell_signature(name: &str, signature: &Signature, out: &mut String) -> Result<(), AllocError> {
+    let (rev, author) = (signature.rev, signature.author.as_str());
+    write!(out, "{name} {rev} {author}")?;
+    tell_approver(&signature.approver, out)?;
+    let profile = signature.profile.number();
+    write!(out, " profile {profile}\n")
+}
+
+fn tell_approver(approver: &Option<Text>, out: &mut String) -> Result<(), AllocError> {
+    match approver {
+        Some(approver) => {
+            let approver = approver.as_str();
+            write!(out, " approved by {approver}")
+        }
+        None => Ok(()),
+    }
 }
 
 /// Tells the text of a revision.

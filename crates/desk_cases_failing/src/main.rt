@@ -5,8 +5,10 @@
 mod connections;
 mod desks;
 mod full;
+mod made;
 mod requests;
 mod sample;
+mod stories;
 mod trials;
 
 use std::io;
@@ -25,9 +27,8 @@ fn main(rt: HostRuntime) -> io::Result<ExitCode> {
         passed: 0,
         failed: 0,
     };
-    for trial in &trials::TRIALS {
-        let wrong = trials::try_all(rt.alloc(), trial)?;
-        report(&rt, &mut tally, trial.name, wrong.as_str())?;
+    for story in [&stories::PLAIN, &stories::SECONDED, &stories::MIGRATED] {
+        try_story(&rt, &mut tally, story)?;
     }
     for trial in &trials::TRIALS {
         let wrong = requests::try_all(rt.alloc(), trial)?;
@@ -46,6 +47,17 @@ fn main(rt: HostRuntime) -> io::Result<ExitCode> {
     } else {
         ExitCode::FAILURE
     })
+}
+
+/// Tries a story with each way in which its files fail.
+fn try_story(rt: &HostRuntime, tally: &mut Tally, story: &stories::Story) -> io::Result<()> {
+    for trial in &trials::TRIALS {
+        let wrong = trials::try_all(rt.alloc(), trial, story)?;
+        let (first, second) = (story.name, trial.name);
+        let name = format!(in rt.alloc(); "{first}{second}")?;
+        report(rt, tally, name.as_str(), wrong.as_str())?;
+    }
+    Ok(())
 }
 
 /// Prints and counts what came of a case, which passed if nothing is wrong.

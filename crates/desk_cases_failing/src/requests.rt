@@ -5,8 +5,9 @@ ghost use Rattle.std.specs.Prelude.{◌≡◌, false};
 
 use crate::connections::check_served;
 use crate::desks::{Answers, files_of, opened, options, tell};
-use crate::sample::{history_after, site};
-use crate::trials::{MOST_PASSES, Trial, failing_files, file_of, have_failed, written_files};
+use crate::made::Made;
+use crate::stories::PLAIN;
+use crate::trials::{MOST_PASSES, Trial, failing_files, have_failed, written_files};
 use desk_http::serve;
 use desk_index::Index;
 use desk_messages::{Bytes, End, Served};
@@ -62,64 +63,12 @@ const REFUSED: &[u8] =
     b"HTTP/1.1 503 Service Unavailable\r\ncontent-type: application/json\r\ncontent-length: 30\r\n\r\n\
     {\"error\":\"Store\",\"number\":201}";
 
-/// The bytes of the two files of a desk of the sample site.
-#[derive(Drop)]
-struct Made {
-    log: Vec<u8>,
-    db: Vec<u8>,
-}
-
-impl Made {
-    /// Makes files that hold these bytes.
-    fn files(&self, alloc: Global) -> io::Result<Files<Memory>> {
-        Ok(Files {
-            log: file_of(alloc, self.log.as_slice())?,
-            db: file_of(alloc, self.db.as_slice())?,
-        })
-    }
-}
-
-/// Makes a desk of the sample site on files of which none fails. Returns what they hold then.
-fn made_files(alloc: Global, wrong: &mut String) -> Result<Made, AllocError> {
-    let empty = Files {
-        log: Memory::new(alloc),
-        db: Memory::new(alloc),
-    };
-    let mut answers = Answers::new();
-    let files = match opened(alloc, empty, options(1000), &mut answers) {
-        Ok(conn) => files_of(created(alloc, conn, wrong)?),
-        Err(files) => files,
-    };
-    Ok(Made {
-        log: Vec::from_slice(alloc, files.log.bytes())?,
-        db: Vec::from_slice(alloc, files.db.bytes())?,
-    })
-}
-
-/// Makes a desk of the sample site. If it is refused, that is wrong.
-fn created(
-    alloc: Global,
-    conn: Connection<FileStore<Memory>>,
-    wrong: &mut String,
-) -> Result<Connection<FileStore<Memory>>, AllocError>
-    requires { conn.in_transaction ≡ false }
-{
-    let made: Result<Desk<FileStore<Memory>, Index>, _> = Desk::create(alloc, conn, &site(alloc)?);
-    match made {
-        Ok(desk) => Ok(desk.into_connection()),
-        Err((_, conn)) => {
-            wrong.push_str("no desk is made\n")?;
-            Ok(conn)
-        }
-    }
-}
-
 /// Serves the requests again and again to a desk as it was made, with one more call or write before a file fails, until none
 /// fails. Returns what is wrong.
 pub fn try_all(alloc: Global, trial: &Trial) -> io::Result<String> {
     let mut wrong = String::new(alloc);
     let mut edits = String::new(alloc);
-    let made = made_files(alloc, &mut wrong)?;
+    let made = Made::of_site(alloc, &mut wrong)?;
     for passes in 0..MOST_PASSES {
         let has_failed = try_once(alloc, trial, passes, &made, &mut edits, &mut wrong)?;
         if !wrong.is_empty() {
@@ -288,13 +237,14 @@ fn check_reopened(
     Ok(())
 }
 
-/// Tests whether a desk holds the history of so many steps of the sample.
+/// Tests whether a desk holds the history of so many steps.
 fn holds(
     alloc: Global,
     desk: &mut Desk<FileStore<Memory>, Index>,
     steps: usize,
 ) -> Result<bool, AllocError> {
     let mut found = String::new(alloc);
-    tell(alloc, desk, &mut found)?;
-    Ok(found.as_str() == history_after(alloc, steps)?.as_str())
+    tell(alloc, desk, &PLAIN, &mut found)?;
+    let wanted = PLAIN.history_after(alloc, steps.saturating_sub(1))?;
+    Ok(found.as_str() == wanted.as_str())
 }

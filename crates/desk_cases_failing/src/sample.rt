@@ -1,7 +1,7 @@
-//! The sample site, two edits of it, and the history that they make.
+//! The sample site.
 
-use desk_core::Edit;
-use desk_policy::Site;
+use desk_exports::Profile;
+use desk_policy::{ExportsText, Site};
 use desk_text::Text;
 use std::alloc::{AllocError, Global};
 use std::collections::BTreeMap;
@@ -9,8 +9,12 @@ use std::collections::BTreeMap;
 const CUSTODIANS: &str = "site ba7816bf8f01cfea414140de5dae2223b00361a396177a9cb410ff61f20015ad\n\
     ulf 2cf24dba5fb0a30e26e83b2ac5b9e29e1b161e5c1fa7425e73043362938b9824\n";
 
-const FILESYSTEMS: &str =
+pub const FILESYSTEMS: &str =
     "/usr site\n/u ulf\n/a ulf\n/u2 ulf\n/cdrom site\n/private site\n/secret site\n";
+
+/// The same, with two keepers of a guarded exports file.
+pub const GUARDED: &str =
+    "/usr site\n/u !guarded ulf site\n/a ulf\n/u2 ulf\n/cdrom site\n/private site\n/secret site\n";
 
 const HOSTS: &str =
     "131.104.48.17 grumpy.example grumpy\n131.104.48.20 sneezy\n131.104.48.21 doc\n";
@@ -26,7 +30,7 @@ const GROUP: &str =
 const NETGROUP: &str = "friends (sneezy,,) (doc,-,) pals\npals (,root,) friends\n";
 
 /// The exports files, by mount point.
-const EXPORTS: [(&str, &str); 7] = [
+pub const EXPORTS: [(&str, &str); 7] = [
     (
         "/a",
         "/a -network 192.168.0/24\n/a -network 3ffe:1ce1:1:fe80::/64\n\
@@ -53,10 +57,9 @@ const EXPORTS: [(&str, &str); 7] = [
     ),
 ];
 
-/// The seven files, by name.
-const TABLES: [(&str, &str); 7] = [
+/// Six of the seven files, by name: all but that of the file systems.
+pub const TABLES: [(&str, &str); 6] = [
     ("custodians", CUSTODIANS),
-    ("filesystems", FILESYSTEMS),
     ("hosts", HOSTS),
     ("networks", NETWORKS),
     ("passwd", PASSWD),
@@ -64,29 +67,11 @@ const TABLES: [(&str, &str); 7] = [
     ("netgroup", NETGROUP),
 ];
 
-/// An edit of the hosts file, and one of an exports file.
-pub const EDITS: [Edit<'static>; 2] = [
-    Edit {
-        file: "hosts",
-        base: 1,
-        caller: "site",
-        key: "abc",
-        text: "127.0.0.1 localhost\n",
-    },
-    Edit {
-        file: "exports:/u2",
-        base: 1,
-        caller: "ulf",
-        key: "hello",
-        text: "/u2 -ro\n",
-    },
-];
-
-/// Returns the texts of the site.
-pub fn site(alloc: Global) -> Result<Site, AllocError> {
+/// Returns the texts of the site, with this text of the file systems.
+pub fn site(alloc: Global, filesystems: &str) -> Result<Site, AllocError> {
     Ok(Site {
         custodians: Text::copy(alloc, CUSTODIANS)?,
-        filesystems: Text::copy(alloc, FILESYSTEMS)?,
+        filesystems: Text::copy(alloc, filesystems)?,
         hosts: Text::copy(alloc, HOSTS)?,
         networks: Text::copy(alloc, NETWORKS)?,
         passwd: Text::copy(alloc, PASSWD)?,
@@ -97,17 +82,25 @@ pub fn site(alloc: Global) -> Result<Site, AllocError> {
 }
 
 /// Returns the exports texts of the site, by mount point.
-fn exports(alloc: Global) -> Result<BTreeMap<String, Text>, AllocError> {
+fn exports(alloc: Global) -> Result<BTreeMap<String, ExportsText>, AllocError> {
     let mut exports = BTreeMap::new(alloc);
     for (mount, text) in EXPORTS {
-        exports.insert(String::from_str(alloc, mount)?, Text::copy(alloc, text)?)?;
+        exports.insert(String::from_str(alloc, mount)?, exports_text(alloc, text)?)?;
     }
     Ok(exports)
+}
+
+fn exports_text(alloc: Global, text: &str) -> Result<ExportsText, AllocError> {
+    Ok(ExportsText {
+        profile: Profile::Two,
+        body: Text::copy(alloc, text)?,
+    })
 }
 
 /// Returns the names of the files that the site has.
 pub fn names(alloc: Global) -> Result<Vec<String>, AllocError> {
     let mut names = Vec::new(alloc);
+    names.push(String::from_str(alloc, "filesystems")?)?;
     for (name, _) in TABLES {
         names.push(String::from_str(alloc, name)?)?;
     }
@@ -115,34 +108,4 @@ pub fn names(alloc: Global) -> Result<Vec<String>, AllocError> {
         names.push(format!(in alloc; "exports:{mount}")?)?;
     }
     Ok(names)
-}
-
-/// Tells what the tables hold after so many steps, as `tell` of a desk tells it: the first step makes the desk, and each
-/// other is an edit. Before the first there are no tables.
-pub fn history_after(alloc: Global, steps: usize) -> Result<String, AllocError> {
-    let mut history = String::new(alloc);
-    if steps == 0 {
-        history.push_str("no tables")?;
-        return Ok(history);
-    }
-    for (name, text) in TABLES {
-        add_file(&mut history, name, text, steps - 1)?;
-    }
-    for (mount, text) in EXPORTS {
-        let name = format!(in alloc; "exports:{mount}")?;
-        add_file(&mut history, name.as_str(), text, steps - 1)?;
-    }
-    Ok(history)
-}
-
-/// Adds the first revision of a file, and those that so many edits made of it.
-fn add_file(history: &mut String, name: &str, text: &str, edits: usize) -> Result<(), AllocError> {
-    write!(history, "{name} 1 site\n{text}")?;
-    for edit in EDITS.iter().take(edits) {
-        if edit.file == name {
-            let (caller, text) = (edit.caller, edit.text);
-            write!(history, "{name} 2 {caller}\n{text}")?;
-        }
-    }
-    Ok(())
 }

@@ -1,9 +1,11 @@
-//! Desks on files that fail: the sample site is made a desk, the hosts file is edited, and an exports file, while a file
-//! stops, or has no room, at each of its calls in turn. Whatever is left is opened again.
+//! Desks on files that fail: a desk is made or opened, and its files are edited, as a story has it, while a file stops, or has no
+//! room, at each of its calls in turn. Whatever is left is opened again.
 
-use crate::desks::{Answers, look, options, run};
+use crate::desks::{Answers, Found, look, options, run};
 use crate::full::Full;
-use crate::sample::{history_after, site};
+use crate::made::Made;
+use crate::sample::site;
+use crate::stories::{Start, Story};
 use desk_policy::Site;
 use sqlite::{Error, ErrorCode, Files, Options};
 use sqlite_disk::{Crash, Disk, Fuse, Memory};
@@ -96,11 +98,11 @@ impl Trial {
 
     /// Tests whether so many steps are answered as done, in turn, if the files fail later and later: with files that fail
     /// once, all from the first on, and else each number of steps, one after another.
-    fn wants(&self, counts: &str) -> bool {
+    fn wants(&self, counts: &str, steps: usize) -> bool {
         if self.refuses_one() {
-            counts.starts_with('3')
+            counts.starts_with(digit(steps))
         } else {
-            counts == "0123"
+            counts.len() == steps.saturating_add(1) && DIGITS.starts_with(counts)
         }
     }
 }
@@ -122,22 +124,6 @@ pub fn failing_files(trial: &Trial, files: Files<Memory>, passes: u64) -> Files<
         log: failing_file(files.log, trial.log, passes),
         db: failing_file(files.db, trial.db, passes),
     }
-}
-
-/// Runs the steps on new files, of which so many calls or writes pass.
-fn run_trial(
-    alloc: Global,
-    trial: &Trial,
-    passes: u64,
-    site: &Site,
-    answers: &mut Answers,
-) -> Files<File> {
-    let files = Files {
-        log: Memory::new(alloc),
-        db: Memory::new(alloc),
-    };
-    let files = failing_files(trial, files, passes);
-    run(alloc, files, trial.options(), site, answers)
 }
 
 /// Tests whether one of the files has stopped, or has refused a write.
@@ -187,32 +173,62 @@ pub fn file_of(alloc: Global, bytes: &[u8]) -> io::Result<Memory> {
     Ok(file)
 }
 
-/// Opens what is left, and looks whether a desk holds the history of the steps that were answered as done, or one step
-/// more; and whether it goes on. Adds what is wrong.
+/// What is tried: a story, with the texts of its site and the files that it begins with.
+#[derive(Drop)]
+struct Subject<'a> {
+    story: &'a Story,
+    site: Site,
+    made: Made,
+}
+
+/// Opens what is left, and looks whether it has the tables and a desk holds the history of the steps that were answered as done,
+/// or of one step more; and whether it goes on. Adds what is wrong.
 fn check_files(
     alloc: Global,
-    site: &Site,
+    subject: &Subject,
     done: usize,
     files: Files<Memory>,
     wrong: &mut String,
 ) -> Result<(), AllocError> {
-    let found = look(alloc, files, site)?;
-    let (first, last) = (found.first.as_str(), found.last.as_str());
-    if first != history_after(alloc, done)?.as_str()
-        && first != history_after(alloc, done.saturating_add(1))?.as_str()
+    let story = subject.story;
+    let found = look(alloc, files, story, &subject.site)?;
+    if !holds_steps(alloc, story, &found, done)?
+        && !holds_steps(alloc, story, &found, done.saturating_add(1))?
     {
-        write!(wrong, "after {done} steps a desk holds {first:?}\n")?;
+        let (tables, first) = (found.tables.as_str(), found.first.as_str());
+        write!(
+            wrong,
+            "after {done} steps there are {tables}, and a desk holds {first:?}\n"
+        )?;
     }
-    if last != history_after(alloc, 3)?.as_str() {
+    let last = found.last.as_str();
+    if last != story.history_after(alloc, story.edits.len())?.as_str() {
         write!(wrong, "at last a desk holds {last:?}\n")?;
     }
     Ok(())
 }
 
+/// Tests whether what is left is what so many steps leave: a desk that is to be made yet holds nothing.
+fn holds_steps(
+    alloc: Global,
+    story: &Story,
+    found: &Found,
+    steps: usize,
+) -> Result<bool, AllocError> {
+    if found.tables.as_str() != story.tables_after(steps) {
+        return Ok(false);
+    }
+    if steps == 0 && story.start == Start::Creates {
+        return Ok(found.first.is_empty());
+    }
+    let history = story.history_after(alloc, steps.saturating_sub(1))?;
+    Ok(found.first.as_str() == history.as_str())
+}
+
 /// Looks at what is left: all that was written; and what was synced, if that is less. Adds what is wrong.
 fn check_left(
     alloc: Global,
-    site: &Site,
+    subject: &Subject,
     done: usize,
     files: Files<File>,
     wrong: &mut String,
@@ -224,7 +240,7 @@ fn check_left(
         log: file_of(alloc, log.written.as_slice())?,
         db: file_of(alloc, db.written.as_slice())?,
     };
-    check_files(alloc, site, done, written, wrong)?;
+    check_files(alloc, subject, done, written, wrong)?;
     if log.is_synced() && db.is_synced() {
         return Ok(());
     }
@@ -232,13 +248,18 @@ fn check_left(
         log: file_of(alloc, log.synced.as_slice())?,
         db: file_of(alloc, db.synced.as_slice())?,
     };
-    check_files(alloc, site, done, synced, wrong)?;
+    check_files(alloc, subject, done, synced, wrong)?;
     Ok(())
 }
 
-/// Looks at the answers of a run: what is not done was refused, at first for the reason that is wanted; and if the file
-/// fails no more, then because SQLite closed the database at the first refusal. Adds what is wrong.
-fn check_answers(trial: &Trial, answers: &Answers, wrong: &mut String) -> Result<(), AllocError> {
+/// Looks at the answers of a run of so many steps: what is not done was refused, at first for the reason that is wanted; and if
+/// the file fails no more, then because SQLite closed the database at the first refusal. Adds what is wrong.
+fn check_answers(
+    trial: &Trial,
+    steps: usize,
+    answers: &Answers,
+    wrong: &mut String,
+) -> Result<(), AllocError> {
     if answers.is_odd {
         wrong.push_str("an answer is neither right nor a refused statement\n")?;
     }
@@ -247,7 +268,7 @@ fn check_answers(trial: &Trial, answers: &Answers, wrong: &mut String) -> Result
     {
         write!(wrong, "a statement is refused at first: {fault}\n")?;
     }
-    if answers.done == 3 {
+    if answers.done == steps {
         return Ok(());
     }
     let is_closed = answers.last_fault == Some(Error::SqliteFailure(ErrorCode::Closed));
@@ -258,24 +279,39 @@ fn check_answers(trial: &Trial, answers: &Answers, wrong: &mut String) -> Result
     Ok(())
 }
 
-/// Runs the steps again and again, with one more call or write before a file fails, until none fails. Returns what is wrong.
-pub fn try_all(alloc: Global, trial: &Trial) -> io::Result<String> {
-    let site = site(alloc)?;
+/// Runs the steps of a story again and again, with one more call or write before a file fails, until none fails. Returns what is
+/// wrong.
+pub fn try_all(alloc: Global, trial: &Trial, story: &Story) -> io::Result<String> {
     let mut wrong = String::new(alloc);
     let mut counts = String::new(alloc);
+    let subject = subject_of(alloc, story, &mut wrong)?;
     for passes in 0..MOST_PASSES {
-        let has_failed = try_once(alloc, trial, passes, &site, &mut counts, &mut wrong)?;
+        let has_failed = try_once(alloc, trial, passes, &subject, &mut counts, &mut wrong)?;
         if !wrong.is_empty() {
             write!(wrong, "as {passes} calls or writes pass")?;
             return Ok(wrong);
         }
         if !has_failed {
-            check_counts(trial, counts.as_str(), &mut wrong)?;
+            check_counts(trial, story, counts.as_str(), &mut wrong)?;
             return Ok(wrong);
         }
     }
     wrong.push_str("no run without a failure")?;
     Ok(wrong)
+}
+
+/// Makes what is tried. Adds what is wrong.
+fn subject_of<'a>(
+    alloc: Global,
+    story: &'a Story,
+    wrong: &mut String,
+) -> Result<Subject<'a>, AllocError> {
+    let site = site(alloc, story.filesystems)?;
+    let made = match story.start {
+        Start::Creates => Made::empty(alloc),
+        Start::Migrates => Made::of_version_one(alloc, wrong)?,
+    };
+    Ok(Subject { story, site, made })
 }
 
 /// Runs the steps on files of which so many calls or writes pass, and adds how many were answered as done, and what is
@@ -284,38 +320,63 @@ fn try_once(
     alloc: Global,
     trial: &Trial,
     passes: u64,
-    site: &Site,
+    subject: &Subject,
     counts: &mut String,
     wrong: &mut String,
 ) -> io::Result<bool> {
     let mut answers = Answers::new();
-    let mut files = run_trial(alloc, trial, passes, site, &mut answers);
+    let story = subject.story;
+    let files = failing_files(trial, subject.made.files(alloc)?, passes);
+    let mut files = run(
+        alloc,
+        files,
+        trial.options(),
+        story,
+        &subject.site,
+        &mut answers,
+    );
     let has_failed = have_failed(&mut files);
-    check_answers(trial, &answers, wrong)?;
+    check_answers(trial, story.edits.len().saturating_add(1), &answers, wrong)?;
     if !has_failed && answers.fault.is_some() {
         wrong.push_str("a statement is refused, and no file failed\n")?;
     }
-    check_left(alloc, site, answers.done, files, wrong)?;
+    check_left(alloc, subject, answers.done, files, wrong)?;
     add_count(counts, answers.done)?;
     Ok(has_failed)
 }
 
 /// Looks at the numbers of steps that were answered as done, in turn. Adds what is wrong.
-fn check_counts(trial: &Trial, counts: &str, wrong: &mut String) -> Result<(), AllocError> {
-    if trial.wants(counts) {
+fn check_counts(
+    trial: &Trial,
+    story: &Story,
+    counts: &str,
+    wrong: &mut String,
+) -> Result<(), AllocError> {
+    if trial.wants(counts, story.edits.len().saturating_add(1)) {
         return Ok(());
     }
     write!(wrong, "the steps that were done are {counts}")
 }
 
-/// Adds a number of steps, unless it is the last one already.
-pub fn add_count(counts: &mut String, done: usize) -> Result<(), AllocError> {
-    let digit = match done {
+/// The numbers of steps that a story may have, one after another.
+const DIGITS: &str = "0123456";
+
+/// Returns a number of steps in one digit.
+fn digit(steps: usize) -> &'static str {
+    match steps {
         0 => "0",
         1 => "1",
         2 => "2",
-        _ => "3",
-    };
+        3 => "3",
+        4 => "4",
+        5 => "5",
+        _ => "6",
+    }
+}
+
+/// Adds a number of steps, unless it is the last one already.
+pub fn add_count(counts: &mut String, done: usize) -> Result<(), AllocError> {
+    let digit = digit(done);
     if counts.as_str().ends_with(digit) {
         return Ok(());
     }

@@ -2,7 +2,7 @@
 
 use desk_cases_texts::answers::{Asked, number, say, say_whether, split};
 use desk_index::Index;
-use desk_store::{Desk, declares_file_rev, declares_meta};
+use desk_store::{Desk, declares_approval, declares_file_rev, declares_meta, declares_proposal};
 use sqlite::{Connection, Error, ErrorCode, MemStore, Row, params};
 use sqlite_value::value::ValueRef;
 use std::alloc::{AllocError, Global};
@@ -59,6 +59,7 @@ fn of_connection(
     match question {
         "sql" => sql(conn, out, text),
         "insert" => insert(conn, out, text),
+        "insert_proposal" => insert_proposal(conn, out, text),
         "query" => query(conn, out, text),
         "declares" => declares(conn, out, text),
         "limit" => limit(conn, out, text),
@@ -103,6 +104,32 @@ fn insert_row(
         body.as_bytes()
     ];
     match conn.execute("INSERT INTO file_rev VALUES(?1, ?2, ?3, ?4, ?5)", values) {
+        Ok(_) => say(out, "done"),
+        Err(error) => say_error(out, error),
+    }
+}
+
+/// `insert_proposal FILE BASE AUTHOR TEXT`: `done`, or what SQLite says. Adds a row to `proposal`.
+fn insert_proposal(conn: &mut Connection<MemStore>, out: &mut String, text: &str) -> Asked {
+    let (file, rest) = split(text);
+    let (base, rest) = split(rest);
+    let (author, body) = split(rest);
+    match number(base) {
+        Some(base) => insert_proposed(conn, out, file, base, author, body),
+        None => Ok(false),
+    }
+}
+
+fn insert_proposed(
+    conn: &mut Connection<MemStore>,
+    out: &mut String,
+    file: &str,
+    base: u32,
+    author: &str,
+    body: &str,
+) -> Asked {
+    let values = params![file, i64::from(base), author, body.as_bytes()];
+    match conn.execute("INSERT INTO proposal VALUES(?1, ?2, ?3, ?4)", values) {
         Ok(_) => say(out, "done"),
         Err(error) => say_error(out, error),
     }
@@ -158,11 +185,13 @@ fn add_bytes(out: &mut String, bytes: &[u8]) -> Asked {
     }
 }
 
-/// `declares TABLE`: whether the schema declares `meta`, or `file_rev`, as that of a desk, `yes` or `no`.
+/// `declares TABLE`: whether the schema declares `meta`, `file_rev`, `approval` or `proposal` as that of a desk, `yes` or `no`.
 fn declares(conn: &Connection<MemStore>, out: &mut String, table: &str) -> Asked {
     match table {
         "meta" => say_whether(out, declares_meta(conn.schema())),
         "file_rev" => say_whether(out, declares_file_rev(conn.schema())),
+        "approval" => say_whether(out, declares_approval(conn.schema())),
+        "proposal" => say_whether(out, declares_proposal(conn.schema())),
         _ => Ok(false),
     }
 }

@@ -1,14 +1,17 @@
 //! Questions on a desk, which is open on the database.
 
 use crate::databases::Database;
-use crate::edits::{add_head, edit_of, in_force, keep_head};
+use crate::edits::{
+    add_head, edit_of, in_force, keep_head, say_answer, say_approver, say_newest, say_profile,
+    say_proposal,
+};
 use crate::subject::Subject;
 use desk_cases_texts::answers::{Asked, number, say, split};
 use desk_cases_texts::indexes;
 use desk_cases_texts::site::no_texts;
 use desk_index::Index;
 use desk_policy::PolicyView;
-use desk_store::{CreateError, Desk, DeskError, Done, Revision, StoreFault, Task};
+use desk_store::{CreateError, Desk, DeskError, Done, Revision, Signature, StoreFault, Task};
 use desk_text::Text;
 use sqlite::{Connection, MemStore};
 use std::alloc::{AllocError, Global};
@@ -55,9 +58,14 @@ fn of_desk(
     match question {
         "edit" => edit(alloc, desk, out, text),
         "heads" => heads(alloc, desk, out),
-        "newest" => newest(desk, out, text),
+        "newest" => say_newest(out, desk.newest(text)),
+        "approver" => say_approver(out, desk.newest(text)),
+        "profile_of" => say_profile(out, desk.newest(text)),
+        "proposal" => say_proposal(out, desk.proposal(text)),
+        "signatures" => signatures(alloc, desk, out, text),
         "revisions" => revisions(alloc, desk, out, text),
         "revision" => revision(alloc, desk, out, text),
+        "signed" => signed(alloc, desk, out, text),
         "in_force" => in_force(alloc, desk.view(), out, text),
         _ => Ok(false),
     }
@@ -124,7 +132,8 @@ fn close(database: &mut Database, out: &mut String) -> Asked {
     say(out, "closed")
 }
 
-/// `edit FILE BASE CALLER KEY TEXT`: `stored 2`, and the edit is in force; `already 2`; or the refusal.
+/// `edit FILE BASE CALLER KEY TEXT`: `stored 2`, and the edit is in force; `proposed 2`; `already 2`, or `already proposed 2`;
+/// or the refusal.
 fn edit(alloc: Global, desk: &mut Desk<MemStore, Index>, out: &mut String, text: &str) -> Asked {
     let Some(edit) = edit_of(text) else {
         return Ok(false);
@@ -136,10 +145,7 @@ fn edit(alloc: Global, desk: &mut Desk<MemStore, Index>, out: &mut String, text:
 }
 
 fn say_done(out: &mut String, done: Done) -> Asked {
-    let answer = if done.already { "already" } else { "stored" };
-    let number = done.rev;
-    write!(out, "{answer} {number}")?;
-    Ok(true)
+    say_answer(out, done.rev, done.already, done.proposed)
 }
 
 /// `heads`: the newest revision of each file, its file, its number and its author, with `; ` between them: those of the seven
@@ -217,15 +223,6 @@ fn keep_newest(
     }
 }
 
-/// `newest FILE`: the number, the author and the text of its newest revision, or `none`.
-fn newest(desk: &Desk<MemStore, Index>, out: &mut String, file: &str) -> Asked {
-    if let Some(head) = desk.newest(file) {
-        let (number, author, body) = (head.rev, head.author.as_str(), head.body.as_str());
-        write!(out, "{number} {author} {body}")?;
-    }
-    Ok(true)
-}
-
 /// `revisions FILE`: the number and the author of each, with `; ` between them, or `none`.
 fn revisions(
     alloc: Global,
@@ -250,6 +247,48 @@ fn say_revisions(out: &mut String, revisions: &[(u32, Text)]) -> Asked {
     Ok(true)
 }
 
+/// `signatures FILE`: the number and the author of each revision, ` approved by ` and its approver if it has one, and ` profile `
+/// and the number of its profile, with `; ` between them, or `none`.
+fn signatures(
+    alloc: Global,
+    desk: &mut Desk<MemStore, Index>,
+    out: &mut String,
+    file: &str,
+) -> Asked {
+    match desk.signatures(alloc, file) {
+        Ok(signatures) => say_signatures(out, signatures.as_slice()),
+        Err(error) => say_refused(out, error),
+    }
+}
+
+fn say_signatures(out: &mut String, signatures: &[Signature]) -> Asked {
+    for (place, signature) in signatures.iter().enumerate() {
+        if place > 0 {
+            out.push_str("; ")?;
+        }
+        add_signature(out, signature)?;
+    }
+    Ok(true)
+}
+
+fn add_signature(out: &mut String, signature: &Signature) -> Result<(), AllocError> {
+    let (number, author) = (signature.rev, signature.author.as_str());
+    write!(out, "{number} {author}")?;
+    add_approver(out, &signature.approver)?;
+    let profile = signature.profile.number();
+    write!(out, " profile {profile}")
+}
+
+fn add_approver(out: &mut String, approver: &Option<Text>) -> Result<(), AllocError> {
+    match approver {
+        Some(approver) => {
+            let approver = approver.as_str();
+            write!(out, " approved by {approver}")
+        }
+        None => Ok(()),
+    }
+}
+
 /// `revision FILE REV`: its author and its text, or `none`.
 fn revision(
     alloc: Global,
@@ -271,6 +310,29 @@ fn say_revision(out: &mut String, found: &Option<Revision>) -> Asked {
     if let Some(revision) = found {
         let (author, body) = (revision.author.as_str(), revision.body.as_str());
         write!(out, "{author} {body}")?;
+    }
+    Ok(true)
+}
+
+/// `signed FILE REV`: the author of a revision, ` approved by ` and its approver if it has one, and ` profile ` and the number of
+/// its profile, or `none`.
+fn signed(alloc: Global, desk: &mut Desk<MemStore, Index>, out: &mut String, text: &str) -> Asked {
+    let (file, rev) = split(text);
+    let Some(rev) = number(rev) else {
+        return Ok(false);
+    };
+    match desk.revision(alloc, file, rev) {
+        Ok(found) => say_signed(out, &found),
+        Err(error) => say_refused(out, error),
+    }
+}
+
+fn say_signed(out: &mut String, found: &Option<Revision>) -> Asked {
+    if let Some(revision) = found {
+        out.push_str(revision.author.as_str())?;
+        add_approver(out, &revision.approver)?;
+        let profile = revision.profile.number();
+        write!(out, " profile {profile}")?;
     }
     Ok(true)
 }
@@ -315,10 +377,11 @@ fn say_store(out: &mut String, fault: StoreFault) -> Asked {
 
 fn task_name(task: Task) -> &'static str {
     match task {
-        Task::AddRevision => "AddRevision",
+        Task::AddEntry => "AddEntry",
         Task::ReadRevisions => "ReadRevisions",
         Task::FindTables => "FindTables",
         Task::ReadVersion => "ReadVersion",
         Task::MakeTables => "MakeTables",
+        Task::Migrate => "Migrate",
     }
 }

@@ -6,25 +6,28 @@ use desk_cases_texts::indexes;
 use desk_cases_texts::policies::say_verdict;
 use desk_cases_texts::site::no_texts;
 use desk_cases_texts::sites::{keep, say_fault};
-use desk_core::{Edit, Head, Judged, Refusal, State, can_be_kept};
+use desk_core::{Edit, Entry, Head, Judged, Proposal, Refusal, State, can_be_kept, can_be_pending};
+use desk_exports::Profile;
 use desk_index::Index;
 use desk_policy::{PolicyView, SiteFault};
 use desk_text::{Addr, Path, ReadError, Text};
 use std::alloc::{AllocError, Global};
 use std::mem;
 
-/// The heads of the state to come, and the state that was made last.
+/// The heads and the proposals of the state to come, and the state that was made last.
 #[derive(Drop)]
 pub struct Edits {
     heads: Vec<Head>,
+    proposals: Vec<Proposal>,
     state: Option<State<Index>>,
 }
 
 impl Edits {
-    /// No heads, and no state.
+    /// No heads, no proposals, and no state.
     pub fn new(alloc: Global) -> Edits {
         Edits {
             heads: Vec::new(alloc),
+            proposals: Vec::new(alloc),
             state: None,
         }
     }
@@ -39,7 +42,8 @@ pub fn answer(
     text: &str,
 ) -> Asked {
     match question {
-        "head" => head(alloc, &mut subject.edits, out, text),
+        "head" => head(alloc, subject.site.profile, &mut subject.edits, out, text),
+        "pending" => pending(alloc, &mut subject.edits, out, text),
         "state" => start(alloc, &mut subject.edits, out),
         "keys_in_force" => keys_in_force(alloc, subject, out),
         _ => match &mut subject.edits.state {
@@ -60,25 +64,37 @@ fn of_state(
     match question {
         "edit" => edit(alloc, state, out, text),
         "heads" => heads(state, out),
+        "newest" => say_newest(out, state.newest(text)),
+        "approver" => say_approver(out, state.newest(text)),
+        "profile_of" => say_profile(out, state.newest(text)),
+        "proposal" => say_proposal(out, state.proposal(text)),
         "in_force" => in_force(alloc, state.view(), out, text),
         _ => Ok(false),
     }
 }
 
-/// `head FILE REV AUTHOR TEXT`: `kept`. Adds the newest revision of a file to the state to come.
-fn head(alloc: Global, edits: &mut Edits, out: &mut String, text: &str) -> Asked {
+/// `head FILE REV AUTHOR TEXT`: `kept`. Adds the newest revision of a file to the state to come, which nobody approved, and
+/// which is read by the profile that was set last.
+fn head(alloc: Global, profile: Profile, edits: &mut Edits, out: &mut String, text: &str) -> Asked {
     let (file, rest) = split(text);
     let (rev, rest) = split(rest);
     match number(rev) {
         Some(rev) => {
-            edits.heads.push(head_of(alloc, file, rev, rest)?)?;
+            let head = head_of(alloc, profile, file, rev, rest)?;
+            edits.heads.push(head)?;
             say(out, "kept")
         }
         None => Ok(false),
     }
 }
 
-fn head_of(alloc: Global, file: &str, rev: u32, text: &str) -> Result<Head, AllocError> {
+fn head_of(
+    alloc: Global,
+    profile: Profile,
+    file: &str,
+    rev: u32,
+    text: &str,
+) -> Result<Head, AllocError> {
     let (author, body) = split(text);
     let file = Text::copy(alloc, file)?;
     let author = Text::copy(alloc, author)?;
@@ -87,18 +103,48 @@ fn head_of(alloc: Global, file: &str, rev: u32, text: &str) -> Result<Head, Allo
         file,
         rev,
         author,
+        approver: None,
+        profile,
         body,
     })
 }
 
-/// `state`: `in force`, or the fault. Makes the state of the heads, which are then forgotten.
+/// `pending FILE BASE AUTHOR TEXT`: `kept`. Adds the proposal of a file to the state to come.
+fn pending(alloc: Global, edits: &mut Edits, out: &mut String, text: &str) -> Asked {
+    let (file, rest) = split(text);
+    let (base, rest) = split(rest);
+    match number(base) {
+        Some(base) => {
+            edits.proposals.push(proposal_of(alloc, file, base, rest)?)?;
+            say(out, "kept")
+        }
+        None => Ok(false),
+    }
+}
+
+fn proposal_of(alloc: Global, file: &str, base: u32, text: &str) -> Result<Proposal, AllocError> {
+    let (author, body) = split(text);
+    let file = Text::copy(alloc, file)?;
+    let author = Text::copy(alloc, author)?;
+    let body = Text::copy(alloc, body)?;
+    Ok(Proposal {
+        file,
+        base,
+        author,
+        body,
+    })
+}
+
+/// `state`: `in force`, or the fault. Makes the state of the heads and the proposals, which are then forgotten.
 fn start(alloc: Global, edits: &mut Edits, out: &mut String) -> Asked {
     let heads = mem::replace(&mut edits.heads, Vec::new(alloc));
-    if !can_be_kept(heads.as_slice()) {
+    let proposals = mem::replace(&mut edits.proposals, Vec::new(alloc));
+    if !can_be_kept(heads.as_slice()) || !can_be_pending(proposals.as_slice()) {
         drop(heads);
+        drop(proposals);
         return Ok(false);
     }
-    set_state(edits, out, State::from_heads(alloc, heads))
+    set_state(edits, out, State::from_heads(alloc, heads, proposals))
 }
 
 fn set_state(
@@ -115,34 +161,73 @@ fn set_state(
     }
 }
 
-/// `edit FILE BASE CALLER KEY TEXT`: `stored 2`, and the edit is in force; `already 2`; or the refusal, as it is printed.
+/// `edit FILE BASE CALLER KEY TEXT`: `stored 2`, and the edit is in force; `proposed 2`; `already 2`, or `already proposed 2`;
+/// or the refusal, as it is printed.
 fn edit(alloc: Global, state: &mut State<Index>, out: &mut String, text: &str) -> Asked {
     let Some(edit) = edit_of(text) else {
         return Ok(false);
     };
     match put(alloc, state, &edit) {
-        Ok(None) => say_stored(state, out, edit.file),
-        Ok(Some(number)) => {
-            write!(out, "already {number}")?;
-            Ok(true)
-        }
+        Ok(done) => say_done(out, done),
         Err(error) => say_refused(out, error),
     }
 }
 
-/// Puts an edit in force. Returns the number of the newest revision if that is this edit.
+/// What an edit is answered that is not refused.
+#[derive(Clone, Copy)]
+struct Answered {
+    number: u32,
+    already: bool,
+    proposed: bool,
+}
+
+/// Puts an edit in force, or keeps its proposal.
 fn put(
     alloc: Global,
     state: &mut State<Index>,
     edit: &Edit<'_>,
-) -> Result<Option<u32>, ReadError<Refusal>> {
+) -> Result<Answered, ReadError<Refusal>> {
     match state.judge(alloc, edit)? {
         Judged::Accepted(accepted) => {
+            let done = answer_of(accepted.entry());
             state.apply(accepted);
-            Ok(None)
+            Ok(done)
         }
-        Judged::Already(number) => Ok(Some(number)),
+        Judged::Already { rev, proposed } => Ok(Answered {
+            number: rev,
+            already: true,
+            proposed,
+        }),
     }
+}
+
+/// Returns what is answered for what is stored: a proposal is answered with the number that its revision would have.
+fn answer_of(entry: &Entry) -> Answered {
+    let (number, proposed) = match entry {
+        Entry::Revised(head) => (head.rev, false),
+        Entry::Proposed(proposal) => (proposal.base.saturating_add(1), true),
+    };
+    Answered {
+        number,
+        already: false,
+        proposed,
+    }
+}
+
+fn say_done(out: &mut String, done: Answered) -> Asked {
+    say_answer(out, done.number, done.already, done.proposed)
+}
+
+/// Answers an edit that is not refused.
+pub fn say_answer(out: &mut String, number: u32, already: bool, proposed: bool) -> Asked {
+    let answer = match (already, proposed) {
+        (false, false) => "stored",
+        (false, true) => "proposed",
+        (true, false) => "already",
+        (true, true) => "already proposed",
+    };
+    write!(out, "{answer} {number}")?;
+    Ok(true)
 }
 
 /// Returns the edit `FILE BASE CALLER KEY TEXT`.
@@ -161,13 +246,48 @@ pub fn edit_of(text: &str) -> Option<Edit<'_>> {
     })
 }
 
-/// Answers with the number of a file's newest revision.
-fn say_stored(state: &State<Index>, out: &mut String, file: &str) -> Asked {
-    for head in state.heads() {
-        if head.file.as_str() == file {
-            let number = head.rev;
-            write!(out, "stored {number}")?;
-        }
+/// `newest FILE`: the number, the author and the text of its newest revision, or `none`.
+pub fn say_newest(out: &mut String, newest: Option<&Head>) -> Asked {
+    if let Some(head) = newest {
+        let (number, author, body) = (head.rev, head.author.as_str(), head.body.as_str());
+        write!(out, "{number} {author} {body}")?;
+    }
+    Ok(true)
+}
+
+/// `approver FILE`: who approved its newest revision, or `none`.
+pub fn say_approver(out: &mut String, newest: Option<&Head>) -> Asked {
+    match newest {
+        Some(head) => say_some(out, &head.approver),
+        None => Ok(true),
+    }
+}
+
+fn say_some(out: &mut String, text: &Option<Text>) -> Asked {
+    match text {
+        Some(text) => say(out, text.as_str()),
+        None => Ok(true),
+    }
+}
+
+/// `profile_of FILE`: the number of the profile by which its newest revision is read, or `none`.
+pub fn say_profile(out: &mut String, newest: Option<&Head>) -> Asked {
+    if let Some(head) = newest {
+        let number = head.profile.number();
+        write!(out, "{number}")?;
+    }
+    Ok(true)
+}
+
+/// `proposal FILE`: the base, the author and the text of its proposal, or `none`.
+pub fn say_proposal(out: &mut String, proposal: Option<&Proposal>) -> Asked {
+    if let Some(proposal) = proposal {
+        let (base, author, body) = (
+            proposal.base,
+            proposal.author.as_str(),
+            proposal.body.as_str(),
+        );
+        write!(out, "{base} {author} {body}")?;
     }
     Ok(true)
 }
@@ -246,6 +366,6 @@ pub fn keep_head(
     head: &Head,
 ) -> Result<(), AllocError> {
     let body = Text::copy(alloc, head.body.as_str())?;
-    keep(alloc, texts, head.file.as_str(), body)?;
+    keep(alloc, texts, head.profile, head.file.as_str(), body)?;
     Ok(())
 }

@@ -29,9 +29,10 @@ pub fn answer(alloc: Global, site: &Site, out: &mut String, question: &str, text
     }
 }
 
-/// Returns the tables of a site with these file systems.
+/// Returns the profile and the tables of a site, with these file systems.
 pub fn tables<'a>(site: &'a Site, filesystems: &'a FileSystems) -> Tables<'a> {
     Tables {
+        profile: site.profile,
         networks: &site.networks,
         users: &site.users,
         groups: &site.groups,

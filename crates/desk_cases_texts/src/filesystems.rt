@@ -18,6 +18,7 @@ pub fn answer(alloc: Global, site: &mut Site, out: &mut String, question: &str, 
         ("mount", Some(table)) => mount(table, out, text),
         ("of", Some(table)) => of(alloc, table, out, text),
         ("keeps", Some(table)) => keeps(table, out, text),
+        ("guarded", Some(table)) => guarded(table, out, text),
         _ => Ok(false),
     }
 }
@@ -90,6 +91,14 @@ fn keeps(table: &FileSystems, out: &mut String, text: &str) -> Asked {
     let (place, name) = split(text);
     match fs_id(place) {
         Some(id) => say_whether(out, table.keeps(name, id)),
+        None => Ok(false),
+    }
+}
+
+/// `guarded NUMBER`: whether the exports file of the file system at the place is guarded, `yes` or `no`.
+fn guarded(table: &FileSystems, out: &mut String, text: &str) -> Asked {
+    match fs_id(text) {
+        Some(id) => say_whether(out, table.guarded(id)),
         None => Ok(false),
     }
 }

@@ -9,10 +9,11 @@ use crate::filesystems::fs_id;
 use crate::indexes::add_by_keys;
 use crate::site::{InForce, Site};
 use crate::sites::say_fault;
-use desk_exports::{BoxedMapping, Flavour, Rule, Tables, Terms, read_file};
+use desk_exports::{BoxedMapping, Flavour, Profile, Rule, Tables, Terms, read_file};
 use desk_index::Index;
 use desk_policy::{
-    Denial, LONGEST_TEXT, PerTable, PolicyView, Row, SiteFault, SiteTables, Verdict, are_ascending,
+    Denial, ExportsText, LONGEST_TEXT, PerTable, PolicyView, Row, SiteFault, SiteTables, Verdict,
+    are_ascending,
 };
 use desk_tables::{FileSystems, FsId};
 use desk_text::{Addr, LineFault, Path, ReadError, Sequence, Text};
@@ -98,12 +99,13 @@ fn set_both(
     let (Some(InForce::View(view)), Some(index)) = (&mut site.policy, &mut site.index) else {
         return Ok(false);
     };
-    if !set_part(alloc, view, out, tables, fs, text)? {
+    let profile = site.profile;
+    if !set_part(alloc, view, out, tables, profile, fs, text)? {
         return Ok(false);
     }
     let mut by_keys = String::new(alloc);
     Ok(
-        set_part(alloc, index, &mut by_keys, tables, fs, text)?
+        set_part(alloc, index, &mut by_keys, tables, profile, fs, text)?
             && add_by_keys(out, by_keys.as_str())?,
     )
 }
@@ -115,7 +117,11 @@ fn keep_text(alloc: Global, site: &mut Site, fs: FsId, text: &str) -> Result<(),
     };
     if let Some(mount) = in_force.policy().filesystems().mount(fs) {
         let mount = String::from_str(alloc, mount.text())?;
-        site.texts.exports.insert(mount, Text::copy(alloc, text)?)?;
+        let text = ExportsText {
+            profile: site.profile,
+            body: Text::copy(alloc, text)?,
+        };
+        site.texts.exports.insert(mount, text)?;
     }
     Ok(())
 }
@@ -126,13 +132,21 @@ fn set_part<V: PolicyView>(
     view: &mut V,
     out: &mut String,
     tables: &SiteTables,
+    profile: Profile,
     fs: FsId,
     text: &str,
 ) -> Asked {
     if text.len() > LONGEST_TEXT {
         return Ok(false);
     }
-    match read_rows(alloc, view.policy().filesystems(), tables, fs, text) {
+    match read_rows(
+        alloc,
+        view.policy().filesystems(),
+        tables,
+        profile,
+        fs,
+        text,
+    ) {
         Ok(rows) => put_part(alloc, view, out, fs, rows),
         Err(error) => exports::say_fault(alloc, out, error),
     }
@@ -143,12 +157,14 @@ fn read_rows(
     alloc: Global,
     filesystems: &FileSystems,
     tables: &SiteTables,
+    profile: Profile,
     fs: FsId,
     text: &str,
 ) -> Result<Sequence<Row>, ReadError<LineFault<Rule>>>
     requires { length text.now ≤ 4294967294 }
 {
     let written = Tables {
+        profile,
         networks: &tables.networks,
         users: &tables.users,
         groups: &tables.groups,
@@ -214,7 +230,8 @@ fn large_part(alloc: Global, site: &mut Site, out: &mut String, text: &str) -> A
 fn set_large(alloc: Global, index: &mut Index, out: &mut String, lines: u32) -> Asked {
     let text = large_text(alloc, lines)?;
     let tables = SiteTables::new(alloc);
-    let asked = set_part(alloc, index, out, &tables, FsId(0), text.as_str());
+    let profile = Profile::Two;
+    let asked = set_part(alloc, index, out, &tables, profile, FsId(0), text.as_str());
     drop(tables);
     asked
 }

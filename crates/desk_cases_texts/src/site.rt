@@ -1,6 +1,7 @@
 //! The tables and the policy that questions are asked of.
 
 use crate::answers::{Asked, say};
+use desk_exports::Profile;
 use desk_index::Index;
 use desk_netgroup::Netgroups;
 use desk_policy::{Plain, Policy, PolicyView, Verdict, decide};
@@ -12,6 +13,8 @@ use std::collections::{BTreeMap, BTreeSet};
 /// What was read last. Until then a table is without rows, or there is none, and the texts of the site are empty.
 #[derive(Drop)]
 pub struct Site {
+    /// The profile by which exports texts are read.
+    pub profile: Profile,
     pub hosts: Hosts,
     pub networks: Networks,
     pub netgroups: Netgroups,
@@ -74,9 +77,10 @@ pub fn no_texts(alloc: Global) -> desk_policy::Site {
 }
 
 impl Site {
-    /// Tables without rows, empty texts, and no policy.
+    /// Profile 2, tables without rows, empty texts, and no policy.
     pub fn new(alloc: Global) -> Site {
         Site {
+            profile: Profile::Two,
             hosts: Hosts::new(alloc),
             networks: Networks::new(alloc),
             netgroups: Netgroups::new(alloc),

@@ -7,8 +7,11 @@ ghost use Rattle.std.specs.Prelude.{◌≤◌, length};
 use crate::answers::{Asked, say, split};
 use crate::indexes::{add_by_keys, index_of};
 use crate::site::{InForce, Site, no_texts};
+use desk_exports::Profile;
 use desk_index::Index;
-use desk_policy::{Plain, Policy, PolicyView, SiteFault, Warning, compile, parse, parse_whole};
+use desk_policy::{
+    ExportsText, Plain, Policy, PolicyView, SiteFault, Warning, compile, parse, parse_whole,
+};
 use desk_tables::FileSystems;
 use desk_text::{ReadError, Text};
 use std::alloc::{AllocError, Global};
@@ -20,6 +23,7 @@ pub fn answer(alloc: Global, site: &mut Site, out: &mut String, question: &str, 
 {
     match question {
         "site" => new(alloc, site, out, text),
+        "profile" => profile(site, out, text),
         "file" => file(alloc, site, out, text),
         "parse" | "compile" => of_texts(alloc, site, out, question),
         "whole" | "build" => of_whole(alloc, site, out, question, text),
@@ -38,20 +42,33 @@ fn new(alloc: Global, site: &mut Site, out: &mut String, text: &str) -> Asked {
     say(out, "new")
 }
 
+/// `profile NUMBER`: `set`. Exports texts are then read by this profile, also those that are kept from then on; 2 until it is set.
+fn profile(site: &mut Site, out: &mut String, text: &str) -> Asked {
+    site.profile = match text {
+        "1" => Profile::One,
+        "2" => Profile::Two,
+        _ => return Ok(false),
+    };
+    say(out, "set")
+}
+
 /// `file NAME TEXT`: `kept`. Sets a text of the site: that of `custodians`, `filesystems`, `hosts`, `networks`, `passwd`,
 /// `group` or `netgroup`, or of `exports:` and a mount point.
 fn file(alloc: Global, site: &mut Site, out: &mut String, text: &str) -> Asked {
     let (name, text) = split(text);
-    if !keep(alloc, &mut site.texts, name, Text::copy(alloc, text)?)? {
+    let text = Text::copy(alloc, text)?;
+    if !keep(alloc, &mut site.texts, site.profile, name, text)? {
         return Ok(false);
     }
     say(out, "kept")
 }
 
-/// Sets the text of the file with this name. Tells whether there is one.
+/// Sets the text of the file with this name; that of an exports file is read by this profile. Tells whether there is such a
+/// file.
 pub fn keep(
     alloc: Global,
     texts: &mut desk_policy::Site,
+    profile: Profile,
     name: &str,
     text: Text,
 ) -> Result<bool, AllocError> {
@@ -63,7 +80,7 @@ pub fn keep(
         "passwd" => texts.passwd = text,
         "group" => texts.group = text,
         "netgroup" => texts.netgroup = text,
-        _ => return keep_exports(alloc, texts, name, text),
+        _ => return keep_exports(alloc, texts, profile, name, text),
     }
     Ok(true)
 }
@@ -71,12 +88,14 @@ pub fn keep(
 fn keep_exports(
     alloc: Global,
     texts: &mut desk_policy::Site,
+    profile: Profile,
     name: &str,
-    text: Text,
+    body: Text,
 ) -> Result<bool, AllocError> {
     let Some(mount) = name.strip_prefix("exports:") else {
         return Ok(false);
     };
+    let text = ExportsText { profile, body };
     texts.exports.insert(String::from_str(alloc, mount)?, text)?;
     Ok(true)
 }
@@ -127,8 +146,9 @@ fn set_whole(
 ) -> Asked
     requires { length text.now ≤ 4294967294 }
 {
-    set_policy(site, out, whole(alloc, filesystems, text))?;
-    set_index_of(alloc, site, whole(alloc, filesystems, text))
+    let profile = site.profile;
+    set_policy(site, out, whole(alloc, profile, filesystems, text))?;
+    set_index_of(alloc, site, whole(alloc, profile, filesystems, text))
 }
 
 /// Sets both views of that policy.
@@ -141,24 +161,27 @@ fn set_built(
 ) -> Asked
     requires { length text.now ≤ 4294967294 }
 {
-    set_view(site, out, built(alloc, whole(alloc, filesystems, text)))?;
+    let profile = site.profile;
+    let policy = whole(alloc, profile, filesystems, text);
+    set_view(site, out, built(alloc, policy))?;
     set_index(
         alloc,
         site,
         out,
-        built(alloc, whole(alloc, filesystems, text)),
+        built(alloc, whole(alloc, profile, filesystems, text)),
     )
 }
 
 /// Reads the policy of a text for all of these file systems.
 fn whole(
     alloc: Global,
+    profile: Profile,
     filesystems: &FileSystems,
     text: &str,
 ) -> Result<Policy, ReadError<SiteFault>>
     requires { length text.now ≤ 4294967294 }
 {
-    parse_whole(alloc, text, filesystems.copy()?)
+    parse_whole(alloc, profile, text, filesystems.copy()?)
 }
 
 /// Builds a view of a policy, if that was read.

@@ -16,6 +16,7 @@ use Rattle.desk_netgroup.specs.declared.faults.PlacedFault.{PlacedFault as Group
 use Rattle.desk_exports.specs.Faults as exports
 use Rattle.desk_exports.specs.declared.entry.Entry.{Entry}
 use Rattle.desk_exports.specs.declared.faults.PlacedFault.{PlacedFault as LinePlacedFault}
+use Rattle.desk_exports.specs.declared.profile.Profile.TheVariants.{Two}
 use Rattle.desk_exports.specs.declared.rules.Rule.{Rule}
 use Rattle.desk_text.specs.declared.reading.LineFault.{LineFault}
 use Rattle.desk_policy.specs.Parsing.{rows_with}
@@ -104,7 +105,7 @@ by_entries (Err fault) sources table site_tables gathered found =
     finds_slices _ _ gathered (λ all tells. tells_within (λ (one : LinePlacedFault). one.fault) (exports.IsPlaced sources.exports.text.now) (tell_line sources.exports) _ all (λ one at. at.lies.within) tells) found
 
 pub exports_slices : (sources : WholeSources) (table : List Mount) (site_tables : SiteTables) (gathered : Gathered) → GathersExports sources table site_tables gathered → HaveSlices gathered.findings
-exports_slices sources table site_tables gathered found = by_entries (whole_answer (rows_with table site_tables) sources.exports.text.now) sources table site_tables gathered found
+exports_slices sources table site_tables gathered found = by_entries (whole_answer (rows_with Two table site_tables) sources.exports.text.now) sources table site_tables gathered found
 
 pub tables_slices : (tables : TableSources) (gathered : Gathered) → GathersTables tables gathered → HaveSlices gathered.findings
 tables_slices tables gathered found = finds_slices _ _ gathered (five_within tables) found

@@ -11,6 +11,8 @@ use Rattle.desk_exports.specs.Faults.{IsPlaced}
 use Rattle.desk_exports.specs.Files.{text_faults}
 use Rattle.desk_exports.specs.declared.faults.PlacedFault.{PlacedFault}
 use Rattle.desk_exports.specs.declared.files.Scope.TheVariants.{Whole}
+use Rattle.desk_exports.specs.declared.profile.Profile.{Profile}
+use Rattle.desk_exports.specs.declared.profile.Profile.TheVariants.{Two}
 use Rattle.desk_exports.specs.declared.rules.Rule.{Rule}
 use Rattle.desk_policy.specs.Parsing.{no_tables, rows_with}
 use Rattle.desk_policy.specs.declared.parsing.SiteTables.{SiteTables}
@@ -63,7 +65,7 @@ same_within source fault (Some one) all tells =
 same_within source fault None all tells = odds_within source (odd_of_fault fault ∷ []) all tells
 
 one_within : (source : Source) (fault : LineFault Rule) (read : Result (List Mount) TableFault) (all : List Told) → TellOne source fault read all → All Within all
-one_within source fault (Ok table) all tells = same_within source fault (find (is_same fault) (text_faults (rows_with table no_tables) Whole source.text.now)) all tells
+one_within source fault (Ok table) all tells = same_within source fault (find (is_same fault) (text_faults (rows_with Two table no_tables) Whole source.text.now)) all tells
 one_within source fault (Err bad) all none = subst (λ (ones : List Told). All Within ones) (sym none) (All-nil Within)
 
 split_within : (file filesystems : Source) (fault : SplitFault) (all : List Told) → TellSplit file filesystems fault all → All Within all
@@ -76,18 +78,20 @@ split_slices file filesystems fault findings adds =
     slices findings (subst (λ (ones : List Told). All Within ones) (sym adds.are) (split_within file filesystems fault adds.added adds.tell))
 
 -- so has what is told of a line of a site
-line_in_within : (read : Result (List Mount) TableFault) (source : Source) (fault : LineFault Rule) (site_tables : SiteTables) (all : List Told) → TellLineIn read source fault site_tables all → All Within all
-line_in_within (Ok table) source fault site_tables all tells = same_within source fault (find (is_same fault) (text_faults (rows_with table site_tables) (scope_of source.path.now table) source.text.now)) all tells
-line_in_within (Err bad) source fault site_tables all none = subst (λ (ones : List Told). All Within ones) (sym none) (All-nil Within)
+line_in_within : (read : Result (List Mount) TableFault) (profile : Profile) (source : Source) (fault : LineFault Rule) (site_tables : SiteTables) (all : List Told) → TellLineIn read profile source fault site_tables all → All Within all
+line_in_within (Ok table) profile source fault site_tables all tells =
+    same_within source fault (find (is_same fault) (text_faults (rows_with profile table site_tables) (scope_of source.path.now table) source.text.now)) all tells
+line_in_within (Err bad) profile source fault site_tables all none = subst (λ (ones : List Told). All Within ones) (sym none) (All-nil Within)
 
-line_by_within : (read : Result SiteTables SiteFault) (sources : SiteSources) (fault : LineFault Rule) (all : List Told) → TellLineBy read sources fault all → All Within all
-line_by_within (Ok site_tables) sources fault all tells = line_in_within (read_filesystems sources.filesystems.text.now) sources.whole.exports fault site_tables all tells
-line_by_within (Err bad) sources fault all none = subst (λ (ones : List Told). All Within ones) (sym none) (All-nil Within)
+line_by_within : (read : Result SiteTables SiteFault) (profile : Profile) (sources : SiteSources) (fault : LineFault Rule) (all : List Told) → TellLineBy read profile sources fault all → All Within all
+line_by_within (Ok site_tables) profile sources fault all tells =
+    line_in_within (read_filesystems sources.filesystems.text.now) profile sources.whole.exports fault site_tables all tells
+line_by_within (Err bad) profile sources fault all none = subst (λ (ones : List Told). All Within ones) (sym none) (All-nil Within)
 
-pub line_slices : (sources : SiteSources) (fault : LineFault Rule) (findings : List Finding) → Adds (TellLine sources fault) [] findings → HaveSlices findings
-line_slices sources fault findings adds =
+pub line_slices : (profile : Profile) (sources : SiteSources) (fault : LineFault Rule) (findings : List Finding) → Adds (TellLine profile sources fault) [] findings → HaveSlices findings
+line_slices profile sources fault findings adds =
     slices findings (subst (λ (ones : List Told). All Within ones) (sym adds.are)
-    (line_by_within (tables_of sources.whole.tables) sources fault adds.added adds.tell))
+    (line_by_within (tables_of sources.whole.tables) profile sources fault adds.added adds.tell))
 
 -- and what is told of the lines that these are about
 pub odds_slices : (source : Source) (odds : List OddLine) (findings : List Finding) → Adds (TellInOrder source odds) [] findings → HaveSlices findings

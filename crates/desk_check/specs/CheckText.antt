@@ -7,6 +7,7 @@ use Rattle.desk_exports.specs.Faults.{IsPlaced as IsPlacedInExports}
 use Rattle.desk_exports.specs.Files.{text_faults, whole_answer}
 use Rattle.desk_exports.specs.declared.entry.Entry.{Entry}
 use Rattle.desk_exports.specs.declared.files.Scope.TheVariants.{Whole}
+use Rattle.desk_exports.specs.declared.profile.Profile.TheVariants.{Two}
 use Rattle.desk_exports.specs.declared.rules.Rule.{Rule}
 use Rattle.desk_policy.specs.Parsing.{read_tables, rows_with}
 use Rattle.desk_policy.specs.Policy.{content_of}
@@ -29,10 +30,10 @@ pub record Finds (TellAll : List Told → Type 0) (read_exports : Bool) (gathere
   pub tell : TellAll (map told gathered.findings)
   pub looked : gathered.read_exports ≡ read_exports
 
--- the faults of an exports text, with these file systems and tables
+-- the faults of an exports text by profile 2, with these file systems and tables
 abbrev pub TellLineFaults : Source → List Mount → SiteTables → List Told → Type 0
 TellLineFaults source table site_tables all =
-    Tells (λ one. one.fault) (IsPlacedInExports source.text.now) (tell_line source) (text_faults (rows_with table site_tables) Whole source.text.now) all
+    Tells (λ one. one.fault) (IsPlacedInExports source.text.now) (tell_line source) (text_faults (rows_with Two table site_tables) Whole source.text.now) all
 
 -- the warnings of a netgroup file
 abbrev pub TellNetgroupWarnings : Source → SiteTables → List Told → Type 0
@@ -67,11 +68,11 @@ abbrev pub GathersBy : Result (List (FsId × Entry)) (LineFault Rule) → WholeS
 GathersBy (Ok entries) sources table site_tables gathered = GathersOdd sources table site_tables entries gathered
 GathersBy (Err fault) sources table site_tables gathered = GathersFaults sources.exports table site_tables gathered
 
--- What is found in an exports text with good tables: each faulty line, or else what it and the netgroup file are warned of,
--- and each line that contradicts an earlier one.
+-- What is found in an exports text with good tables, by profile 2: each faulty line, or else what it and the netgroup file are
+-- warned of, and each line that contradicts an earlier one.
 abbrev pub GathersExports : WholeSources → List Mount → SiteTables → Gathered → Type 0
 GathersExports sources table site_tables gathered =
-    GathersBy (whole_answer (rows_with table site_tables) sources.exports.text.now) sources table site_tables gathered
+    GathersBy (whole_answer (rows_with Two table site_tables) sources.exports.text.now) sources table site_tables gathered
 
 -- what these texts of the five tables are read as
 abbrev pub tables_of : TableSources → Result SiteTables SiteFault

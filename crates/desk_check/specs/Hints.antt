@@ -1,6 +1,9 @@
--- Hints for words that other systems have in their exports files. (this project's own, for exports(5) of FreeBSD and of Linux)
-use Rattle.std.specs.Prelude.{ℕ, ◌==◌, Bool, ◌&&◌, ◌||◌, not, List, [], ◌∷◌, Option, Some, None, bytes_eq, codes, length, slice_index, if◌then◌else◌}
+-- Hints for words that other systems have in their exports files, or older texts. (this project's own, for exports(5) of
+-- FreeBSD and of Linux)
+use Rattle.std.specs.Prelude.{ℕ, ◌==◌, ◌/◌, ◌^◌, Bool, ◌&&◌, ◌||◌, not, List, [], ◌∷◌, Option, Some, None, Result, Ok, Err, bytes_eq, codes, length, nat_lt, slice_index, if◌then◌else◌}
 use Rattle.std.specs.List.{list_any, slice_split}
+use Rattle.desk_text.specs.Address.{read_short}
+use Rattle.desk_text.specs.declared.address.AddrFault.{AddrFault}
 use Rattle.desk_tables.specs.declared.rules.TableRule.TheVariants as listed
 use Rattle.desk_exports.specs.Clients.{prefix_text}
 use Rattle.desk_exports.specs.Grammar.{after_dash, option_name}
@@ -113,9 +116,28 @@ mask_hint word =
     if has_byte 46 (prefix_text word) then Some (codes "write -mask in place of the /, as in -network 10.0.0.0 -mask 255.255.255.0")
     else None
 
--- for a custodian who is not listed: one who is not named is that of the site
+-- for a network that has neither a prefix nor a mask: what the class of its address would give, by its first part
+abbrev pub class_hint : ℕ → Option (List ℕ)
+class_hint address =
+    if nat_lt (address / 2 ^ 24) 128 then Some (codes "its class would be /8, which older texts mean")
+    else if nat_lt (address / 2 ^ 24) 192 then Some (codes "its class would be /16, which older texts mean")
+    else if nat_lt (address / 2 ^ 24) 224 then Some (codes "its class would be /24, which older texts mean")
+    else None
+
+-- the same by its number; if that does not stand there as it is, what the class of each address would give
+abbrev pub number_hint : Result ℕ AddrFault → Option (List ℕ)
+number_hint (Ok address) = class_hint address
+number_hint (Err fault) = Some (codes "older texts mean the prefix of its class, by its first number: /8 up to 127, /16 up to 191, /24 up to 223")
+
+abbrev pub network_hint : List ℕ → Option (List ℕ)
+network_hint word = number_hint (read_short word)
+
+-- for a custodian who is not listed: one who is not named is that of the site, and the mark of a guarded file system is none
 abbrev pub custodian_hint : List ℕ → Option (List ℕ)
-custodian_hint word = if length word == 0 then Some (codes "write one for site") else None
+custodian_hint word =
+    if length word == 0 then Some (codes "write one for site")
+    else if bytes_eq word (codes "!guarded") then Some (codes "write it once, behind the mount point")
+    else None
 
 -- for the slice that breaks a rule
 abbrev pub rule_hint : SiteRule → List ℕ → Option (List ℕ)
@@ -123,6 +145,7 @@ rule_hint (rule.Table listed.Custodian) word = custodian_hint word
 rule_hint (rule.Line broken.UnknownOption) word = option_hint (after_dash word)
 rule_hint (rule.Line broken.BadAddress) word = host_hint word
 rule_hint (rule.Line broken.BadMask) word = mask_hint word
+rule_hint (rule.Line broken.NoMask) word = network_hint word
 rule_hint rule word = None
 
 -- for a word that is odd

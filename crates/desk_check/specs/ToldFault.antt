@@ -11,12 +11,13 @@ use Rattle.desk_tables.specs.declared.filesystems.Mount.{Mount}
 use Rattle.desk_exports.specs.Faults.{IsPlaced}
 use Rattle.desk_exports.specs.Files.{text_faults}
 use Rattle.desk_exports.specs.Rules as lines
+use Rattle.desk_exports.specs.Tables.{TableRows}
 use Rattle.desk_exports.specs.declared.files.Scope.{Scope}
 use Rattle.desk_exports.specs.declared.files.Scope.TheVariants.{Whole}
+use Rattle.desk_exports.specs.declared.profile.Profile.TheVariants.{Two}
 use Rattle.desk_exports.specs.declared.rules.Rule.{Rule}
 use Rattle.desk_policy.specs.Parsing.{no_tables, rows_with}
 use Rattle.desk_policy.specs.SiteFault.{rule_number}
-use Rattle.desk_policy.specs.declared.parsing.SiteTables.{SiteTables}
 use Rattle.desk_policy.specs.declared.site_fault.SiteFault.{SiteFault}
 use Rattle.desk_policy.specs.declared.site_fault.SiteRule.TheVariants as site_rule
 use Rattle.desk_check.specs.CheckFaults.{Tells, tell_line}
@@ -73,13 +74,13 @@ TellIfSame source fault None all = TellInOrder source (odd_of_fault fault ∷ []
 abbrev pub TellOneOf : Source → LineFault Rule → List (LineFault Rule) → List Told → Type 0
 TellOneOf source fault faults all = TellIfSame source fault (find (is_same fault) faults) all
 
--- those are the faults of the text, whose lines are read in this scope with these file systems and tables
-abbrev pub TellOneWith : Source → LineFault Rule → Scope → List Mount → SiteTables → List Told → Type 0
-TellOneWith source fault scope table site_tables all = TellOneOf source fault (text_faults (rows_with table site_tables) scope source.text.now) all
+-- those are the faults of the text, whose lines are read in this scope with this profile and these tables
+abbrev pub TellOneWith : Source → LineFault Rule → Scope → TableRows → List Told → Type 0
+TellOneWith source fault scope tables all = TellOneOf source fault (text_faults tables scope source.text.now) all
 
--- the same of a whole text with the file systems that a text lists, and no other table
+-- the same of a whole text, by profile 2, with the file systems that a text lists, and no other table
 abbrev pub TellOne : Source → LineFault Rule → Result (List Mount) TableFault → List Told → Type 0
-TellOne source fault (Ok table) all = TellOneWith source fault Whole table no_tables all
+TellOne source fault (Ok table) all = TellOneWith source fault Whole (rows_with Two table no_tables) all
 TellOne source fault (Err bad) all = all ≡ []
 
 -- what is told of a fault of one of the two texts of `split`

@@ -8,7 +8,9 @@ use Rattle.desk_tables.specs.Rules.{TableFault}
 use Rattle.desk_tables.specs.declared.filesystems.Mount.{Mount}
 use Rattle.desk_exports.specs.declared.files.Scope.{Scope}
 use Rattle.desk_exports.specs.declared.files.Scope.TheVariants.{File, Whole}
+use Rattle.desk_exports.specs.declared.profile.Profile.{Profile}
 use Rattle.desk_exports.specs.declared.rules.Rule.{Rule}
+use Rattle.desk_policy.specs.Parsing.{rows_with}
 use Rattle.desk_policy.specs.SiteFault.{exports_name}
 use Rattle.desk_policy.specs.declared.parsing.SiteTables.{SiteTables}
 use Rattle.desk_policy.specs.declared.site_fault.SiteFault.{SiteFault}
@@ -51,21 +53,22 @@ place_of name table = position (λ mount. bytes_eq (exports_name mount.path) nam
 abbrev pub scope_of : List ℕ → List Mount → Scope
 scope_of name table = scope_at (place_of name table)
 
--- the fault of a line of an exports file with these file systems and tables is told
-abbrev pub TellLineWith : Source → LineFault Rule → List Mount → SiteTables → List Told → Type 0
-TellLineWith source fault table site_tables all = TellOneWith source fault (scope_of source.path.now table) table site_tables all
+-- the fault of a line of an exports file that is read by this profile, with these file systems and tables, is told
+abbrev pub TellLineWith : Profile → Source → LineFault Rule → List Mount → SiteTables → List Told → Type 0
+TellLineWith profile source fault table site_tables all = TellOneWith source fault (scope_of source.path.now table) (rows_with profile table site_tables) all
 
-abbrev pub TellLineIn : Result (List Mount) TableFault → Source → LineFault Rule → SiteTables → List Told → Type 0
-TellLineIn (Ok table) source fault site_tables all = TellLineWith source fault table site_tables all
-TellLineIn (Err bad) source fault site_tables all = all ≡ []
+abbrev pub TellLineIn : Result (List Mount) TableFault → Profile → Source → LineFault Rule → SiteTables → List Told → Type 0
+TellLineIn (Ok table) profile source fault site_tables all = TellLineWith profile source fault table site_tables all
+TellLineIn (Err bad) profile source fault site_tables all = all ≡ []
 
 -- the same with the tables and the file systems of a site, if they can be read; else nothing
-abbrev pub TellLineBy : Result SiteTables SiteFault → SiteSources → LineFault Rule → List Told → Type 0
-TellLineBy (Ok site_tables) sources fault all = TellLineIn (read_filesystems sources.filesystems.text.now) sources.whole.exports fault site_tables all
-TellLineBy (Err bad) sources fault all = all ≡ []
+abbrev pub TellLineBy : Result SiteTables SiteFault → Profile → SiteSources → LineFault Rule → List Told → Type 0
+TellLineBy (Ok site_tables) profile sources fault all =
+    TellLineIn (read_filesystems sources.filesystems.text.now) profile sources.whole.exports fault site_tables all
+TellLineBy (Err bad) profile sources fault all = all ≡ []
 
-abbrev pub TellLine : SiteSources → LineFault Rule → List Told → Type 0
-TellLine sources fault all = TellLineBy (tables_of sources.whole.tables) sources fault all
+abbrev pub TellLine : Profile → SiteSources → LineFault Rule → List Told → Type 0
+TellLine profile sources fault all = TellLineBy (tables_of sources.whole.tables) profile sources fault all
 
 -- a line that contradicts an earlier one
 abbrev pub odd_of_clash : ℕ → ℕ → Addr → OddLine
@@ -76,13 +79,13 @@ abbrev pub TellsOfClash : Source → ℕ → Option ℕ → Option Addr → List
 TellsOfClash source line (Some other) (Some address) text = TellsFirst (TellInOrder source (odd_of_clash line other address ∷ [])) text
 TellsOfClash source line other address text = text ≡ []
 
-abbrev pub TellsByRule : SiteRule → SiteSources → SiteFault → List ℕ → Type 0
-TellsByRule (site_rule.Table rule) sources fault text = TellsOfTables sources text
-TellsByRule (site_rule.Group rule) sources fault text = TellsOfTables sources text
-TellsByRule (site_rule.Line rule) sources fault text = TellsFirst (TellLine sources (record { line = fault.line; rule = rule })) text
-TellsByRule site_rule.Contradiction sources fault text = TellsOfClash sources.whole.exports fault.line fault.other fault.address text
+abbrev pub TellsByRule : SiteRule → Profile → SiteSources → SiteFault → List ℕ → Type 0
+TellsByRule (site_rule.Table rule) profile sources fault text = TellsOfTables sources text
+TellsByRule (site_rule.Group rule) profile sources fault text = TellsOfTables sources text
+TellsByRule (site_rule.Line rule) profile sources fault text = TellsFirst (TellLine profile sources (record { line = fault.line; rule = rule })) text
+TellsByRule site_rule.Contradiction profile sources fault text = TellsOfClash sources.whole.exports fault.line fault.other fault.address text
 
 -- What is told of the fault of a site: of a table's the first finding of the site's files, of a line that of this fault of its
--- exports file, and of a contradiction that of its line.
-abbrev pub TellsOfSite : SiteSources → SiteFault → List ℕ → Type 0
-TellsOfSite sources fault text = TellsByRule fault.rule sources fault text
+-- exports file, which is read by this profile, and of a contradiction that of its line.
+abbrev pub TellsOfSite : Profile → SiteSources → SiteFault → List ℕ → Type 0
+TellsOfSite profile sources fault text = TellsByRule fault.rule profile sources fault text

@@ -164,7 +164,7 @@ fn push_unlisted<'a>(
     ensures { OnOk result (Adds (TellUnlisted source.entry custodians.now mounts.now) found.old found.new) }
 {
     let odds = unlisted(alloc, custodians, mounts)?;
-    push_in_order(alloc, source, Writing::Exports, odds, found)?;
+    push_in_order(alloc, source, Writing::FileSystems, odds, found)?;
     Ok(())
 }
 

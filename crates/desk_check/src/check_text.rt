@@ -4,6 +4,7 @@ ghost use Rattle.std.specs.Prelude.{◌≡◌, ◌≤◌, IfOk, IsErr, OnOk, len
 ghost use Rattle.desk_text.specs.Reading.{Reads};
 ghost use Rattle.desk_text.specs.declared.reading.ReadError.TheVariants.{Memory};
 ghost use Rattle.desk_exports.specs.Files.{EntriesAscend, whole_answer};
+ghost use Rattle.desk_exports.specs.declared.profile.Profile.TheVariants.{Two};
 ghost use Rattle.desk_exports.specs.Tables.{table_rows};
 ghost use Rattle.desk_policy.specs.Parsing.{rows_with};
 ghost use Rattle.desk_policy.specs.Policy.{content_of};
@@ -15,7 +16,7 @@ use crate::check_faults::{Source, TableSources, push_line_faults, push_tables};
 use crate::check_odd::{contradictions_in, push_odds};
 use crate::finding::Finding;
 use crate::word_places::Writing;
-use desk_exports::{Boxed, Entry, Rule, Scope, Tables, find_faults, read_whole};
+use desk_exports::{Boxed, Entry, Profile, Rule, Scope, Tables, find_faults, read_whole};
 use desk_policy::{
     PerTable, Policy, SiteFault, SiteTables, Warning, ascending_entries_ascend_in_each_file,
     netgroup_warnings, whole_warnings,
@@ -39,8 +40,9 @@ pub struct Gathered<'a> {
     pub read_exports: bool,
 }
 
-/// Finds the faults of the tables; if there are none, those of the exports text with these tables and file systems; and if
-/// it has none either, its contradictions and the warnings. Each is at a slice of the line that it shows, or of a whole file.
+/// Finds the faults of the tables; if there are none, those of the exports text, by profile 2, with these tables and file
+/// systems; and if it has none either, its contradictions and the warnings. Each is at a slice of the line that it shows, or of
+/// a whole file.
 pub fn gather<'a>(
     alloc: Global,
     sources: WholeSources<'a>,
@@ -135,7 +137,7 @@ fn gather_exports<'a>(
     }
 }
 
-/// Reads the entries of the exports text.
+/// Reads the entries of the exports text, by profile 2.
 fn read_entries(
     alloc: Global,
     text: &str,
@@ -143,18 +145,30 @@ fn read_entries(
     site_tables: &SiteTables,
 ) -> Result<Sequence<(FsId, Boxed<Entry>)>, ReadError<LineFault<Rule>>>
     requires { length text.now ≤ 4294967294 }
-    ensures read { Reads result (whole_answer (rows_with filesystems.now site_tables.now) text.now) }
+    ensures read { Reads result (whole_answer (rows_with Two filesystems.now site_tables.now) text.now) }
     ensures ascending { IfOk result EntriesAscend }
 {
-    let tables = tables_with(site_tables, filesystems);
+    let tables = tables_for_new(site_tables, filesystems);
     read_whole(alloc, text, &tables)
 }
 
-/// Lends the tables with which an exports text is read.
-pub fn tables_with<'t>(site_tables: &'t SiteTables, filesystems: &'t FileSystems) -> Tables<'t>
-    ensures { table_rows result ≡ rows_with filesystems.now site_tables.now }
+/// Lends the tables with which a new exports text is read: by profile 2.
+pub fn tables_for_new<'t>(site_tables: &'t SiteTables, filesystems: &'t FileSystems) -> Tables<'t>
+    ensures { table_rows result ≡ rows_with Two filesystems.now site_tables.now }
+{
+    tables_with(Profile::Two, site_tables, filesystems)
+}
+
+/// Lends the tables with which an exports text is read by this profile.
+pub fn tables_with<'t>(
+    profile: Profile,
+    site_tables: &'t SiteTables,
+    filesystems: &'t FileSystems,
+) -> Tables<'t>
+    ensures { table_rows result ≡ rows_with profile filesystems.now site_tables.now }
 {
     Tables {
+        profile,
         networks: &site_tables.networks,
         users: &site_tables.users,
         groups: &site_tables.groups,
@@ -162,7 +176,7 @@ pub fn tables_with<'t>(site_tables: &'t SiteTables, filesystems: &'t FileSystems
     }
 }
 
-/// Finds the faults of the exports text.
+/// Finds the faults of the exports text, by profile 2.
 fn gather_line_faults<'a>(
     alloc: Global,
     exports: Source<'a>,
@@ -172,7 +186,7 @@ fn gather_line_faults<'a>(
     requires { length exports.text.now ≤ 4294967294 }
     ensures { IfOk result (GathersFaults exports.entry filesystems.now site_tables.now) }
 {
-    let tables = tables_with(site_tables, filesystems);
+    let tables = tables_for_new(site_tables, filesystems);
     let faults = find_faults(alloc, exports.text, &tables, Scope::Whole)?;
     let mut findings = Sequence::new(alloc);
     push_line_faults(alloc, exports, faults.as_slice(), &mut findings)?;

@@ -1,7 +1,9 @@
-//! Hints for words that other systems have in their exports files, chiefly Linux. (exports(5) of FreeBSD and of Linux)
+//! Hints for words that other systems have in their exports files, chiefly Linux, or older texts. (exports(5) of FreeBSD and
+//! of Linux)
 
 ghost use Rattle.std.specs.Prelude.{◌≡◌, Some};
 ghost use Rattle.std.specs.Option.{option_map};
+ghost use Rattle.desk_text.specs.Address.{number_of};
 ghost use Rattle.desk_exports.specs.Clients.{prefix_text};
 ghost use Rattle.desk_exports.specs.Grammar.{after_dash, option_name};
 ghost use Rattle.desk_exports.specs.Options.{is_name_among};
@@ -11,8 +13,9 @@ use crate::finding::Matter;
 use desk_exports::Rule;
 use desk_policy::{SiteRule, WarningKind};
 use desk_tables::TableRule;
+use desk_text::Addr;
 
-/// Returns what to write in place of the word that a finding is about, if it is one that other systems have.
+/// Returns what to write in place of the word that a finding is about, if it is one that other systems or older texts have.
 pub fn hint(matter: Matter, word: &str) -> Option<&'static str>
     ensures { option_map (λ hint. hint.now) result ≡ spec.hint matter word.now }
 {
@@ -21,17 +24,21 @@ pub fn hint(matter: Matter, word: &str) -> Option<&'static str>
         Matter::Fault(SiteRule::Line(Rule::UnknownOption), _) => option_hint(after_dash(word)),
         Matter::Fault(SiteRule::Line(Rule::BadAddress), _) => host_hint(word),
         Matter::Fault(SiteRule::Line(Rule::BadMask), _) => mask_hint(word),
+        Matter::Fault(SiteRule::Line(Rule::NoMask), _) => network_hint(word),
         Matter::Warning(WarningKind::UnknownHost) => unknown_host_hint(word),
         _ => None,
     }
 }
 
-/// Returns the hint for a custodian who is not listed. One who is not named is that of the site.
+/// Returns the hint for a custodian who is not listed. One who is not named is that of the site, and the mark of a guarded
+/// file system is none.
 fn custodian_hint(word: &str) -> Option<&'static str>
     ensures { option_map (λ hint. hint.now) result ≡ spec.custodian_hint word.now }
 {
     if word.is_empty() {
         Some("write one for site")
+    } else if word == "!guarded" {
+        Some("write it once, behind the mount point")
     } else {
         None
     }
@@ -220,6 +227,35 @@ fn mask_hint(word: &str) -> Option<&'static str>
 {
     if has_byte(behind_slash(word), b'.') {
         Some("write -mask in place of the /, as in -network 10.0.0.0 -mask 255.255.255.0")
+    } else {
+        None
+    }
+}
+
+/// Returns the hint for a network that has neither a prefix nor a mask, by its number; or, if that does not stand there as it
+/// is, what the class of each address would give.
+fn network_hint(word: &str) -> Option<&'static str>
+    ensures { option_map (λ hint. hint.now) result ≡ spec.network_hint word.now }
+{
+    match Addr::read_short(word) {
+        Ok(address) => class_hint(address),
+        Err(_) => Some(
+            "older texts mean the prefix of its class, by its first number: /8 up to 127, /16 up to 191, /24 up to 223",
+        ),
+    }
+}
+
+/// Returns the hint for such a network by the class of its address.
+fn class_hint(address: Addr) -> Option<&'static str>
+    ensures { option_map (λ hint. hint.now) result ≡ spec.class_hint (number_of address) }
+{
+    let first_part = address.number() / 0x100_0000;
+    if first_part < 128 {
+        Some("its class would be /8, which older texts mean")
+    } else if first_part < 192 {
+        Some("its class would be /16, which older texts mean")
+    } else if first_part < 224 {
+        Some("its class would be /24, which older texts mean")
     } else {
         None
     }

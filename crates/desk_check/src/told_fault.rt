@@ -5,6 +5,7 @@ ghost use Rattle.std.specs.List.{find};
 ghost use Rattle.std.specs.Option.{option_copied};
 ghost use Rattle.std.specs.String.{string_bytes};
 ghost use Rattle.desk_exports.specs.Faults.{IsPlaced};
+ghost use Rattle.desk_exports.specs.Tables.{table_rows};
 ghost use Rattle.desk_tables.specs.FileSystemsText.{read_filesystems};
 ghost use Rattle.desk_check.specs.CheckFaults.{Adds, AreReadable};
 ghost use Rattle.desk_check.specs.CheckOdd.{TellInOrder};
@@ -14,12 +15,12 @@ ghost use Rattle.desk_check.specs.ToldFault.{TellOne, TellOneOf, TellOneWith, Te
 use crate::check_faults::{Source, push_line_faults};
 use crate::check_odd::{Odd, push_in_order};
 use crate::check_site::push_filesystems;
-use crate::check_text::{WholeSources, gather, tables_with};
+use crate::check_text::{WholeSources, gather, tables_for_new};
 use crate::finding::{Finding, Matter};
 use crate::finding_prints::finding_text;
 use crate::split_text::SplitFault;
 use crate::word_places::Writing;
-use desk_exports::{PlacedFault, Rule, Scope, find_faults};
+use desk_exports::{PlacedFault, Rule, Scope, Tables, find_faults};
 use desk_policy::{SiteFault, SiteRule, SiteTables};
 use desk_tables::FileSystems;
 use desk_text::{LineFault, ReadError, Sequence};
@@ -135,35 +136,26 @@ fn push_one<'a>(
     match ReadError::split(FileSystems::read(alloc, filesystems))? {
         Ok(table) => {
             let site_tables = SiteTables::new(alloc);
-            push_one_with(
-                alloc,
-                source,
-                &table,
-                &site_tables,
-                Scope::Whole,
-                fault,
-                found,
-            )
+            let tables = tables_for_new(&site_tables, &table);
+            push_one_with(alloc, source, &tables, Scope::Whole, fault, found)
         }
         Err(_) => Ok(()),
     }
 }
 
-/// Adds the finding of this fault of an exports text, whose lines are read in this scope with these file systems and tables.
+/// Adds the finding of this fault of an exports text, whose lines are read in this scope with these tables.
 pub fn push_one_with<'a>(
     alloc: Global,
     source: Source<'a>,
-    filesystems: &FileSystems,
-    site_tables: &SiteTables,
+    tables: &Tables<'_>,
     scope: Scope,
     fault: LineFault<Rule>,
     found: &mut Sequence<Finding<'a>>,
 ) -> Result<(), AllocError>
     requires { length source.text.now ≤ 4294967294 }
-    ensures { OnOk result (Adds (TellOneWith source.entry fault scope filesystems.now site_tables.now) found.old found.new) }
+    ensures { OnOk result (Adds (TellOneWith source.entry fault scope (table_rows tables.now)) found.old found.new) }
 {
-    let tables = tables_with(site_tables, filesystems);
-    let faults = find_faults(alloc, source.text, &tables, scope)?;
+    let faults = find_faults(alloc, source.text, tables, scope)?;
     push_one_of(alloc, source, faults.as_slice(), fault, found)
 }
 

@@ -12,28 +12,29 @@ ghost use Rattle.desk_check.specs.ToldSite as spec;
 use crate::check_faults::Source;
 use crate::check_odd::{Odd, push_in_order};
 use crate::check_site::{SiteSources, gather_site};
-use crate::check_text::read_sources;
+use crate::check_text::{read_sources, tables_with};
 use crate::finding::{Finding, Matter};
 use crate::told_fault::{push_one_with, told_first};
 use crate::word_places::Writing;
-use desk_exports::{Rule, Scope};
+use desk_exports::{Profile, Rule, Scope};
 use desk_policy::{LONGEST_TEXT, SiteFault, SiteRule, SiteTables, mount_of};
 use desk_tables::{FileSystems, FsId};
 use desk_text::{LineFault, ReadError, Sequence};
 use std::alloc::{AllocError, Global};
 
 /// Prints the finding that `check` makes of a fault of a site, with its line and carets; nothing if a text is too long to be
-/// read. Of the exports the sources have just the file that the fault is of.
+/// read. Of the exports the sources have just the file that the fault is of, which is read by this profile.
 pub fn tell_site_fault(
     alloc: Global,
+    profile: Profile,
     sources: SiteSources<'_>,
     fault: &SiteFault,
 ) -> Result<String, AllocError>
-    ensures told { spec.AreReadableTexts sources.entry → IfOk result (λ text. spec.TellsOfSite sources.entry fault.now (string_bytes text)) }
+    ensures told { spec.AreReadableTexts sources.entry → IfOk result (λ text. spec.TellsOfSite profile sources.entry fault.now (string_bytes text)) }
     ensures long { ¬ spec.AreReadableTexts sources.entry → IfOk result (λ text. string_bytes text ≡ []) }
 {
     if are_readable(sources) {
-        told_by_rule(alloc, sources, fault)
+        told_by_rule(alloc, profile, sources, fault)
     } else {
         Ok(String::new(alloc))
     }
@@ -64,17 +65,18 @@ fn is_readable(source: Source<'_>) -> bool
 /// Prints the finding of a fault in texts that can be read.
 fn told_by_rule(
     alloc: Global,
+    profile: Profile,
     sources: SiteSources<'_>,
     fault: &SiteFault,
 ) -> Result<String, AllocError>
     requires { spec.AreReadableTexts sources }
-    ensures { IfOk result (λ text. spec.TellsOfSite sources.entry fault.now (string_bytes text)) }
+    ensures { IfOk result (λ text. spec.TellsOfSite profile sources.entry fault.now (string_bytes text)) }
 {
     match fault.rule {
         SiteRule::Table(_) | SiteRule::Group(_) => told_of_tables(alloc, sources),
         SiteRule::Line(rule) => {
             let line = fault.line;
-            told_of_line(alloc, sources, LineFault { line, rule })
+            told_of_line(alloc, profile, sources, LineFault { line, rule })
         }
         SiteRule::Contradiction => told_of_contradiction(alloc, sources.whole.exports, fault),
     }
@@ -131,14 +133,15 @@ fn told_of_odd(alloc: Global, source: Source<'_>, odd: Odd<'_>) -> Result<String
 /// Prints the finding of a faulty line of an exports file.
 fn told_of_line(
     alloc: Global,
+    profile: Profile,
     sources: SiteSources<'_>,
     fault: LineFault<Rule>,
 ) -> Result<String, AllocError>
     requires { spec.AreReadableTexts sources }
-    ensures { IfOk result (λ text. TellsFirst (spec.TellLine sources.entry fault) (string_bytes text)) }
+    ensures { IfOk result (λ text. TellsFirst (spec.TellLine profile sources.entry fault) (string_bytes text)) }
 {
     let mut findings = Sequence::new(alloc);
-    push_of_line(alloc, sources, fault, &mut findings)?;
+    push_of_line(alloc, profile, sources, fault, &mut findings)?;
     let told = told_first(alloc, findings.as_slice())?;
     drop(findings);
     Ok(told)
@@ -147,15 +150,16 @@ fn told_of_line(
 /// Adds the finding of a line of an exports file, if the tables can be read.
 fn push_of_line<'a>(
     alloc: Global,
+    profile: Profile,
     sources: SiteSources<'a>,
     fault: LineFault<Rule>,
     found: &mut Sequence<Finding<'a>>,
 ) -> Result<(), AllocError>
     requires { spec.AreReadableTexts sources }
-    ensures { OnOk result (Adds (spec.TellLine sources.entry fault) found.old found.new) }
+    ensures { OnOk result (Adds (spec.TellLine profile sources.entry fault) found.old found.new) }
 {
     match read_sources(alloc, sources.whole.tables) {
-        Ok(tables) => push_with_tables(alloc, sources, &tables, fault, found),
+        Ok(tables) => push_with_tables(alloc, profile, sources, &tables, fault, found),
         Err(ReadError::Fault(_)) => Ok(()),
         Err(ReadError::Memory) => Err(AllocError),
     }
@@ -164,16 +168,25 @@ fn push_of_line<'a>(
 /// Adds it with these tables, if the file systems can be read.
 fn push_with_tables<'a>(
     alloc: Global,
+    profile: Profile,
     sources: SiteSources<'a>,
     tables: &SiteTables,
     fault: LineFault<Rule>,
     found: &mut Sequence<Finding<'a>>,
 ) -> Result<(), AllocError>
     requires { spec.AreReadableTexts sources }
-    ensures { OnOk result (Adds (spec.TellLineIn (read_filesystems sources.entry.filesystems.text.now) sources.entry.whole.exports fault tables.now) found.old found.new) }
+    ensures { OnOk result (Adds (spec.TellLineIn (read_filesystems sources.entry.filesystems.text.now) profile sources.entry.whole.exports fault tables.now) found.old found.new) }
 {
     match ReadError::split(FileSystems::read(alloc, sources.filesystems.text))? {
-        Ok(table) => push_of_file(alloc, sources.whole.exports, &table, tables, fault, found),
+        Ok(table) => push_of_file(
+            alloc,
+            profile,
+            sources.whole.exports,
+            &table,
+            tables,
+            fault,
+            found,
+        ),
         Err(_) => Ok(()),
     }
 }
@@ -181,6 +194,7 @@ fn push_with_tables<'a>(
 /// Adds it as that of the exports file of its file system, or else of a whole exports text.
 fn push_of_file<'a>(
     alloc: Global,
+    profile: Profile,
     source: Source<'a>,
     filesystems: &FileSystems,
     site_tables: &SiteTables,
@@ -188,10 +202,11 @@ fn push_of_file<'a>(
     found: &mut Sequence<Finding<'a>>,
 ) -> Result<(), AllocError>
     requires { length source.text.now ≤ 4294967294 }
-    ensures { OnOk result (Adds (spec.TellLineWith source.entry fault filesystems.now site_tables.now) found.old found.new) }
+    ensures { OnOk result (Adds (spec.TellLineWith profile source.entry fault filesystems.now site_tables.now) found.old found.new) }
 {
+    let tables = tables_with(profile, site_tables, filesystems);
     let scope = scope_of(source.path, filesystems);
-    push_one_with(alloc, source, filesystems, site_tables, scope, fault, found)
+    push_one_with(alloc, source, &tables, scope, fault, found)
 }
 
 /// Returns the scope in which a file's lines are read: that of the file system whose exports file has this name, or else all.

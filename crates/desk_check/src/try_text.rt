@@ -3,10 +3,12 @@
 ghost use Rattle.std.specs.Prelude.{◌≡◌, ◌≤◌, IfOk, Ok, length};
 ghost use Rattle.desk_text.specs.Address.{number_of};
 ghost use Rattle.desk_text.specs.Reading.{Reads};
+ghost use Rattle.desk_exports.specs.declared.profile.Profile.TheVariants.{Two};
 ghost use Rattle.desk_policy.specs.Parsing.{read_whole_with, without_warnings};
 ghost use Rattle.desk_policy.specs.Verdict.{verdict_result};
 ghost use Rattle.desk_check.specs.TryText.{Tries, answer_of, answer_on};
 
+use desk_exports::Profile;
 use desk_policy::{
     Plain, Policy, PolicyView, SiteFault, SiteTables, Verdict, parse_whole_without_warnings,
     verdict_text, warnings_change_no_answer,
@@ -24,9 +26,9 @@ pub struct Tried {
     pub line: String,
 }
 
-/// Decides whether a client may mount a directory, by a whole exports text, these tables and these file systems; or returns
-/// the text's fault: its first faulty line, or else its least contradiction. If the client's own credential is given, the
-/// answer says as whom it acts.
+/// Decides whether a client may mount a directory, by a whole exports text, read by profile 2 with these tables and these file
+/// systems; or returns the text's fault: its first faulty line, or else its least contradiction. If the client's own credential
+/// is given, the answer says as whom it acts.
 pub fn try_text(
     alloc: Global,
     text: &str,
@@ -37,9 +39,9 @@ pub fn try_text(
     own: &Option<Cred>,
 ) -> Result<Tried, ReadError<SiteFault>>
     requires { length text.now ≤ 4294967294 }
-    ensures { Tries (read_whole_with site_tables.now filesystems text.now) own.now (number_of address) path.now result }
+    ensures { Tries (read_whole_with Two site_tables.now filesystems text.now) own.now (number_of address) path.now result }
 {
-    let policy = parse_whole_without_warnings(alloc, text, filesystems, site_tables)?;
+    let policy = parse_whole_without_warnings(alloc, Profile::Two, text, filesystems, site_tables)?;
     // No answer rests on the warnings, which are left out.
     warnings_change_no_answer();
     answer_by(alloc, policy, address, path, own)

@@ -10,11 +10,16 @@ use desk_text::{Line, Part, Place, ReadError, Word, unquote, words};
 use std::alloc::{AllocError, Global};
 use std::borrow::CowStr;
 
+/// The word behind the mount point of a guarded file system.
+const GUARD_MARK: &str = "!guarded";
+
 /// How the words of a text are written.
 #[derive(Clone, Copy)]
 pub enum Writing {
     /// As in exports(5), with quotes, escapes and options.
     Exports,
+    /// As in the text of the file systems, with quotes and escapes.
+    FileSystems,
     /// As in netgroup(5).
     Netgroup,
 }
@@ -73,7 +78,8 @@ pub fn place_of_slice(line: &Line, slice: Option<Slice>) -> Place
 }
 
 /// Lists the words of a line that may be told, in order. Of an exports line these are the words that are neither options
-/// nor values, and the values of networks; of a netgroup line the members that are netgroups, and the hosts of triples.
+/// nor values, and the values of networks; of a line of file systems the custodians; of a netgroup line the members that are
+/// netgroups, and the hosts of triples.
 pub fn mentions<'t>(
     alloc: Global,
     line: &Line<'t>,
@@ -82,6 +88,7 @@ pub fn mentions<'t>(
     let mut found = Vec::new(alloc);
     match writing {
         Writing::Exports => push_exports_line(alloc, line, &mut found)?,
+        Writing::FileSystems => push_custodians(alloc, line, &mut found)?,
         Writing::Netgroup => push_netgroup_line(line, &mut found)?,
     }
     Ok(found)
@@ -125,22 +132,61 @@ fn push_word<'t>(
     Ok(None)
 }
 
+/// Adds the custodians of a line of file systems: the words behind the mount point, and behind the mark if it has one.
+fn push_custodians<'t>(
+    alloc: Global,
+    line: &Line<'t>,
+    found: &mut Vec<Mention<'t>>,
+) -> Result<(), AllocError> {
+    let Ok(words) = ReadError::split(words(alloc, line))? else {
+        return Ok(());
+    };
+    if let [_, second, others @ ..] = words.as_slice() {
+        push_unless_mark(alloc, second, found)?;
+        for word in others {
+            push_whole(alloc, word, found)?;
+        }
+    }
+    drop(words);
+    Ok(())
+}
+
+/// Adds the word behind a mount point, unless it is the mark.
+fn push_unless_mark<'t>(
+    alloc: Global,
+    word: &Word<'t>,
+    found: &mut Vec<Mention<'t>>,
+) -> Result<(), AllocError> {
+    let text = value_of(alloc, word)?;
+    let is_mark = text.as_str() == GUARD_MARK;
+    drop(text);
+    if is_mark {
+        return Ok(());
+    }
+    push_whole(alloc, word, found)
+}
+
 /// Adds a whole word.
 fn push_whole<'t>(
     alloc: Global,
     word: &Word<'t>,
     found: &mut Vec<Mention<'t>>,
 ) -> Result<(), AllocError> {
-    let text = match word.plain() {
-        Some(text) => CowStr::Borrowed(text),
-        None => CowStr::Owned(unquote(alloc, word)?),
-    };
+    let text = value_of(alloc, word)?;
     found.push(Mention {
         slice: slice_of(word),
         text,
         is_member: false,
     })?;
     Ok(())
+}
+
+/// Reads what a word says.
+fn value_of<'t>(alloc: Global, word: &Word<'t>) -> Result<CowStr<'t>, AllocError> {
+    match word.plain() {
+        Some(text) => Ok(CowStr::Borrowed(text)),
+        None => Ok(CowStr::Owned(unquote(alloc, word)?)),
+    }
 }
 
 /// Returns the slice of a word.

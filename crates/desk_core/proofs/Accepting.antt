@@ -1,5 +1,5 @@
 -- What is made of an edit of which no case holds.
-use Rattle.std.proofs.Common.{◌≡◌, refl, sym, subst, ℕ, ◌<◌, ◌≤◌, Bool, true, false, cond, List, [], ◌∷◌, Some, None, Ok, Err, All, length, arith}
+use Rattle.std.proofs.Common.{◌≡◌, ◌∙◌, sym, ap, subst, refl, ℕ, ◌+◌, ◌<◌, ◌≤◌, Bool, true, false, cond, List, [], ◌∷◌, Some, None, Ok, Err, All, inl, inr, length, arith}
 use Rattle.std.specs.Prelude.{find}
 use Rattle.std.specs.List.{AllByRecursion}
 use Rattle.std.specs.Str.{bytes_eq}
@@ -8,15 +8,23 @@ use Rattle.desk_text.specs.declared.reading.ReadError.{ReadError}
 use Rattle.desk_text.specs.declared.reading.ReadError.TheVariants.{Fault, Memory}
 use Rattle.desk_tables.specs.Custodians.{read_custodians}
 use Rattle.desk_policy.specs.Policy.{Content}
+use Rattle.desk_policy.specs.Site.{SiteTexts}
 use Rattle.desk_policy.specs.declared.site_fault.SiteFault.{SiteFault}
 use Rattle.desk_core.specs.Edit.{Edit, revision_of}
-use Rattle.desk_core.specs.Head.{CanBeKept, last_revision, longest_revision, newest_in, newest_number, put}
-use Rattle.desk_core.specs.Judging.{first_case}
+use Rattle.desk_core.specs.Head.{CanBeKept, Revision, last_revision, longest_revision, newest_in, newest_number, put}
+use Rattle.desk_core.specs.Judging.{AnswersBySite, answer_of, entry_of, first_case}
 use Rattle.desk_core.specs.PrivateState.{Accepts, PutsInForce, refusal_of}
-use Rattle.desk_core.specs.Site.{IsConsistent, IsInForce, site_in}
+use Rattle.desk_core.specs.Site.{IsConsistent, IsInForce, revision_text, site_in}
+use Rattle.desk_core.specs.Standing.{standing_in}
+use Rattle.desk_core.specs.State.{PutsEntry, PutsRevision, standing}
 use Rattle.desk_core.specs.Views.{Kept, Ready}
+use Rattle.desk_core.specs.declared.entry.Entry.{Entry}
+use Rattle.desk_core.specs.declared.entry.Entry.TheVariants as entry
 use Rattle.desk_core.specs.declared.head.Head.{Head}
+use Rattle.desk_core.specs.declared.proposal.Proposal.{Proposal}
 use Rattle.desk_core.proofs.FirstCase.{without_case}
+use Rattle.desk_core.proofs.Seconds.{ways}
+use Rattle.desk_core.proofs.SiteLemmas.{same_site}
 
 rev_bound : (heads : List Head) (file : List ℕ) → AllByRecursion CanBeKept heads → newest_number (newest_in heads file) ≤ last_revision
 unfolding newest_in
@@ -28,19 +36,45 @@ rev_bound (h ∷ hs) file kept = step (bytes_eq h.file file) kept.0.to (rev_boun
     step false own rest = rest
 
 -- where no case holds the base is below the last number, and the text is short
-pub within : (heads : List Head) (e : Edit) → All CanBeKept heads → first_case (newest_in heads) e ≡ None → (e.base < last_revision) × (length e.text ≤ longest_revision)
-within heads e kept none =
-    let free = without_case (newest_in heads) e none in
+pub within : (heads : List Head) (proposals : List Proposal) (e : Edit) → All CanBeKept heads → first_case (standing_in heads proposals) e ≡ None → (e.base < last_revision) × (length e.text ≤ longest_revision)
+within heads proposals e kept none =
+    let free = without_case (standing_in heads proposals) e none in
     let bound = rev_bound heads e.file (recursion_from_All CanBeKept heads kept) in
     (omega (arith, free.1, free.2, bound), free.0.short)
 
-pub accepted : {V : Type 0} (in_force : V → Content) (state : Kept V) (e : Edit) (ready : Ready V) → All CanBeKept state.heads → first_case (newest_in state.heads) e ≡ None → ready.head ≡ revision_of e → length state.heads < ready.room
-    → read_custodians (site_in (put (newest_in state.heads) ready.head)).custodians ≡ Ok ready.custodians → IsInForce (site_in (put (newest_in state.heads) ready.head)) (in_force ready.view) → Accepts in_force state e (Ok ready)
-accepted in_force state e ready kept none is room custodians view =
-    let P : Head → Type 0 = λ h. IsConsistent (site_in (put (newest_in state.heads) h)) in
-    let w = within state.heads e kept none in
-    let new : CanBeKept (revision_of e) = record { from = omega arith; to = omega (arith, w.0); short = omega (arith, w.1) } in
-    (subst P is view.consistent, is, record { room = room; can_be_kept = subst CanBeKept (sym is) new; view = view; custodians = custodians })
+by_entry : (site : SiteTexts) (stored own : Entry) → own ≡ stored → IsConsistent site → AnswersBySite site stored (answer_of own)
+by_entry site stored (entry.Revised r) is sound = (ap answer_of is, sound)
+by_entry site stored (entry.Proposed p) is sound = (ap answer_of is, sound)
+
+module _ {V : Type 0} (in_force : V → Content) (state : Kept V) (e : Edit) (ready : Ready V) where
+  abbrev own_site : SiteTexts
+  own_site = site_in (put (newest_in state.heads) (revision_of e))
+
+  -- a revision with the text of the edit
+  puts : (r : Revision) → r.file ≡ e.file → r.rev ≡ e.base + 1 → revision_text r ≡ revision_text (revision_of e) → e.base < last_revision → length e.text ≤ longest_revision
+      → read_custodians own_site.custodians ≡ Ok ready.custodians → IsInForce own_site (in_force ready.view) → PutsRevision in_force state ready r
+  puts r file rev text below short custodians view =
+      let site : site_in (put (newest_in state.heads) r) ≡ own_site = same_site (newest_in state.heads) r (revision_of e) file text in
+      let body : length r.body ≡ length e.text = ap (λ t. length t.body) text in
+      record {
+        can_be_kept = record { from = omega (arith, rev); to = omega (arith, rev, below); short = omega (arith, body, short) };
+        view = subst (λ t. IsInForce t (in_force ready.view)) (sym site) view;
+        custodians = ap (λ t. read_custodians t.custodians) site ∙ custodians;
+      }
+
+  pub accepted : All CanBeKept state.heads → first_case (standing state) e ≡ None → ready.entry ≡ entry_of (standing state) e → length state.heads < ready.room → length state.proposals < ready.proposal_room
+      → read_custodians own_site.custodians ≡ Ok ready.custodians → IsInForce own_site (in_force ready.view) → Accepts in_force state e (Ok ready)
+  accepted kept none is room proposal_room custodians view =
+      let w = within state.heads state.proposals e kept none in
+      let P : Entry → Type 0 = PutsEntry in_force state ready in
+      let puts_own : P (entry_of (standing state) e) = elim (ways (standing state) e) [
+        | inl itself ↦ subst P (sym itself.1) (puts (revision_of e) refl refl refl w.0 w.1 custodians view)
+        | inr guarded ↦ elim guarded [
+          | inl approval ↦ subst P (sym approval.1.2) (puts _ refl refl refl w.0 w.1 custodians view)
+          | inr proposal ↦ subst P (sym proposal.2) (omega (arith, w.0))
+        ]
+      ] in
+      (by_entry own_site (entry_of (standing state) e) ready.entry is view.consistent, is, record { room = room; proposal_room = proposal_room; puts = subst P (sym is) puts_own })
 
 -- the fault of the site with the edit's text
 pub not_accepted : {V : Type 0} (in_force : V → Content) (state : Kept V) (e : Edit) (error : ReadError SiteFault) → PutsInForce in_force (site_in (put (newest_in state.heads) (revision_of e))) (Err error) → Accepts in_force state e (Err (refusal_of error))

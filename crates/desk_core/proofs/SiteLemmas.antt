@@ -15,28 +15,51 @@ use Rattle.desk_tables.specs.declared.custodians.Custodian.{Custodian}
 use Rattle.desk_policy.specs.Contradiction.{HasNoContradiction}
 use Rattle.desk_policy.specs.Parsing.{if_listed, in_file, read_after_filesystems, read_site, then_read}
 use Rattle.desk_policy.specs.Policy.{Content}
-use Rattle.desk_policy.specs.Site.{HaveReadableLengths, SiteTexts, longest_text}
+use Rattle.desk_policy.specs.Site.{HaveReadableLengths, SiteTexts, longest_text, no_exports}
+use Rattle.desk_policy.specs.declared.site.ExportsText.{ExportsText}
 use Rattle.desk_policy.specs.SiteFault.{table_fault}
 use Rattle.desk_policy.specs.View.{HasFault, IsFaultOf}
 use Rattle.desk_policy.specs.declared.site_fault.SiteFault.{SiteFault}
 use Rattle.desk_core.specs.Head.{CanBeKept, Newest, newest_in, put}
 use Rattle.desk_core.specs.PrivateSite.{no_texts, with_text}
-use Rattle.desk_core.specs.Site.{IsConsistent, IsInForce, IsSound, custodians_of, policy_of, policy_read, site_by, site_in, text_in}
+use Rattle.desk_core.specs.Site.{IsConsistent, IsInForce, IsSound, custodians_of, policy_of, policy_read, site_by, site_in, text_in, revision_text}
 use Rattle.desk_core.specs.declared.head.Head.{Head}
 
-chosen : (b : Bool) (h : Head) (o : Option Head) → cond b h.body (option_map_or (λ r. r.body) o []) ≡ option_map_or (λ r. r.body) (cond b (Some h) o) []
+abbrev made : List ℕ → List ℕ → List ℕ → List ℕ → List ℕ → List ℕ → List ℕ → (List ℕ → ExportsText) → SiteTexts
+made a b c d e f g x = record { custodians = a; filesystems = b; hosts = c; networks = d; passwd = e; group = f; netgroup = g; exports = x }
+
+-- texts that are equal one by one
+pub same_texts : (s t : SiteTexts) → s.custodians ≡ t.custodians → s.filesystems ≡ t.filesystems → s.hosts ≡ t.hosts → s.networks ≡ t.networks → s.passwd ≡ t.passwd → s.group ≡ t.group → s.netgroup ≡ t.netgroup → ((mount : List ℕ) → s.exports mount ≡ t.exports mount) → s ≡ t
+same_texts s t a b c d e f g x =
+    ap (λ v. made v s.filesystems s.hosts s.networks s.passwd s.group s.netgroup s.exports) a
+    ∙ ap (λ v. made t.custodians v s.hosts s.networks s.passwd s.group s.netgroup s.exports) b
+    ∙ ap (λ v. made t.custodians t.filesystems v s.networks s.passwd s.group s.netgroup s.exports) c
+    ∙ ap (λ v. made t.custodians t.filesystems t.hosts v s.passwd s.group s.netgroup s.exports) d
+    ∙ ap (λ v. made t.custodians t.filesystems t.hosts t.networks v s.group s.netgroup s.exports) e
+    ∙ ap (λ v. made t.custodians t.filesystems t.hosts t.networks t.passwd v s.netgroup s.exports) f
+    ∙ ap (λ v. made t.custodians t.filesystems t.hosts t.networks t.passwd t.group v s.exports) g
+    ∙ ap (λ v. made t.custodians t.filesystems t.hosts t.networks t.passwd t.group t.netgroup v) (fun_ext x)
+
+chosen : (b : Bool) (h : Head) (o : Option Head) → cond b (revision_text h) (option_map_or revision_text o no_exports) ≡ option_map_or revision_text (cond b (Some h) o) no_exports
 chosen true h o = refl
 chosen false h o = refl
 
+chosen_body : (b : Bool) (h : Head) (o : Option Head) → cond b h.body (option_map_or revision_text o no_exports).body ≡ (option_map_or revision_text (cond b (Some h) o) no_exports).body
+chosen_body true h o = refl
+chosen_body false h o = refl
+
 -- the text of a head is that of its file
-pub site_put : (newest : Newest) (h : Head) → with_text (site_in newest) h.file h.body ≡ site_in (put newest h)
-site_put newest h = ap site_by (fun_ext (λ name. chosen (bytes_eq h.file name) h (newest name)))
+pub site_put : (newest : Newest) (h : Head) → with_text (site_in newest) h.file (revision_text h) ≡ site_in (put newest h)
+site_put newest h =
+    let own : (name : List ℕ) → cond (bytes_eq h.file name) h.body (text_in newest name).body ≡ (text_in (put newest h) name).body = λ name. chosen_body (bytes_eq h.file name) h (newest name) in
+    same_texts (with_text (site_in newest) h.file (revision_text h)) (site_in (put newest h)) (own (codes "custodians")) (own (codes "filesystems")) (own (codes "hosts")) (own (codes "networks")) (own (codes "passwd")) (own (codes "group")) (own (codes "netgroup"))
+    (λ mount. chosen (bytes_eq h.file (codes "exports:" ++ mount)) h (newest (codes "exports:" ++ mount)))
 
 pub site_none : no_texts ≡ site_in (newest_in [])
 unfolding newest_in
 site_none = refl
 
-pub site_cons : (heads : List Head) (h : Head) → with_text (site_in (newest_in heads)) h.file h.body ≡ site_in (newest_in (h ∷ heads))
+pub site_cons : (heads : List Head) (h : Head) → with_text (site_in (newest_in heads)) h.file (revision_text h) ≡ site_in (newest_in (h ∷ heads))
 unfolding newest_in
 site_cons heads h = site_put (newest_in heads) h
 
@@ -66,24 +89,24 @@ apart (Err first) fault none named = none
 pub consistent_or_fault : (texts : SiteTexts) (fault : SiteFault) → IsConsistent texts → HasFault texts fault → ⊥
 consistent_or_fault texts fault = apart (read_site texts) fault
 
-text_short : (heads : List Head) (name : List ℕ) → AllByRecursion CanBeKept heads → length (text_in (newest_in heads) name) ≤ longest_text
+text_short : (heads : List Head) (name : List ℕ) → AllByRecursion CanBeKept heads → length (text_in (newest_in heads) name).body ≤ longest_text
 unfolding newest_in
 text_short [] name kept = omega arith
 text_short (h ∷ hs) name kept = step (bytes_eq h.file name) kept.0.short (text_short hs name kept.1)
   where
-    step : (b : Bool) → length h.body ≤ longest_text → length (text_in (newest_in hs) name) ≤ longest_text → length (option_map_or (λ r. r.body) (cond b (Some h) (find (λ x. bytes_eq x.file name) hs)) []) ≤ longest_text
+    step : (b : Bool) → length h.body ≤ longest_text → length (text_in (newest_in hs) name).body ≤ longest_text → length (option_map_or revision_text (cond b (Some h) (find (λ x. bytes_eq x.file name) hs)) no_exports).body ≤ longest_text
     step true own rest = own
     step false own rest = rest
 
-put_short : (newest : Newest) (h : Head) (name : List ℕ) → length h.body ≤ longest_text → length (text_in newest name) ≤ longest_text → length (text_in (put newest h) name) ≤ longest_text
+put_short : (newest : Newest) (h : Head) (name : List ℕ) → length h.body ≤ longest_text → length (text_in newest name).body ≤ longest_text → length (text_in (put newest h) name).body ≤ longest_text
 put_short newest h name own rest = step (bytes_eq h.file name)
   where
-    step : (b : Bool) → length (option_map_or (λ r. r.body) (cond b (Some h) (newest name)) []) ≤ longest_text
+    step : (b : Bool) → length (option_map_or revision_text (cond b (Some h) (newest name)) no_exports).body ≤ longest_text
     step true = own
     step false = rest
 
 abbrev AreShort : Newest → Type 0
-AreShort newest = (name : List ℕ) → length (text_in newest name) ≤ longest_text
+AreShort newest = (name : List ℕ) → length (text_in newest name).body ≤ longest_text
 
 readable : (newest : Newest) → AreShort newest → HaveReadableLengths (site_in newest)
 readable newest short = record {
@@ -104,21 +127,6 @@ heads_readable heads kept = readable (newest_in heads) (λ name. text_short head
 pub put_readable : (heads : List Head) (h : Head) → All CanBeKept heads → length h.body ≤ longest_text → HaveReadableLengths (site_in (put (newest_in heads) h))
 put_readable heads h kept own = readable (put (newest_in heads) h) (λ name. put_short (newest_in heads) h name own (text_short heads name (recursion_from_All CanBeKept heads kept)))
 
-abbrev made : List ℕ → List ℕ → List ℕ → List ℕ → List ℕ → List ℕ → List ℕ → (List ℕ → List ℕ) → SiteTexts
-made a b c d e f g x = record { custodians = a; filesystems = b; hosts = c; networks = d; passwd = e; group = f; netgroup = g; exports = x }
-
--- texts that are equal one by one
-pub same_texts : (s t : SiteTexts) → s.custodians ≡ t.custodians → s.filesystems ≡ t.filesystems → s.hosts ≡ t.hosts → s.networks ≡ t.networks → s.passwd ≡ t.passwd → s.group ≡ t.group → s.netgroup ≡ t.netgroup → ((mount : List ℕ) → s.exports mount ≡ t.exports mount) → s ≡ t
-same_texts s t a b c d e f g x =
-    ap (λ v. made v s.filesystems s.hosts s.networks s.passwd s.group s.netgroup s.exports) a
-    ∙ ap (λ v. made t.custodians v s.hosts s.networks s.passwd s.group s.netgroup s.exports) b
-    ∙ ap (λ v. made t.custodians t.filesystems v s.networks s.passwd s.group s.netgroup s.exports) c
-    ∙ ap (λ v. made t.custodians t.filesystems t.hosts v s.passwd s.group s.netgroup s.exports) d
-    ∙ ap (λ v. made t.custodians t.filesystems t.hosts t.networks v s.group s.netgroup s.exports) e
-    ∙ ap (λ v. made t.custodians t.filesystems t.hosts t.networks t.passwd v s.netgroup s.exports) f
-    ∙ ap (λ v. made t.custodians t.filesystems t.hosts t.networks t.passwd t.group v s.exports) g
-    ∙ ap (λ v. made t.custodians t.filesystems t.hosts t.networks t.passwd t.group t.netgroup v) (fun_ext x)
-
 pub drop_back : (xs : List Head) (n : ℕ) (h : Head) → 0 < n → n ≤ length xs → h ≡ get_or xs (n - 1) h → h ∷ drop n xs ≡ drop (n - 1) xs
 drop_back xs n h from to e =
     let next : n ≡ n - 1 + 1 = omega arith in
@@ -127,3 +135,8 @@ drop_back xs n h from to e =
 pub if_ok : {T E : Type 0} (P Q : T → Type 0) (r : Result T E) → ((x : T) → P x → Q x) → IfOk r P → IfOk r Q
 if_ok P Q (Ok x) f h = f x h
 if_ok P Q (Err e) f h = h
+
+-- only the text and the profile of the newest revisions count, and not who wrote them
+pub same_site : (newest : Newest) (h other : Head) → h.file ≡ other.file → revision_text h ≡ revision_text other → site_in (put newest h) ≡ site_in (put newest other)
+same_site newest h other file text = ap site_by (fun_ext (λ name. sym (chosen (bytes_eq h.file name) h (newest name)) ∙ ap (λ t. cond (bytes_eq h.file name) t (text_in newest name)) text
+    ∙ ap (λ f. cond (bytes_eq f name) (revision_text other) (text_in newest name)) file ∙ chosen (bytes_eq other.file name) other (newest name)))

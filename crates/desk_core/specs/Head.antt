@@ -6,11 +6,12 @@ use Rattle.std.specs.Str.{bytes_eq}
 use Rattle.desk_policy.specs.Site.{longest_text}
 use Rattle.desk_core.specs.declared.head.Head.{Head}
 
--- a revision of a file: its number, who stored it, and its text
+-- a revision of a file: its number, who wrote it, who approved it if the file was guarded, the profile by which it is
+-- read, and its text
 abbrev pub Revision : Type 0
 Revision = Head
 
--- of each file its newest revision, if it has one: an edit is judged by nothing else
+-- of each file its newest revision, if it has one
 abbrev pub Newest : Type 0
 Newest = List ℕ → Option Revision
 

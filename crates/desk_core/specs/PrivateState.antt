@@ -8,35 +8,39 @@ use Rattle.desk_policy.specs.Policy.{Content}
 use Rattle.desk_policy.specs.Site.{SiteTexts}
 use Rattle.desk_policy.specs.View.{HasFault}
 use Rattle.desk_policy.specs.declared.site_fault.SiteFault.{SiteFault}
-use Rattle.desk_core.specs.Edit.{Already, Answer, Edit, Refused, revision_of}
+use Rattle.desk_core.specs.Edit.{Answer, Edit, Refused, revision_of}
+use Rattle.desk_core.specs.Judging.{AnswersBySite, answer_of, entry_of}
 use Rattle.desk_core.specs.Head.{CanBeKept, newest_in, put}
-use Rattle.desk_core.specs.Site.{IsConsistent, IsInForce, site_in}
-use Rattle.desk_core.specs.State.{IsJudged}
+use Rattle.desk_core.specs.Site.{IsInForce, site_in}
+use Rattle.desk_core.specs.State.{IsJudged, again, standing}
 use Rattle.desk_core.specs.Views.{Kept, Ready}
 use Rattle.desk_core.specs.declared.edit.Refusal.{Refusal}
 use Rattle.desk_core.specs.declared.edit.Refusal.TheVariants as refusal
+use Rattle.desk_core.specs.Standing.{CanBePending}
 use Rattle.desk_core.specs.declared.head.Head.{Head}
+use Rattle.desk_core.specs.declared.proposal.Proposal.{Proposal}
 use Rattle.desk_core.specs.declared.state.Judged.{Judged}
 use Rattle.desk_core.specs.declared.state.Judged.TheVariants as judged
 
 -- what a state keeps: the policy in force, and the custodians of the site
-pub record IsState (heads : List Head) (content : Content) (custodians : List Custodian) : Type 0 where
+pub record IsState (heads : List Head) (proposals : List Proposal) (content : Content) (custodians : List Custodian) : Type 0 where
   pub in_force : IsInForce (site_in (newest_in heads)) content
   pub custodians_are : read_custodians (site_in (newest_in heads)).custodians ≡ Ok custodians
   pub kept : All CanBeKept heads
+  pub pending : All CanBePending proposals
 
 -- the answer of a case, as it is handed out
 abbrev pub AnswersCase : {V : Type 0} → Result (Judged (Ready V)) (ReadError Refusal) → Answer → Type 0
-AnswersCase (Ok (judged.Already number)) answer = answer ≡ Already number
+AnswersCase (Ok (judged.Already number proposed)) answer = answer ≡ again number proposed
 AnswersCase (Ok (judged.Accepted ready)) answer = ⊥
 AnswersCase (Err (Fault refused)) answer = answer ≡ Refused refused
 AnswersCase (Err Memory) answer = ⊥
 
--- the site with the edit's text is consistent, and what was made puts it in force; or its fault is reported; out of memory
--- says nothing
+-- what is to be stored is answered by the site with the edit's text, which is consistent, and what was made puts it in
+-- force; or its fault is reported; out of memory says nothing
 abbrev pub Accepts : {V : Type 0} → (V → Content) → Kept V → Edit → Result (Ready V) (ReadError Refusal) → Type 0
 Accepts in_force state e (Ok ready) =
-    IsConsistent (site_in (put (newest_in state.heads) (revision_of e))) × (ready.head ≡ revision_of e) × IsJudged in_force state ready
+    AnswersBySite (site_in (put (newest_in state.heads) (revision_of e))) (entry_of (standing state) e) (answer_of ready.entry) × (ready.entry ≡ entry_of (standing state) e) × IsJudged in_force state ready
 Accepts in_force state e (Err (Fault refused)) = (fault : SiteFault) × (refused ≡ refusal.Fault fault) × HasFault (site_in (put (newest_in state.heads) (revision_of e))) fault
 Accepts in_force state e (Err Memory) = Unit {0}
 

@@ -1,5 +1,6 @@
 -- The site that newest revisions write, when a site is consistent, and when its policy is in force. (this project's own)
 use Rattle.std.specs.Prelude.{◌≡◌, ◌++◌, ℕ, List, [], Result, Ok, Err, codes}
+use Rattle.desk_policy.specs.declared.site.ExportsText.{ExportsText}
 use Rattle.std.specs.Option.{option_map_or}
 use Rattle.std.specs.Result.{result_unwrap_or}
 use Rattle.desk_tables.specs.Custodians.{read_custodians}
@@ -7,24 +8,28 @@ use Rattle.desk_tables.specs.declared.custodians.Custodian.{Custodian}
 use Rattle.desk_policy.specs.Contradiction.{HasNoContradiction}
 use Rattle.desk_policy.specs.Parsing.{read_site}
 use Rattle.desk_policy.specs.Policy.{Content}
-use Rattle.desk_policy.specs.Site.{SiteTexts}
+use Rattle.desk_policy.specs.Site.{SiteTexts, no_exports}
 use Rattle.desk_policy.specs.declared.site_fault.SiteFault.{SiteFault}
-use Rattle.desk_core.specs.Head.{Newest}
+use Rattle.desk_core.specs.Head.{Newest, Revision}
+
+-- the text of a revision, and the profile by which it is read
+abbrev pub revision_text : Revision → ExportsText
+revision_text revision = record { profile = revision.profile; body = revision.body }
 
 -- the text in force of a file: that of its newest revision, and empty if it has none
-abbrev pub text_in : Newest → List ℕ → List ℕ
-text_in newest file = option_map_or (λ revision. revision.body) (newest file) []
+abbrev pub text_in : Newest → List ℕ → ExportsText
+text_in newest file = option_map_or revision_text (newest file) no_exports
 
--- the site whose files have these texts
-abbrev pub site_by : (List ℕ → List ℕ) → SiteTexts
+-- the site whose files have these texts; only of an exports file the profile counts
+abbrev pub site_by : (List ℕ → ExportsText) → SiteTexts
 site_by text = record {
-  custodians = text (codes "custodians");
-  filesystems = text (codes "filesystems");
-  hosts = text (codes "hosts");
-  networks = text (codes "networks");
-  passwd = text (codes "passwd");
-  group = text (codes "group");
-  netgroup = text (codes "netgroup");
+  custodians = (text (codes "custodians")).body;
+  filesystems = (text (codes "filesystems")).body;
+  hosts = (text (codes "hosts")).body;
+  networks = (text (codes "networks")).body;
+  passwd = (text (codes "passwd")).body;
+  group = (text (codes "group")).body;
+  netgroup = (text (codes "netgroup")).body;
   exports = λ mount. text (codes "exports:" ++ mount);
 }
 

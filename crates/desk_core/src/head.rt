@@ -7,6 +7,7 @@ ghost use Rattle.std.specs.Str.{bytes_eq};
 ghost use Rattle.desk_core.specs.Head.{CanBeKept, StandOnce, newest_in, newest_number, put};
 ghost use Rattle.desk_core.specs.PrivateHead.{is_within_limits};
 
+use desk_exports::Profile;
 use desk_policy::LONGEST_TEXT;
 use desk_text::Text;
 
@@ -16,12 +17,15 @@ pub const LAST_REVISION: u32 = 2_147_483_647;
 /// The most bytes that the text of a revision may have when it is stored.
 pub const LONGEST_REVISION: usize = 65_536;
 
-/// A revision of a file, mostly its newest: its number from 1, who stored it, and the file's text.
+/// A revision of a file, mostly its newest: its number from 1, who wrote it, who approved it if the file was guarded, the
+/// profile by which it is read, and the file's text.
 #[derive(Drop)]
 pub struct Head {
     pub file: Text,
     pub rev: u32,
     pub author: Text,
+    pub approver: Option<Text>,
+    pub profile: Profile,
     pub body: Text,
 }
 

@@ -1,17 +1,23 @@
-//! The cases of an edit that are checked before the site with its text is. None of them takes memory.
+//! The cases of an edit that are checked before the site with its text is, none of which takes memory; and what there is to
+//! store of an edit of which none holds.
 
-ghost use Rattle.std.specs.Prelude.{◌≡◌, ◌↔◌, ℕ, IfOk, IsTrue, List, Ok, find};
-ghost use Rattle.std.specs.Option.{option_copied, option_map};
-ghost use Rattle.desk_core.specs.Edit.{asked};
+ghost use Rattle.std.specs.Prelude.{◌≡◌, ◌↔◌, ◌<◌, ℕ, IfOk, IsTrue, List, Ok, false, find};
+ghost use Rattle.std.specs.Option.{option_copied, option_map, option_map_or};
+ghost use Rattle.std.specs.Str.{bytes_eq};
+ghost use Rattle.desk_core.specs.Edit.{approved_revision, asked, proposal_of, revision_by, revision_of};
+ghost use Rattle.desk_core.specs.Head.{last_revision};
 ghost use Rattle.desk_text.specs.Path.{path_text, read_path};
 ghost use Rattle.desk_core.specs.Judging as spec;
 
 use crate::edit::Edit;
+use crate::entry::Entry;
 use crate::head::{Head, LAST_REVISION, LONGEST_REVISION, newest_number};
+use crate::proposal::Proposal;
+use desk_exports::Profile;
 use desk_policy::{SiteFile, mount_of};
 use desk_tables::{Custodians, FileSystems, FsId};
 use desk_text::laws::written_paths_read_back;
-use desk_text::{Path, ReadError};
+use desk_text::{Path, ReadError, Text};
 use sha2::{Digest, Sha256};
 use std::alloc::{AllocError, Global};
 
@@ -28,39 +34,42 @@ pub enum Case {
     NotCustodian,
     /// The text has more than 65,536 bytes.
     TooLarge,
-    /// The newest revision is this edit: its number is base + 1, its author the caller, its text the edit's. This is not a
-    /// refusal.
+    /// The newest revision is this edit: its number is base + 1, its author the caller, or who approved it, its text the
+    /// edit's. This is not a refusal.
     Already,
+    /// The file is guarded, and its proposal is this edit: its base, its author and its text. This is not a refusal,
+    /// either.
+    Pending,
     /// The base is not the number of the newest revision.
     Stale,
     /// The base is 2,147,483,647.
     Full,
 }
 
-const CASES: [Case; 8] = [
+const CASES: [Case; 9] = [
     Case::UnknownCaller,
     Case::BadKey,
     Case::UnknownFile,
     Case::NotCustodian,
     Case::TooLarge,
     Case::Already,
+    Case::Pending,
     Case::Stale,
     Case::Full,
 ];
 
-/// Finds the first case that holds, by the custodians and file systems in force and the file's newest revision.
+/// Finds the first case that holds, by the custodians and file systems in force and the file's newest revision and
+/// proposal.
 pub(crate) fn first_case(
     custodians: &Custodians,
     table: &FileSystems,
     newest: Option<&Head>,
+    proposal: Option<&Proposal>,
     edit: &Edit<'_>,
 ) -> Option<Case>
-    ensures { result ≡ find (spec.holds custodians.now table.now (option_copied newest.entry) (asked edit.now)) spec.cases }
+    ensures { result ≡ find (spec.holds custodians.now table.now (option_copied newest.entry) (option_copied proposal.entry) (asked edit.now)) spec.cases }
 {
-    CASES
-        .iter()
-        .copied()
-        .find(|case| holds(custodians, table, newest, edit, *case))
+    CASES.iter().copied().find(|case| holds(custodians, table, newest, proposal, edit, *case))
 }
 
 /// Tests whether a case holds.
@@ -68,10 +77,11 @@ fn holds(
     custodians: &Custodians,
     table: &FileSystems,
     newest: Option<&Head>,
+    proposal: Option<&Proposal>,
     edit: &Edit<'_>,
     case: Case,
 ) -> bool
-    ensures { result ≡ spec.holds custodians.now table.now (option_copied newest.entry) (asked edit.now) case }
+    ensures { result ≡ spec.holds custodians.now table.now (option_copied newest.entry) (option_copied proposal.entry) (asked edit.now) case }
 {
     match case {
         Case::UnknownCaller => custodians.digest_of(edit.caller).is_none(),
@@ -80,6 +90,7 @@ fn holds(
         Case::NotCustodian => !keeps_file(table, edit.caller, edit.file),
         Case::TooLarge => edit.text.len() > LONGEST_REVISION,
         Case::Already => is_repeat(edit, newest),
+        Case::Pending => is_pending(table, edit, proposal),
         Case::Stale => newest_number(newest) != edit.base,
         Case::Full => edit.base == LAST_REVISION,
     }
@@ -129,6 +140,13 @@ pub fn is_file_name(alloc: Global, file: &str) -> Result<bool, AllocError>
     if is_of_seven(file) {
         return Ok(true);
     }
+    is_exports_name(alloc, file)
+}
+
+/// Tests whether this is the name of an exports file: `exports:` and a path in printed form. A proposal has no other.
+pub fn is_exports_name(alloc: Global, file: &str) -> Result<bool, AllocError>
+    ensures { IfOk result (λ named. IsTrue named ↔ spec.IsExportsName file.now) }
+{
     match mount_of(file) {
         Some(mount) => is_printed_path(alloc, mount),
         None => Ok(false),
@@ -161,6 +179,16 @@ fn exports_place(table: &FileSystems, file: &str) -> Option<FsId>
     }
 }
 
+/// Tests whether a file is guarded: it is the exports file of a mount point with the mark.
+fn is_guarded_file(table: &FileSystems, file: &str) -> bool
+    ensures { result ≡ spec.is_guarded_file table.now file.now }
+{
+    match exports_place(table, file) {
+        Some(fs) => table.guarded(fs),
+        None => false,
+    }
+}
+
 /// Tests whether the newest revision is this edit, stored before.
 fn is_repeat(edit: &Edit<'_>, newest: Option<&Head>) -> bool
     ensures { result ≡ spec.is_repeat (asked edit.now) (option_copied newest.entry) }
@@ -168,9 +196,168 @@ fn is_repeat(edit: &Edit<'_>, newest: Option<&Head>) -> bool
     match newest {
         Some(head) => {
             u64::from(head.rev) == u64::from(edit.base) + 1
-                && head.author.as_str() == edit.caller
+                && is_of(edit.caller, head)
                 && head.body.as_str() == edit.text
         }
         None => false,
     }
+}
+
+/// Tests whether a custodian is the author of a revision, or approved it.
+fn is_of(name: &str, head: &Head) -> bool
+    ensures { result ≡ spec.is_of name.now head.now }
+{
+    head.author.as_str() == name || has_approver(name, &head.approver)
+}
+
+/// Tests whether this is who approved a revision.
+fn has_approver(name: &str, approver: &Option<Text>) -> bool
+    ensures { result ≡ option_map_or (bytes_eq name.now) approver.now false }
+{
+    match approver {
+        Some(approver) => name == approver.as_str(),
+        None => false,
+    }
+}
+
+/// Tests whether a proposal has the base and the text of an edit.
+fn proposes(edit: &Edit<'_>, proposal: &Proposal) -> bool
+    ensures { result ≡ spec.proposes (asked edit.now) proposal.now }
+{
+    proposal.base == edit.base && proposal.body.as_str() == edit.text
+}
+
+/// Tests whether the file is guarded, and its proposal is this edit.
+fn is_pending(table: &FileSystems, edit: &Edit<'_>, proposal: Option<&Proposal>) -> bool
+    ensures { result ≡ spec.is_pending table.now (asked edit.now) (option_copied proposal.entry) }
+{
+    match proposal {
+        Some(proposal) => {
+            is_guarded_file(table, edit.file)
+                && (proposes(edit, proposal) && proposal.author.as_str() == edit.caller)
+        }
+        None => false,
+    }
+}
+
+/// Tests whether an edit approves a proposal: it has its base and text, and its author is another, who still keeps the
+/// file.
+fn approves(table: &FileSystems, edit: &Edit<'_>, proposal: &Proposal) -> bool
+    ensures { result ≡ spec.approves table.now (asked edit.now) proposal.now }
+{
+    proposes(edit, proposal)
+        && (proposal.author.as_str() != edit.caller
+            && keeps_file(table, proposal.author.as_str(), edit.file))
+}
+
+/// Finds the proposal that an edit approves.
+fn approved<'a>(
+    table: &FileSystems,
+    edit: &Edit<'_>,
+    proposal: Option<&'a Proposal>,
+) -> Option<&'a Proposal>
+    ensures { option_copied result ≡ spec.approved table.now (asked edit.now) (option_copied proposal.entry) }
+{
+    match proposal {
+        Some(proposal) => {
+            if approves(table, edit, proposal) {
+                Some(proposal)
+            } else {
+                None
+            }
+        }
+        None => None,
+    }
+}
+
+/// Makes what is stored of an edit: its revision, that of the proposal which it approves, or a proposal.
+pub(crate) fn entry_by(
+    alloc: Global,
+    table: &FileSystems,
+    edit: &Edit<'_>,
+    proposal: Option<&Proposal>,
+) -> Result<Entry, AllocError>
+    requires { edit.now.base < last_revision }
+    ensures { IfOk result (λ stored. stored ≡ spec.entry_by table.now (asked edit.now) (option_copied proposal.entry)) }
+{
+    if is_guarded_file(table, edit.file) {
+        guarded_entry(alloc, edit, approved(table, edit, proposal))
+    } else {
+        let head = revision_of(alloc, edit)?;
+        Ok(Entry::Revised(head))
+    }
+}
+
+/// Makes what is stored of an edit of a guarded file that approves this proposal, or none.
+fn guarded_entry(
+    alloc: Global,
+    edit: &Edit<'_>,
+    approved: Option<&Proposal>,
+) -> Result<Entry, AllocError>
+    requires { edit.now.base < last_revision }
+    ensures { IfOk result (λ stored. stored ≡ spec.guarded_entry (asked edit.now) (option_copied approved.entry)) }
+{
+    match approved {
+        Some(proposal) => {
+            let head = approved_revision(alloc, proposal, edit)?;
+            Ok(Entry::Revised(head))
+        }
+        None => {
+            let proposal = proposal_of(alloc, edit)?;
+            Ok(Entry::Proposed(proposal))
+        }
+    }
+}
+
+/// Makes the revision that an edit stores by itself.
+pub(crate) fn revision_of(alloc: Global, edit: &Edit<'_>) -> Result<Head, AllocError>
+    requires { edit.now.base < last_revision }
+    ensures { IfOk result (λ head. head ≡ revision_of (asked edit.now)) }
+{
+    revision_by(alloc, edit, edit.caller, None)
+}
+
+/// Makes the revision that an edit stores as the approval of a proposal.
+fn approved_revision(
+    alloc: Global,
+    proposal: &Proposal,
+    edit: &Edit<'_>,
+) -> Result<Head, AllocError>
+    requires { edit.now.base < last_revision }
+    ensures { IfOk result (λ head. head ≡ approved_revision proposal.now (asked edit.now)) }
+{
+    let approver = Text::copy(alloc, edit.caller)?;
+    revision_by(alloc, edit, proposal.author.as_str(), Some(approver))
+}
+
+/// Makes the revision that an edit stores, by this author.
+fn revision_by(
+    alloc: Global,
+    edit: &Edit<'_>,
+    author: &str,
+    approver: Option<Text>,
+) -> Result<Head, AllocError>
+    requires { edit.now.base < last_revision }
+    ensures { IfOk result (λ head. head ≡ revision_by (asked edit.now) author.now approver) }
+{
+    Ok(Head {
+        file: Text::copy(alloc, edit.file)?,
+        rev: edit.base + 1,
+        author: Text::copy(alloc, author)?,
+        approver,
+        profile: Profile::Two,
+        body: Text::copy(alloc, edit.text)?,
+    })
+}
+
+/// Makes the proposal that an edit makes.
+fn proposal_of(alloc: Global, edit: &Edit<'_>) -> Result<Proposal, AllocError>
+    ensures { IfOk result (λ proposal. proposal ≡ proposal_of (asked edit.now)) }
+{
+    Ok(Proposal {
+        file: Text::copy(alloc, edit.file)?,
+        base: edit.base,
+        author: Text::copy(alloc, edit.caller)?,
+        body: Text::copy(alloc, edit.text)?,
+    })
 }

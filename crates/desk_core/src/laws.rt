@@ -1,13 +1,14 @@
 //! What the definitions of this crate come to, each as a function that does nothing.
 
-ghost use Rattle.desk_core.specs.Laws.{AnswersAreRight, ConsistentSitesHaveNoFault, EditsTakeEffect, HistoriesStayNumbered, KnownFilesHaveNames, NewestOfALongerHistory, StoredEditsKeepTheNumbers};
+ghost use Rattle.desk_core.specs.Laws.{AnsweredEditsKeepTheNumbers, AnswersAreRight, ConsistentSitesHaveNoFault, EditsTakeEffect, GuardedFilesHaveTwoKeepers, HistoriesStayNumbered, KnownFilesHaveNames, StandingOfALongerHistory};
 
 use desk_tables::laws::mount_points_read_back;
 
-/// In every run an edit takes effect exactly if its caller is listed with the key and keeps that file, it names the newest
-/// revision, it is within the limits and it leaves the site consistent; nothing else changes anything; each denial names
-/// its rule; and a repeat of the newest edit, by its author, who is still listed with the key and keeps the file, is
-/// answered with its revision.
+/// In every run an edit takes effect exactly if its caller is listed with the key and keeps that file, it names the
+/// newest revision, it is within the limits, it leaves the site consistent, and if the file is guarded, another
+/// custodian's proposal of that text is pending; nothing else changes anything but a file's one proposal; each denial
+/// names its rule; a repeat of the newest edit, by its author or approver, who is still listed with the key and keeps the
+/// file, is answered with its revision; and so is a repeat of a pending proposal.
 pub fn edits_take_effect()
     ensures { EditsTakeEffect }
 {}
@@ -22,14 +23,20 @@ pub fn histories_stay_numbered()
     ensures { HistoriesStayNumbered }
 {}
 
-/// A stored edit's revision has the next number of its file.
-pub fn stored_edits_keep_the_numbers()
-    ensures { StoredEditsKeepTheNumbers }
+/// What an answered edit adds keeps the numbers.
+pub fn answered_edits_keep_the_numbers()
+    ensures { AnsweredEditsKeepTheNumbers }
 {}
 
-/// Of a history with one revision more that one is the newest of its file, and other files keep their newest.
-pub fn newest_of_a_longer_history()
-    ensures { NewestOfALongerHistory }
+/// Of a history with one entry more: a revision is the newest of its file, which then has no proposal; a proposal is that
+/// of its file; other files stay as they stand.
+pub fn standing_of_a_longer_history()
+    ensures { StandingOfALongerHistory }
+{}
+
+/// Behind each revision of a guarded file stand two custodians: its author, who proposed it before, and its approver.
+pub fn guarded_files_have_two_keepers()
+    ensures { GuardedFilesHaveTwoKeepers }
 {}
 
 /// A file that an edit may change has one of the names of the project: `hosts`, or `exports:/a`.

@@ -3,13 +3,14 @@
 ghost use Rattle.std.specs.Prelude.{◌≡◌, ◌≤◌, ◌++◌, ℕ, List, [], IfOk, IsOk, Ok, OnOk, codes, length, unwrap_or};
 ghost use Rattle.std.specs.BTreeMap.{get_by_text};
 ghost use Rattle.desk_tables.specs.Custodians.{read_custodians};
-ghost use Rattle.desk_policy.specs.Site.{longest_text, texts_of};
+ghost use Rattle.desk_policy.specs.Site.{longest_text, no_exports, texts_of};
 ghost use Rattle.desk_core.specs.Head.{newest_in, put};
 ghost use Rattle.desk_core.specs.PrivateSite.{no_texts, text_or, with_text};
-ghost use Rattle.desk_core.specs.Site.{site_in};
+ghost use Rattle.desk_core.specs.Site.{site_in, revision_text};
 
 use crate::head::Head;
-use desk_policy::{Site, mount_of};
+use desk_exports::Profile;
+use desk_policy::{ExportsText, Site, mount_of};
 use desk_tables::Custodians;
 use desk_text::{ReadError, Text};
 use std::alloc::{AllocError, Global};
@@ -55,7 +56,7 @@ fn empty_site(alloc: Global) -> Site
 
 /// Puts the text of this head in the place of that of its file. A head of a file of another name changes nothing.
 fn take_head(alloc: Global, site: &mut Site, head: &Head) -> Result<(), AllocError>
-    ensures { OnOk result (texts_of site.new ≡ with_text (texts_of site.old) head.now.file head.now.body) }
+    ensures { OnOk result (texts_of site.new ≡ with_text (texts_of site.old) head.now.file (revision_text head.now)) }
 {
     let file = head.file.as_str();
     let body = head.body.as_str();
@@ -66,7 +67,7 @@ fn take_head(alloc: Global, site: &mut Site, head: &Head) -> Result<(), AllocErr
     put_text(alloc, &mut site.passwd, file, "passwd", body)?;
     put_text(alloc, &mut site.group, file, "group", body)?;
     put_text(alloc, &mut site.netgroup, file, "netgroup", body)?;
-    put_exports(alloc, &mut site.exports, file, body)?;
+    put_exports(alloc, &mut site.exports, file, head.profile, body)?;
     Ok(())
 }
 
@@ -89,17 +90,18 @@ fn put_text(
 /// Puts a text in the place of that of a mount point, if it is that of an exports file.
 fn put_exports(
     alloc: Global,
-    exports: &mut BTreeMap<String, Text>,
+    exports: &mut BTreeMap<String, ExportsText>,
     file: &str,
+    profile: Profile,
     text: &str,
 ) -> Result<(), AllocError>
-    ensures { OnOk result ((mount : List ℕ) → unwrap_or (get_by_text exports.new mount) []
-        ≡ text_or file.now text.now (codes "exports:" ++ mount) (unwrap_or (get_by_text exports.old mount) [])) }
+    ensures { OnOk result ((mount : List ℕ) → unwrap_or (get_by_text exports.new mount) no_exports
+        ≡ text_or file.now (record { profile = profile; body = text.now }) (codes "exports:" ++ mount) (unwrap_or (get_by_text exports.old mount) no_exports)) }
 {
     if let Some(mount) = mount_of(file) {
         let mount = String::from_str(alloc, mount)?;
-        let text = Text::copy(alloc, text)?;
-        exports.insert(mount, text)?;
+        let body = Text::copy(alloc, text)?;
+        exports.insert(mount, ExportsText { profile, body })?;
     }
     Ok(())
 }

@@ -1,30 +1,37 @@
-//! States: the newest revision of each file, and the policy that they put in force.
+//! States: the newest revision of each file, the proposals, and the policy that is in force.
 
-ghost use Rattle.std.specs.Prelude.{◌≡◌, ◌<◌, All, IfOk, None, Some};
+ghost use Rattle.std.specs.Prelude.{◌≡◌, ◌<◌, [], All, IfOk, None, Ok, Some, length, vec_capacity, vec_len};
 ghost use Rattle.std.specs.Option.{option_copied};
+ghost use Rattle.desk_tables.specs.Custodians.{read_custodians};
 ghost use Rattle.desk_policy.specs.Site.{HaveReadableLengths, texts_of};
 ghost use Rattle.desk_core.specs.Edit as spec;
 ghost use Rattle.desk_core.specs.Edit.{asked};
 ghost use Rattle.desk_core.specs.Head.{CanBeKept, StandOnce, last_revision, newest_in, put};
-ghost use Rattle.desk_core.specs.Judging.{answer_in, first_case};
+ghost use Rattle.desk_core.specs.Judging.{answer_in, entry_of, first_case};
 ghost use Rattle.desk_core.specs.PrivateState.{Accepts, AnswersCase, PutsInForce, refusal_of};
 ghost use Rattle.desk_core.specs.Site.{IsInForce, site_in};
-ghost use Rattle.desk_core.specs.State.{IsJudged, Judges, Starts};
+ghost use Rattle.desk_core.specs.Standing.{CanBePending, proposals_in, with_entry, without};
+ghost use Rattle.desk_core.specs.State.{IsJudged, Judges, Starts, standing};
+ghost use Rattle.desk_core.specs.declared.entry.Entry.TheVariants.{Revised};
 
 use crate::edit::{Edit, Refusal};
+use crate::entry::Entry;
 use crate::head::{Head, newest, newest_number, put_head};
-use crate::judging::{Case, first_case};
+use crate::judging::{Case, entry_by, first_case, revision_of};
+use crate::proposal::{Proposal, proposal_for, put_proposal, withdraw};
 use crate::site::{read_good, site_of, site_with};
 use desk_policy::{PolicyView, Site, SiteFault, compile};
 use desk_tables::Custodians;
-use desk_text::{ReadError, Text};
+use desk_text::ReadError;
 use std::alloc::{AllocError, Global};
 use std::marker::Model;
 
-/// The newest revision of each file, the custodians that these list, and a view of the policy that these write.
+/// The newest revision of each file, the proposals, the custodians that the revisions list, and a view of the policy that
+/// these write.
 #[derive(Drop)]
 pub struct State<V: PolicyView + Drop> {
     heads: Vec<Head>,
+    proposals: Vec<Proposal>,
     custodians: Custodians,
     view: V,
 }
@@ -37,16 +44,18 @@ impl<V: PolicyView + Drop> Model for State<V> {
 
     ghost coded = { kept_code V.code };
 
-    ghost view = { λ s. record { heads = s.heads.items; view = s.view } };
+    ghost view = { λ s. record { heads = s.heads.items; proposals = s.proposals.items; view = s.view } };
 
-    ghost invariant = { λ s. IsState s.heads.items (V.in_force s.view) s.custodians };
+    ghost invariant = { λ s. IsState s.heads.items s.proposals.items (V.in_force s.view) s.custodians };
 }
 
-/// An accepted edit: its revision, the custodians and the view of the site with it, and room for the heads.
+/// An accepted edit: what is to be stored of it, the custodians and the view of the site with its text, and room for the
+/// heads and the proposals.
 #[derive(Drop)]
 pub struct Accepted<V: PolicyView + Drop> {
-    head: Head,
+    entry: Entry,
     room: Vec<Head>,
+    proposal_room: Vec<Proposal>,
     custodians: Custodians,
     view: V,
 }
@@ -59,37 +68,54 @@ impl<V: PolicyView + Drop> Model for Accepted<V> {
 
     ghost coded = { ready_code V.code };
 
-    ghost view = { λ a. record { head = a.head; room = vec_capacity a.room; custodians = a.custodians; view = a.view } };
+    ghost view = { λ a. record { entry = a.entry; room = vec_capacity a.room; proposal_room = vec_capacity a.proposal_room; custodians = a.custodians; view = a.view } };
 
-    ghost invariant = { λ a. a.room.items ≡ [] };
+    ghost invariant = { λ a. (a.room.items ≡ []) × (a.proposal_room.items ≡ []) };
+}
+
+impl<V: PolicyView + Drop> Accepted<V> {
+    /// Lends what is to be stored of the edit: its revision, or its proposal.
+    pub fn entry(&self) -> &Entry
+        ensures { result.now ≡ self.now.entry }
+    {
+        &self.entry
+    }
 }
 
 /// What an edit is answered that is not refused.
 #[derive(Drop)]
 pub enum Judged<A> {
-    /// The newest revision, with this number, is this edit, stored before.
-    Already(u32),
-    /// It can be put in force by `apply`.
+    /// The newest revision, with this number, is this edit, stored before; or the edit is proposed already, as that
+    /// revision.
+    Already { rev: u32, proposed: bool },
+    /// It can be put in force, or proposed, by `apply`.
     Accepted(A),
 }
 
 impl<V: PolicyView + Drop> State<V> {
-    /// Makes the state of these heads, one for each file, if the site that they write is consistent; else there is the
-    /// site's fault. (If a file has more than one head, the first counts.)
-    pub fn from_heads(alloc: Global, heads: Vec<Head>) -> Result<State<V>, ReadError<SiteFault>>
-        requires { All CanBeKept heads.items }
-        ensures { Starts V.in_force heads.items result }
+    /// Makes the state of these heads, one for each file, and of these proposals, at most one for each file, if the site
+    /// that the heads write is consistent; else there is the site's fault. (If a file has more than one head, or
+    /// proposal, the first counts.)
+    pub fn from_heads(
+        alloc: Global,
+        heads: Vec<Head>,
+        proposals: Vec<Proposal>,
+    ) -> Result<State<V>, ReadError<SiteFault>>
+        requires heads { All CanBeKept heads.items }
+        requires proposals { All CanBePending proposals.items }
+        ensures { Starts V.in_force heads.items proposals.items result }
     {
         let (custodians, view) = put_heads_in_force(alloc, heads.as_slice())?;
         Ok(State {
             heads,
+            proposals,
             custodians,
             view,
         })
     }
 
-    /// Judges an edit by the state as it is, which stays so; an accepted edit is put in force by `apply`. There is no memory
-    /// only if none of the cases holds that are checked before the site with the edit's text is.
+    /// Judges an edit by the state as it is, which stays so; an accepted edit is put in force by `apply`. There is no
+    /// memory only if none of the cases holds that are checked before the site with the edit's text is.
     pub fn judge(
         &self,
         alloc: Global,
@@ -103,20 +129,40 @@ impl<V: PolicyView + Drop> State<V> {
         }
     }
 
-    /// Puts an edit in force that this state accepted as it is. It takes no memory.
+    /// Puts an edit in force that this state accepted as it is, or keeps its proposal. It takes no memory.
     pub fn apply(&mut self, accepted: Accepted<V>)
         requires { IsJudged V.in_force self.old accepted }
-        ensures heads { newest_in self.new.heads ≡ put (newest_in self.old.heads) accepted.head }
+        ensures standing { standing self.new ≡ with_entry (standing self.old) accepted.entry }
         ensures once { StandOnce self.old.heads → StandOnce self.new.heads }
         ensures view { IsInForce (site_in (newest_in self.new.heads)) (V.in_force self.new.view) }
     {
         let Accepted {
-            head,
+            entry,
             room,
+            proposal_room,
             custodians,
             view,
         } = accepted;
-        put_head(&mut self.heads, room, head);
+        match entry {
+            Entry::Revised(head) => self.revise(room, head, custodians, view),
+            Entry::Proposed(proposal) => {
+                put_proposal(&mut self.proposals, proposal_room, proposal);
+            }
+        }
+    }
+
+    /// Puts a revision in force, with the custodians and the view of the site with its text. It takes no memory.
+    fn revise(&mut self, room: Vec<Head>, head: Head, custodians: Custodians, view: V)
+        requires empty { room.items ≡ [] }
+        requires room { length self.old.heads < vec_capacity room }
+        requires can_be_kept { CanBeKept head }
+        requires custodians { read_custodians (site_in (put (newest_in self.old.heads) head)).custodians ≡ Ok custodians }
+        requires view { IsInForce (site_in (put (newest_in self.old.heads) head)) (V.in_force view) }
+        ensures standing { standing self.new ≡ with_entry (standing self.old) (Revised head) }
+        ensures once { StandOnce self.old.heads → StandOnce self.new.heads }
+        ensures view { IsInForce (site_in (newest_in self.new.heads)) (V.in_force self.new.view) }
+    {
+        put_revision(&mut self.heads, &mut self.proposals, room, head);
         self.custodians = custodians;
         self.view = view;
     }
@@ -143,15 +189,31 @@ impl<V: PolicyView + Drop> State<V> {
         newest(self.heads.as_slice(), file)
     }
 
+    /// Lends the proposals, in no order.
+    pub fn proposals(&self) -> &[Proposal]
+        ensures { result.now ≡ self.now.proposals }
+    {
+        self.proposals.as_slice()
+    }
+
+    /// Finds the proposal of a file.
+    pub fn proposal(&self, file: &str) -> Option<&Proposal>
+        ensures { option_copied result ≡ proposals_in self.now.proposals file.now }
+    {
+        proposal_for(self.proposals.as_slice(), file)
+    }
+
     /// Finds the first case that holds.
     fn first_case(&self, edit: &Edit<'_>) -> Option<Case>
-        ensures { result ≡ first_case (newest_in self.now.heads) (asked edit.now) }
+        ensures { result ≡ first_case (standing self.now) (asked edit.now) }
     {
         let newest = newest(self.heads.as_slice(), edit.file);
+        let proposal = proposal_for(self.proposals.as_slice(), edit.file);
         first_case(
             &self.custodians,
             self.view.policy().filesystems(),
             newest,
+            proposal,
             edit,
         )
     }
@@ -162,12 +224,23 @@ impl<V: PolicyView + Drop> State<V> {
         edit: &Edit<'_>,
         case: Case,
     ) -> Result<Judged<Accepted<V>>, ReadError<Refusal>>
-        requires { first_case (newest_in self.now.heads) (asked edit.now) ≡ Some case }
+        requires { first_case (standing self.now) (asked edit.now) ≡ Some case }
         ensures { AnswersCase result (answer_in (newest_in self.now.heads edit.now.file.now) (asked edit.now) case) }
     {
         let newest = newest(self.heads.as_slice(), edit.file);
         let refusal = match case {
-            Case::Already => return Ok(Judged::Already(newest_number(newest))),
+            Case::Already => {
+                return Ok(Judged::Already {
+                    rev: newest_number(newest),
+                    proposed: false,
+                });
+            }
+            Case::Pending => {
+                return Ok(Judged::Already {
+                    rev: edit.base + 1,
+                    proposed: true,
+                });
+            }
             Case::UnknownCaller => Refusal::UnknownCaller,
             Case::BadKey => Refusal::BadKey,
             Case::UnknownFile => Refusal::UnknownFile,
@@ -181,26 +254,53 @@ impl<V: PolicyView + Drop> State<V> {
 
     /// Makes an edit of which no case holds ready to be put in force, or gives the fault of the site with its text.
     fn accept(&self, alloc: Global, edit: &Edit<'_>) -> Result<Accepted<V>, ReadError<Refusal>>
-        requires { first_case (newest_in self.now.heads) (asked edit.now) ≡ None }
+        requires { first_case (standing self.now) (asked edit.now) ≡ None }
         ensures { Accepts V.in_force self.now (asked edit.now) result }
     {
         let heads = self.heads.as_slice();
         let room = Vec::with_capacity(alloc, heads.len() + 1)?;
-        let head = revision_of(alloc, edit)?;
-        match put_head_in_force(alloc, heads, &head) {
+        let proposal_room = Vec::with_capacity(alloc, self.proposals.len() + 1)?;
+        let entry = self.entry_of(alloc, edit)?;
+        match put_edit_in_force(alloc, heads, edit) {
             Ok((custodians, view)) => Ok(Accepted {
-                head,
+                entry,
                 room,
+                proposal_room,
                 custodians,
                 view,
             }),
             Err(error) => {
-                drop(head);
+                drop(entry);
+                drop(proposal_room);
                 drop(room);
                 Err(refused(error))
             }
         }
     }
+
+    /// Makes what is to be stored of an edit of which no case holds.
+    fn entry_of(&self, alloc: Global, edit: &Edit<'_>) -> Result<Entry, AllocError>
+        requires { edit.now.base < last_revision }
+        ensures { IfOk result (λ stored. stored ≡ entry_of (standing self.now) (asked edit.now)) }
+    {
+        let proposal = proposal_for(self.proposals.as_slice(), edit.file);
+        entry_by(alloc, self.view.policy().filesystems(), edit, proposal)
+    }
+}
+
+/// Makes a revision the newest of its file, which then has no proposal. It takes no memory: the room for a file's first
+/// revision is brought along.
+fn put_revision(heads: &mut Vec<Head>, proposals: &mut Vec<Proposal>, room: Vec<Head>, head: Head)
+    requires empty { room.items ≡ [] }
+    requires room { vec_len heads.old < vec_capacity room }
+    ensures newest { newest_in heads.new.items ≡ put (newest_in heads.old.items) head }
+    ensures gone { proposals_in proposals.new.items ≡ without (proposals_in proposals.old.items) head.file }
+    ensures once { StandOnce heads.old.items → StandOnce heads.new.items }
+    ensures kept { CanBeKept head → All CanBeKept heads.old.items → All CanBeKept heads.new.items }
+    ensures pending { All CanBePending proposals.old.items → All CanBePending proposals.new.items }
+{
+    withdraw(proposals, head.file.as_str());
+    put_head(heads, room, head);
 }
 
 /// Gives the fault of the site as why an edit is refused.
@@ -225,6 +325,21 @@ fn put_heads_in_force<V: PolicyView + Drop>(
     put_in_force(alloc, &site)
 }
 
+/// Makes the custodians and the view of the site of these heads, if the text of an edit is that of its file, or gives its
+/// fault.
+fn put_edit_in_force<V: PolicyView + Drop>(
+    alloc: Global,
+    heads: &[Head],
+    edit: &Edit<'_>,
+) -> Result<(Custodians, V), ReadError<SiteFault>>
+    requires base { edit.now.base < last_revision }
+    requires lengths { HaveReadableLengths (site_in (put (newest_in heads.now) (spec.revision_of (asked edit.now)))) }
+    ensures { PutsInForce V.in_force (site_in (put (newest_in heads.now) (spec.revision_of (asked edit.now)))) result }
+{
+    let head = revision_of(alloc, edit)?;
+    put_head_in_force(alloc, heads, &head)
+}
+
 /// Makes the custodians and the view of the site of these heads, if this head is that of its file, or gives its fault.
 fn put_head_in_force<V: PolicyView + Drop>(
     alloc: Global,
@@ -236,19 +351,6 @@ fn put_head_in_force<V: PolicyView + Drop>(
 {
     let site = site_with(alloc, heads, head)?;
     put_in_force(alloc, &site)
-}
-
-/// Makes the revision that an edit stores.
-fn revision_of(alloc: Global, edit: &Edit<'_>) -> Result<Head, AllocError>
-    requires { edit.now.base < last_revision }
-    ensures { IfOk result (λ head. head ≡ spec.revision_of (asked edit.now)) }
-{
-    Ok(Head {
-        file: Text::copy(alloc, edit.file)?,
-        rev: edit.base + 1,
-        author: Text::copy(alloc, edit.caller)?,
-        body: Text::copy(alloc, edit.text)?,
-    })
 }
 
 /// Makes the custodians and the view of a consistent site, or gives its fault.

@@ -3,28 +3,41 @@ use Rattle.std.proofs.Common.{◌≡◌, ◌⊎◌, ◌+◌, ◌++◌, ℕ, Bool
 use Rattle.std.specs.Prelude.{if◌then◌else◌}
 use Rattle.sqlite.specs.Held.{state}
 use Rattle.sqlite_trees.specs.declared.store.Store.{Ghosts}
-use Rattle.desk_core.specs.Edit.{Already, Answer, Edit, Refused, Stored}
-use Rattle.desk_core.specs.History.{IsAnswered, added_if}
-use Rattle.desk_store.specs.Desk.{HasGoodDisk, IsEdited, Shown, StandsAt, pending_after, told}
+use Rattle.desk_core.specs.Edit.{Answer, Edit, Proposed, Refused, Stored}
+use Rattle.desk_core.specs.History.{IsAnswered, added_if, standing_of}
+use Rattle.desk_core.specs.Standing.{Standing}
+use Rattle.desk_core.specs.State.{again}
+use Rattle.desk_store.specs.Desk.{HasGoodDisk, IsEdited, Shown, StandsAt, answer_told, pending_after, told}
 use Rattle.desk_store.specs.Rows.{IsOfTask}
 use Rattle.desk_store.specs.declared.desk.Done.{Done}
 use Rattle.desk_store.specs.declared.error.DeskError.{DeskError}
 use Rattle.desk_store.specs.declared.error.DeskError.TheVariants as error
 use Rattle.desk_store.specs.declared.error.Task.{Task}
-use Rattle.desk_service.specs.Edits.{PutsBy}
+use Rattle.desk_service.specs.Edits.{PutsBy, reply_in}
 use Rattle.desk_service.specs.Refused.{refused_by}
 use Rattle.desk_service.specs.declared.edits.Replies.{Replies}
-use Rattle.desk_messages.specs.Replies.{Reply, memory_reply, print_reply, reply_with}
-use Rattle.desk_bodies.specs.Edits.{done_data}
+use Rattle.desk_messages.specs.Replies.{Reply, memory_reply, print_reply}
 use Rattle.desk_http.specs.Edits.{answer_reply}
 use Rattle.desk_http.specs.Questions.{store_reply}
 use Rattle.desk_http.specs.Replies.{refused_reply}
-use Rattle.desk_http.specs.PrivateAnswering.{EditAnswered, Gives, GivesText}
+use Rattle.desk_http.specs.PrivateAnswering.{AreReplies, EditAnswered, Gives, GivesText}
 
 -- the reply where a look at the tables failed
 pub failed_look : (task : Task) (e : DeskError) → IsOfTask task e → (refused_reply (refused_by e) ≡ memory_reply) ⊎ ((true ≡ true) × (refused_reply (refused_by e) ≡ store_reply))
 failed_look task e (inl memory) = inl (ap (λ (x : DeskError). refused_reply (refused_by x)) memory)
 failed_look task e (inr store) = inr (refl, ap (λ (x : DeskError). refused_reply (refused_by x)) store.2)
+
+-- what is told of an edit that is not refused
+abbrev told_by : ℕ → Bool → Bool → Answer
+told_by rev already proposed = if already then again rev proposed else if proposed then Proposed rev else Stored rev
+
+-- the reply that was made before is that to what is told
+reply_told : {T : Type 0} (items : T → List ℕ) (replies : Replies T) (ends : Bool) (rev : ℕ) → AreReplies items ends rev replies → (already proposed : Bool)
+    → items (if proposed then if already then replies.already_proposed else replies.proposed else if already then replies.already else replies.accepted) ≡ print_reply ends (answer_reply (told_by rev already proposed))
+reply_told items replies ends rev are true true = are.already_proposed
+reply_told items replies ends rev are true false = are.already
+reply_told items replies ends rev are false true = are.proposed
+reply_told items replies ends rev are false false = are.accepted
 
 module _ {S V : Type 0} (g : Ghosts S) (old new : Shown S V) (e : Edit) where
   abbrev Edited : Result Done DeskError → Type 0
@@ -40,49 +53,37 @@ module _ {S V : Type 0} (g : Ghosts S) (old new : Shown S V) (e : Edit) where
     step = λ clean history pending at.
         let it = edited.step clean history pending at in
         let right : IsAnswered history e (Some answer) = subst (IsAnswered history e) is it.answered in (
-          history ++ added_if e (told result),
-          pending_after pending e (told result),
-          inl (answer, right, ap (λ (a : Option Answer). history ++ added_if e a) is, refl),
+          history ++ added_if (standing_of history) e (told result),
+          pending_after pending (standing_of history) e (told result),
+          inl (answer, right, ap (λ (a : Option Answer). history ++ added_if (standing_of history) e a) is, refl),
           it.stands,
         );
   }
 
   -- an edit that added nothing, and is not replied by its answer
-  nothing_added : (result : Result Done DeskError) (reply : Reply) → added_if e (told result) ≡ [] → ((reply ≡ memory_reply) ⊎ (reply ≡ store_reply)) → Edited result → Replied reply
+  nothing_added : (result : Result Done DeskError) (reply : Reply) → ((standing : Standing) → added_if standing e (told result) ≡ []) → ((reply ≡ memory_reply) ⊎ (reply ≡ store_reply)) → Edited result → Replied reply
   nothing_added result reply none which edited = record {
     disk = λ clean. omega (arith, clean, edited.crash.clean);
     step = λ clean history pending at.
         let it = edited.step clean history pending at in
-        let same : history ++ added_if e (told result) ≡ history = ap (λ l. history ++ l) none ∙ append-nil history in (
+        let same : history ++ added_if (standing_of history) e (told result) ≡ history = ap (λ l. history ++ l) (none (standing_of history)) ∙ append-nil history in (
           history,
-          pending_after pending e (told result),
+          pending_after pending (standing_of history) e (told result),
           inr (which, refl),
-          subst (λ h. StandsAt g new h (pending_after pending e (told result))) same it.stands,
+          subst (λ h. StandsAt g new h (pending_after pending (standing_of history) e (told result))) same it.stands,
         );
   }
 
-  -- an edit that is stored, or was
-  done_text : {T : Type 0} (items : T → List ℕ) (replies : Replies T) (ends : Bool) (rev : ℕ) → rev ≡ e.base + 1
-      → items replies.accepted ≡ print_reply ends (reply_with 200 (done_data false rev)) → items replies.already ≡ print_reply ends (reply_with 200 (done_data true rev))
-      → (text : T) (done : Done) (already : Bool) → done.already ≡ already → text ≡ (if already then replies.already else replies.accepted) → Edited (Ok done)
-      → GivesText (HasGoodDisk g) (StandsAt g) (EditAnswered e) ends old (items text) new
-  done_text items replies ends rev number accepted_is already_is text done true was is edited = (
-    answer_reply (Already done.rev),
-    answered (Ok done) (Already done.rev) (ap (λ (b : Bool). Some (if b then Already done.rev else Stored done.rev)) was) edited,
-    ap items is ∙ already_is ∙ ap (λ n. print_reply ends (reply_with 200 (done_data true n))) (number ∙ sym edited.number),
-  )
-  done_text items replies ends rev number accepted_is already_is text done false was is edited = (
-    answer_reply (Stored done.rev),
-    answered (Ok done) (Stored done.rev) (ap (λ (b : Bool). Some (if b then Already done.rev else Stored done.rev)) was) edited,
-    ap items is ∙ accepted_is ∙ ap (λ n. print_reply ends (reply_with 200 (done_data false n))) (number ∙ sym edited.number),
-  )
-
-  pub put_ok : {T : Type 0} (items : T → List ℕ) (replies : Replies T) (ends : Bool) (rev : ℕ) → rev ≡ e.base + 1
-      → items replies.accepted ≡ print_reply ends (reply_with 200 (done_data false rev)) → items replies.already ≡ print_reply ends (reply_with 200 (done_data true rev))
+  -- an edit that is stored or proposed, or was
+  pub put_ok : {T : Type 0} (items : T → List ℕ) (replies : Replies T) (ends : Bool) (rev : ℕ) → rev ≡ e.base + 1 → AreReplies items ends rev replies
       → (text : T) → PutsBy g old new e replies (Ok text) → GivesText (HasGoodDisk g) (StandsAt g) (EditAnswered e) ends old (items text) new
-  put_ok items replies ends rev number accepted_is already_is text (Ok done, edited, is) =
-      done_text items replies ends rev number accepted_is already_is text done done.already refl (cc) edited
-  put_ok items replies ends rev number accepted_is already_is text (Err failed, edited, is) = absurd (cc)
+  put_ok items replies ends rev number are text (Ok done, edited, is) = let same : text ≡ reply_in replies done = cc in (
+    answer_reply (answer_told done),
+    answered (Ok done) (answer_told done) refl edited,
+    ap items same ∙ reply_told items replies ends rev are done.already done.proposed
+        ∙ ap (λ n. print_reply ends (answer_reply (told_by n done.already done.proposed))) (number ∙ sym edited.number),
+  )
+  put_ok items replies ends rev number are text (Err failed, edited, is) = absurd (cc)
 
   -- an edit that is not answered as stored
   put_err : {T : Type 0} (replies : Replies T) (failed : DeskError) → PutsBy g old new e replies (Err failed) → Edited (Err failed)
@@ -91,15 +92,15 @@ module _ {S V : Type 0} (g : Ghosts S) (old new : Shown S V) (e : Edit) where
 
   failed_gives : (failed : DeskError) → Edited (Err failed) → Replied (refused_reply (refused_by failed))
   failed_gives (error.Refused why) edited = answered (Err (error.Refused why)) (Refused why) refl edited
-  failed_gives (error.Store fault) edited = nothing_added (Err (error.Store fault)) store_reply refl (inr refl) edited
+  failed_gives (error.Store fault) edited = nothing_added (Err (error.Store fault)) store_reply (λ standing. refl) (inr refl) edited
   failed_gives error.Schema edited = absurd (edited.schema refl)
-  failed_gives error.Memory edited = nothing_added (Err error.Memory) memory_reply refl (inl refl) edited
+  failed_gives error.Memory edited = nothing_added (Err error.Memory) memory_reply (λ standing. refl) (inl refl) edited
 
   memory_gives : (failed : DeskError) → Edited (Err failed) → Replied memory_reply
-  memory_gives (error.Refused why) edited = nothing_added (Err (error.Refused why)) memory_reply refl (inl refl) edited
-  memory_gives (error.Store fault) edited = nothing_added (Err (error.Store fault)) memory_reply refl (inl refl) edited
+  memory_gives (error.Refused why) edited = nothing_added (Err (error.Refused why)) memory_reply (λ standing. refl) (inl refl) edited
+  memory_gives (error.Store fault) edited = nothing_added (Err (error.Store fault)) memory_reply (λ standing. refl) (inl refl) edited
   memory_gives error.Schema edited = absurd (edited.schema refl)
-  memory_gives error.Memory edited = nothing_added (Err error.Memory) memory_reply refl (inl refl) edited
+  memory_gives error.Memory edited = nothing_added (Err error.Memory) memory_reply (λ standing. refl) (inl refl) edited
 
   pub failed_text : {T V E : Type 0} (items : V → List ℕ) (r : Result V E) (replies : Replies T) (failed : DeskError) (ends : Bool) → PutsBy g old new e replies (Err failed)
       → IfOk r (λ text. items text ≡ print_reply ends (refused_reply (refused_by failed))) → IfOk r (λ text. GivesText (HasGoodDisk g) (StandsAt g) (EditAnswered e) ends old (items text) new)

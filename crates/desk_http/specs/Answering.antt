@@ -28,7 +28,7 @@ abbrev pub OrdinaryReply : Asked → Option RequestFault → History → Reply �
 OrdinaryReply asked (Some fault) old reply new = (reply ≡ request_fault_reply fault) × (new ≡ old)
 OrdinaryReply asked None old reply new = QueryReply asked (query_asked asked) old reply new
 
--- the tables are asked for a file, for revisions and for an edit
+-- the tables may be asked for a file, for its proposal and its revisions, and for an edit
 abbrev pub may_ask_tables : Option Query → Bool
 may_ask_tables None = false
 may_ask_tables (Some (Asks question)) = asks_tables question

@@ -5,8 +5,9 @@ use Rattle.desk_policy.specs.Verdict.{Grant}
 use Rattle.desk_policy.specs.declared.verdict.Denial.{Denial}
 use Rattle.desk_who.specs.Runs.{Run}
 use Rattle.desk_who.specs.Who.{IsWho}
-use Rattle.desk_core.specs.Edit.{Edit}
+use Rattle.desk_core.specs.Edit.{Already, Edit, Pending, Proposed, Stored}
 use Rattle.desk_store.specs.Desk.{History}
+use Rattle.desk_service.specs.declared.edits.Replies.{Replies}
 use Rattle.desk_messages.specs.Asked.{Asked, asked_by}
 use Rattle.desk_messages.specs.Head.{ends_stream}
 use Rattle.desk_messages.specs.Replies.{Reply, memory_reply, print_reply, reply_with}
@@ -14,7 +15,7 @@ use Rattle.desk_messages.specs.Stream.{Message}
 use Rattle.desk_requests.specs.Calls.{Question}
 use Rattle.desk_bodies.specs.Ranges.{who_data}
 use Rattle.desk_http.specs.Questions.{QuestionReply, asks_tables, store_reply}
-use Rattle.desk_http.specs.Edits.{EditReply}
+use Rattle.desk_http.specs.Edits.{EditReply, answer_reply}
 use Rattle.desk_http.specs.Answering.{Answered}
 
 -- A desk after a call of which this is the reply: no fault of its disk is forgotten, and on a good disk, wherever it stood, the
@@ -39,6 +40,13 @@ QuestionAnswered question old reply new =
 -- An edit is replied by the history; or that there is no memory or that the store refused a statement, and then nothing changes.
 abbrev pub EditAnswered : Edit → History → Reply → History → Type 0
 EditAnswered e old reply new = EditReply old e reply new ⊎ (((reply ≡ memory_reply) ⊎ (reply ≡ store_reply)) × (new ≡ old))
+
+-- the texts of the four replies that an edit may have which is not refused; ends says that the stream ends after it
+pub record AreReplies {T : Type 0} (items : T → List ℕ) (ends : Bool) (rev : ℕ) (replies : Replies T) : Type 0 where
+  pub accepted : items replies.accepted ≡ print_reply ends (answer_reply (Stored rev))
+  pub already : items replies.already ≡ print_reply ends (answer_reply (Already rev))
+  pub proposed : items replies.proposed ≡ print_reply ends (answer_reply (Proposed rev))
+  pub already_proposed : items replies.already_proposed ≡ print_reply ends (answer_reply (Pending rev))
 
 -- the text of the reply to who may mount a path under a policy; ends says that the stream ends after it
 abbrev pub IsWhoText : Content → List (List ℕ) → Bool → List ℕ → Type 0

@@ -1,7 +1,8 @@
 //! The replies to questions.
 
-ghost use Rattle.std.specs.Prelude.{◌≡◌, IfOk, OnErr};
+ghost use Rattle.std.specs.Prelude.{◌≡◌, IfOk, OnErr, map};
 ghost use Rattle.std.specs.String.{string_bytes};
+ghost use Rattle.serde_json.specs.Written.{compact_text};
 ghost use Rattle.desk_text.specs.Address.{number_of};
 ghost use Rattle.desk_policy.specs.Listings.{listing_of};
 ghost use Rattle.desk_policy.specs.Verdict.{verdict_of};
@@ -10,21 +11,22 @@ ghost use Rattle.desk_messages.specs.Replies.{memory_reply, print_reply, reply_w
 ghost use Rattle.desk_requests.specs.Calls as calls;
 ghost use Rattle.desk_requests.specs.Calls.{question_of};
 ghost use Rattle.desk_bodies.specs.Exports.{exports_data};
+ghost use Rattle.desk_bodies.specs.Revisions.{revisions_data};
 ghost use Rattle.desk_bodies.specs.Verdicts.{verdict_data};
-ghost use Rattle.desk_http.specs.Questions.{file_reply};
+ghost use Rattle.desk_http.specs.Questions.{file_reply, numbered_author};
 ghost use Rattle.desk_http.specs.PrivateAnswering.{Gives, GivesText, IsWhoText, QuestionAnswered};
 
 use crate::replies::{failed_text, refused_text};
-use desk_bodies::{exports_body, file_body, revisions_body, verdict_body, who_body};
+use desk_bodies::{exports_body, file_body, proposal_body, revisions_body, verdict_body, who_body};
 use desk_messages::reply_text;
 use desk_policy::PolicyView;
 use desk_requests::Question;
 use desk_service::{
     FileAnswer, FileQuestion, PolicyAnswer, PolicyQuestion, Refused, answer_by_desk, answer_by_view,
 };
-use desk_store::Desk;
+use desk_store::{Desk, Signature};
 use desk_tables::Cred;
-use desk_text::{Addr, Path};
+use desk_text::{Addr, Path, Text};
 use http::StatusCode;
 use sqlite::Alter;
 use std::alloc::{AllocError, Global};
@@ -45,6 +47,7 @@ pub(crate) fn answer_question<S: Alter + Drop, V: PolicyView + Drop>(
         }
         Question::Exports(address) => exports_text(alloc, desk.view(), *address, ends),
         Question::File(name, rev) => text_at(alloc, desk, name, *rev, ends),
+        Question::Proposal(name) => proposal_text(alloc, desk, name, ends),
         Question::Revisions(name) => revisions_text(alloc, desk, name, ends),
         Question::Who(path) => who_text(alloc, desk.view(), path, ends),
     }
@@ -131,6 +134,22 @@ fn text_at<S: Alter + Drop, V: PolicyView + Drop>(
     }
 }
 
+/// Writes the proposal of a file.
+fn proposal_text<S: Alter + Drop, V: PolicyView + Drop>(
+    alloc: Global,
+    desk: &mut Desk<S, V>,
+    name: &str,
+    ends: bool,
+) -> Result<String, AllocError>
+    ensures ok { IfOk result (λ text. GivesText (HasGoodDisk S.Store) (StandsAt S.Store) (QuestionAnswered (calls.Proposal name.now)) ends desk.old (string_bytes text) desk.new) }
+    ensures err { OnErr result (Gives (HasGoodDisk S.Store) (StandsAt S.Store) (QuestionAnswered (calls.Proposal name.now)) desk.old memory_reply desk.new) }
+{
+    match answer_by_desk(alloc, desk, FileQuestion::Proposal(name)) {
+        Ok(answer) => found_text(alloc, name, &answer, ends),
+        Err(error) => failed_text(alloc, error, ends),
+    }
+}
+
 /// Writes the list of a file's revisions.
 fn revisions_text<S: Alter + Drop, V: PolicyView + Drop>(
     alloc: Global,
@@ -147,7 +166,7 @@ fn revisions_text<S: Alter + Drop, V: PolicyView + Drop>(
     }
 }
 
-/// Writes the answer to a question on the revisions of a file.
+/// Writes the answer to a question on the revisions of a file, or on its proposal.
 fn found_text(
     alloc: Global,
     name: &str,
@@ -163,11 +182,41 @@ fn found_text(
                 name,
                 text.rev,
                 text.author.as_str(),
+                &text.approver,
                 text.body.as_str(),
             )?
         }
-        FileAnswer::Revisions(revisions) => revisions_body(alloc, name, revisions.as_slice())?,
+        FileAnswer::Revisions(revisions) => list_body(alloc, name, revisions.as_slice())?,
+        FileAnswer::Proposal(text) => {
+            proposal_body(
+                alloc,
+                name,
+                text.base,
+                text.author.as_str(),
+                text.body.as_str(),
+            )?
+        }
         FileAnswer::NoRevision => return refused_text(alloc, &Refused::NoRevision, ends),
     };
     reply_text(alloc, StatusCode::OK, body.as_str(), ends)
+}
+
+/// Writes the body of the list of a file's revisions.
+fn list_body(alloc: Global, name: &str, revisions: &[Signature]) -> Result<String, AllocError>
+    ensures { IfOk result (λ body. string_bytes body ≡ compact_text (revisions_data name.now (map numbered_author revisions.now))) }
+{
+    let numbered = numbered_authors(alloc, revisions)?;
+    revisions_body(alloc, name, numbered.as_slice())
+}
+
+/// Copies the numbers and authors of revisions, which are all that a reply tells of a list of them.
+fn numbered_authors(alloc: Global, revisions: &[Signature]) -> Result<Vec<(u32, Text)>, AllocError>
+    ensures { IfOk result (λ numbered. numbered.items ≡ map numbered_author revisions.now) }
+{
+    let mut numbered = Vec::new(alloc);
+    for revision in revisions {
+        let author = Text::copy(alloc, revision.author.as_str())?;
+        numbered.push((revision.rev, author))?;
+    }
+    Ok(numbered)
 }

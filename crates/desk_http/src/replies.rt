@@ -4,10 +4,10 @@ ghost use Rattle.std.specs.Prelude.{◌≡◌, IfOk};
 ghost use Rattle.std.specs.String.{string_bytes};
 ghost use Rattle.desk_messages.specs.Replies.{print_reply, reply_with};
 ghost use Rattle.desk_service.specs.Refused.{refused_by};
-ghost use Rattle.desk_bodies.specs.Edits.{done_data};
+ghost use Rattle.desk_bodies.specs.Edits.{done_data, proposed_data};
 ghost use Rattle.desk_http.specs.Replies as spec;
 
-use desk_bodies::{done_body, refusal_body};
+use desk_bodies::{done_body, proposed_body, refusal_body};
 use desk_core::Refusal;
 use desk_messages::{refusal_text, reply_text};
 use desk_requests::RequestFault;
@@ -78,6 +78,19 @@ pub(crate) fn done_text(
     ensures { IfOk result (λ text. string_bytes text ≡ print_reply ends (reply_with 200 (done_data already rev))) }
 {
     let body = done_body(alloc, already, rev)?;
+    reply_text(alloc, StatusCode::OK, body.as_str(), ends)
+}
+
+/// Writes the reply to an edit that is proposed, or that was before.
+pub(crate) fn proposed_text(
+    alloc: Global,
+    already: bool,
+    rev: u32,
+    ends: bool,
+) -> Result<String, AllocError>
+    ensures { IfOk result (λ text. string_bytes text ≡ print_reply ends (reply_with 200 (proposed_data already rev))) }
+{
+    let body = proposed_body(alloc, already, rev)?;
     reply_text(alloc, StatusCode::OK, body.as_str(), ends)
 }
 

@@ -22,6 +22,7 @@ pub mod FirstDiffers
 pub mod LeastOfAll
 pub mod SiteLaws
 pub mod OwnDirectories
+pub mod ClassWarnings
 pub mod Compiling
 pub mod SiteLengths
 pub mod SlotLemmas

@@ -1,5 +1,5 @@
 -- The texts of a site are within a limit exactly if each file is, and each value of the map of exports files.
-use Rattle.std.proofs.Common.{◌≡◌, ◌≤◌, ℕ, Bool, true, false, Decides, List, [], Option, Some, None, String, arith, get_or, length, subst, sym, unwrap_or, ◌∙◌}
+use Rattle.std.proofs.Common.{◌≡◌, ◌≤◌, ℕ, Bool, true, false, Decides, List, Option, Some, None, String, arith, get_or, length, subst, sym, unwrap_or, ◌∙◌}
 use Rattle.std.specs.BTreeMap.{BTreeMap, get_by_text, IsOrdered, values}
 use Rattle.std.specs.List.{list_all}
 use Rattle.std.specs.Option.{IfSome}
@@ -9,29 +9,30 @@ use Rattle.std.proofs.lemmas.List.Folds.{list_all-map}
 use Rattle.std.proofs.lemmas.List.Sums.{AllPass-from_list_all, list_all-from_AllPass}
 use Rattle.std.proofs.lemmas.Map.Entries.{All-lookup, btree_map_get_place}
 use Rattle.std.proofs.lemmas.Option.{slice_get-get_or}
-use Rattle.desk_policy.specs.PrivateSite.{are_files_within, is_within}
-use Rattle.desk_policy.specs.Site.{HaveLengthsWithin, texts_of}
+use Rattle.desk_policy.specs.PrivateSite.{are_files_within, has_body_within}
+use Rattle.desk_policy.specs.Site.{HaveLengthsWithin, no_exports, texts_of}
+use Rattle.desk_policy.specs.declared.site.ExportsText.{ExportsText}
 use Rattle.desk_policy.specs.declared.site.Site.{Site}
 
-found_fits : (limit : ℕ) (found : Option (List ℕ)) → IfSome found (λ text. is_within limit text ≡ true) → length (unwrap_or found []) ≤ limit
+found_fits : (limit : ℕ) (found : Option ExportsText) → IfSome found (λ text. has_body_within limit text ≡ true) → length (unwrap_or found no_exports).body ≤ limit
 found_fits limit None fits = omega arith
-found_fits limit (Some text) fits = leb-true (length text) limit fits
+found_fits limit (Some text) fits = leb-true (length text.body) limit fits
 
-module _ {Y : Type 0} (limit : ℕ) (exports : BTreeMap (String Y) (List ℕ)) where
+module _ {Y : Type 0} (limit : ℕ) (exports : BTreeMap (String Y) ExportsText) where
   abbrev EachFits : Type 0
-  EachFits = (mount : List ℕ) → length (unwrap_or (get_by_text exports mount) []) ≤ limit
+  EachFits = (mount : List ℕ) → length (unwrap_or (get_by_text exports mount) no_exports).body ≤ limit
 
-  values_fit : list_all (is_within limit) (values exports) ≡ true → EachFits
+  values_fit : list_all (has_body_within limit) (values exports) ≡ true → EachFits
   values_fit all mount =
-      let each = AllPass-from_list_all (λ e. is_within limit e.1) exports.entries (sym (list_all-map (is_within limit) (λ e. e.1) exports.entries) ∙ all) in
-      found_fits limit (get_by_text exports mount) (All-lookup (λ text. is_within limit text ≡ true) _ exports.entries each)
+      let each = AllPass-from_list_all (λ e. has_body_within limit e.1) exports.entries (sym (list_all-map (has_body_within limit) (λ e. e.1) exports.entries) ∙ all) in
+      found_fits limit (get_by_text exports mount) (All-lookup (λ text. has_body_within limit text ≡ true) _ exports.entries each)
 
-  fit_values : IsOrdered string_cmp exports → EachFits → list_all (is_within limit) (values exports) ≡ true
+  fit_values : IsOrdered string_cmp exports → EachFits → list_all (has_body_within limit) (values exports) ≡ true
   fit_values ordered fits =
-      list_all-map (is_within limit) (λ e. e.1) exports.entries ∙ list_all-from_AllPass (λ e. is_within limit e.1) exports.entries (λ i d below.
+      list_all-map (has_body_within limit) (λ e. e.1) exports.entries ∙ list_all-from_AllPass (λ e. has_body_within limit e.1) exports.entries (λ i d below.
       let entry = get_or exports.entries i d in
       let found = btree_map_get_place string_cmp_total exports i entry.0 entry.1 ordered (slice_get-get_or exports.entries i d below) in
-      le-leb (length entry.1) limit (subst (λ (o : Option (List ℕ)). length (unwrap_or o []) ≤ limit) found (fits (string_bytes entry.0))))
+      le-leb (length entry.1.body) limit (subst (λ (o : Option ExportsText). length (unwrap_or o no_exports).body ≤ limit) found (fits (string_bytes entry.0))))
 
 module _ (limit : ℕ) (site : Site) where
   files_fit : HaveLengthsWithin limit (texts_of site) → are_files_within limit site ≡ true
@@ -60,7 +61,7 @@ module _ (limit : ℕ) (site : Site) where
       }
 
   -- no file is too long: it depends on the exports files
-  pub by_exports : (fit : Bool) → are_files_within limit site ≡ true → fit ≡ list_all (is_within limit) (values site.exports) → IsOrdered string_cmp site.exports
+  pub by_exports : (fit : Bool) → are_files_within limit site ≡ true → fit ≡ list_all (has_body_within limit) (values site.exports) → IsOrdered string_cmp site.exports
       → Decides fit (HaveLengthsWithin limit (texts_of site))
   by_exports fit files is ordered =
       (λ yes. texts_fit files (values_fit limit site.exports (sym is ∙ yes)), λ texts. is ∙ fit_values limit site.exports ordered (texts.exports))

@@ -2,6 +2,7 @@
 use Rattle.std.specs.Prelude.{ℕ, ◌+◌, List, [], ◌∷◌, ◌++◌, Option, Some, None, Result, Ok, Err, codes, map}
 use Rattle.std.specs.List.{flat_map}
 use Rattle.desk_text.specs.Path.{path_text}
+use Rattle.desk_text.specs.declared.reading.LineFault.{LineFault}
 use Rattle.desk_tables.specs.Custodians.{read_custodians}
 use Rattle.desk_tables.specs.FileSystemsText.{read_filesystems}
 use Rattle.desk_tables.specs.Groups.{read_groups}
@@ -17,6 +18,8 @@ use Rattle.desk_netgroup.specs.Netgroups.{read_netgroups}
 use Rattle.desk_exports.specs.Files.{file_answer, whole_answer}
 use Rattle.desk_exports.specs.Tables.{TableRows}
 use Rattle.desk_exports.specs.declared.entry.Entry.{Entry}
+use Rattle.desk_exports.specs.declared.profile.Profile.{Profile}
+use Rattle.desk_exports.specs.declared.rules.Rule.{Rule}
 use Rattle.desk_policy.specs.Policy.{Content, content_of, with_warnings}
 use Rattle.desk_policy.specs.Row.{row_of}
 use Rattle.desk_policy.specs.Site.{SiteTexts}
@@ -26,6 +29,7 @@ use Rattle.desk_policy.specs.Warning.{entry_warnings, netgroup_warnings, whole_w
 use Rattle.desk_policy.specs.declared.parsing.SiteTables.{SiteTables}
 use Rattle.desk_policy.specs.declared.per_table.PerTable.{PerTable}
 use Rattle.desk_policy.specs.declared.row.Row.{Row}
+use Rattle.desk_policy.specs.declared.site.ExportsText.{ExportsText}
 use Rattle.desk_policy.specs.declared.site_fault.SiteFault.{SiteFault}
 use Rattle.desk_policy.specs.declared.warning.Warning.{Warning}
 
@@ -68,9 +72,9 @@ abbrev pub read_site_tables : SiteTexts → Result SiteTables SiteFault
 read_site_tables texts =
     read_tables (record { hosts = texts.hosts; networks = texts.networks; passwd = texts.passwd; group = texts.group; netgroup = texts.netgroup })
 
--- the tables with which an exports file is read
-abbrev pub rows_with : List Mount → SiteTables → TableRows
-rows_with table site_tables = record { filesystems = table; networks = site_tables.networks; users = site_tables.users; groups = site_tables.groups }
+-- the profile and the tables with which an exports file is read
+abbrev pub rows_with : Profile → List Mount → SiteTables → TableRows
+rows_with profile table site_tables = record { profile = profile; filesystems = table; networks = site_tables.networks; users = site_tables.users; groups = site_tables.groups }
 
 -- what an exports file gives: its lines in force, and its warnings
 pub record ExportsFile : Type 0 where
@@ -84,10 +88,14 @@ file_with site_tables name entries = record {
   warnings = flat_map (entry_warnings site_tables.netgroups site_tables.hosts name) entries;
 }
 
+-- the entries that an exports text of this file system spells, read by its profile, or its fault
+abbrev pub entries_in : ExportsText → List Mount → SiteTables → FsId → Result (List Entry) (LineFault Rule)
+entries_in text table site_tables fs = file_answer (rows_with text.profile table site_tables) fs text.body
+
 -- what the exports file of the file system with this number and mount point gives
 abbrev pub read_exports : SiteTexts → List Mount → SiteTables → ℕ → List (List ℕ) → Result ExportsFile SiteFault
 read_exports texts table site_tables fs mount =
-    then_read (in_file (line_fault (exports_name mount)) (file_answer (rows_with table site_tables) (record { 0 = fs }) (texts.exports (path_text mount))))
+    then_read (in_file (line_fault (exports_name mount)) (entries_in (texts.exports (path_text mount)) table site_tables (record { 0 = fs })))
     (λ entries. Ok (file_with site_tables (exports_name mount) entries))
 
 -- what the exports files of these file systems give, of which the first has this number
@@ -121,16 +129,16 @@ abbrev pub whole_policy : SiteTables → List Mount → List (FsId × Entry) →
 whole_policy site_tables table placed =
     Ok (with_warnings (content_of site_tables.netgroups site_tables.hosts table placed) (whole_warnings site_tables.netgroups site_tables.hosts placed))
 
--- the policy that a whole exports text writes, with these tables and file systems, or its fault
-abbrev pub read_whole_with : SiteTables → List Mount → List ℕ → Result Content SiteFault
-read_whole_with site_tables table text =
-    then_read (in_file (line_fault (codes "exports")) (whole_answer (rows_with table site_tables) text)) (whole_policy site_tables table)
+-- the policy that a whole exports text writes, read by this profile with these tables and file systems, or its fault
+abbrev pub read_whole_with : Profile → SiteTables → List Mount → List ℕ → Result Content SiteFault
+read_whole_with profile site_tables table text =
+    then_read (in_file (line_fault (codes "exports")) (whole_answer (rows_with profile table site_tables) text)) (whole_policy site_tables table)
 
 -- the same policy without its warnings, or the same fault
 abbrev pub without_warnings : Result Content SiteFault → Result Content SiteFault
 without_warnings (Ok content) = Ok (with_warnings content [])
 without_warnings (Err fault) = Err fault
 
--- the policy that a whole exports text writes with no table but these file systems, or its fault
-abbrev pub read_whole_policy : List Mount → List ℕ → Result Content SiteFault
-read_whole_policy table text = read_whole_with no_tables table text
+-- the policy that a whole exports text writes, read by this profile with no table but these file systems, or its fault
+abbrev pub read_whole_policy : Profile → List Mount → List ℕ → Result Content SiteFault
+read_whole_policy profile table text = read_whole_with profile no_tables table text

@@ -1,11 +1,13 @@
 -- The texts of a site. (this project's own)
 use Rattle.std.specs.Prelude.{ℕ, ◌≤◌, List, [], length, unwrap_or}
 use Rattle.std.specs.BTreeMap.{get_by_text}
+use Rattle.desk_exports.specs.declared.profile.Profile.TheVariants.{Two}
+use Rattle.desk_policy.specs.declared.site.ExportsText.{ExportsText}
 use Rattle.desk_policy.specs.declared.site.Site.{Site}
 use Rattle.desk_policy.specs.declared.site_file.SiteFile.{SiteFile}
 use Rattle.desk_policy.specs.declared.site_file.SiteFile.TheVariants.{Custodians, Filesystems, Group, Hosts, Netgroup, Networks, Passwd}
 
--- the texts of a site; those of the exports files under their printed mount points
+-- the texts of a site; those of the exports files, each with the profile by which it is read, under their printed mount points
 pub record SiteTexts : Type 0 where
   pub custodians : List ℕ
   pub filesystems : List ℕ
@@ -14,7 +16,11 @@ pub record SiteTexts : Type 0 where
   pub passwd : List ℕ
   pub group : List ℕ
   pub netgroup : List ℕ
-  pub exports : List ℕ → List ℕ
+  pub exports : List ℕ → ExportsText
+
+-- an empty exports file: no line of it depends on its profile
+abbrev pub no_exports : ExportsText
+no_exports = record { profile = Two; body = [] }
 
 -- the texts that a site has; an exports file that it has not is empty
 abbrev pub texts_of : Site → SiteTexts
@@ -26,7 +32,7 @@ texts_of site = record {
   passwd = site.passwd;
   group = site.group;
   netgroup = site.netgroup;
-  exports = λ mount. unwrap_or (get_by_text site.exports mount) [];
+  exports = λ mount. unwrap_or (get_by_text site.exports mount) no_exports;
 }
 
 -- the most bytes that a text may have to be read: its lines have numbers of 32 bits
@@ -42,7 +48,7 @@ pub record HaveLengthsWithin (limit : ℕ) (texts : SiteTexts) : Type 0 where
   pub passwd : length texts.passwd ≤ limit
   pub group : length texts.group ≤ limit
   pub netgroup : length texts.netgroup ≤ limit
-  pub exports : (mount : List ℕ) → length (texts.exports mount) ≤ limit
+  pub exports : (mount : List ℕ) → length (texts.exports mount).body ≤ limit
 
 -- no text is too long to be read
 abbrev pub HaveReadableLengths : SiteTexts → Type 0

@@ -1,11 +1,11 @@
 //! The policy of a site: the lines in force, which of them are selected for a client, and who may mount what.
 //! (exports(5))
 //!
-//! Its promise: [`parse`] reads the policy that the texts of a site write, or reports the first faulty file, its first faulty
-//! line and the first rule that the line breaks. [`compile`] puts that policy in force exactly if no two of its lines
-//! contradict each other, and else reports the least contradiction. [`decide`] grants a mount exactly if, among the lines of
-//! the path's file system that match the client's address with the greatest weight, one lists the path. It names the first
-//! such line, or else says why not.
+//! Its promise: [`parse`] reads the policy that the texts of a site write, each exports file by its own profile, or reports
+//! the first faulty file, its first faulty line and the first rule that the line breaks. [`compile`] puts that policy in force
+//! exactly if no two of its lines contradict each other, and else reports the least contradiction. [`decide`] grants a mount
+//! exactly if, among the lines of the path's file system that match the client's address with the greatest weight, one lists
+//! the path. It names the first such line, or else says why not.
 //!
 //! ```text
 //! let view: Plain = compile(alloc, &site)?;    // if site.is_readable()
@@ -43,7 +43,7 @@ pub use laws::{
     addresses_are_unique, ascending_entries_ascend_in_each_file, each_has_its_lines,
     each_has_its_own_lines, first_faulty_file_is_reported, least_lines_are_named,
     lines_are_selected_by_keys, lines_write_their_own, listed_are_granted, listings_show_their_own,
-    listings_show_what_is_granted, warnings_change_no_answer,
+    listings_show_what_is_granted, no_class_is_warned_of_by_profile_two, warnings_change_no_answer,
 };
 pub use listing_prints::{all_exports, listing_text};
 pub use listings::{Shown, listing};
@@ -54,7 +54,7 @@ pub use policy::{Policy, are_ascending};
 pub use prints::{mount_text, verdict_text};
 pub use row::Row;
 pub use row_addrs::RowAddrs;
-pub use site::{LONGEST_TEXT, Site};
+pub use site::{ExportsText, LONGEST_TEXT, Site};
 pub use site_fault::{FaultPlace, SiteFault, SiteRule};
 pub use site_file::{SiteFile, exports_file_name, mount_of};
 pub use terms::same_terms;

@@ -5,11 +5,12 @@
 
 ghost use Rattle.std.specs.Prelude.{◌≡◌, ◌≤◌, [], ◌++◌, IfOk, None, Ok, OnOk, Result, codes, length, map};
 ghost use Rattle.std.specs.List.{flat_map};
+ghost use Rattle.desk_text.specs.Path.{path_text};
 ghost use Rattle.desk_text.specs.Reading.{Reads, ReadsAs};
 ghost use Rattle.desk_tables.specs.FileSystemsText as filesystems;
 ghost use Rattle.desk_tables.specs.Rules as tables;
 ghost use Rattle.desk_netgroup.specs.declared.faults.GroupFault.{GroupFault};
-ghost use Rattle.desk_exports.specs.Files.{EntriesAscend, whole_answer};
+ghost use Rattle.desk_exports.specs.Files.{EntriesAscend, FileAscends, whole_answer};
 ghost use Rattle.desk_exports.specs.declared.rules.Rule.{Rule};
 ghost use Rattle.desk_text.specs.declared.reading.LineFault.{LineFault};
 ghost use Rattle.desk_policy.specs.Parsing as spec;
@@ -30,7 +31,7 @@ use crate::site_fault::{SiteFault, SiteRule};
 use crate::site_file::{SiteFile, exports_file_name};
 use crate::unlisted::unlisted_line;
 use crate::warning::{Warning, push_entry, push_netgroup, whole_warnings};
-use desk_exports::{Boxed, Entry, Rule, Tables, read_file, read_whole};
+use desk_exports::{Boxed, Entry, Profile, Rule, Tables, read_file, read_whole};
 use desk_netgroup::{GroupFault, Netgroups};
 use desk_tables::{
     Custodians, FileSystems, FsId, Groups, Hosts, Mount, Networks, TableFault, TableRule, Users,
@@ -263,16 +264,34 @@ fn push_file(
         rows.old.items rows.new.items warnings.old warnings.new }
 {
     let name = exports_file_name(alloc, mount.text())?;
+    let entries = file_entries(alloc, site, filesystems, site_tables, fs, mount);
+    let entries = in_exports(alloc, name.as_str(), entries)?;
+    rows.push(lines_in_force(alloc, site_tables, name.as_str(), entries, warnings)?)?;
+    Ok(())
+}
+
+/// Reads the entries of the exports file of a file system with this mount point, by the profile of its text.
+fn file_entries(
+    alloc: Global,
+    site: &Site,
+    filesystems: &FileSystems,
+    site_tables: &SiteTables,
+    fs: FsId,
+    mount: &Path,
+) -> Result<Sequence<Boxed<Entry>>, ReadError<LineFault<Rule>>>
+    requires { HaveReadableLengths (texts_of site.now) }
+    ensures read { Reads result (spec.entries_in ((texts_of site.now).exports (path_text mount.now)) filesystems.now site_tables.now fs) }
+    ensures ascending { IfOk result FileAscends }
+{
+    let printed = mount.text();
     let tables = Tables {
+        profile: site.exports_profile(printed),
         networks: &site_tables.networks,
         users: &site_tables.users,
         groups: &site_tables.groups,
         filesystems,
     };
-    let entries = read_file(alloc, site.exports_text(mount.text()), &tables, fs);
-    let entries = in_exports(alloc, name.as_str(), entries)?;
-    rows.push(lines_in_force(alloc, site_tables, name.as_str(), entries, warnings)?)?;
-    Ok(())
+    read_file(alloc, site.exports_text(printed), &tables, fs)
 }
 
 /// Makes the lines in force of the entries of the exports file of this name, and adds its warnings.
@@ -382,32 +401,34 @@ fn fault_in(
     })
 }
 
-/// Reads the policy that a whole exports text writes, with these file systems and no other table. Its faults and warnings
-/// are of the file `exports`.
+/// Reads the policy that a whole exports text writes, by this profile, with these file systems and no other table. Its faults
+/// and warnings are of the file `exports`.
 pub fn parse_whole(
     alloc: Global,
+    profile: Profile,
     text: &str,
     filesystems: FileSystems,
 ) -> Result<Policy, ReadError<SiteFault>>
     requires { length text.now ≤ longest_text }
-    ensures { Reads result (spec.read_whole_policy filesystems text.now) }
+    ensures { Reads result (spec.read_whole_policy profile filesystems text.now) }
 {
     let site_tables = SiteTables::new(alloc);
-    parse_whole_with(alloc, text, filesystems, &site_tables)
+    parse_whole_with(alloc, profile, text, filesystems, &site_tables)
 }
 
-/// Reads the policy that a whole exports text writes, with these file systems and tables. Its faults and warnings are of the
-/// file `exports`: the netgroup file's own warnings are not among them.
+/// Reads the policy that a whole exports text writes, by this profile, with these file systems and tables. Its faults and
+/// warnings are of the file `exports`: the netgroup file's own warnings are not among them.
 pub fn parse_whole_with(
     alloc: Global,
+    profile: Profile,
     text: &str,
     filesystems: FileSystems,
     site_tables: &SiteTables,
 ) -> Result<Policy, ReadError<SiteFault>>
     requires { length text.now ≤ longest_text }
-    ensures { Reads result (spec.read_whole_with site_tables.now filesystems text.now) }
+    ensures { Reads result (spec.read_whole_with profile site_tables.now filesystems text.now) }
 {
-    let entries = whole_entries(alloc, text, &filesystems, site_tables)?;
+    let entries = whole_entries(alloc, profile, text, &filesystems, site_tables)?;
     let warnings = whole_warnings(
         alloc,
         &site_tables.netgroups,
@@ -428,14 +449,15 @@ pub fn parse_whole_with(
 /// for each word of the text, so this is for callers that show none.
 pub fn parse_whole_without_warnings(
     alloc: Global,
+    profile: Profile,
     text: &str,
     filesystems: FileSystems,
     site_tables: &SiteTables,
 ) -> Result<Policy, ReadError<SiteFault>>
     requires { length text.now ≤ longest_text }
-    ensures { Reads result (spec.without_warnings (spec.read_whole_with site_tables.now filesystems text.now)) }
+    ensures { Reads result (spec.without_warnings (spec.read_whole_with profile site_tables.now filesystems text.now)) }
 {
-    let entries = whole_entries(alloc, text, &filesystems, site_tables)?;
+    let entries = whole_entries(alloc, profile, text, &filesystems, site_tables)?;
     let policy = Policy::of_entries(
         alloc,
         &site_tables.netgroups,
@@ -449,15 +471,17 @@ pub fn parse_whole_without_warnings(
 /// Reads the entries of a whole exports text, or its fault in the file `exports`.
 fn whole_entries(
     alloc: Global,
+    profile: Profile,
     text: &str,
     filesystems: &FileSystems,
     site_tables: &SiteTables,
 ) -> Result<Sequence<(FsId, Boxed<Entry>)>, ReadError<SiteFault>>
     requires { length text.now ≤ longest_text }
-    ensures read { Reads result (spec.in_file (line_fault (codes "exports")) (whole_answer (spec.rows_with filesystems.now site_tables.now) text.now)) }
+    ensures read { Reads result (spec.in_file (line_fault (codes "exports")) (whole_answer (spec.rows_with profile filesystems.now site_tables.now) text.now)) }
     ensures ascending { IfOk result EntriesAscend }
 {
     let tables = Tables {
+        profile,
         networks: &site_tables.networks,
         users: &site_tables.users,
         groups: &site_tables.groups,

@@ -5,14 +5,22 @@ ghost use Rattle.std.specs.BTreeMap.{IsOrdered, values};
 ghost use Rattle.std.specs.List.{list_all};
 ghost use Rattle.std.specs.String.{string_cmp};
 ghost use Rattle.desk_policy.specs.Site.{HaveLengthsWithin, HaveReadableLengths, text_of, texts_of};
-ghost use Rattle.desk_policy.specs.PrivateSite.{are_files_within, is_within};
+ghost use Rattle.desk_policy.specs.PrivateSite.{are_files_within, has_body_within, is_within};
 
 use crate::site_file::SiteFile;
+use desk_exports::Profile;
 use desk_text::Text;
 use std::collections::BTreeMap;
 
 /// The most bytes that a text may have to be read: its lines have numbers of 32 bits.
 pub const LONGEST_TEXT: usize = 4_294_967_294;
+
+/// The text of an exports file, and the profile by which it is read.
+#[derive(Drop)]
+pub struct ExportsText {
+    pub profile: Profile,
+    pub body: Text,
+}
 
 /// The texts of a site: seven files, and the exports file of each file system under its printed mount point, as `/usr`. A
 /// file system without an exports file has an empty one, and one of a mount point that is not listed is not read.
@@ -25,7 +33,7 @@ pub struct Site {
     pub passwd: Text,
     pub group: Text,
     pub netgroup: Text,
-    pub exports: BTreeMap<String, Text>,
+    pub exports: BTreeMap<String, ExportsText>,
 }
 
 impl Site {
@@ -60,11 +68,21 @@ impl Site {
 
     /// Returns the text of the exports file of a printed mount point, which is empty if the site has none.
     pub fn exports_text(&self, mount: &str) -> &str
-        ensures { result.now ≡ (texts_of self.now).exports mount.now }
+        ensures { result.now ≡ ((texts_of self.now).exports mount.now).body }
     {
         match self.exports.get(mount) {
-            Some(text) => text.as_str(),
+            Some(text) => text.body.as_str(),
             None => "",
+        }
+    }
+
+    /// Returns the profile by which the exports file of a printed mount point is read: profile 2 if the site has none.
+    pub fn exports_profile(&self, mount: &str) -> Profile
+        ensures { result ≡ ((texts_of self.now).exports mount.now).profile }
+    {
+        match self.exports.get(mount) {
+            Some(text) => text.profile,
+            None => Profile::Two,
         }
     }
 }
@@ -83,11 +101,18 @@ fn are_files_within(site: &Site, limit: usize) -> bool
 }
 
 /// Tests whether each exports file has at most so many bytes.
-fn are_exports_within(exports: &BTreeMap<String, Text>, limit: usize) -> bool
-    ensures each { result ≡ list_all (is_within limit) (values exports.now) }
+fn are_exports_within(exports: &BTreeMap<String, ExportsText>, limit: usize) -> bool
+    ensures each { result ≡ list_all (has_body_within limit) (values exports.now) }
     ensures ordered { IsOrdered string_cmp exports.now }
 {
-    exports.values().all(|text| is_within(text, limit))
+    exports.values().all(|text| has_body_within(text, limit))
+}
+
+/// Tests whether the text of an exports file has at most so many bytes.
+fn has_body_within(text: &ExportsText, limit: usize) -> bool
+    ensures { result ≡ has_body_within limit text.now }
+{
+    is_within(&text.body, limit)
 }
 
 /// Tests whether a text has at most so many bytes.

@@ -29,6 +29,8 @@ pub enum Question<'a> {
     Exports(Addr),
     /// This file, as of this revision or else the newest.
     File(&'a str, Option<u32>),
+    /// The proposal of this file.
+    Proposal(&'a str),
     /// The revisions of this file.
     Revisions(&'a str),
     /// Who may mount this directory.
@@ -152,6 +154,10 @@ fn query_read<'a>(
             Some(asked) => Some(Query::Asks(asked)),
             None => None,
         },
+        Action::Proposal => match one_of(parameters, "name") {
+            Some(name) => Some(Query::Asks(Question::Proposal(name))),
+            None => None,
+        },
         Action::Revisions => match one_of(parameters, "name") {
             Some(name) => Some(Query::Asks(Question::Revisions(name))),
             None => None,
@@ -172,6 +178,7 @@ fn is_named(action: Action, name: &str) -> bool
         Action::Mount => name == "host" || name == "dir" || name == "uid" || name == "gid",
         Action::Exports => name == "host",
         Action::File => name == "name" || name == "rev",
+        Action::Proposal => name == "name",
         Action::Revisions => name == "name",
         Action::Who => name == "dir",
         Action::Put => name == "name" || name == "base",

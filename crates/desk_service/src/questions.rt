@@ -8,8 +8,10 @@ ghost use Rattle.desk_store.specs.declared.error.Task.TheVariants as tasks;
 ghost use Rattle.desk_service.specs.Questions.{AnswersByHistory, ByFile, ByPolicy, IsPolicyAnswer, OnFile, OnPolicy, OnlyLooks, file_question, policy_answer_of, policy_question};
 ghost use Rattle.desk_service.specs.Questions as by_value;
 
+use desk_core::{Head, Proposal};
+use desk_exports::Profile;
 use desk_policy::{Policy, PolicyView, Shown, Verdict, listing};
-use desk_store::{Desk, DeskError};
+use desk_store::{Desk, DeskError, Signature};
 use desk_text::{Addr, Path, Sequence, Text};
 use desk_who::{Range, who};
 use sqlite::Alter;
@@ -40,30 +42,44 @@ pub enum PolicyAnswer<'a> {
     Who(&'a Policy, Vec<Range<'a>>),
 }
 
-/// A question on the revisions of a file.
+/// A question on the revisions of a file, or on its proposal.
 #[derive(Clone, Copy)]
 pub enum FileQuestion<'a> {
     /// The text of this file as of a revision, or else the newest.
     Text(&'a str, Option<u32>),
-    /// The numbers and authors of the revisions of this file.
+    /// The numbers of the revisions of this file, with who wrote and who approved them, and their profiles.
     Revisions(&'a str),
+    /// The proposal of this file, which waits for a second custodian.
+    Proposal(&'a str),
 }
 
-/// A text of a file: the number of its revision, who stored it, and the text itself.
+/// A text of a file: the number of its revision, who wrote it, who approved it if the file was guarded, the profile by which it is
+/// read, and the text itself.
 #[derive(Drop)]
 pub struct FileText {
     pub rev: u32,
     pub author: Text,
+    pub approver: Option<Text>,
+    pub profile: Profile,
     pub body: Text,
 }
 
-/// The answer to a question on the revisions of a file.
+/// The proposal of a file: the number of the revision that it follows, who proposes it, and the text.
+#[derive(Drop)]
+pub struct ProposalText {
+    pub base: u32,
+    pub author: Text,
+    pub body: Text,
+}
+
+/// The answer to a question on the revisions of a file, or on its proposal.
 #[derive(Drop)]
 pub enum FileAnswer {
     Text(FileText),
     /// At least one revision, by number.
-    Revisions(Sequence<(u32, Text)>),
-    /// There is no such file or revision.
+    Revisions(Sequence<Signature>),
+    Proposal(ProposalText),
+    /// There is no such file, revision or proposal.
     NoRevision,
 }
 
@@ -105,7 +121,7 @@ pub fn answer_in_force<'a, S: Alter + Drop, V: PolicyView + Drop>(
     answer_by_view(alloc, desk.view(), question)
 }
 
-/// Answers a question on the revisions of a file by a desk.
+/// Answers a question on the revisions of a file, or on its proposal, by a desk.
 pub fn answer_by_desk<S: Alter + Drop, V: PolicyView + Drop>(
     alloc: Global,
     desk: &mut Desk<S, V>,
@@ -123,6 +139,7 @@ pub fn answer_by_desk<S: Alter + Drop, V: PolicyView + Drop>(
             None => newest_text(alloc, desk, name),
         },
         FileQuestion::Revisions(name) => revisions(alloc, desk, name),
+        FileQuestion::Proposal(name) => proposal(alloc, desk, name),
     }
 }
 
@@ -142,7 +159,7 @@ fn newest_text<S: Alter + Drop, V: PolicyView + Drop>(
     ensures errors { IfErr result (IsOfTask tasks.ReadRevisions) }
 {
     match desk.newest(name) {
-        Some(head) => match copied(alloc, head.rev, head.author.as_str(), head.body.as_str()) {
+        Some(head) => match text_of(alloc, head) {
             Ok(text) => Ok(FileAnswer::Text(text)),
             Err(_) => Err(DeskError::Memory),
         },
@@ -150,13 +167,62 @@ fn newest_text<S: Alter + Drop, V: PolicyView + Drop>(
     }
 }
 
-/// Copies a text of a file.
-fn copied(alloc: Global, rev: u32, author: &str, body: &str) -> Result<FileText, AllocError>
-    ensures { IfOk result (λ text. text ≡ record { rev = rev; author = author.now; body = body.now }) }
+/// Copies the text of a revision.
+fn text_of(alloc: Global, head: &Head) -> Result<FileText, AllocError>
+    ensures { IfOk result (λ text. text ≡ by_value.text_of head.now) }
 {
-    let author = Text::copy(alloc, author)?;
-    let body = Text::copy(alloc, body)?;
-    Ok(FileText { rev, author, body })
+    let author = Text::copy(alloc, head.author.as_str())?;
+    let approver = name_in(alloc, &head.approver)?;
+    let body = Text::copy(alloc, head.body.as_str())?;
+    Ok(FileText {
+        rev: head.rev,
+        author,
+        approver,
+        profile: head.profile,
+        body,
+    })
+}
+
+/// Copies a name, if there is one.
+fn name_in(alloc: Global, name: &Option<Text>) -> Result<Option<Text>, AllocError>
+    ensures { IfOk result (λ copied. copied ≡ name.now) }
+{
+    match name {
+        Some(name) => Ok(Some(Text::copy(alloc, name.as_str())?)),
+        None => Ok(None),
+    }
+}
+
+/// Finds the proposal of a file. This takes no statement.
+fn proposal<S: Alter + Drop, V: PolicyView + Drop>(
+    alloc: Global,
+    desk: &Desk<S, V>,
+    name: &str,
+) -> Result<FileAnswer, DeskError>
+    ensures answered { (history pending : History) → StandsAt S.Store desk.now history pending
+        → IfOk result (λ answer. AnswersByHistory history (OnFile (by_value.Proposal name.now)) (ByFile answer)) }
+    ensures errors { IfErr result (IsOfTask tasks.ReadRevisions) }
+{
+    match desk.proposal(name) {
+        Some(proposal) => match proposed(alloc, proposal) {
+            Ok(text) => Ok(FileAnswer::Proposal(text)),
+            Err(_) => Err(DeskError::Memory),
+        },
+        None => Ok(FileAnswer::NoRevision),
+    }
+}
+
+/// Copies the text of a proposal.
+fn proposed(alloc: Global, proposal: &Proposal) -> Result<ProposalText, AllocError>
+    ensures { IfOk result (λ text. text ≡ by_value.proposed proposal.now) }
+{
+    let author = Text::copy(alloc, proposal.author.as_str())?;
+    let body = Text::copy(alloc, proposal.body.as_str())?;
+    Ok(ProposalText {
+        base: proposal.base,
+        author,
+        body,
+    })
 }
 
 /// Finds the text of a file as of a revision.
@@ -175,6 +241,8 @@ fn text_at<S: Alter + Drop, V: PolicyView + Drop>(
         Ok(Some(found)) => Ok(FileAnswer::Text(FileText {
             rev,
             author: found.author,
+            approver: found.approver,
+            profile: found.profile,
             body: found.body,
         })),
         Ok(None) => Ok(FileAnswer::NoRevision),
@@ -193,7 +261,7 @@ fn revisions<S: Alter + Drop, V: PolicyView + Drop>(
     ensures looks { OnlyLooks S.Store desk.old desk.new }
     ensures errors { IfErr result (IsOfTask tasks.ReadRevisions) }
 {
-    match desk.revisions(alloc, name) {
+    match desk.signatures(alloc, name) {
         Ok(found) if found.is_empty() => Ok(FileAnswer::NoRevision),
         Ok(found) => Ok(FileAnswer::Revisions(found)),
         Err(error) => Err(error),

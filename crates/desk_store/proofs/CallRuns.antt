@@ -1,31 +1,28 @@
 -- Edits and looks on a good disk are answered by histories, and the edits are a run.
-use Rattle.std.proofs.Common.{◌≡◌, sym, subst, ◌≤◌, ◌++◌, List, [], ◌∷◌, arith, append_assoc, append-nil}
+use Rattle.std.proofs.Common.{sym, subst, refl, ◌≤◌, ◌++◌, List, [], ◌∷◌, arith}
 use Rattle.sqlite_trees.specs.declared.store.Store.{Ghosts}
 use Rattle.sqlite_trees.specs.View.{doubt}
 use Rattle.sqlite.specs.Held.{state}
 use Rattle.sqlite.specs.State.{HasCleanDisk, State}
-use Rattle.desk_core.specs.History.{Exchange, Run, added, added_if}
+use Rattle.desk_core.specs.History.{Exchange, Run, history_through}
 use Rattle.desk_core.specs.Views.{Kept}
 use Rattle.desk_store.specs.Desk.{History, Shown, Stands}
-use Rattle.desk_store.specs.Laws.{AreRight, Call, CalledBy, CallsAreARun, IsRight, calls_of, edit_of, edited, edits_in, found, history_after, listed, newest, pending_by, pending_through, untold, viewed}
+use Rattle.desk_store.specs.Laws.{AreRight, Call, CalledBy, CallsAreARun, IsRight, calls_of, edit_of, edited, edits_in, found, history_called, listed, newest, pending_by, pending_through, proposal, signed, untold, viewed}
 
 -- what calls come to: the edits among them, and what was pending before
 abbrev Ends : {V : Type 0} → State → Kept V → History → History → List Call → List Exchange → Type 0
 Ends new after history pending calls edits =
-    AreRight history calls × Run history edits (history ++ added edits) × Stands new after (history ++ added edits) (pending_through pending edits)
+    AreRight history calls × Run history edits (history_through history edits) × Stands new after (history_through history edits) (pending_through history pending edits)
 
 -- one call before others
 one_more : {V : Type 0} (new : State) (after : Kept V) (history pending : History) (call : Call) (calls : List Call) (edits : List Exchange) → IsRight history call
-    → Ends new after (history_after history call) (pending_by pending call) calls edits → Ends new after history pending (call ∷ calls) (edit_of call ++ edits)
-one_more new after history pending (edited x) calls edits right (others, run, stands) =
-    let next = history ++ added_if x.edit x.answer in
-    let same : next ++ added edits ≡ history ++ (added_if x.edit x.answer ++ added edits) = append_assoc history (added_if x.edit x.answer) (added edits) in
-    let P : History → Type 0 = λ last. Run next edits last in
-    let Q : History → Type 0 = λ last. Stands new after last (pending_through (pending_by pending (edited x)) edits) in
-    ((right, others), (right, subst P same run), subst Q same stands)
+    → Ends new after (history_called history call) (pending_by history pending call) calls edits → Ends new after history pending (call ∷ calls) (edit_of call ++ edits)
+one_more new after history pending (edited x) calls edits right (others, run, stands) = ((right, others), (right, run), stands)
 one_more new after history pending (found file rev it) calls edits right (others, run, stands) = ((right, others), run, stands)
 one_more new after history pending (listed file all) calls edits right (others, run, stands) = ((right, others), run, stands)
+one_more new after history pending (signed file all) calls edits right (others, run, stands) = ((right, others), run, stands)
 one_more new after history pending (newest file it) calls edits right (others, run, stands) = ((right, others), run, stands)
+one_more new after history pending (proposal file it) calls edits right (others, run, stands) = ((right, others), run, stands)
 one_more new after history pending (viewed content) calls edits right (others, run, stands) = ((right, others), run, stands)
 one_more new after history pending untold calls edits right (others, run, stands) = ((right, others), run, stands)
 
@@ -39,13 +36,12 @@ module _ {S V : Type 0} (g : Ghosts S) where
       → Ends (state g new.conn) new.state history pending (calls_of calls) (edits_in (calls_of calls))
   ends_of old new [] history pending e clean stands =
       let P : Shown S V → Type 0 = λ d. Stands (state g d.conn) d.state history pending in
-      let Q : History → Type 0 = λ h. Stands (state g new.conn) new.state h pending in
-      (tt, append-nil history, subst Q (sym (append-nil history)) (subst P (sym e) stands))
+      (tt, refl, subst P (sym e) stands)
   ends_of old new (call ∷ calls) history pending (once, rest) clean stands =
       let h = doubts call.1 new calls rest in
       let mid : HasCleanDisk (state g call.1.conn) = omega (arith, h, clean) in
       let step = once.1 mid history pending stands in
-      let more = ends_of call.1 new calls (history_after history call.0) (pending_by pending call.0) rest clean step.1 in
+      let more = ends_of call.1 new calls (history_called history call.0) (pending_by history pending call.0) rest clean step.1 in
       one_more (state g new.conn) new.state history pending call.0 (calls_of calls) (edits_in (calls_of calls)) step.0 more
 
 pub calls_are_a_run : {S V : Type 0} (g : Ghosts S) → CallsAreARun S V g

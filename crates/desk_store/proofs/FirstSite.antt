@@ -14,60 +14,61 @@ use Rattle.desk_tables.specs.declared.custodians.Custodian.{Custodian}
 use Rattle.desk_tables.specs.declared.filesystems.Mount.{Mount}
 use Rattle.desk_policy.specs.Parsing.{ExportsFile, content_with, file_with, if_listed, in_file, read_after_filesystems, read_exports, read_files, read_site, read_site_tables, then_read, unless_unlisted}
 use Rattle.desk_policy.specs.Policy.{Content}
-use Rattle.desk_policy.specs.Site.{SiteTexts}
+use Rattle.desk_policy.specs.Site.{SiteTexts, no_exports}
 use Rattle.desk_policy.specs.SiteFault.{contradiction_fault, exports_name, line_fault, table_fault}
 use Rattle.desk_policy.specs.Unlisted.{unlisted_line}
 use Rattle.desk_policy.specs.View.{HasFault, IsFaultOf}
 use Rattle.desk_policy.specs.declared.contradiction.Contradiction.{Contradiction}
 use Rattle.desk_policy.specs.declared.parsing.SiteTables.{SiteTables}
+use Rattle.desk_policy.specs.declared.site.ExportsText.{ExportsText}
 use Rattle.desk_policy.specs.declared.site_fault.SiteFault.{SiteFault}
 use Rattle.desk_core.specs.Head.{Revision, newest_in}
 use Rattle.desk_core.specs.Judging.{is_of_seven}
-use Rattle.desk_core.specs.Site.{IsConsistent, IsSound, site_in}
-use Rattle.desk_store.specs.Create.{IsFaultOfSeven, history_with, mounts_of, revision_of_mount}
+use Rattle.desk_core.specs.Site.{IsConsistent, IsSound, revision_text, site_in}
+use Rattle.desk_store.specs.Create.{IsFaultOfSeven, by_second, mounts_of, revision_of_mount, revisions_with}
 
 -- a site with other exports texts
-abbrev pub with_exports : SiteTexts → (List ℕ → List ℕ) → SiteTexts
+abbrev pub with_exports : SiteTexts → (List ℕ → ExportsText) → SiteTexts
 with_exports texts exports = record texts { exports = exports }
 
 -- the exports text that the first revisions of mount points have
-abbrev pub listed_text : SiteTexts → List Mount → List ℕ → List ℕ
-listed_text texts ms mount = option_map_or (λ (r : Revision). r.body) (find (λ (r : Revision). bytes_eq r.file (codes "exports:" ++ mount)) (map (revision_of_mount texts) ms)) []
+abbrev pub listed_text : SiteTexts → List Mount → List ℕ → ExportsText
+listed_text texts ms mount = option_map_or revision_text (find (λ (r : Revision). bytes_eq r.file (codes "exports:" ++ mount)) (map (revision_of_mount texts) ms)) no_exports
 
-pub site_is : (texts : SiteTexts) (ms : List Mount) → site_in (newest_in (history_with texts ms)) ≡ with_exports texts (listed_text texts ms)
+pub site_is : (texts : SiteTexts) (ms : List Mount) → site_in (newest_in (revisions_with texts ms)) ≡ with_exports texts (listed_text texts ms)
 unfolding newest_in
 site_is texts ms = refl
 
-abbrev Agree : SiteTexts → (List ℕ → List ℕ) → Mount → Type 0
+abbrev Agree : SiteTexts → (List ℕ → ExportsText) → Mount → Type 0
 Agree texts exports m = exports (path_text m.path) ≡ texts.exports (path_text m.path)
 
 chosen : (texts : SiteTexts) (m x : Mount) (rest : Option Revision) (b : Bool) → bytes_eq (exports_name m.path) (exports_name x.path) ≡ b
-    → option_map_or (λ (r : Revision). r.body) rest [] ≡ texts.exports (path_text x.path)
-    → option_map_or (λ (r : Revision). r.body) (cond b (Some (revision_of_mount texts m)) rest) [] ≡ texts.exports (path_text x.path)
-chosen texts m x rest true is h = ap texts.exports ((bytes_eq-Decides (path_text m.path) (path_text x.path)).0 is)
+    → option_map_or revision_text rest no_exports ≡ (by_second texts).exports (path_text x.path)
+    → option_map_or revision_text (cond b (Some (revision_of_mount texts m)) rest) no_exports ≡ (by_second texts).exports (path_text x.path)
+chosen texts m x rest true is h = ap (by_second texts).exports ((bytes_eq-Decides (path_text m.path) (path_text x.path)).0 is)
 chosen texts m x rest false is h = h
 
-weaker : (texts : SiteTexts) (m : Mount) (ms others : List Mount) → AllByRecursion (Agree texts (listed_text texts ms)) others → AllByRecursion (Agree texts (listed_text texts (m ∷ ms))) others
+weaker : (texts : SiteTexts) (m : Mount) (ms others : List Mount) → AllByRecursion (Agree (by_second texts) (listed_text texts ms)) others → AllByRecursion (Agree (by_second texts) (listed_text texts (m ∷ ms))) others
 weaker texts m ms [] h = tt
 weaker texts m ms (x ∷ others) h = (chosen texts m x _ (bytes_eq (exports_name m.path) (exports_name x.path)) refl h.0, weaker texts m ms others h.1)
 
--- it is that of the site, for each of the mount points
-pub listed_is : (texts : SiteTexts) (ms : List Mount) → AllByRecursion (Agree texts (listed_text texts ms)) ms
+-- it is that of the site by profile 2, for each of the mount points
+pub listed_is : (texts : SiteTexts) (ms : List Mount) → AllByRecursion (Agree (by_second texts) (listed_text texts ms)) ms
 listed_is texts [] = tt
 listed_is texts (m ∷ ms) =
     let own : bytes_eq (exports_name m.path) (exports_name m.path) ≡ true = (bytes_eq-Decides (exports_name m.path) (exports_name m.path)).1 refl in
     let rest = find (λ (r : Revision). bytes_eq r.file (exports_name m.path)) (map (revision_of_mount texts) ms) in
-    (ap (λ b. option_map_or (λ (r : Revision). r.body) (cond b (Some (revision_of_mount texts m)) rest) []) own, weaker texts m ms ms (listed_is texts ms))
+    (ap (λ b. option_map_or revision_text (cond b (Some (revision_of_mount texts m)) rest) no_exports) own, weaker texts m ms ms (listed_is texts ms))
 
 then_same : {X Y : Type 0} (r : Result X SiteFault) (f g : X → Result Y SiteFault) → ((x : X) → f x ≡ g x) → then_read r f ≡ then_read r g
 then_same (Ok x) f g h = h x
 then_same (Err fault) f g h = refl
 
-file_same : (texts : SiteTexts) (exports : List ℕ → List ℕ) (table : List Mount) (tables : SiteTables) (fs : ℕ) (m : Mount) → Agree texts exports m
+file_same : (texts : SiteTexts) (exports : List ℕ → ExportsText) (table : List Mount) (tables : SiteTables) (fs : ℕ) (m : Mount) → Agree texts exports m
     → read_exports (with_exports texts exports) table tables fs m.path ≡ read_exports texts table tables fs m.path
 file_same texts exports table tables fs m h = ap (λ text. read_exports (with_exports texts (λ _. text)) table tables fs m.path) h
 
-files_same : (texts : SiteTexts) (exports : List ℕ → List ℕ) (table : List Mount) (tables : SiteTables) (fs : ℕ) (ms : List Mount) → AllByRecursion (Agree texts exports) ms
+files_same : (texts : SiteTexts) (exports : List ℕ → ExportsText) (table : List Mount) (tables : SiteTables) (fs : ℕ) (ms : List Mount) → AllByRecursion (Agree texts exports) ms
     → read_files (with_exports texts exports) table tables fs ms ≡ read_files texts table tables fs ms
 files_same texts exports table tables fs [] h = refl
 files_same texts exports table tables fs (m ∷ ms) h =
@@ -76,7 +77,7 @@ files_same texts exports table tables fs (m ∷ ms) h =
     ap (λ r. then_read r (λ file. then_read (read_files (with_exports texts exports) table tables (fs + 1) ms) (λ files. Ok (file ∷ files)))) first
     ∙ ap (λ r. then_read (read_exports texts table tables fs m.path) (λ file. then_read r (λ files. Ok (file ∷ files)))) rest
 
-after_same : (texts : SiteTexts) (exports : List ℕ → List ℕ) (table : List Mount) → AllByRecursion (Agree texts exports) table
+after_same : (texts : SiteTexts) (exports : List ℕ → ExportsText) (table : List Mount) → AllByRecursion (Agree texts exports) table
     → read_after_filesystems (with_exports texts exports) table ≡ read_after_filesystems texts table
 after_same texts exports table h =
     then_same (read_site_tables texts) _ _ (λ tables. ap (λ r. then_read r (λ files. Ok (content_with table tables files))) (files_same texts exports table tables 0 table h))
@@ -92,17 +93,17 @@ table_same custodians (Ok table) f g h = unlisted_same table (unlisted_line cust
 table_same custodians (Err fault) f g h = refl
 
 -- a site is read by the exports texts of its listed mount points alone
-pub read_same : (texts : SiteTexts) (exports : List ℕ → List ℕ) → AllByRecursion (Agree texts exports) (mounts_of texts) → read_site (with_exports texts exports) ≡ read_site texts
+pub read_same : (texts : SiteTexts) (exports : List ℕ → ExportsText) → AllByRecursion (Agree texts exports) (mounts_of texts) → read_site (with_exports texts exports) ≡ read_site texts
 unfolding read_site
 read_same texts exports h =
     then_same (in_file (table_fault (codes "custodians")) (read_custodians texts.custodians)) _ _ (λ custodians.
     table_same custodians (read_filesystems texts.filesystems) (read_after_filesystems (with_exports texts exports)) (read_after_filesystems texts) (after_same texts exports (mounts_of texts) h))
 
--- the first revisions of all files write a site that reads as theirs
-pub site_reads : (texts : SiteTexts) → read_site (site_in (newest_in (history_with texts (mounts_of texts)))) ≡ read_site texts
-site_reads texts = ap read_site (site_is texts (mounts_of texts)) ∙ read_same texts (listed_text texts (mounts_of texts)) (listed_is texts (mounts_of texts))
+-- the first revisions of all files write a site that reads as theirs by profile 2
+pub site_reads : (texts : SiteTexts) → read_site (site_in (newest_in (revisions_with texts (mounts_of texts)))) ≡ read_site (by_second texts)
+site_reads texts = ap read_site (site_is texts (mounts_of texts)) ∙ read_same (by_second texts) (listed_text texts (mounts_of texts)) (listed_is texts (mounts_of texts))
 
-pub fault_of_site : (texts : SiteTexts) (fault : SiteFault) → HasFault (site_in (newest_in (history_with texts (mounts_of texts)))) fault → HasFault texts fault
+pub fault_of_site : (texts : SiteTexts) (fault : SiteFault) → HasFault (site_in (newest_in (revisions_with texts (mounts_of texts)))) fault → HasFault (by_second texts) fault
 fault_of_site texts fault h = subst (λ read. IsFaultOf read fault) (site_reads texts) h
 
 -- a fault of one of the seven in the one reading is the fault of the other
@@ -150,7 +151,7 @@ then_tells : {X : Type 0} (r : Result X SiteFault) (f g : X → Result Content S
 then_tells (Ok x) f g h = λ fault is seven. h x fault is seven
 then_tells (Err e) f g h = λ fault is seven. ap Err (sym is)
 
-pub seven_tells : (texts : SiteTexts) (one other : List ℕ → List ℕ) → TellsSeven (read_site (with_exports texts one)) (read_site (with_exports texts other))
+pub seven_tells : (texts : SiteTexts) (one other : List ℕ → ExportsText) → TellsSeven (read_site (with_exports texts one)) (read_site (with_exports texts other))
 unfolding read_site
 seven_tells texts one other =
     then_tells (in_file (table_fault (codes "custodians")) (read_custodians texts.custodians)) _ _ (λ custodians.
@@ -159,19 +160,19 @@ seven_tells texts one other =
     content_tells table tables (read_files (with_exports texts one) table tables 0 table) _ (files_not (with_exports texts one) table tables 0 table))))
 
 -- the first revisions of the seven files alone write a site with the faults of the seven
-pub seven_fault : (texts : SiteTexts) (fault : SiteFault) → HasFault (site_in (newest_in (history_with texts []))) fault → is_of_seven fault.file ≡ true → HasFault texts fault
+pub seven_fault : (texts : SiteTexts) (fault : SiteFault) → HasFault (site_in (newest_in (revisions_with texts []))) fault → is_of_seven fault.file ≡ true → HasFault (by_second texts) fault
 seven_fault texts fault h seven =
-    let read : read_site texts ≡ Err fault = seven_tells texts (listed_text texts []) texts.exports fault (subst (λ site. HasFault site fault) (site_is texts []) h) seven in
+    let read : read_site (by_second texts) ≡ Err fault = seven_tells texts (listed_text texts []) (by_second texts).exports fault (subst (λ site. HasFault site fault) (site_is texts []) h) seven in
     subst (λ r. IsFaultOf r fault) (sym read) refl
 
-seven_read : (texts : SiteTexts) (fault : SiteFault) → IsFaultOfSeven texts fault → read_site (site_in (newest_in (history_with texts []))) ≡ Err fault
-seven_read texts fault h = ap read_site (site_is texts []) ∙ seven_tells texts texts.exports (listed_text texts []) fault h.0 h.1
+seven_read : (texts : SiteTexts) (fault : SiteFault) → IsFaultOfSeven texts fault → read_site (site_in (newest_in (revisions_with texts []))) ≡ Err fault
+seven_read texts fault h = ap read_site (site_is texts []) ∙ seven_tells texts (by_second texts).exports (listed_text texts []) fault h.0 h.1
 
 -- where that site is consistent, or has a fault of another file, no fault is one of the seven
-pub no_seven_fault : (texts : SiteTexts) → IsConsistent (site_in (newest_in (history_with texts []))) → (fault : SiteFault) → IsFaultOfSeven texts fault → ⊥
+pub no_seven_fault : (texts : SiteTexts) → IsConsistent (site_in (newest_in (revisions_with texts []))) → (fault : SiteFault) → IsFaultOfSeven texts fault → ⊥
 no_seven_fault texts sound fault h = subst IsSound (seven_read texts fault h) sound
 
-pub other_fault : (texts : SiteTexts) (found : SiteFault) → HasFault (site_in (newest_in (history_with texts []))) found → is_of_seven found.file ≡ false → (fault : SiteFault) → IsFaultOfSeven texts fault → ⊥
+pub other_fault : (texts : SiteTexts) (found : SiteFault) → HasFault (site_in (newest_in (revisions_with texts []))) found → is_of_seven found.file ≡ false → (fault : SiteFault) → IsFaultOfSeven texts fault → ⊥
 other_fault texts found has not fault h =
     let same : found ≡ fault = subst (λ r. IsFaultOf r found) (seven_read texts fault h) has in
     false≢true (sym not ∙ ap (λ (f : SiteFault). is_of_seven f.file) same ∙ h.1)

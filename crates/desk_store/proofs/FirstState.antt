@@ -11,17 +11,17 @@ use Rattle.desk_core.specs.Head.{CanBeKept, Revision, newest_in}
 use Rattle.desk_core.specs.Judging.{is_of_seven}
 use Rattle.desk_core.specs.Site.{IsConsistent, IsSound, site_in}
 use Rattle.desk_core.specs.Views.{Kept}
-use Rattle.desk_store.specs.Create.{IsFaultOfSeven, IsFaultOrMemory, IsFirstState, IsSevenOrMemory, IsUtf8Revision, RefusesSite, first_history, first_long, first_long_mount, history_with, mounts_of}
+use Rattle.desk_store.specs.Create.{IsFaultOfSeven, IsFaultOrMemory, IsFirstState, IsSevenOrMemory, IsUtf8Revision, RefusesSite, first_long, first_long_mount, first_revisions, mounts_of, revisions_with}
 use Rattle.desk_store.specs.declared.error.CreateError.{CreateError}
 use Rattle.desk_store.specs.declared.error.CreateError.TheVariants as refused
 use Rattle.desk_store.proofs.FirstHistory.{can_be_kept, listed_ascend, listed_read_back, newest_first, site_history}
 use Rattle.desk_store.proofs.FirstSite.{fault_of_site, no_seven_fault, other_fault, seven_fault, site_reads}
 
-pub heads_kept : (texts : SiteTexts) (heads : List Revision) (ms : List Mount) → heads ≡ history_with texts ms → ms ≡ mounts_of texts → first_long texts ≡ None → first_long_mount texts (mounts_of texts) ≡ None → All CanBeKept heads
+pub heads_kept : (texts : SiteTexts) (heads : List Revision) (ms : List Mount) → heads ≡ revisions_with texts ms → ms ≡ mounts_of texts → first_long texts ≡ None → first_long_mount texts (mounts_of texts) ≡ None → All CanBeKept heads
 heads_kept texts heads ms made listed short rest =
-    subst (All CanBeKept) (sym (made ∙ ap (history_with texts) listed)) (can_be_kept texts (mounts_of texts) short rest)
+    subst (All CanBeKept) (sym (made ∙ ap (revisions_with texts) listed)) (can_be_kept texts (mounts_of texts) short rest)
 
-module _ (texts : SiteTexts) (heads : List Revision) (made : heads ≡ first_history texts) where
+module _ (texts : SiteTexts) (heads : List Revision) (made : heads ≡ first_revisions texts) where
   pub if_made : {V : Type 0} → TablesAreInOrder → MountPointsReadBack → first_long texts ≡ None → first_long_mount texts (mounts_of texts) ≡ None → All IsUtf8Revision heads → (r : Result (Kept V) CreateError)
       → IfOk r (λ state. state.heads ≡ heads) → IfOk r (λ state. IsConsistent (site_in (newest_in heads))) → IfOk r (λ state. IsFirstState texts state.heads)
   if_made order back short rest utf8 (Ok state) same sound =
@@ -51,7 +51,7 @@ module _ (texts : SiteTexts) (heads : List Revision) (made : heads ≡ first_his
   if_refused short rest (Err e) h = refuses short rest e h
 
 -- the heads of the seven files alone
-module _ (texts : SiteTexts) (heads : List Revision) (made : heads ≡ history_with texts []) where
+module _ (texts : SiteTexts) (heads : List Revision) (made : heads ≡ revisions_with texts []) where
   pub none_of_seven : IsConsistent (site_in (newest_in heads)) → (fault : SiteFault) → IsFaultOfSeven texts fault → ⊥
   none_of_seven sound = no_seven_fault texts (subst (λ hs. IsConsistent (site_in (newest_in hs))) made sound)
 

@@ -2,7 +2,9 @@
 use Rattle.std.proofs.Common.{◌≡◌, ◌∙◌, sym, ap, subst, inl, inr, ℕ, ◌==◌, Bool, true, cond, List, [], ◌∷◌, Some, find}
 use Rattle.std.specs.Prelude.{◌↔◌}
 use Rattle.std.proofs.lemmas.Bool.{cases_Bool, eqb-true}
+use Rattle.sqlite.specs.Schema.{Schema}
 use Rattle.sqlite.specs.Table.{Table}
+use Rattle.desk_store.specs.Tables.{Declares, table_in}
 
 passes : {X : Type 0} (p : X → Bool) (xs : List X) (x : X) → find p xs ≡ Some x → p x ≡ true
 passes p [] x e = absurd (cc)
@@ -25,3 +27,10 @@ is_first of tree tables table Yes own found test =
           let is : table ≡ of tree = cc in
           test.1 (is ∙ ap of (sym same)),
     )
+
+-- a schema declares a table with the tree that it is found with
+pub one_tree : (schema : Schema) (name : List ℕ) (of : ℕ → Table) → ((n : ℕ) → (of n).tree ≡ n) → (a b : ℕ) → table_in schema name ≡ Some (of a) → Declares schema name of b → Declares schema name of a
+one_tree schema name of own a b found h =
+    let both : Some (of b) ≡ Some (of a) = sym h.there ∙ found in
+    let is : of b ≡ of a = cc in
+    subst (Declares schema name of) (sym (own b) ∙ ap (λ (t : Table). t.tree) is ∙ own a) h

@@ -1,36 +1,38 @@
--- What one INSERT into `file_rev` does, whatever other tables the schema has.
-use Rattle.std.proofs.Common.{◌≡◌, ◌≢◌, if◌then◌else◌, ◌⊎◌, inl, inr, ℕ, pos, List, [], ◌∷◌, slice_get, Bool, true, false, cond, not, ◌&&◌, ◌||◌, ◌==◌, Some, None, Option, Ok, Err, Result, refl, sym, ap, subst, ◌∙◌}
-use Rattle.std.specs.Prelude.{IsPermutation}
+-- What one INSERT into a table does, whatever other tables the schema has.
+use Rattle.std.proofs.Common.{◌≡◌, ◌≢◌, if◌then◌else◌, ◌⊎◌, inl, inr, ℕ, ℤ, pos, List, [], ◌∷◌, length, slice_get, Bool, true, false, cond, not, ◌&&◌, ◌||◌, ◌==◌, Some, None, Option, Ok, Err, Result, refl, sym, ap, subst, ◌∙◌}
+use Rattle.std.specs.Prelude.{IsPermutation, MatchBool, ◌/◌}
 use Rattle.std.specs.List.{AllByRecursion, flat_map, filter_map}
 use Rattle.std.specs.Ordering.{is_eq, match_ordering}
 use Rattle.std.specs.declared.cmp.Ordering.{Ordering}
 use Rattle.std.specs.declared.cmp.Ordering.TheVariants.{Less, Equal, Greater}
 use Rattle.std.proofs.lemmas.List.Sorted.{IsPermutation-refl, IsPermutation-cons, IsPermutation-trans, IsPermutation-middle}
 use Rattle.sqlite.specs.declared.types.Value.{Value}
-use Rattle.sqlite.specs.declared.types.Value.TheVariants.{Null, Int, Text as Words, Blob as Bytes}
+use Rattle.sqlite.specs.declared.types.Value.TheVariants.{Null, Int}
 use Rattle.sqlite.specs.Order.{Row, value_cmp}
 use Rattle.sqlite.specs.Tree.{Trees, rowid, put_row}
+use Rattle.sqlite.specs.Term.{Term}
 use Rattle.sqlite.specs.Ops.{unary}
 use Rattle.sqlite.specs.Kind.TheVariants.{Integer}
 use Rattle.sqlite.specs.Cast.{cast}
+use Rattle.sqlite_rules.specs.Cast.{cast_row}
 use Rattle.sqlite.specs.Schema.{Schema}
 use Rattle.sqlite.specs.Table.{Table}
 use Rattle.sqlite_schema.specs.declared.schema.Keys.{Keys}
 use Rattle.sqlite_schema.specs.declared.schema.Reference.{Reference}
-use Rattle.sqlite_rules.specs.Action.{works, work_for, work_by, Work}
+use Rattle.sqlite_rules.specs.Action.{Writes, works, work_for, work_by, Work}
 use Rattle.sqlite_rules.specs.declared.action.Deed.{Deed}
 use Rattle.sqlite_schema.specs.Rules.{ParentKey}
-use Rattle.sqlite_rules.specs.Edit.{is_taken, are_fresh, edit_of, next_rowid, put_all}
+use Rattle.sqlite_rules.specs.Edit.{is_taken, are_fresh, edit_of, next_rowid, put_all, with_rowid}
+use Rattle.sqlite.specs.Rowids.{Rowids}
 use Rattle.sqlite.specs.Rowids.TheVariants.{Chosen}
-use Rattle.sqlite.specs.Rows.{Written}
+use Rattle.sqlite.specs.Rows.{Written, count_of, rowids_for, stamped}
 use Rattle.sqlite.proofs.Callers.{one_step}
 use Rattle.sqlite.specs.Command.TheVariants.{Insert}
 use Rattle.sqlite.specs.Source.TheVariants.{Values}
-use Rattle.sqlite.specs.Effect.{Database}
+use Rattle.sqlite.specs.Effect.{Database, value_rows}
 use Rattle.sqlite.specs.Does.{Tally, Does}
 use Rattle.sqlite.specs.declared.run.Mode.{Mode}
-use Rattle.desk_store.proofs.InsertText.{terms}
-use Rattle.desk_store.specs.Tables.{file_rev_table, revision_row, cells}
+use Rattle.desk_store.specs.Tables.{cells}
 
 either : (b : Bool) (x : Value) → cond b x x ≡ x
 either true x = refl
@@ -85,18 +87,6 @@ put_permutes new (r ∷ rows) free =
     let both = either_taken (value_cmp (rowid r) (rowid new)) (is_taken rows new) free in
     put_at new r rows (put_row new rows) (value_cmp (rowid r) (rowid new)) both.0 (put_permutes new rows both.1)
 
-abbrev pub given : List ℕ → ℕ → List ℕ → List ℕ → Row
-given file rev author body = Words file ∷ Int (pos rev) ∷ Words author ∷ Bytes body ∷ []
-
--- what the statement does to the trees
-pub record Puts (tree : ℕ) (row : Row) (db after : Database) : Type 0 where
-  pub schema : after.schema ≡ db.schema
-  pub new : Row
-  pub columns : cells (file_rev_table tree) new ≡ row
-  pub free : is_taken (db.trees tree) new ≡ false
-  pub rows : after.trees tree ≡ put_row new (db.trees tree)
-  pub others : AllByRecursion (λ t. t.tree ≢ tree → after.trees t.tree ≡ db.trees t.tree) db.schema.tables
-
 pub went : {B E R : Type 0} {b : B} {Stops : E → Type 0} → ((stop : E) × Stops stop × (Ok b ≡ Err stop)) ⊎ R → R
 went (inl stopped) = absurd (let e = stopped.2 in cc)
 went (inr on) = on
@@ -108,31 +98,48 @@ free_of : (b more : Bool) → (not b && more) ≡ true → b ≡ false
 free_of true more h = absurd (let e = h in cc)
 free_of false more h = refl
 
-abbrev numbered_row : List Row → Row → Row
+not_counted : (b x : Bool) (A B : Type 0) → b ≡ false → MatchBool (if b then x else false) A B → B
+not_counted true x A B none h = absurd (let e = none in cc)
+not_counted false x A B none h = h
+
+-- a row, with the rowid above those of the table
+abbrev pub numbered_row : List Row → Row → Row
 numbered_row rows row = Int (next_rowid rows) ∷ row
 
-pub does_insert : (limit : Option ℕ) (mode : Mode) (file : List ℕ) (rev : ℕ) (author body text : List ℕ) (db after : Database) (tally : Tally) (at tree : ℕ)
-    → slice_get db.schema.tables at ≡ Some (file_rev_table tree)
-    → Does limit mode (given file rev author body) db text None (Insert at (Values terms 6)) (Ok (tally, after))
-    → Puts tree (revision_row file rev author body) db after
-does_insert limit mode file rev author body text db after tally at tree there h =
-    let table = file_rev_table tree in
-    let done = went (rw there at h) in
-    let now = ap (λ (p : Tally × Database). p.1) (same_value (went (went done.2).2).2) in
-    let source = went done.1 in
-    let written = went (went source.2).2 in
-    let counted = went written.2 in
-    let trees : done.0.trees ≡ written.0 = ap (λ (it : Written). it.trees) (same_value counted.2) ∙ same_value counted.1 in
-    let edit = edit_of db.trees table [] Chosen 0 source.0 in
-    let step = one_step db.schema mode.keys db.trees written.0 edit (no_works db.schema mode.keys 0 tree edit.news) written.1 in
-    let new = numbered_row (db.trees tree) (revision_row file rev author body) in
-    let news : edit.news ≡ new ∷ [] = ap (λ all. (edit_of db.trees table [] Chosen 0 all).news) source.1.1 ∙ rw (cast_null, cast_int rev, cast_int 1) in
-    let leads : after.trees ≡ written.0 = ap (λ (d : Database). d.trees) now ∙ trees in
-    record {
-      schema = ap (λ (d : Database). d.schema) now;
-      new = new;
-      columns = refl;
-      free = free_of _ _ (subst (λ all. are_fresh (db.trees tree) all ≡ true) news step.fresh);
-      rows = ap (λ (t : Trees). t tree) leads ∙ step.rows ∙ ap (put_all (db.trees tree)) news;
-      others = subst (λ (t : Trees). AllByRecursion (λ it. it.tree ≢ tree → t it.tree ≡ db.trees it.tree) db.schema.tables) (sym leads) step.tables;
-    }
+-- A row is put into a table, with a rowid that no row had, and the other tables have what they had.
+pub record Puts (table : Table) (row : Row) (db after : Database) : Type 0 where
+  pub schema : after.schema ≡ db.schema
+  pub columns : cells table (numbered_row (db.trees table.tree) row) ≡ row
+  pub free : is_taken (db.trees table.tree) (numbered_row (db.trees table.tree) row) ≡ false
+  pub rows : after.trees table.tree ≡ put_row (numbered_row (db.trees table.tree) row) (db.trees table.tree)
+  pub others : AllByRecursion (λ t. t.tree ≢ table.tree → after.trees t.tree ≡ db.trees t.tree) db.schema.tables
+
+-- of a table without AUTOINCREMENT, the terms of whose one row give this row, once its values are cast
+module _ (limit : Option ℕ) (mode : Mode) (params : Row) (text : List ℕ) (db after : Database) (tally : Tally) (at : ℕ) (table : Table) (terms : List Term) (width : ℕ) (source row : Row)
+    (uncounted : table.is_counted ≡ false) (sourced : value_rows (stamped table params) width (length terms / width) terms ≡ source ∷ []) (laid : cast_row table source ≡ Null ∷ row)
+    (columns : (id : Value) → cells table (id ∷ row) ≡ row) where
+  chosen : (last : ℤ) → rowids_for table last ≡ Chosen
+  chosen last = rw (uncounted) refl
+
+  pub does_insert : slice_get db.schema.tables at ≡ Some table → Does limit mode params db text None (Insert at (Values terms width)) (Ok (tally, after)) → Puts table row db after
+  does_insert there h =
+      let done = went (rw there at h) in
+      let now = ap (λ (p : Tally × Database). p.1) (same_value (went (went done.2).2).2) in
+      let from = went done.1 in
+      let counter = went from.2 in
+      let written = went counter.2 in
+      let counted = went written.2 in
+      let trees : done.0.trees ≡ written.0 = ap (λ (it : Written). it.trees) (same_value counted.2) ∙ same_value (not_counted table.is_counted _ _ _ uncounted counted.1) in
+      let edit = edit_of db.trees table [] Chosen 0 from.0 in
+      let wrote : Writes db.schema mode.keys db.trees edit (Ok written.0) = subst (λ (r : Rowids). Writes db.schema mode.keys db.trees (edit_of db.trees table [] r 0 from.0) (Ok written.0)) (chosen (count_of counter.0)) written.1 in
+      let step = one_step db.schema mode.keys db.trees written.0 edit (no_works db.schema mode.keys 0 table.tree edit.news) wrote in
+      let new = numbered_row (db.trees table.tree) row in
+      let news : edit.news ≡ new ∷ [] = ap (λ all. (edit_of db.trees table [] Chosen 0 all).news) (from.1.1 ∙ sourced) ∙ ap (λ r. with_rowid Chosen (db.trees table.tree) r ∷ []) laid in
+      let leads : after.trees ≡ written.0 = ap (λ (d : Database). d.trees) now ∙ trees in
+      record {
+        schema = ap (λ (d : Database). d.schema) now;
+        columns = columns (Int (next_rowid (db.trees table.tree)));
+        free = free_of _ _ (subst (λ all. are_fresh (db.trees table.tree) all ≡ true) news step.fresh);
+        rows = ap (λ (t : Trees). t table.tree) leads ∙ step.rows ∙ ap (put_all (db.trees table.tree)) news;
+        others = subst (λ (t : Trees). AllByRecursion (λ it. it.tree ≢ table.tree → t it.tree ≡ db.trees it.tree) db.schema.tables) (sym leads) step.tables;
+      }

@@ -1,178 +1,106 @@
--- What the INSERT of one revision does to a connection.
-use Rattle.std.proofs.Common.{◌≡◌, ◌⊎◌, inl, inr, ℕ, List, [], ◌∷◌, map, codes, slice_get, false, Some, None, Option, Ok, Err, Result, IsTrue, refl, sym, ap, subst, subst₂, ◌∙◌, arith, ◌≢◌, ℤ, pos, ◌<◌, ◌^◌, w64, to_z, of_z}
-use Rattle.std.proofs.lemmas.Int.{to_z_pos}
-use Rattle.std.specs.Prelude.{IsPermutation, option_and_then, option_map, unwrap_or}
-use Rattle.std.proofs.lemmas.List.Sorted.{IsPermutation-map}
-use Rattle.sqlite_trees.proofs.ListLemmas.{all-slice_get}
-use Rattle.sqlite.specs.Schema.{Schema}
+-- What the INSERTs and DELETEs of the desk do to what a connection sees.
+use Rattle.std.proofs.Common.{◌≡◌, ◌∙◌, ap, sym, subst, refl, ℕ, ◌<◌, ◌^◌, ◌/◌, nat_le, Bool, true, false, codes, List, [], ◌∷◌, length, slice_get, Some, None, Ok, arith}
+use Rattle.std.specs.List.{list_all}
+use Rattle.std.proofs.lemmas.Bool.{lt-leb}
+use Rattle.sqlite.specs.declared.types.Value.{Value}
+use Rattle.sqlite.specs.declared.types.Value.TheVariants.{Null, Text as Words}
+use Rattle.sqlite.specs.Order.{Row, column, value_cmp}
+use Rattle.sqlite.specs.Term.{Term, holds}
 use Rattle.sqlite.specs.Table.{Table}
-use Rattle.sqlite.specs.Order.{Row}
-use Rattle.sqlite.specs.Tree.{Trees, put_row}
-use Rattle.sqlite.specs.Effect.{Database, IsDatabase, SparesFrozen}
-use Rattle.std.specs.List.{AllByRecursion}
-use Rattle.sqlite.specs.Does.{Tally, Does}
-use Rattle.sqlite.specs.Command.TheVariants.{Insert, Commit, Release}
+use Rattle.sqlite.specs.Effect.{Database, IsDatabase, SparesFrozen, value_rows}
+use Rattle.sqlite.specs.Rows.{stamped}
+use Rattle.sqlite.specs.State.{State, Writes, Executes, mode_of}
+use Rattle.sqlite.specs.Command.TheVariants.{Delete, Insert}
 use Rattle.sqlite.specs.Source.TheVariants.{Values}
 use Rattle.sqlite.specs.Listing.{understood}
-use Rattle.sqlite.specs.State.{State, Writes, Executes, CommitsBy, IsUnchanged, IsRolledBack, Survives, HasCleanDisk, mode_of, MayCommit, text_of, IsNewestNamed, names_in, begins_at}
-use Rattle.sqlite.specs.Clock.{timed}
-use Rattle.sqlite_resolve.specs.declared.compiled.Compiled.{Compiled}
-use Rattle.sqlite.specs.declared.error.Error.{Error}
+use Rattle.sqlite.proofs.Callers.{runs_as, statement_of}
 use Rattle.sqlite_schema.specs.Names.{table_named}
-use Rattle.sqlite.proofs.Callers.{IsPlain, command_of, statement_of, runs_as}
-use Rattle.sqlite.proofs.InsideLemmas.{fails_whole}
-use Rattle.sqlite.proofs.StateLemmas.{survives_then}
-use Rattle.desk_store.proofs.ChangesNothing.{kept_commit, rest_after_error}
-use Rattle.desk_store.proofs.InsertText.{terms, insert_understood, insert_compiled}
-use Rattle.desk_store.proofs.InsertEffect.{given, Puts, does_insert, put_permutes}
-use Rattle.desk_store.specs.Desk.{CommitsAtMost}
-use Rattle.desk_store.specs.Tables.{LeavesCommit, cells, insert_revision, table_in, rows_of, file_rev_table, meta_table, HasTables, revision_row, Adds, AddsTo, AddsWhileOpen, IsAtRest}
+use Rattle.sqlite_rules.specs.Cast.{cast_row}
+use Rattle.std.specs.Ordering.{is_eq}
+use Rattle.desk_store.proofs.DeleteEffect.{Takes, deleting, does_delete}
+use Rattle.desk_store.proofs.DeleteText.{DeletesAnywhere, delete_proposal_means, delete_version_means}
+use Rattle.desk_store.proofs.InsertEffect.{Puts, cast_int, cast_null, does_insert}
+use Rattle.desk_store.proofs.InsertText.{InsertsAnywhere, approval_means, approval_terms, proposal_means, proposal_terms, revision_means, revision_terms}
+use Rattle.desk_store.proofs.NamedRows.{file_passes, file_test}
+use Rattle.desk_store.proofs.Placed.{placed, rowids_are}
+use Rattle.desk_store.specs.Tables.{AreKeys, Declares, IsKeyed, approval_row, approval_table, cells, delete_proposal, delete_version, file_rev_table, insert_approval, insert_proposal, insert_revision, meta_table, proposal_row, proposal_table, refers_to, revision_row}
 
--- the place of a table that is found by its name
-pub placed : (schema : Schema) (name : List ℕ) (table : Table) → table_in schema name ≡ Some table
-    → (at : ℕ) × (table_named schema name ≡ Some at) × (slice_get schema.tables at ≡ Some table)
-placed schema name table = elim (table_named schema name) as (λ o. option_and_then (slice_get schema.tables) o ≡ Some table → (at : ℕ) × (o ≡ Some at) × (slice_get schema.tables at ≡ Some table)) [
-  | Some at ↦ λ h. (at, refl, h)
-  | None ↦ λ h. absurd (cc)
-]
+pub low_tree : (tree : ℕ) → tree < 65536 → nat_le (2 ^ 31) tree ≡ false
+low_tree tree low = lt-leb (2 ^ 31) tree (omega arith)
 
-pub rows_are : (db : Database) (name : List ℕ) (table : Table) → table_in db.schema name ≡ Some table → rows_of db name ≡ map (cells table) (db.trees table.tree)
-rows_are db name table found = ap (λ o. unwrap_or (option_map (λ (t : Table). map (cells t) (db.trees t.tree)) o) []) found
+-- a statement did this, spared what SQL here does not understand, and left a database that can be opened
+pub record Soundly (Did : Database → Database → Type 0) (old new : Database) : Type 0 where
+  pub did : Did old new
+  pub frozen : SparesFrozen old new
+  pub sound : IsDatabase new
 
-one_table : {a b : Table} → Some a ≡ Some b → a ≡ b
-one_table e = cc
+-- a table that is declared
+module _ (old new : State) (name : List ℕ) (table : ℕ → Table) (tree : ℕ) (declared : Declares old.now.schema name table tree) (params : Row) (count : ℕ) where
+  abbrev at : (at : ℕ) × (table_named old.now.schema name ≡ Some at) × (slice_get old.now.schema.tables at ≡ Some (table tree))
+  at = placed old.now.schema name (table tree) declared.there
 
-puts_adds : (old after : Database) (row : Row) (has : HasTables old.schema) → Puts has.tree row old after → SparesFrozen old after → IsDatabase after → Adds row old after
-puts_adds old after row has p frozen sound =
-    let name = codes "file_rev" in
-    let found : table_in after.schema name ≡ Some (file_rev_table has.tree) = rw (p.schema) has.file_rev in
-    let meta : table_in after.schema (codes "meta") ≡ Some (meta_table has.meta_tree) = rw (p.schema) has.meta in
-    let at = placed old.schema (codes "meta") (meta_table has.meta_tree) has.meta in
-    let kept : after.trees has.meta_tree ≡ old.trees has.meta_tree = all-slice_get _ old.schema.tables at.0 (meta_table has.meta_tree) at.2 p.others has.apart in
-    let before = rows_are old name (file_rev_table has.tree) has.file_rev in
-    let later = rows_are after name (file_rev_table has.tree) found ∙ ap (map (cells (file_rev_table has.tree))) p.rows in
-    let put = IsPermutation-map (cells (file_rev_table has.tree)) (p.new ∷ old.trees has.tree) (put_row p.new (old.trees has.tree)) (put_permutes p.new (old.trees has.tree) p.free) in
-    record {
-      schema = p.schema;
-      rows = subst₂ IsPermutation (ap (λ r. r ∷ map (cells (file_rev_table has.tree)) (old.trees has.tree)) p.columns ∙ ap (λ rest. row ∷ rest) (sym before)) (sym later) put;
-      version = rows_are after (codes "meta") (meta_table has.meta_tree) meta ∙ ap (map (cells (meta_table has.meta_tree))) kept ∙ sym (rows_are old (codes "meta") (meta_table has.meta_tree) has.meta);
-      others = λ table is. subst (λ (t : Table). AllByRecursion (λ it. it.tree ≢ t.tree → after.trees it.tree ≡ old.trees it.tree) old.schema.tables) (one_table (sym has.file_rev ∙ is)) p.others;
-      frozen = frozen;
-      sound = sound;
-    }
+  pub inserts : (sql : List ℕ) (terms : List Term) (width : ℕ) (source row : Row) → InsertsAnywhere sql name table terms width → (table tree).is_counted ≡ false
+      → value_rows (stamped (table tree) params) width (length terms / width) terms ≡ source ∷ [] → cast_row (table tree) source ≡ Null ∷ row → ((id : Value) → cells (table tree) (id ∷ row) ≡ row)
+      → Executes sql params old new (Ok count) → Soundly (Puts (table tree) row) old.now new.now
+  inserts sql terms width source row means uncounted sourced laid columns h =
+      let it = means old.now.schema at.0 tree at.1 at.2 in
+      let w : Writes old new None (Insert at.0 (Values terms width)) (statement_of sql (understood old.now.schema sql)) params count = runs_as sql params old new old.now.schema refl (Insert at.0 (Values terms width)) it.is it.plain count h in
+      record { did = does_insert old.step_limit (mode_of old) params (statement_of sql (understood old.now.schema sql)) old.now new.now w.tally at.0 (table tree) terms width source row uncounted sourced laid columns at.2 w.changed; frozen = w.frozen; sound = w.sound }
 
--- the statement adds the row
-pub does_add : (limit : Option ℕ) (s : State) (file : List ℕ) (rev : ℕ) (author body : List ℕ) (after : Database) (tally : Tally) (at : ℕ) (has : HasTables s.now.schema)
-    → slice_get s.now.schema.tables at ≡ Some (file_rev_table has.tree)
-    → Does limit (mode_of s) (given file rev author body) s.now [] None (Insert at (Values terms 6)) (Ok (tally, after)) → SparesFrozen s.now after → IsDatabase after
-    → Adds (revision_row file rev author body) s.now after
-does_add limit s file rev author body after tally at has there h frozen sound =
-    puts_adds s.now after _ has (does_insert limit (mode_of s) file rev author body [] s.now after tally at has.tree there h) frozen sound
-
-ok_injective : {A B : Type 0} {a b : A} → ◌≡◌ {A = Result A B} (Ok a) (Ok b) → a ≡ b
-ok_injective e = cc
-
-never : (at : ℕ) (s : State) → (Insert at (Values terms 6) ≡ Commit) ⊎ ((name : List ℕ) × (mark : ℕ) × (Insert at (Values terms 6) ≡ Release name) × IsNewestNamed (names_in s) name mark × IsTrue (begins_at s mark)) → ⊥
-never at s (inl e) = cc
-never at s (inr it) = let e = it.2 in cc
-
-module _ (old new : State) (file : List ℕ) (rev : ℕ) (author body : List ℕ) (has : HasTables old.now.schema) where
-  pub place : (at : ℕ) × (table_named old.now.schema (codes "file_rev") ≡ Some at) × (slice_get old.now.schema.tables at ≡ Some (file_rev_table has.tree))
-  place = placed old.now.schema (codes "file_rev") (file_rev_table has.tree) has.file_rev
-
-  means : understood old.now.schema insert_revision ≡ Ok (insert_compiled place.0)
-  means = insert_understood old.now.schema place.0 has.tree place.1 place.2
-
-  pub writes : (count : ℕ) → Executes insert_revision (given file rev author body) old new (Ok count)
-      → (w : Writes old new None (Insert place.0 (Values terms 6)) (statement_of insert_revision (understood old.now.schema insert_revision)) (given file rev author body) count)
-      × Adds (revision_row file rev author body) old.now new.now
-  writes count h =
-      let w = runs_as insert_revision (given file rev author body) old new old.now.schema refl (Insert place.0 (Values terms 6)) (ap command_of means) (subst IsPlain (sym means) (refl, refl)) count h in
-      (w, does_add old.step_limit old file rev author body new.now w.tally place.0 has place.2 w.changed w.frozen w.sound)
-
-  pub commits : (trees : Trees) → CommitsBy insert_revision (given file rev author body) old trees → AddsTo (revision_row file rev author body) old.now trees
-  unfolding CommitsBy
-  commits trees h =
-      let same : insert_compiled place.0 ≡ h.0 = ok_injective (sym means ∙ h.1.is) in
-      elim (subst (λ (c : Compiled). MayCommit old c.returning c.command (text_of insert_revision c) (timed (given file rev author body) c.formats h.1.now) trees) (sym same) h.2) [
-        | inl ends ↦ absurd (never place.0 old ends.0)
-        | inr it ↦ (it.2, does_add old.step_limit old file rev author body it.2 it.1 place.0 has place.2 it.3 it.6 it.4, it.5)
-      ]
-
--- after the row was written
-pub rest_after_insert : (old new : State) (file : List ℕ) (rev : ℕ) (author body : List ℕ) (count : ℕ) → IsAtRest old → IsTrue old.is_open → Executes insert_revision (given file rev author body) old new (Ok count)
-    → IsAtRest new × Adds (revision_row file rev author body) old.committed new.committed × IsTrue new.is_open
-rest_after_insert old new file rev author body count rest live h =
-    let settled = rest.settled live in
-    let has = subst (λ (d : Database). HasTables d.schema) (sym settled) (rest.tables live) in
-    let it = writes old new file rev author body has count h in
-    let committed : new.committed ≡ new.now = rw (rest.autocommit) at it.0.shown.committed_is in
-    let adds = subst₂ (Adds (revision_row file rev author body)) settled (sym committed) it.1 in (
-      record { autocommit = it.0.shown.mode ∙ rest.autocommit; settled = λ _. sym committed; tables = λ _. subst HasTables (sym adds.schema) (rest.tables live) },
-      adds,
-      it.0.shown.is_open,
-    )
-
-pub adds_only : (old new : State) (file : List ℕ) (rev : ℕ) (author body : List ℕ) → IsAtRest old → IsTrue old.is_open → (trees : Trees) → CommitsBy insert_revision (given file rev author body) old trees
-    → AddsTo (revision_row file rev author body) old.committed trees
-adds_only old new file rev author body rest live trees h =
-    let settled = rest.settled live in
-    let has = subst (λ (d : Database). HasTables d.schema) (sym settled) (rest.tables live) in
-    subst (λ (d : Database). AddsTo (revision_row file rev author body) d trees) settled (commits old new file rev author body has trees h)
-
-pub signed : (x : ℤ) (n : ℕ) → x ≡ pos n → n < 2 ^ 32 → to_z w64 (of_z w64 x) ≡ pos n
-signed x n e low = ap (λ z. to_z w64 (of_z w64 z)) e ∙ to_z_pos w64 n (omega arith)
-
--- what adding a revision leaves, once its statement was prepared
-module _ (old mid new : State) (file : List ℕ) (rev : ℕ) (author body sql : List ℕ) (params : Row) (rest : HasCleanDisk old → IsAtRest old)
-    (prepared : HasCleanDisk mid → (sql ≡ insert_revision) × IsUnchanged old mid) (bound : params ≡ given file rev author body)
-    (first : Survives old mid (λ _. ⊥)) (then : Survives mid new (CommitsBy sql params mid)) where
-  abbrev Change : Database → Database → Type 0
-  Change = Adds (revision_row file rev author body)
-
-  early : HasCleanDisk new → HasCleanDisk mid
-  early clean = omega (arith, clean, then.clean)
-
-  ready : HasCleanDisk mid → IsAtRest mid
-  ready clean = (rest_after_error old mid (rest (omega (arith, clean, first.clean))) (inl (prepared clean).1)).0
-
-  crash : Survives old new (AddsWhileOpen (revision_row file rev author body) old)
-  crash =
-      survives_then old mid new (λ _. ⊥) (CommitsBy sql params mid) (AddsWhileOpen (revision_row file rev author body) old) (λ clean trees none. absurd none)
-      (λ clean trees h.
-      let same = prepared (early clean) in (
-        same.1.0.was_open,
-        subst (λ (d : Database). AddsTo (revision_row file rev author body) d trees) same.1.0.committed_is
-            (adds_only mid new file rev author body (ready (early clean)) same.1.0.is_open trees (rw (same.0, bound) at h)),
-      ))
-      first then
-
-  inserted : (count : ℕ) → Executes sql params mid new (Ok count) → HasCleanDisk new → IsAtRest new × Change old.committed new.committed × IsTrue new.is_open
-  inserted count h clean =
-      let same = prepared (early clean) in
-      let it = rest_after_insert mid new file rev author body count (ready (early clean)) same.1.0.is_open (rw (same.0, bound) at h) in
-      (it.0, subst (λ (d : Database). Change d new.committed) same.1.0.committed_is it.1, it.2)
-
-  pub added : {T E : Type 0} (x : T) (count : ℕ) → (HasCleanDisk new → Executes sql params mid new (Ok count)) → (IsTrue new.is_open → LeavesCommit new) → CommitsAtMost {T = T} {E = E} Change old new (Ok x)
-  added x count ran settled = record {
-    rest = λ clean _. (inserted count (ran clean) clean).0;
-    opened = λ clean live. (prepared (early clean)).1.0.was_open;
-    made = λ clean. (inserted count (ran clean) clean).1;
-    live = λ clean. (inserted count (ran clean) clean).2;
-    durable = λ clean. settled (inserted count (ran clean) clean).2;
-    unchanged = λ clean live. tt;
-    crash = crash;
-  }
-
-  pub not_added : {T E : Type 0} (e : E) (said : Error) → (HasCleanDisk new → Executes sql params mid new (Err said)) → CommitsAtMost {T = T} {E = E} Change old new (Err e)
-  not_added e said ran =
-      let failed : HasCleanDisk new → IsUnchanged mid new ⊎ IsRolledBack mid new = λ clean. fails_whole mid new false sql params said (ran clean) in
+  pub deletes : (sql : List ℕ) (tests : List Term) (test : Row → Bool) → DeletesAnywhere sql name table tests → ((n : ℕ) → (table n).tree ≡ n) → ((row : Row) → list_all (holds (params ∷ row ∷ [])) tests ≡ test row)
+      → refers_to old.now.schema name ≡ false → IsKeyed old.now name → Executes sql params old new (Ok count) → Soundly (Takes tree test) old.now new.now
+  deletes sql tests test means own_tree passes unreferred keyed h = subst (λ n. Soundly (Takes n test) old.now new.now) (own_tree tree) (
+      let it = means old.now.schema at.0 tree at.1 at.2 declared.alone (low_tree tree declared.low) in
+      let is = it.is ∙ ap (λ n. Delete at.0 (deleting tests n)) (sym (own_tree tree)) in
+      let w : Writes old new None (Delete at.0 (deleting tests (table tree).tree)) (statement_of sql (understood old.now.schema sql)) params count = runs_as sql params old new old.now.schema refl (Delete at.0 (deleting tests (table tree).tree)) is it.plain count h in
       record {
-        rest = λ clean _. (rest_after_error mid new (ready (early clean)) (failed clean)).0;
-        opened = λ clean live. (prepared (early clean)).1.0.was_open;
-        made = λ clean. tt;
-        live = λ clean. tt;
-        durable = λ clean. tt;
-        unchanged = λ clean live. kept_commit mid new (failed clean) live ∙ (prepared (early clean)).1.0.committed_is;
-        crash = crash;
-      }
+        did = does_delete old.step_limit (mode_of old) params (statement_of sql (understood old.now.schema sql)) old.now new.now w.tally at.0 name (table tree) tests test passes at.2 (rw (own_tree tree) (declared.own)) unreferred
+            (rw (own_tree tree) (low_tree tree declared.low)) (subst AreKeys (rowids_are old.now name (table tree) declared.there) keyed) w.changed;
+        frozen = w.frozen;
+        sound = w.sound;
+      })
+
+-- ---- the rows of an entry, each of whose INSERTs is given the row itself
+
+revision_cast : (tree : ℕ) (file : List ℕ) (rev : ℕ) (author : List ℕ) (profile : ℕ) (body : List ℕ)
+    → cast_row (file_rev_table tree) (Null ∷ revision_row file rev author profile body) ≡ Null ∷ revision_row file rev author profile body
+revision_cast tree file rev author profile body = rw (cast_null, cast_int rev, cast_int profile)
+
+approval_cast : (tree : ℕ) (file : List ℕ) (rev : ℕ) (approver : List ℕ) → cast_row (approval_table tree) (Null ∷ approval_row file rev approver) ≡ Null ∷ approval_row file rev approver
+approval_cast tree file rev approver = rw (cast_null, cast_int rev)
+
+proposal_cast : (tree : ℕ) (file : List ℕ) (base : ℕ) (author body : List ℕ) → cast_row (proposal_table tree) (Null ∷ proposal_row file base author body) ≡ Null ∷ proposal_row file base author body
+proposal_cast tree file base author body = rw (cast_null, cast_int base)
+
+-- the rows of the table of proposals that are of a file, with their rowids
+abbrev pub is_proposal_of : List ℕ → Row → Bool
+is_proposal_of file row = is_eq (value_cmp (column row 1) (Words file))
+
+module _ (old new : State) (tree count : ℕ) where
+  pub revision_put : (file : List ℕ) (rev : ℕ) (author : List ℕ) (profile : ℕ) (body : List ℕ) → Declares old.now.schema (codes "file_rev") file_rev_table tree
+      → Executes insert_revision (revision_row file rev author profile body) old new (Ok count) → Soundly (Puts (file_rev_table tree) (revision_row file rev author profile body)) old.now new.now
+  revision_put file rev author profile body declared =
+      inserts old new (codes "file_rev") file_rev_table tree declared (revision_row file rev author profile body) count insert_revision revision_terms 6 (Null ∷ revision_row file rev author profile body) (revision_row file rev author profile body) revision_means refl refl
+      (revision_cast tree file rev author profile body) (λ id. refl)
+
+  pub approval_put : (file : List ℕ) (rev : ℕ) (approver : List ℕ) → Declares old.now.schema (codes "approval") approval_table tree
+      → Executes insert_approval (approval_row file rev approver) old new (Ok count) → Soundly (Puts (approval_table tree) (approval_row file rev approver)) old.now new.now
+  approval_put file rev approver declared =
+      inserts old new (codes "approval") approval_table tree declared (approval_row file rev approver) count insert_approval approval_terms 4 (Null ∷ approval_row file rev approver) (approval_row file rev approver) approval_means refl refl
+      (approval_cast tree file rev approver) (λ id. refl)
+
+  pub proposal_put : (file : List ℕ) (base : ℕ) (author body : List ℕ) → Declares old.now.schema (codes "proposal") proposal_table tree
+      → Executes insert_proposal (proposal_row file base author body) old new (Ok count) → Soundly (Puts (proposal_table tree) (proposal_row file base author body)) old.now new.now
+  proposal_put file base author body declared =
+      inserts old new (codes "proposal") proposal_table tree declared (proposal_row file base author body) count insert_proposal proposal_terms 5 (Null ∷ proposal_row file base author body) (proposal_row file base author body) proposal_means refl refl
+      (proposal_cast tree file base author body) (λ id. refl)
+
+  -- the proposal of a file is taken out
+  pub proposal_taken : (file : List ℕ) → Declares old.now.schema (codes "proposal") proposal_table tree → refers_to old.now.schema (codes "proposal") ≡ false → IsKeyed old.now (codes "proposal")
+      → Executes delete_proposal (Words file ∷ []) old new (Ok count) → Soundly (Takes tree (is_proposal_of file)) old.now new.now
+  proposal_taken file declared = deletes old new (codes "proposal") proposal_table tree declared (Words file ∷ []) count delete_proposal (file_test ∷ []) (is_proposal_of file) delete_proposal_means (λ n. refl) (file_passes file)
+
+  -- each row of the version is taken out
+  pub versions_taken : Declares old.now.schema (codes "meta") meta_table tree → refers_to old.now.schema (codes "meta") ≡ false → IsKeyed old.now (codes "meta")
+      → Executes delete_version [] old new (Ok count) → Soundly (Takes tree (λ row. true)) old.now new.now
+  versions_taken declared = deletes old new (codes "meta") meta_table tree declared [] count delete_version [] (λ row. true) delete_version_means (λ n. refl) (λ row. refl)

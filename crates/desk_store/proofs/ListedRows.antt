@@ -1,224 +1,207 @@
--- The numbers and authors in the rows of a file's revisions, in ascending order of the numbers, are those of its revisions.
-use Rattle.std.proofs.Common.{◌≡◌, ◌∙◌, ap, refl, sym, inl, inr, ℕ, suc, ◌+◌, ◌<◌, ◌≤◌, ◌==◌, ◌&&◌, Bool, true, false, cond, List, [], ◌∷◌, ◌++◌, filter, Result, Ok, Err, IfOk, IsPermutation, codes, get_or, length, map, take, arith}
-use Rattle.std.specs.Prelude.{nat_lt}
-use Rattle.std.specs.List.{AllByRecursion, range_with_len, sum_by}
+-- What the rows of a file's revisions and of their approvals tell, in ascending order of the numbers, is told by its revisions.
+use Rattle.std.proofs.Common.{◌≡◌, ◌∙◌, sym, ap, subst, refl, ℕ, suc, ◌+◌, ◌<◌, ◌≤◌, ◌==◌, Bool, true, List, [], ◌∷◌, ◌++◌, Option, Some, None, Result, Ok, Err, IfOk, IsPermutation, codes, filter, filter_map, get_or, length, map, option_map, take, arith}
+use Rattle.std.specs.Prelude.{Contains}
+use Rattle.std.specs.List.{AllByRecursion, range_with_len}
 use Rattle.std.specs.List.Sorted.{IsNonDecreasingBy}
 use Rattle.std.specs.Str.{bytes_eq}
-use Rattle.std.proofs.lemmas.Bool.{cases_Bool, eq-eqb, eqb-true, le-ltb, ltb-false, ne_eqb}
-use Rattle.std.proofs.lemmas.List.{take_more}
-use Rattle.std.proofs.lemmas.List.Elements.{recursion_from_All}
-use Rattle.std.proofs.lemmas.List.Sorted.{sum_by-IsPermutation}
-use Rattle.std.proofs.lemmas.List.Sums.{sum_by-cons}
-use Rattle.std.proofs.lemmas.Slice.Eq.{bytes_eq-Decides}
+use Rattle.std.proofs.lemmas.Bool.{eq-eqb, eqb-true}
+use Rattle.std.proofs.lemmas.List.{map-append, take_more, get_or-map, length-map}
+use Rattle.std.proofs.lemmas.List.FromFn.{get_or-range_with_len, length-range_with_len}
+use Rattle.std.proofs.lemmas.List.Sorted.{Contains-permutation, IsPermutation-map, IsPermutation-sym, IsPermutation-trans}
 use Rattle.sqlite.specs.Order.{Row}
 use Rattle.sqlite.specs.Effect.{Database}
+use Rattle.sqlite_trees.proofs.ListLemmas.{IsPermutation-filter, all_of, filter-map, filter_same}
+use Rattle.desk_exports.specs.Profile.{profile_number}
+use Rattle.desk_exports.specs.declared.profile.Profile.{Profile}
+use Rattle.desk_exports.specs.declared.profile.Profile.TheVariants.{One, Two}
 use Rattle.desk_core.specs.Head.{Revision}
 use Rattle.desk_core.specs.History.{revisions_of}
-use Rattle.desk_store.specs.History.{Holds, row_of}
-use Rattle.desk_store.specs.Rows.{Lists, listed}
-use Rattle.desk_store.specs.Looks.{is_of, number_and_author, numbers_in}
-use Rattle.desk_store.specs.Tables.{rows_of}
-use Rattle.desk_store.proofs.FoundRows.{of_file}
+use Rattle.desk_core.specs.declared.entry.Entry.{Entry}
+use Rattle.desk_store.specs.Desk.{signature_of}
+use Rattle.desk_store.specs.History.{Holds, approval_of, revisions_in, row_of}
+use Rattle.desk_store.specs.Rows.{Lists, Signs, approver_at, listed, profile_with, signed}
+use Rattle.desk_store.specs.Looks.{approvers_in, is_of, number_and_approver, number_author_and_profile, numbers_in}
+use Rattle.desk_store.specs.Tables.{approval_row, rows_of}
+use Rattle.desk_store.specs.declared.desk.Signature.{Signature}
 use Rattle.desk_store.specs.declared.error.DeskError.{DeskError}
+use Rattle.desk_store.proofs.FoundRows.{of_file, row_parts}
+use Rattle.desk_store.proofs.HistoryStep.{same_text}
+use Rattle.desk_store.proofs.Members.{default, find_none, find_only, from_filter, from_filter_map, from_map, in_filter, in_filter_map, in_map, same_lists}
+use Rattle.desk_store.proofs.Revisions.{one_number}
+use Rattle.desk_store.proofs.SortedNumbers.{Rises, same_range}
 
-abbrev Pair : Type 0
-Pair = ℕ × List ℕ
+-- ---- in ascending order
 
-abbrev pair : Revision → Pair
+module _ {X : Type 0} (key : X → ℕ) where
+  rises_from : (xs : List X) → IsNonDecreasingBy key xs → Rises (map key xs)
+  rises_from [] up = tt
+  rises_from (x ∷ xs) up = (above xs (λ k d below. up 0 (suc k) d (omega arith) (omega arith)), rises_from xs (λ i j d le below. up (suc i) (suc j) d (omega arith) (omega arith)))
+    where
+      above : (ys : List X) → ((k : ℕ) (d : X) → k < length ys → key x ≤ key (get_or ys k d)) → AllByRecursion (λ n. key x ≤ n) (map key ys)
+      above [] h = tt
+      above (y ∷ ys) h = (h 0 y (omega arith), above ys (λ k d below. h (suc k) d (omega arith)))
+
+  -- the key of each of numbered elements
+  key_at : (xs : List X) (n k : ℕ) (d : X) → map key xs ≡ range_with_len 1 n → k < length xs → key (get_or xs k d) ≡ 1 + k
+  key_at xs n k d numbered below =
+      let long : length xs ≡ n = sym (length-map xs key) ∙ ap length numbered ∙ length-range_with_len 1 n in
+      sym (get_or-map key xs k d 0 below) ∙ ap (λ ns. get_or ns k 0) numbered ∙ get_or-range_with_len 1 n k 0 (omega (arith, below, long))
+
+  -- ascending elements that are numbered ones in some order are these
+  pub in_order : (xs ys : List X) (n : ℕ) → IsNonDecreasingBy key xs → IsPermutation xs ys → map key ys ≡ range_with_len 1 n → xs ≡ ys
+  in_order xs ys n up same numbered =
+      let mine = same_range (map key xs) (map key ys) 1 n (rises_from xs up) (IsPermutation-map key xs ys same) numbered in
+      let long : length xs ≡ length ys = sym (length-map xs key) ∙ ap length (mine ∙ sym numbered) ∙ length-map ys key in
+      same_lists xs ys long (λ k d below.
+      let x : X = get_or xs k d in
+      let there = Contains-permutation xs ys x same (k, below, default xs k x d below) in
+      let here : key x ≡ 1 + k = key_at xs n k d mine below in
+      let its : key x ≡ 1 + there.0 = ap key (sym there.2) ∙ key_at ys n there.0 x numbered there.1 in
+      let place : there.0 ≡ k = omega (arith, here, its) in
+      sym there.2 ∙ ap (λ i. get_or ys i x) place ∙ default ys k x d (omega (arith, below, long)))
+
+numbers_of : {X : Type 0} (key : X → ℕ) (f : Revision → X) → ((r : Revision) → key (f r) ≡ r.rev) → (rs : List Revision) → map key (map f rs) ≡ map (λ r. r.rev) rs
+numbers_of key f is [] = refl
+numbers_of key f is (r ∷ rs) = ap (λ n. n ∷ map key (map f rs)) (is r) ∙ ap (λ ns. r.rev ∷ ns) (numbers_of key f is rs)
+
+-- ---- what rows tell
+
+abbrev pair : Revision → ℕ × List ℕ
 pair r = (r.rev, r.author)
 
--- no sum tells these lists apart
-abbrev SameSums : List Pair → List Pair → Type 0
-SameSums xs ys = (f : Pair → ℕ) → sum_by f xs ≡ sum_by f ys
+pairs_of : (rs : List Revision) → map listed (map number_author_and_profile (map row_of rs)) ≡ map pair rs
+pairs_of [] = refl
+pairs_of (r ∷ rs) = ap (λ ps. pair r ∷ ps) (pairs_of rs)
 
-abbrev one_if : Bool → ℕ
-one_if b = cond b 1 0
+-- what is told of the row of a revision, where these are who approved it
+abbrev signing : List (ℕ × List ℕ) → Revision → Signature
+signing approved r = signed approved (number_author_and_profile (row_of r))
 
--- the numbers of these ascend
-abbrev Ascend : List Pair → Type 0
-Ascend [] = Unit {0}
-Ascend (x ∷ xs) = AllByRecursion (λ y. x.0 ≤ y.0) xs × Ascend xs
+signed_of : (approved : List (ℕ × List ℕ)) (rs : List Revision) → map (signed approved) (map number_author_and_profile (map row_of rs)) ≡ map (signing approved) rs
+signed_of approved [] = refl
+signed_of approved (r ∷ rs) = ap (λ ss. signing approved r ∷ ss) (signed_of approved rs)
 
-ascend_from : (xs : List Pair) → IsNonDecreasingBy (λ one. one.0) xs → Ascend xs
-ascend_from [] up = tt
-ascend_from (x ∷ xs) up = (
-  recursion_from_All (λ y. x.0 ≤ y.0) xs (λ k d below. up 0 (suc k) d (omega arith) (omega arith)),
-  ascend_from xs (λ i j d le below. up (suc i) (suc j) d (omega arith) (omega arith)),
-)
+profile_back : (p : Profile) → profile_with (profile_number p) ≡ p
+profile_back One = refl
+profile_back Two = refl
 
-none_counts : (p : Pair → Bool) (xs : List Pair) → AllByRecursion (λ x. p x ≡ false) xs → sum_by (λ x. one_if (p x)) xs ≡ 0
-none_counts p [] h = refl
-none_counts p (x ∷ xs) h =
-    let all = sum_by-cons (λ x. one_if (p x)) x xs in
-    let own : one_if (p x) ≡ 0 = ap one_if h.0 in
-    let rest = none_counts p xs h.1 in
-    omega (arith, all, own, rest)
+same_on : {X Y : Type 0} (f g : X → Y) (xs : List X) → ((x : X) → Contains xs x → f x ≡ g x) → map f xs ≡ map g xs
+same_on f g [] h = refl
+same_on f g (x ∷ xs) h = ap (λ y. y ∷ map f xs) (h x (0, omega arith, refl)) ∙ ap (λ ys. g x ∷ ys) (same_on f g xs (λ y there. h y (suc there.0, omega (arith, there.1), there.2)))
 
--- of elements that count one passes
-one_passes : (p : Pair → Bool) (Q : Pair → Type 0) (xs : List Pair) → AllByRecursion Q xs → 0 < sum_by (λ x. one_if (p x)) xs → (x : Pair) × Q x × (p x ≡ true)
-one_passes p Q [] h some = absurd (omega arith)
-one_passes p Q (x ∷ xs) h some =
-    let all = sum_by-cons (λ x. one_if (p x)) x xs in
-    elim (cases_Bool (p x)) [
-      | inl passes ↦ (x, h.0, passes)
-      | inr fails ↦
-          let own : one_if (p x) ≡ 0 = ap one_if fails in
-          one_passes p Q xs h.1 (omega (arith, all, own, some))
-    ]
+module _ (db : Database) (history : List Entry) (rows : List Row) (holds : Holds db history) (file : List ℕ) (same : IsPermutation (numbers_in file db) rows) where
+  abbrev stored : List Revision
+  stored = revisions_in history
 
-abbrev AreNumbered : ℕ → List Pair → Type 0
-AreNumbered a ys = map (λ y. y.0) ys ≡ range_with_len a (length ys)
+  abbrev mine : List Revision
+  mine = revisions_of file history
 
-later : (a : ℕ) (ys : List Pair) (b : ℕ) → a < b → AreNumbered b ys → AllByRecursion (λ y. a < y.0) ys
-later a [] b less numbered = tt
-later a (y ∷ ys) b less numbered =
-    let first : y.0 ≡ b = cc in
-    let rest : AreNumbered (b + 1) ys = cc in
-    (omega (arith, less, first), later a ys (b + 1) (omega arith) rest)
+  abbrev all : List Row
+  all = rows_of db (codes "file_rev")
 
-map_all : {X : Type 0} (P Q : X → Type 0) (xs : List X) → ((x : X) → P x → Q x) → AllByRecursion P xs → AllByRecursion Q xs
-map_all P Q [] f h = tt
-map_all P Q (x ∷ xs) f h = (f x h.0, map_all P Q xs f h.1)
+  own_rows : filter (is_of file) (map row_of stored) ≡ map row_of mine
+  own_rows =
+      filter-map (is_of file) row_of stored
+      ∙ ap (map row_of) (filter_same (λ (r : Revision). is_of file (row_of r)) (λ (r : Revision). bytes_eq r.file file) stored (all_of (λ (r : Revision). is_of file (row_of r) ≡ bytes_eq r.file file) (λ r. of_file r file) stored))
 
-both_false : (b c : Bool) → b ≡ false → (b && c) ≡ false
-both_false false c h = refl
-both_false true c h = absurd (cc)
+  -- the rows are those of the file's revisions
+  shown : IsPermutation rows (map number_author_and_profile (map row_of mine))
+  shown =
+      let passing : IsPermutation (filter (is_of file) all) (map row_of mine) =
+      subst (IsPermutation (filter (is_of file) all)) own_rows (IsPermutation-filter (is_of file) all (map row_of stored) (IsPermutation-sym (map row_of stored) all holds.revisions)) in
+      IsPermutation-trans rows (numbers_in file db) _ (IsPermutation-sym (numbers_in file db) rows same) (IsPermutation-map number_author_and_profile (filter (is_of file) all) (map row_of mine) passing)
 
-both_true : (b c : Bool) → (b && c) ≡ true → c ≡ true
-both_true true c h = h
-both_true false c h = absurd (cc)
-
-only_first : (b : Bool) → 0 < one_if b → b ≡ true
-only_first true h = refl
-only_first false h = absurd (omega arith)
-
--- ascending pairs that no sum tells apart from numbered ones are these
-same_pairs : (a : ℕ) (xs ys : List Pair) → SameSums xs ys → Ascend xs → AreNumbered a ys → xs ≡ ys
-same_pairs a [] [] same up numbered = refl
-same_pairs a [] (y ∷ ys) same up numbered =
-    let e = same (λ _. 1) in
-    let all = sum_by-cons (λ _. 1) y ys in
-    absurd (omega (arith, e, all))
-same_pairs a (x ∷ xs) [] same up numbered =
-    let e = same (λ _. 1) in
-    let all = sum_by-cons (λ _. 1) x xs in
-    absurd (omega (arith, e, all))
-same_pairs a (x ∷ xs) (y ∷ ys) same up numbered =
-    let first : y.0 ≡ a = cc in
-    let rest : AreNumbered (a + 1) ys = cc in
-    let above = later a ys (a + 1) (omega arith) rest in
-    let at : Pair → Bool = λ q. q.0 == a in
-    let count_at = sum_by-cons (λ q. one_if (at q)) y ys in
-    let own_at : one_if (at y) ≡ 1 = ap one_if (eq-eqb y.0 a first) in
-    let same_at = same (λ q. one_if (at q)) in
-    let found = one_passes at (λ q. x.0 ≤ q.0) (x ∷ xs) (omega arith, up.0) (omega (arith, count_at, own_at, same_at)) in
-    let no_more : x.0 ≤ a = let n = eqb-true found.0.0 a found.2 in omega (arith, n, found.1) in
-    let below : Pair → Bool = λ q. nat_lt q.0 a in
-    let none_below = none_counts below (y ∷ ys) (le-ltb y.0 a (omega (arith, first)), map_all (λ q. a < q.0) (λ q. below q ≡ false) ys (λ q less. le-ltb q.0 a (omega arith)) above) in
-    let same_below = same (λ q. one_if (below q)) in
-    let count_below = sum_by-cons (λ q. one_if (below q)) x xs in
-    let no_less : a ≤ x.0 = elim (cases_Bool (below x)) [
-      | inl less ↦ let own : one_if (below x) ≡ 1 = ap one_if less in absurd (omega (arith, own, count_below, same_below, none_below))
-      | inr other ↦ ltb-false x.0 a other
-    ] in
-    let number : x.0 ≡ a = omega (arith, no_more, no_less) in
-    let alike : Pair → Bool = λ q. q.0 == a && bytes_eq q.1 x.1 in
-    let mine : alike x ≡ true = ap (λ b. b && bytes_eq x.1 x.1) (eq-eqb x.0 a number) ∙ (bytes_eq-Decides x.1 x.1).1 refl in
-    let own_alike : one_if (alike x) ≡ 1 = ap one_if mine in
-    let count_mine = sum_by-cons (λ q. one_if (alike q)) x xs in
-    let same_alike = same (λ q. one_if (alike q)) in
-    let count_its = sum_by-cons (λ q. one_if (alike q)) y ys in
-    let none_alike = none_counts alike ys (map_all (λ q. a < q.0) (λ q. alike q ≡ false) ys (λ q less. both_false (q.0 == a) (bytes_eq q.1 x.1) (ne_eqb q.0 a (λ e. omega arith))) above) in
-    let its : alike y ≡ true = only_first (alike y) (omega (arith, own_alike, count_mine, same_alike, count_its, none_alike)) in
-    let author : y.1 ≡ x.1 = (bytes_eq-Decides y.1 x.1).0 (both_true (y.0 == a) (bytes_eq y.1 x.1) its) in
-    let make : ℕ → List ℕ → Pair = λ n t. (n, t) in
-    let it : x ≡ y = ap (λ n. make n x.1) (number ∙ sym first) ∙ ap (make y.0) (sym author) in
-    let others : SameSums xs ys = λ f.
-    let e = same f in
-    let mine = sum_by-cons f x xs in
-    let its = sum_by-cons f y ys in
-    let heads : f x ≡ f y = ap f it in
-    omega (arith, e, mine, its, heads) in
-    ap (λ q. q ∷ xs) it ∙ ap (λ qs. y ∷ qs) (same_pairs (a + 1) xs ys others up.1 rest)
-
--- ---- sums over rows
-
-sum_map : {X Y : Type 0} (f : Y → ℕ) (g : X → Y) (xs : List X) → sum_by f (map g xs) ≡ sum_by (λ x. f (g x)) xs
-sum_map f g [] = refl
-sum_map f g (x ∷ xs) =
-    let more = sum_by-cons f (g x) (map g xs) in
-    let rest = sum_map f g xs in
-    let all = sum_by-cons (λ x. f (g x)) x xs in
-    omega (arith, more, rest, all)
-
--- a sum over those that pass
-sum_passing : (f : Row → ℕ) (test : Row → Bool) (rows : List Row) → sum_by f (filter test rows) ≡ sum_by (λ row. cond (test row) (f row) 0) rows
-sum_passing f test [] = refl
-sum_passing f test (row ∷ rows) =
-    let all = sum_by-cons (λ row. cond (test row) (f row) 0) row rows in
-    let rest = sum_passing f test rows in
-    let step = kept (test row) in
-    omega (arith, all, rest, step)
-  where
-    kept : (b : Bool) → sum_by f (cond b (row ∷ filter test rows) (filter test rows)) ≡ cond b (f row) 0 + sum_by f (filter test rows)
-    kept true = sum_by-cons f row (filter test rows)
-    kept false = omega arith
-
-sum_own : (f : Pair → ℕ) (file : List ℕ) (rs : List Revision) → sum_by f (map pair (revisions_of file rs)) ≡ sum_by (λ r. cond (bytes_eq r.file file) (f (pair r)) 0) rs
-sum_own f file [] = refl
-sum_own f file (r ∷ rs) =
-    let all = sum_by-cons (λ (r : Revision). cond (bytes_eq r.file file) (f (pair r)) 0) r rs in
-    let rest = sum_own f file rs in
-    let step = kept (bytes_eq r.file file) in
-    omega (arith, all, rest, step)
-  where
-    kept : (b : Bool) → sum_by f (map pair (cond b (r ∷ revisions_of file rs) (revisions_of file rs))) ≡ cond b (f (pair r)) 0 + sum_by f (map pair (revisions_of file rs))
-    kept true = sum_by-cons f (pair r) (map pair (revisions_of file rs))
-    kept false = omega arith
-
--- the row of a revision counts as the revision does
-same_terms : (f : Pair → ℕ) (file : List ℕ) (rs : List Revision)
-    → sum_by (λ r. cond (is_of file (row_of r)) (f (pair r)) 0) rs ≡ sum_by (λ r. cond (bytes_eq r.file file) (f (pair r)) 0) rs
-same_terms f file [] = refl
-same_terms f file (r ∷ rs) =
-    let mine = sum_by-cons (λ (r : Revision). cond (is_of file (row_of r)) (f (pair r)) 0) r rs in
-    let its = sum_by-cons (λ (r : Revision). cond (bytes_eq r.file file) (f (pair r)) 0) r rs in
-    let rest = same_terms f file rs in
-    let own = ap (λ b. cond b (f (pair r)) 0) (of_file r file) in
-    omega (arith, mine, its, rest, own)
-
-numbers_of : (rs : List Revision) → map (λ (q : Pair). q.0) (map pair rs) ≡ map (λ r. r.rev) rs
-numbers_of [] = refl
-numbers_of (r ∷ rs) = ap (λ ns. r.rev ∷ ns) (numbers_of rs)
-
-pairs_length : (rs : List Revision) → length {A = ℕ × List ℕ} (map pair rs) ≡ length rs
-pairs_length [] = refl
-pairs_length (r ∷ rs) = ap suc (pairs_length rs)
-
-map_push : {X Y : Type 0} (f : X → Y) (xs : List X) (x : X) → map f (xs ++ x ∷ []) ≡ map f xs ++ f x ∷ []
-map_push f [] x = refl
-map_push f (y ∷ xs) x = ap (λ rest. f y ∷ rest) (map_push f xs x)
-
-module _ (db : Database) (history : List Revision) (rows : List Row) (holds : Holds db history) (file : List ℕ) (same : IsPermutation (numbers_in file db) rows) where
-  listed_is : (found : List Pair) → Lists rows found → found ≡ map pair (revisions_of file history)
+  listed_is : (found : List (ℕ × List ℕ)) → Lists rows found → found ≡ map pair mine
   listed_is found h =
-      let own = revisions_of file history in
-      let all = rows_of db (codes "file_rev") in
-      let sums : SameSums found (map pair own) = λ f.
-      let g : Row → ℕ = λ row. f (listed row) in
-      let k : Row → ℕ = λ row. cond (is_of file row) (g (number_and_author row)) 0 in
-      sum_by-IsPermutation f (map listed rows) found h.same ∙ sum_map f listed rows
-      ∙ sum_by-IsPermutation g (numbers_in file db) rows same ∙ sum_map g number_and_author (filter (is_of file) all)
-      ∙ sum_passing (λ row. g (number_and_author row)) (is_of file) all
-      ∙ sum_by-IsPermutation k (map row_of history) all holds.rows ∙ sum_map k row_of history ∙ same_terms f file history ∙ sym (sum_own f file history) in
-      same_pairs 1 found (map pair own) sums (ascend_from found h.ascending) (numbers_of own ∙ holds.numbered file ∙ ap (range_with_len 1) (sym (pairs_length own)))
+      let told : IsPermutation found (map pair mine) =
+      IsPermutation-trans found (map listed rows) _ (IsPermutation-sym (map listed rows) found h.same)
+      (subst (IsPermutation (map listed rows)) (pairs_of mine) (IsPermutation-map listed rows (map number_author_and_profile (map row_of mine)) shown)) in
+      in_order (λ one. one.0) found (map pair mine) (length mine) h.ascending told (numbers_of (λ one. one.0) pair (λ r. refl) mine ∙ holds.numbers.numbered file)
 
-  pub listed_if : (result : Result (List Pair) DeskError) → IfOk result (Lists rows) → IfOk result (λ found. found ≡ map pair (revisions_of file history))
+  pub listed_if : (result : Result (List (ℕ × List ℕ)) DeskError) → IfOk result (Lists rows) → IfOk result (λ found. found ≡ map pair mine)
   listed_if (Ok found) h = listed_is found h
   listed_if (Err e) h = tt
 
+  module _ (approvals : List Row) (same_approvals : IsPermutation (approvers_in file db) approvals) where
+    abbrev approved : List (ℕ × List ℕ)
+    approved = map listed approvals
+
+    abbrev whole : List Row
+    whole = rows_of db (codes "approval")
+
+    own : Revision → Bool
+    own r = bytes_eq r.file file
+
+    -- who approved a revision is among them
+    told : (r : Revision) → Contains mine r → (a : List ℕ) → r.approver ≡ Some a → Contains approved (r.rev, a)
+    told r there a is =
+        let from = from_filter (λ (x : Revision). bytes_eq x.file file) stored r there in
+        let row : Row = approval_row r.file r.rev a in
+        let kept = Contains-permutation (filter_map approval_of stored) whole row holds.approvals (in_filter_map approval_of stored r row from.0 (ap (option_map (approval_row r.file r.rev)) is)) in
+        let passes = in_filter (is_of file) whole row kept (same_text r.file file ∙ from.1) in
+        let here = in_map number_and_approver (filter (is_of file) whole) row passes in
+        in_map listed approvals (number_and_approver row) (Contains-permutation (approvers_in file db) approvals (number_and_approver row) same_approvals here)
+
+    -- what the row of an approval tells is of its revision
+    approval_file : (r : Revision) (row : Row) → approval_of r ≡ Some row → is_of file row ≡ true → bytes_eq r.file file ≡ true
+    approval_file r row is passes = let parts = row_parts r.file r.rev r.approver row is in sym (same_text r.file file) ∙ ap (is_of file) parts.2 ∙ passes
+
+    approval_pair : (r : Revision) (row : Row) (one : ℕ × List ℕ) → approval_of r ≡ Some row → listed (number_and_approver row) ≡ one → (r.rev ≡ one.0) × (r.approver ≡ Some one.1)
+    approval_pair r row one is told =
+        let parts = row_parts r.file r.rev r.approver row is in
+        let pair_is : (r.rev, parts.0) ≡ one = ap (λ row. listed (number_and_approver row)) parts.2 ∙ told in
+        (ap (λ p. p.0) pair_is, parts.1 ∙ ap (λ (p : ℕ × List ℕ). Some p.1) pair_is)
+
+    -- and each of them approved one
+    who : (one : ℕ × List ℕ) → Contains approved one → (r : Revision) × Contains mine r × (r.rev ≡ one.0) × (r.approver ≡ Some one.1)
+    who one there =
+        let at = from_map listed approvals one there in
+        let seen = from_map number_and_approver (filter (is_of file) whole) at.0 (Contains-permutation approvals (approvers_in file db) at.0 (IsPermutation-sym (approvers_in file db) approvals same_approvals) at.1) in
+        let passes = from_filter (is_of file) whole seen.0 seen.1 in
+        let it = from_filter_map approval_of stored seen.0 (Contains-permutation whole (filter_map approval_of stored) seen.0 (IsPermutation-sym (filter_map approval_of stored) whole holds.approvals) passes.0) in
+        let its = approval_pair it.0 seen.0 one it.2 (ap listed seen.2 ∙ at.2) in
+        (it.0, in_filter (λ (x : Revision). bytes_eq x.file file) stored it.0 it.1 (approval_file it.0 seen.0 it.2 passes.1), its.0, its.1)
+
+    one_of : (r s : Revision) → Contains mine r → Contains mine s → r.rev ≡ s.rev → r ≡ s
+    one_of r s h k same = one_number mine r s (holds.numbers.numbered file) h k same
+
+    approver_is : (r : Revision) → Contains mine r → (o : Option (List ℕ)) → r.approver ≡ o → approver_at approved r.rev ≡ o
+    approver_is r there None is =
+        ap (option_map (λ (one : ℕ × List ℕ). one.1))
+        (find_none (λ (one : ℕ × List ℕ). one.0 == r.rev) approved (λ one h passes.
+        let it = who one h in
+        let same : it.0 ≡ r = one_of it.0 r it.1 there (it.2 ∙ eqb-true one.0 r.rev passes) in
+        let none : Some one.1 ≡ None = sym it.3 ∙ ap (λ (x : Revision). x.approver) same ∙ is in cc))
+    approver_is r there (Some a) is =
+        ap (option_map (λ (one : ℕ × List ℕ). one.1))
+        (find_only (λ (one : ℕ × List ℕ). one.0 == r.rev) approved (r.rev, a) (told r there a is) (eq-eqb r.rev r.rev refl) (λ one h passes.
+        let it = who one h in
+        let number = eqb-true one.0 r.rev passes in
+        let same : it.0 ≡ r = one_of it.0 r it.1 there (it.2 ∙ number) in
+        let by : Some one.1 ≡ Some a = sym it.3 ∙ ap (λ (x : Revision). x.approver) same ∙ is in
+        let name : one.1 ≡ a = cc in
+        let make : ℕ → List ℕ → ℕ × List ℕ = λ n t. (n, t) in
+        ap (λ n. make n one.1) number ∙ ap (make r.rev) name))
+
+    signing_is : (r : Revision) → Contains mine r → signing approved r ≡ signature_of r
+    signing_is r there =
+        let make : Option (List ℕ) → Profile → Signature = λ approver profile. record { rev = r.rev; author = r.author; approver = approver; profile = profile } in
+        ap (λ a. make a (profile_with (profile_number r.profile))) (approver_is r there r.approver refl) ∙ ap (make r.approver) (profile_back r.profile)
+
+    signatures_is : (found : List Signature) → Signs rows approvals found → found ≡ map signature_of mine
+    signatures_is found h =
+        let told : IsPermutation found (map (signing approved) mine) =
+        IsPermutation-trans found (map (signed approved) rows) _ (IsPermutation-sym (map (signed approved) rows) found h.same)
+        (subst (IsPermutation (map (signed approved) rows)) (signed_of approved mine) (IsPermutation-map (signed approved) rows (map number_author_and_profile (map row_of mine)) shown)) in
+        in_order (λ one. one.rev) found (map (signing approved) mine) (length mine) h.ascending told (numbers_of (λ one. one.rev) (signing approved) (λ r. refl) mine ∙ holds.numbers.numbered file)
+        ∙ same_on (signing approved) signature_of mine signing_is
+
+    pub signatures_if : (result : Result (List Signature) DeskError) → IfOk result (Signs rows approvals) → IfOk result (λ found. found ≡ map signature_of mine)
+    signatures_if (Ok found) h = signatures_is found h
+    signatures_if (Err e) h = tt
+
 -- one row more
-pub listed_more : (rows : List Row) (i : ℕ) (row : Row) (found new : List Pair) → i < length rows → row ≡ get_or rows i row → found ≡ map listed (take i rows)
-    → new ≡ found ++ listed row ∷ [] → new ≡ map listed (take (i + 1) rows)
-listed_more rows i row found new below at so_far is =
-    is ∙ ap (λ xs. xs ++ listed row ∷ []) so_far ∙ sym (map_push listed (take i rows) row) ∙ ap (λ r. map listed (take i rows ++ r ∷ [])) at ∙ ap (map listed) (sym (take_more rows i row below))
+pub listed_more : {X : Type 0} (f : Row → X) (rows : List Row) (i : ℕ) (row : Row) (found new : List X) → i < length rows → row ≡ get_or rows i row → found ≡ map f (take i rows)
+    → new ≡ found ++ f row ∷ [] → new ≡ map f (take (i + 1) rows)
+listed_more f rows i row found new below at so_far is =
+    is ∙ ap (λ xs. xs ++ f row ∷ []) so_far ∙ sym (map-append f (take i rows) (row ∷ [])) ∙ ap (λ r. map f (take i rows ++ r ∷ [])) at ∙ ap (map f) (sym (take_more rows i row below))

@@ -7,9 +7,9 @@ use Rattle.std.proofs.lemmas.Bool.{cases_Bool, eqb-true, false≢true}
 use Rattle.std.proofs.lemmas.List.Kept.{AllPairs-cons, AllPairs-filter}
 use Rattle.std.proofs.lemmas.Slice.Eq.{bytes_eq-Decides}
 use Rattle.desk_core.specs.Head.{Revision, StandOnce}
-use Rattle.desk_core.specs.History.{IsHistory, revisions_of}
 use Rattle.desk_store.specs.Newest.{number_in}
-use Rattle.desk_store.proofs.OneHistory.{AreNumbered, default, from_filter, in_filter, rev_at}
+use Rattle.desk_store.proofs.Members.{default, from_filter, in_filter}
+use Rattle.desk_store.proofs.Revisions.{AreNumbered, IsNumbered, own, rev_at}
 
 -- what holds of each pair of those that pass holds of each pair in which both pass
 module _ {X : Type 0} (R : X → X → Type 0) (p : X → Bool) where
@@ -41,15 +41,15 @@ rises xs numbered i j d lt within = λ same.
     omega (arith, one, two, same)
 
 -- in a history two revisions of one file have two numbers
-apart : (history : List Revision) → IsHistory history → AllPairs (λ (r later : Revision). r.file ≡ later.file → r.rev ≢ later.rev) history
+apart : (history : List Revision) → IsNumbered history → AllPairs (λ (r later : Revision). r.file ≡ later.file → r.rev ≢ later.rev) history
 apart history h i j d lt within = λ same.
     let file : List ℕ = (get_or history i d).file in
     let other : List ℕ = (get_or history j d).file in
-    both_pass (λ (r later : Revision). r.rev ≢ later.rev) (λ (r : Revision). bytes_eq r.file file) history (rises (revisions_of file history) (h file)) i j d lt within
+    both_pass (λ (r later : Revision). r.rev ≢ later.rev) (λ (r : Revision). bytes_eq r.file file) history (rises (own file history) (h file)) i j d lt within
     ((bytes_eq-Decides file file).1 refl) ((bytes_eq-Decides other file).1 (sym same))
 
 -- those that have the number that is kept of their file
-pub chosen_once : {Y : Type 0} (numbers : BTreeMap (String Y) ℕ) (history : List Revision) → IsHistory history → StandOnce (filter (λ (r : Revision). number_in numbers r.file == r.rev) history)
+pub chosen_once : {Y : Type 0} (numbers : BTreeMap (String Y) ℕ) (history : List Revision) → IsNumbered history → StandOnce (filter (λ (r : Revision). number_in numbers r.file == r.rev) history)
 chosen_once numbers history h i j d lt within = λ same.
     let chosen : Revision → Bool = λ r. number_in numbers r.file == r.rev in
     let heads : List Revision = filter chosen history in

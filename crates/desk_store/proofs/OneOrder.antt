@@ -1,76 +1,151 @@
--- It does not matter in which order revisions are: of two histories with the same ones the newest are the same.
-use Rattle.std.proofs.Common.{◌≡◌, ◌∙◌, sym, ap, refl, subst₂, ℕ, pos, negsuc, ◌+◌, ◌-◌, ◌<◌, ◌≤◌, List, [], ◌∷◌, length, get_or, map, arith}
-use Rattle.std.specs.Prelude.{Contains, IsPermutation, slice_get}
+-- It does not matter in which order rows are: revisions that they say are numbered, and of numbered ones each file has the same.
+use Rattle.std.proofs.Common.{◌≡◌, ◌∙◌, sym, ap, subst, refl, ℕ, ◌∷◌, Bool, true, false, cond, List, [], Option, Some, None, IsPermutation, length, map}
+use Rattle.std.specs.Prelude.{Contains}
+use Rattle.std.specs.List.{filter_map, range_with_len}
+use Rattle.std.specs.Option.{option_map}
 use Rattle.std.specs.Str.{bytes_eq}
 use Rattle.std.proofs.Math.Path.{fun_ext}
-use Rattle.std.proofs.lemmas.List.Sorted.{Contains-permutation, IsPermutation-map, IsPermutation-sym}
-use Rattle.sqlite.specs.Order.{Row, column}
-use Rattle.sqlite.specs.declared.types.Value.{Value}
-use Rattle.sqlite.specs.declared.types.Value.TheVariants.{Null, Int, Real, Text as Words, Blob as Bytes}
+use Rattle.std.proofs.lemmas.List.Sorted.{Contains-permutation, IsPermutation-sym}
+use Rattle.std.proofs.lemmas.Slice.Eq.{bytes_eq-Decides}
+use Rattle.sqlite_trees.proofs.ListLemmas.{pull_back}
+use Rattle.desk_exports.specs.Profile.{profile_number}
+use Rattle.desk_exports.specs.declared.profile.Profile.{Profile}
+use Rattle.desk_exports.specs.declared.profile.Profile.TheVariants.{One, Two}
 use Rattle.desk_core.specs.Head.{Revision}
-use Rattle.desk_core.specs.History.{IsHistory, newest_of, revisions_of}
-use Rattle.desk_store.specs.History.{row_of}
-use Rattle.desk_store.proofs.OneHistory.{AreNumbered, default, from_filter, in_filter, rev_at, same_lists}
+use Rattle.desk_core.specs.declared.proposal.Proposal.{Proposal}
+use Rattle.desk_store.specs.History.{approval_of, proposed_row, row_of}
+use Rattle.desk_store.specs.Tables.{approval_row}
+use Rattle.desk_store.proofs.Members.{from_filter, from_filter_map, from_map, in_filter, in_filter_map, in_map}
+use Rattle.desk_store.proofs.Revisions.{IsNumbered, last, newest_by, one_number, own, same_numbered}
+use Rattle.std.proofs.lemmas.List.{length-map}
 
-no_longer : (xs ys : List Revision) → AreNumbered xs → AreNumbered ys → ((r : Revision) → Contains xs r → Contains ys r) → length xs ≤ length ys
-no_longer [] ys own other all = omega arith
-no_longer (a ∷ xs) ys own other all =
-    let n = length (a ∷ xs) in
-    let last : Revision = get_or (a ∷ xs) (n - 1) a in
-    let below : n - 1 < n = omega arith in
-    let there = all last (n - 1, below, default (a ∷ xs) (n - 1) last a below) in
-    let mine : last.rev ≡ 1 + (n - 1) = rev_at (a ∷ xs) (n - 1) a own below in
-    let its : last.rev ≡ 1 + there.0 = ap (λ (r : Revision). r.rev) (sym there.2) ∙ rev_at ys there.0 last other there.1 in
-    omega (arith, mine, its, there.1)
+-- ---- numbers are told by rows
 
-same_numbered : (xs ys : List Revision) → AreNumbered xs → AreNumbered ys → ((r : Revision) → Contains xs r → Contains ys r) → ((r : Revision) → Contains ys r → Contains xs r) → xs ≡ ys
-same_numbered xs ys own other all back =
-    let one = no_longer xs ys own other all in
-    let two = no_longer ys xs other own back in
-    same_lists xs ys (omega (arith, one, two)) (λ k d below.
-    let r : Revision = get_or xs k d in
-    let there = all r (k, below, default xs k r d below) in
-    let mine : r.rev ≡ 1 + k = rev_at xs k d own below in
-    let its : r.rev ≡ 1 + there.0 = ap (λ (x : Revision). x.rev) (sym there.2) ∙ rev_at ys there.0 r other there.1 in
-    let place : there.0 ≡ k = omega (arith, mine, its) in
-    sym there.2 ∙ ap (λ i. get_or ys i r) place ∙ default ys k r d (omega (arith, below, one)))
+own_step : (b c : Bool) (x y : Revision) (xs ys : List Revision) → b ≡ c → x.rev ≡ y.rev → map (λ (r : Revision). r.rev) xs ≡ map (λ (r : Revision). r.rev) ys
+    → map (λ (r : Revision). r.rev) (cond b (x ∷ xs) xs) ≡ map (λ (r : Revision). r.rev) (cond c (y ∷ ys) ys)
+own_step true true x y xs ys e rev rest = ap (λ n. n ∷ map (λ (r : Revision). r.rev) xs) rev ∙ ap (λ ns. y.rev ∷ ns) rest
+own_step true false x y xs ys e rev rest = absurd (cc)
+own_step false true x y xs ys e rev rest = absurd (cc)
+own_step false false x y xs ys e rev rest = rest
 
-moved : (file : List ℕ) (history other : List Revision) → IsPermutation history other → (r : Revision) → Contains (revisions_of file history) r → Contains (revisions_of file other) r
-moved file history other same r h =
-    let from = from_filter (λ (x : Revision). bytes_eq x.file file) history r h in
-    in_filter (λ (x : Revision). bytes_eq x.file file) other r (Contains-permutation history other r same from.0) from.1
+own_numbers : (xs ys : List Revision) (file : List ℕ) → map row_of xs ≡ map row_of ys → map (λ (r : Revision). r.rev) (own file xs) ≡ map (λ (r : Revision). r.rev) (own file ys)
+own_numbers [] [] file same = refl
+own_numbers [] (y ∷ ys) file same = absurd (cc)
+own_numbers (x ∷ xs) [] file same = absurd (cc)
+own_numbers (x ∷ xs) (y ∷ ys) file same =
+    let head : row_of x ≡ row_of y = cc in
+    let rest : map row_of xs ≡ map row_of ys = cc in
+    let name : x.file ≡ y.file = cc in
+    let number : x.rev ≡ y.rev = cc in
+    own_step (bytes_eq x.file file) (bytes_eq y.file file) x y (own file xs) (own file ys) (ap (λ f. bytes_eq f file) name) number (own_numbers xs ys file rest)
 
-pub same_revisions : (history other : List Revision) → IsHistory history → IsHistory other → IsPermutation history other → (file : List ℕ) → revisions_of file history ≡ revisions_of file other
-same_revisions history other h h' same file =
-    same_numbered (revisions_of file history) (revisions_of file other) (h file) (h' file) (moved file history other same) (moved file other history (IsPermutation-sym history other same))
+-- where the rows of one list are those of another, in any order, that other has an order in which they are numbered
+pub numbered_so : (xs ys : List Revision) → IsPermutation (map row_of xs) (map row_of ys) → IsNumbered xs → (zs : List Revision) × IsPermutation ys zs × IsNumbered zs
+numbered_so xs ys same numbered =
+    let it = pull_back row_of (map row_of ys) (map row_of xs) (IsPermutation-sym (map row_of xs) (map row_of ys) same) ys refl in
+    let zs : List Revision = it.0 in (
+      zs,
+      it.1,
+      λ file.
+          let numbers = own_numbers xs zs file it.2 in
+          let long : length (own file xs) ≡ length (own file zs) = sym (length-map (own file xs) (λ (r : Revision). r.rev)) ∙ ap length numbers ∙ length-map (own file zs) (λ (r : Revision). r.rev) in
+          sym numbers ∙ numbered file ∙ ap (range_with_len 1) long,
+    )
 
-pub same_newest : (history other : List Revision) → IsHistory history → IsHistory other → IsPermutation history other → newest_of history ≡ newest_of other
-unfolding newest_of
-same_newest history other h h' same = fun_ext (λ file. ap (λ (xs : List Revision). slice_get xs (length xs - 1)) (same_revisions history other h h' same file))
+-- ---- a revision is told by its row and that of its approval
 
-words_of : Value → List ℕ
-words_of (Words text) = text
-words_of (Bytes bytes) = bytes
-words_of Null = []
-words_of (Int z) = []
-words_of (Real r) = []
+pub same_profile : (a b : Profile) → profile_number a ≡ profile_number b → a ≡ b
+same_profile One One e = refl
+same_profile One Two e = absurd (cc)
+same_profile Two One e = absurd (cc)
+same_profile Two Two e = refl
 
-number_of : Value → ℕ
-number_of (Int (pos n)) = n
-number_of (Int (negsuc n)) = 0
-number_of (Words text) = 0
-number_of (Bytes bytes) = 0
-number_of Null = 0
-number_of (Real r) = 0
+pub same_revision : (a b : Revision) → row_of a ≡ row_of b → a.approver ≡ b.approver → a ≡ b
+same_revision a b row approver =
+    let make : List ℕ → ℕ → List ℕ → Option (List ℕ) → Profile → List ℕ → Revision =
+    λ file rev author approver profile body. record { file = file; rev = rev; author = author; approver = approver; profile = profile; body = body } in
+    let f : a.file ≡ b.file = cc in
+    let r : a.rev ≡ b.rev = cc in
+    let w : a.author ≡ b.author = cc in
+    let n : profile_number a.profile ≡ profile_number b.profile = cc in
+    let t : a.body ≡ b.body = cc in
+    ap (λ x. make x a.rev a.author a.approver a.profile a.body) f ∙ ap (λ x. make b.file x a.author a.approver a.profile a.body) r ∙ ap (λ x. make b.file b.rev x a.approver a.profile a.body) w
+    ∙ ap (λ x. make b.file b.rev b.author x a.profile a.body) approver ∙ ap (λ x. make b.file b.rev b.author b.approver x a.body) (same_profile a.profile b.profile n)
+    ∙ ap (λ x. make b.file b.rev b.author b.approver b.profile x) t
 
-said : Row → Revision
-said row = record { file = words_of (column row 0); rev = number_of (column row 1); author = words_of (column row 2); body = words_of (column row 4) }
+pub approval_parts : (file : List ℕ) (rev : ℕ) (approver : Option (List ℕ)) (f : List ℕ) (n : ℕ) (a : List ℕ) → option_map (approval_row file rev) approver ≡ Some (approval_row f n a)
+    → (file ≡ f) × (rev ≡ n) × (approver ≡ Some a)
+approval_parts file rev None f n a e = absurd (cc)
+approval_parts file rev (Some b) f n a e =
+    let name : file ≡ f = cc in
+    let number : rev ≡ n = cc in
+    let by : b ≡ a = cc in
+    (name, number, ap Some by)
 
-said_back : (xs : List Revision) → map said (map row_of xs) ≡ xs
-unfolding said words_of number_of
-said_back [] = refl
-said_back (x ∷ xs) = ap (λ ys. x ∷ ys) (said_back xs)
+kept_approver : (xs ys : List Revision) → IsNumbered ys → IsPermutation (filter_map approval_of xs) (filter_map approval_of ys) → (r s : Revision) → Contains xs r → Contains ys s → row_of s ≡ row_of r
+    → (a : List ℕ) → r.approver ≡ Some a → s.approver ≡ Some a
+kept_approver xs ys numbered same r s there other row a is =
+    let row_there : Contains (filter_map approval_of xs) (approval_row r.file r.rev a) = in_filter_map approval_of xs r (approval_row r.file r.rev a) there (ap (option_map (approval_row r.file r.rev)) is) in
+    let it = from_filter_map approval_of ys (approval_row r.file r.rev a) (Contains-permutation (filter_map approval_of xs) (filter_map approval_of ys) (approval_row r.file r.rev a) same row_there) in
+    let t : Revision = it.0 in
+    let parts = approval_parts t.file t.rev t.approver r.file r.rev a it.2 in
+    let name : s.file ≡ r.file = cc in
+    let number : s.rev ≡ r.rev = cc in
+    let among : (x : Revision) → Contains ys x → x.file ≡ r.file → Contains (own r.file ys) x = λ x h e. in_filter (λ (y : Revision). bytes_eq y.file r.file) ys x h ((bytes_eq-Decides x.file r.file).1 e) in
+    let one : t ≡ s = one_number (own r.file ys) t s (numbered r.file) (among t it.1 parts.0) (among s other name) (parts.1 ∙ sym number) in
+    ap (λ (x : Revision). x.approver) (sym one) ∙ parts.2
 
--- rows that are the same, in any order, say the same revisions
-pub rows_say : (history other : List Revision) → IsPermutation (map row_of history) (map row_of other) → IsPermutation history other
-rows_say history other same = subst₂ IsPermutation (said_back history) (said_back other) (IsPermutation-map said (map row_of history) (map row_of other) same)
+-- ---- the revisions of a file
+
+module _ (xs ys : List Revision) (numbered : IsNumbered xs) (other : IsNumbered ys) (rows : IsPermutation (map row_of xs) (map row_of ys))
+    (approvals : IsPermutation (filter_map approval_of xs) (filter_map approval_of ys)) where
+  same_approver : (r s : Revision) → Contains xs r → Contains ys s → row_of s ≡ row_of r → (a b : Option (List ℕ)) → r.approver ≡ a → s.approver ≡ b → s.approver ≡ r.approver
+  same_approver r s there its row (Some a) b e f = kept_approver xs ys other approvals r s there its row a e ∙ sym e
+  same_approver r s there its row None None e f = f ∙ sym e
+  same_approver r s there its row None (Some b) e f =
+      absurd (let back = kept_approver ys xs numbered (IsPermutation-sym (filter_map approval_of xs) (filter_map approval_of ys) approvals) s r its there (sym row) b f in cc)
+
+  pub moved : (file : List ℕ) (r : Revision) → Contains (own file xs) r → Contains (own file ys) r
+  moved file r h =
+      let mine : Revision → Bool = λ (x : Revision). bytes_eq x.file file in
+      let from = from_filter mine xs r h in
+      let found = from_map row_of ys (row_of r) (Contains-permutation (map row_of xs) (map row_of ys) (row_of r) rows (in_map row_of xs r from.0)) in
+      let s : Revision = found.0 in
+      let same : s ≡ r = same_revision s r found.2 (same_approver r s from.0 found.1 found.2 r.approver s.approver refl refl) in
+      in_filter mine ys r (subst (Contains ys) same found.1) from.1
+
+pub same_own : (xs ys : List Revision) → IsNumbered xs → IsNumbered ys → IsPermutation (map row_of xs) (map row_of ys) → IsPermutation (filter_map approval_of xs) (filter_map approval_of ys)
+    → (file : List ℕ) → own file xs ≡ own file ys
+same_own xs ys numbered other rows approvals file =
+    same_numbered (own file xs) (own file ys) (numbered file) (other file) (moved xs ys numbered other rows approvals file)
+    (moved ys xs other numbered (IsPermutation-sym (map row_of xs) (map row_of ys) rows) (IsPermutation-sym (filter_map approval_of xs) (filter_map approval_of ys) approvals) file)
+
+pub same_newest : (xs ys : List Revision) → IsNumbered xs → IsNumbered ys → IsPermutation (map row_of xs) (map row_of ys) → IsPermutation (filter_map approval_of xs) (filter_map approval_of ys)
+    → newest_by xs ≡ newest_by ys
+same_newest xs ys numbered other rows approvals = fun_ext (λ file. ap last (same_own xs ys numbered other rows approvals file))
+
+-- ---- a proposal is told by its row
+
+same_proposal : (a b : Proposal) → proposed_row a ≡ proposed_row b → a ≡ b
+same_proposal a b row =
+    let make : List ℕ → ℕ → List ℕ → List ℕ → Proposal = λ file base author body. record { file = file; base = base; author = author; body = body } in
+    let f : a.file ≡ b.file = cc in
+    let r : a.base ≡ b.base = cc in
+    let w : a.author ≡ b.author = cc in
+    let t : a.body ≡ b.body = cc in
+    ap (λ x. make x a.base a.author a.body) f ∙ ap (λ x. make b.file x a.author a.body) r ∙ ap (λ x. make b.file b.base x a.body) w ∙ ap (λ x. make b.file b.base b.author x) t
+
+same_proposals : (xs ys : List Proposal) → map proposed_row xs ≡ map proposed_row ys → xs ≡ ys
+same_proposals [] [] e = refl
+same_proposals [] (y ∷ ys) e = absurd (cc)
+same_proposals (x ∷ xs) [] e = absurd (cc)
+same_proposals (x ∷ xs) (y ∷ ys) e =
+    let head : proposed_row x ≡ proposed_row y = cc in
+    let rest : map proposed_row xs ≡ map proposed_row ys = cc in
+    ap (λ p. p ∷ xs) (same_proposal x y head) ∙ ap (λ ps. y ∷ ps) (same_proposals xs ys rest)
+
+-- rows that are the same, in any order, say the same proposals
+pub proposals_say : (xs ys : List Proposal) → IsPermutation (map proposed_row xs) (map proposed_row ys) → IsPermutation xs ys
+proposals_say xs ys same =
+    let it = pull_back proposed_row (map proposed_row xs) (map proposed_row ys) same xs refl in
+    subst (IsPermutation xs) (sym (same_proposals ys it.0 it.2)) it.1

@@ -1,5 +1,5 @@
 -- What the queries answer on a connection at rest.
-use Rattle.std.proofs.Common.{◌≡◌, ◌⊎◌, inl, inr, ℕ, List, false, Some, None, Option, Ok, Err, Result, IsTrue, IfOk, IfErr, OnOk, refl, sym, ap, subst, ◌∙◌, arith}
+use Rattle.std.proofs.Common.{◌≡◌, ◌⊎◌, inl, inr, Bool, ℕ, List, false, Some, None, Option, Ok, Err, Result, IsTrue, IfOk, IfErr, OnOk, refl, sym, ap, subst, ◌∙◌, arith}
 use Rattle.std.specs.Prelude.{Vec}
 use Rattle.sqlite.specs.Order.{Row}
 use Rattle.sqlite.specs.Effect.{Database}
@@ -12,7 +12,7 @@ use Rattle.sqlite.specs.declared.error.Error.{Error}
 use Rattle.sqlite.proofs.Callers.{IsPlain, command_of, reads_as, never_commits}
 use Rattle.desk_store.proofs.ChangesNothing.{changes_nothing, look_then, not_run, rest_after_error}
 use Rattle.desk_store.specs.Looks.{ChangesNothing, IsLook, ReadsRows}
-use Rattle.desk_store.specs.Tables.{HasTables, IsAtRest}
+use Rattle.desk_store.specs.Tables.{HasThese, IsAtRestWith}
 
 shown_by : (old new : State) (sql : List ℕ) (c : Compiled) (params : Row) (rows : List Row) (returning : Option Returning) → returning ≡ None → ShowsRows old new sql c params rows returning → IsUnchanged old new
 shown_by old new sql c params rows None none h = h.3
@@ -39,21 +39,21 @@ unfolding Shown
 compiled_in old new sql params rows h = (h.0, h.1.is)
 
 -- a query that was prepared first reads the rows, or fails and changes nothing
-module _ {Y : Type 0} (query : List ℕ) (params : Row) (of : Database → List Row) (look : IsLook query params of) (old mid new : State) (sql : List ℕ) (result : Result (Vec Row Y) Error)
-    (rest : HasCleanDisk old → IsAtRest old) (prepared : HasCleanDisk mid → (sql ≡ query) × IsUnchanged old mid)
+module _ {Y : Type 0} (all : Bool) (query : List ℕ) (params : Row) (of : Database → List Row) (look : IsLook all query params of) (old mid new : State) (sql : List ℕ) (result : Result (Vec Row Y) Error)
+    (rest : HasCleanDisk old → IsAtRestWith all old) (prepared : HasCleanDisk mid → (sql ≡ query) × IsUnchanged old mid)
     (first : Survives old mid (λ _. ⊥)) (then : Survives mid new (CommitsShowing sql params mid))
     (ok : HasCleanDisk new → IfOk result (λ rows. Shown sql params mid new rows.items)) (err : HasCleanDisk new → IfErr result (FailsToQuery sql params mid new)) where
   early : HasCleanDisk new → HasCleanDisk mid
   early clean = omega (arith, clean, then.clean)
 
-  ready : HasCleanDisk mid → IsAtRest mid
-  ready clean = (rest_after_error old mid (rest (omega (arith, clean, first.clean))) (inl (prepared clean).1)).0
+  ready : HasCleanDisk mid → IsAtRestWith all mid
+  ready clean = rest_after_error all old mid (rest (omega (arith, clean, first.clean))) (inl (prepared clean).1)
 
   settled : (clean : HasCleanDisk mid) → mid.now ≡ mid.committed
   settled clean = (ready clean).settled (prepared clean).1.0.is_open
 
-  tables : HasCleanDisk mid → HasTables mid.now.schema
-  tables clean = subst (λ (d : Database). HasTables d.schema) (sym (settled clean)) ((ready clean).tables (prepared clean).1.0.is_open)
+  tables : HasCleanDisk mid → HasThese all mid.now.schema
+  tables clean = subst (λ (d : Database). HasThese all d.schema) (sym (settled clean)) ((ready clean).tables (prepared clean).1.0.is_open)
 
   shown : (rows : Vec Row Y) → HasCleanDisk new → Shown sql params mid new rows.items → Shown query params mid new rows.items × IsUnchanged mid new
   shown rows clean h =

@@ -1,8 +1,9 @@
--- That each of the two tables is the only one with its tree, and that its tree is low, follows from what the database lists.
-use Rattle.std.proofs.Common.{◌≡◌, ◌≢◌, ◌∙◌, sym, ap, subst, ℕ, pos, zero, suc, ◌+◌, ◌<◌, ◌==◌, Bool, true, false, cond, List, [], ◌∷◌, Some, slice_get, codes, filter, find}
-use Rattle.std.specs.List.{AllByRecursion, AllZip}
+-- That a table is the only one with its tree, and that its tree is low, follows from what the database lists.
+use Rattle.std.proofs.Common.{◌≡◌, ◌≢◌, ◌∙◌, arith, refl, inl, inr, not, ◌&&◌, ◌||◌, sym, ap, subst, ℕ, pos, zero, suc, ◌+◌, ◌<◌, ◌==◌, Bool, true, false, cond, List, [], ◌∷◌, Some, slice_get, filter, find}
+use Rattle.std.specs.Prelude.{option_and_then}
+use Rattle.std.specs.List.{AllByRecursion, AllZip, list_all, position_from}
 use Rattle.std.specs.declared.cmp.Ordering.TheVariants.{Less}
-use Rattle.std.proofs.lemmas.Bool.{eq-eqb, ne_eqb}
+use Rattle.std.proofs.lemmas.Bool.{cases_Bool, eq-eqb, ne_eqb}
 use Rattle.sqlite.specs.Order.{Row, value_cmp}
 use Rattle.sqlite.specs.Schema.{Schema}
 use Rattle.sqlite.specs.Table.{Table}
@@ -11,8 +12,9 @@ use Rattle.sqlite_trees.specs.Tree.{IsTable, Trees, rowid}
 use Rattle.sqlite_trees.specs.Objects.{catalog_tree}
 use Rattle.sqlite_catalog.specs.Listing.{IsSound, IsTableRow, is_table_row}
 use Rattle.sqlite_catalog.proofs.LayoutLemmas.{rising_trees}
-use Rattle.desk_store.specs.Tables.{HasTables, file_rev_table, meta_table, table_in}
-use Rattle.desk_store.proofs.Inserting.{placed}
+use Rattle.sqlite_schema.specs.Names.{same_name}
+use Rattle.desk_store.specs.Tables.{Declares, table_in}
+use Rattle.desk_store.proofs.Placed.{placed}
 
 abbrev Below : Row → Row → Type 0
 Below a b = value_cmp (rowid a) (rowid b) ≡ Less
@@ -59,31 +61,61 @@ found_alone (r ∷ rows) (x ∷ tables) up zip (suc at) t is =
     let rest = found_alone rows tables up.1 zip.1 at t is in
     (ap (λ b. cond b (Some x) (find (λ (u : Table). u.tree == t.tree) tables)) other ∙ rest.0, rest.1)
 
-no_one_table : (schema : Schema) (m f : ℕ) → find (λ (u : Table). u.tree == m) schema.tables ≡ Some (meta_table m) → find (λ (u : Table). u.tree == f) schema.tables ≡ Some (file_rev_table f) → m ≢ f
-no_one_table schema m f meta file same =
-    let both : Some (meta_table m) ≡ Some (file_rev_table f) = sym meta ∙ ap (λ n. find (λ (u : Table). u.tree == n) schema.tables) same ∙ file in
-    let tables : meta_table m ≡ file_rev_table f = cc in
-    let names : (meta_table m).primary ≡ (file_rev_table f).primary = ap (λ (u : Table). u.primary) tables in
-    cc
+-- where no table has a tree, all of them are others
+none_own : (name : List ℕ) (tree : ℕ) (tables : List Table) → ((at : ℕ) (t : Table) → slice_get tables at ≡ Some t → tree ≢ t.tree) → list_all (λ (u : Table). not (u.tree == tree) || same_name u.name name) tables ≡ true
+none_own name tree [] apart = refl
+none_own name tree (x ∷ tables) apart =
+    let other : (x.tree == tree) ≡ false = ne_eqb x.tree tree (λ e. apart zero x refl (sym e)) in
+    ap (λ b. (not b || same_name x.name name) && list_all (λ (u : Table). not (u.tree == tree) || same_name u.name name) tables) other ∙ none_own name tree tables (λ at. apart (suc at))
 
--- where the two tables are declared as ours, they are our tables
-pub has_tables : (schema : Schema) (db : Trees) (m f : ℕ) → IsSound schema db → IsTable (db catalog_tree)
-    → table_in schema (codes "meta") ≡ Some (meta_table m) → table_in schema (codes "file_rev") ≡ Some (file_rev_table f) → HasTables schema
-has_tables schema db m f sound up meta file =
+or_true : (b : Bool) → (b || true) ≡ true
+or_true true = refl
+or_true false = refl
+
+-- a table that has the name is the only one with its tree
+found_own : (name : List ℕ) (rows : List Row) (tables : List Table) → IsTable rows → AllZip IsTableRow rows tables → (at : ℕ) (t : Table) → slice_get tables at ≡ Some t → same_name t.name name ≡ true
+    → list_all (λ (u : Table). not (u.tree == t.tree) || same_name u.name name) tables ≡ true
+found_own name [] [] up zip at t is own = absurd (cc)
+found_own name [] (x ∷ tables) up zip at t is own = absurd zip
+found_own name (r ∷ rows) [] up zip at t is own = absurd zip
+found_own name (r ∷ rows) (x ∷ tables) up zip zero t is own =
+    let same : x ≡ t = cc in
+    let first : same_name x.name name ≡ true = ap (λ (u : Table). same_name u.name name) same ∙ own in
+    ap (λ b. (not (x.tree == t.tree) || b) && list_all (λ (u : Table). not (u.tree == t.tree) || same_name u.name name) tables) first
+    ∙ ap (λ b. b && list_all (λ (u : Table). not (u.tree == t.tree) || same_name u.name name) tables) (or_true (not (x.tree == t.tree)))
+    ∙ none_own name t.tree tables (λ k u at. subst (λ (v : Table). v.tree ≢ u.tree) same (apart_from r x.tree rows tables zip.0.described.id up.0 zip.1 k u at))
+found_own name (r ∷ rows) (x ∷ tables) up zip (suc at) t is own =
+    let other : (x.tree == t.tree) ≡ false = ne_eqb x.tree t.tree (apart_from r x.tree rows tables zip.0.described.id up.0 zip.1 at t is) in
+    ap (λ b. (not b || same_name x.name name) && list_all (λ (u : Table). not (u.tree == t.tree) || same_name u.name name) tables) other ∙ found_own name rows tables up.1 zip.1 at t is own
+
+-- the table that is found under a name has it
+has_name : (name : List ℕ) (tables all : List Table) (n : ℕ) (t : Table) → ((k : ℕ) → slice_get all (n + k) ≡ slice_get tables k) → option_and_then (slice_get all) (position_from (λ (u : Table). same_name u.name name) n tables) ≡ Some t
+    → same_name t.name name ≡ true
+has_name name [] all n t shifted e = absurd (cc)
+has_name name (x ∷ tables) all n t shifted e = elim (cases_Bool (same_name x.name name)) [
+  | inl own ↦
+      let here : slice_get all n ≡ Some t = subst (λ b. option_and_then (slice_get all) (cond b (Some n) (position_from (λ (u : Table). same_name u.name name) (n + 1) tables)) ≡ Some t) own e in
+      let first : slice_get all n ≡ Some x = ap (slice_get all) (omega arith) ∙ shifted 0 in
+      let both : Some x ≡ Some t = sym first ∙ here in
+      let same : x ≡ t = cc in
+      subst (λ (u : Table). same_name u.name name ≡ true) same own
+  | inr other ↦
+      has_name name tables all (n + 1) t (λ k. ap (slice_get all) (omega arith) ∙ shifted (suc k))
+      (subst (λ b. option_and_then (slice_get all) (cond b (Some n) (position_from (λ (u : Table). same_name u.name name) (n + 1) tables)) ≡ Some t) other e)
+]
+
+-- where a table is declared as ours, it is our table
+pub declared_here : (schema : Schema) (db : Trees) (name : List ℕ) (declared : ℕ → Table) (tree : ℕ) → IsSound schema db → IsTable (db catalog_tree) → table_in schema name ≡ Some (declared tree) → (declared tree).tree ≡ tree
+    → Declares schema name declared tree
+declared_here schema db name declared tree sound up there tree_is =
     let rows = table_kept is_table_row (db catalog_tree) up in
     let zip = sound.lists.listed.tables in
-    let at_meta = placed schema (codes "meta") (meta_table m) meta in
-    let at_file = placed schema (codes "file_rev") (file_rev_table f) file in
-    let alone_meta = found_alone (filter is_table_row (db catalog_tree)) schema.tables rows zip at_meta.0 (meta_table m) at_meta.2 in
-    let alone_file = found_alone (filter is_table_row (db catalog_tree)) schema.tables rows zip at_file.0 (file_rev_table f) at_file.2 in
+    let at = placed schema name (declared tree) there in
+    let alone = found_alone (filter is_table_row (db catalog_tree)) schema.tables rows zip at.0 (declared tree) at.2 in
+    let own = found_own name (filter is_table_row (db catalog_tree)) schema.tables rows zip at.0 (declared tree) at.2 (has_name name schema.tables schema.tables 0 (declared tree) (λ k. ap (slice_get schema.tables) (omega arith)) there) in
     record {
-      meta_tree = m;
-      meta = meta;
-      tree = f;
-      file_rev = file;
-      meta_alone = alone_meta.0;
-      alone = alone_file.0;
-      meta_low = alone_meta.1;
-      low = alone_file.1;
-      apart = no_one_table schema m f alone_meta.0 alone_file.0;
+      there = there;
+      alone = subst (λ n. find (λ (u : Table). u.tree == n) schema.tables ≡ Some (declared tree)) tree_is alone.0;
+      own = subst (λ n. list_all (λ (u : Table). not (u.tree == n) || same_name u.name name) schema.tables ≡ true) tree_is own;
+      low = subst (λ n. n < 65536) tree_is alone.1;
     }

@@ -1,17 +1,16 @@
 -- What making a database promises. (this project's own)
-use Rattle.std.specs.Prelude.{◌≡◌, ◌≢◌, ◌⊎◌, ℕ, Bool, true, false, List, [], ◌∷◌, ◌++◌, Option, Some, None, Result, Ok, Err, IfErr, IfOk, IsPermutation, IsTrue, OnErr, OnOk, codes, pos, find, is_some, length, map, nat_lt, if◌then◌else◌, ◌||◌, ◌&&◌, not, unwrap_or}
-use Rattle.std.specs.List.{AllByRecursion, list_any}
+use Rattle.std.specs.Prelude.{◌≡◌, ◌⊎◌, ℕ, Bool, true, false, List, [], ◌∷◌, ◌++◌, Option, Some, None, Result, Ok, Err, IfErr, IfOk, IsTrue, OnErr, OnOk, codes, pos, find, length, map, nat_lt, if◌then◌else◌, ◌||◌}
+use Rattle.std.specs.List.{AllByRecursion, filter_map}
 use Rattle.std.specs.Option.{option_map}
 use Rattle.std.specs.Result.{result_unwrap_or}
 use Rattle.std.specs.Str.{IsUtf8, bytes_eq}
 use Rattle.sqlite.specs.Held.{Held}
 use Rattle.sqlite.specs.State.{Executes, HasCleanDisk, KeepsCommit, Shows, State, Survives}
-use Rattle.sqlite.specs.Effect.{Database, IsDatabase, SparesFrozen}
+use Rattle.sqlite.specs.Effect.{Database, IsDatabase}
 use Rattle.sqlite.specs.Order.{Row}
 use Rattle.sqlite.specs.Schema.{Schema}
 use Rattle.sqlite.specs.declared.error.Error.{Error}
 use Rattle.sqlite.specs.declared.types.Value.TheVariants.{Int}
-use Rattle.sqlite.specs.Table.{Table}
 use Rattle.sqlite.specs.Tree.{Trees}
 use Rattle.sqlite.specs.Does.{lacks_sequence}
 use Rattle.sqlite.specs.Change.{created}
@@ -27,28 +26,21 @@ use Rattle.desk_core.specs.History.{IsHistory, newest_of}
 use Rattle.desk_core.specs.Judging.{is_of_seven, seven}
 use Rattle.desk_core.specs.Site.{IsConsistent}
 use Rattle.desk_store.specs.Desk.{IsSiteHistory, LeavesTables, Shown, Stands}
-use Rattle.desk_store.specs.History.{Holds}
-use Rattle.sqlite_schema.specs.Names.{same_name, table_named}
-use Rattle.sqlite_schema.specs.declared.schema.View.{View}
+use Rattle.desk_store.specs.History.{Holds, approval_of}
 use Rattle.desk_core.specs.Views.{Kept}
-use Rattle.desk_store.specs.Tables.{Adds, HasTables, IsAtRest, IsFree, LeavesCommit, file_rev_table, meta_table, rows_of, table_in}
+use Rattle.desk_store.specs.Tables.{HasTables, IsAtRest, IsFree, LeavesCommit, SpareFrozen, Writes, approval_table, are_referred, file_rev_table, has_later, has_table, meta_table, proposal_table, rows_of}
+use Rattle.desk_exports.specs.declared.profile.Profile.TheVariants.{Two}
+use Rattle.desk_core.specs.declared.entry.Entry.{Entry}
+use Rattle.desk_core.specs.declared.entry.Entry.TheVariants.{Revised}
 use Rattle.desk_store.specs.Rows.{IsFaultOf}
 use Rattle.desk_store.specs.declared.error.StoreFault.{StoreFault}
 use Rattle.desk_store.specs.declared.error.Task.TheVariants as task
 use Rattle.desk_store.specs.declared.error.CreateError.{CreateError}
 use Rattle.desk_store.specs.declared.error.CreateError.TheVariants as refused
 
--- the object is a table with this name that SQL here does not understand: it belongs to itself, and is no trigger
-abbrev pub is_kept_table : List ℕ → View → Bool
-is_kept_table name view = not view.binds && (same_name view.name name && unwrap_or (option_map (same_name name) view.foreign) false)
-
--- a table with this name is there, whether or not SQL here understands it
-abbrev pub has_table : Schema → List ℕ → Bool
-has_table schema name = is_some (table_named schema name) || list_any (is_kept_table name) schema.views
-
--- one of the two tables is there
+-- one of the four tables is there, or a table refers to one of them by a foreign key
 abbrev pub has_one : Schema → Bool
-has_one schema = has_table schema (codes "meta") || has_table schema (codes "file_rev")
+has_one schema = has_table schema (codes "meta") || has_table schema (codes "file_rev") || has_later schema || are_referred schema
 
 -- of each of the seven files its text
 abbrev pub text_of_seven : SiteTexts → List ℕ → List ℕ
@@ -75,15 +67,19 @@ mounts_of texts = result_unwrap_or (read_filesystems texts.filesystems) []
 
 -- the first of these mount points whose exports text is too long
 abbrev pub first_long_mount : SiteTexts → List Mount → Option Mount
-first_long_mount texts mounts = find (λ mount. is_long (texts.exports (path_text mount.path))) mounts
+first_long_mount texts mounts = find (λ mount. is_long (texts.exports (path_text mount.path)).body) mounts
 
 -- the first listed exports file whose text is too long
 abbrev pub first_long_exports : SiteTexts → Option (List ℕ)
 first_long_exports texts = option_map (λ mount. exports_name mount.path) (first_long_mount texts (mounts_of texts))
 
+-- a site whose exports files are read by profile 2: a new database has no other
+abbrev pub by_second : SiteTexts → SiteTexts
+by_second texts = record texts { exports = λ mount. record { profile = Two; body = (texts.exports mount).body } }
+
 -- the fault is one of the seven files
 abbrev pub IsFaultOfSeven : SiteTexts → SiteFault → Type 0
-IsFaultOfSeven texts fault = HasFault texts fault × (is_of_seven fault.file ≡ true)
+IsFaultOfSeven texts fault = HasFault (by_second texts) fault × (is_of_seven fault.file ≡ true)
 
 -- a refusal is a fault of the site, or there is no memory
 abbrev pub IsFaultOrMemory : SiteTexts → CreateError → Type 0
@@ -112,7 +108,7 @@ RefusesSite texts (refused.TooLarge file) =
     (first_long texts ≡ Some file)
     ⊎ ((first_long texts ≡ None) × ((fault : SiteFault) → IsFaultOfSeven texts fault → ⊥) × (first_long_exports texts ≡ Some file))
 RefusesSite texts (refused.Fault fault) =
-    (first_long texts ≡ None) × HasFault texts fault × ((is_of_seven fault.file ≡ true) ⊎ (first_long_exports texts ≡ None))
+    (first_long texts ≡ None) × HasFault (by_second texts) fault × ((is_of_seven fault.file ≡ true) ⊎ (first_long_exports texts ≡ None))
 RefusesSite texts (refused.Store fault) = ⊥
 RefusesSite texts refused.Memory = Unit {0}
 RefusesSite texts refused.Schema = ⊥
@@ -128,29 +124,32 @@ RefusesToCreate schema texts refused.Memory = Unit {0}
 
 -- revision 1 of a file, by `site`
 abbrev pub first_revision : List ℕ → List ℕ → Revision
-first_revision file text = record { file = file; rev = 1; author = codes "site"; body = text }
+first_revision file text = record { file = file; rev = 1; author = codes "site"; approver = None; profile = Two; body = text }
 
 -- that of one of the seven files, and that of the exports file of a mount point
 abbrev pub revision_of_seven : SiteTexts → List ℕ → Revision
 revision_of_seven texts file = first_revision file (text_of_seven texts file)
 
 abbrev pub revision_of_mount : SiteTexts → Mount → Revision
-revision_of_mount texts mount = first_revision (exports_name mount.path) (texts.exports (path_text mount.path))
+revision_of_mount texts mount = first_revision (exports_name mount.path) (texts.exports (path_text mount.path)).body
 
 -- revision 1 of the seven files and of the exports files of these mount points
-abbrev pub history_with : SiteTexts → List Mount → List Revision
-history_with texts mounts = map (revision_of_seven texts) seven ++ map (revision_of_mount texts) mounts
+abbrev pub revisions_with : SiteTexts → List Mount → List Revision
+revisions_with texts mounts = map (revision_of_seven texts) seven ++ map (revision_of_mount texts) mounts
 
--- revision 1 of the seven files and of each listed exports file, by `site`
-abbrev pub first_history : SiteTexts → List Revision
-first_history texts = history_with texts (mounts_of texts)
+-- revision 1 of the seven files and of each listed exports file, by `site`; a new database holds these, and no proposal
+abbrev pub first_revisions : SiteTexts → List Revision
+first_revisions texts = revisions_with texts (mounts_of texts)
+
+abbrev pub first_history : SiteTexts → List Entry
+first_history texts = map Revised (first_revisions texts)
 
 -- the heads of a state are the first revisions of a site, which is consistent, and they are the history of a site
 pub record IsFirstState (texts : SiteTexts) (heads : List Revision) : Type 0 where
-  pub heads_are : heads ≡ first_history texts
+  pub heads_are : heads ≡ first_revisions texts
   pub stored : IsSiteHistory (first_history texts)
   pub newest : newest_in heads ≡ newest_of (first_history texts)
-  pub consistent : IsConsistent texts
+  pub consistent : IsConsistent (by_second texts)
 
 -- what a revision stores is UTF-8
 pub record IsUtf8Revision (revision : Revision) : Type 0 where
@@ -159,59 +158,48 @@ pub record IsUtf8Revision (revision : Revision) : Type 0 where
   pub body : IsUtf8 revision.body
 
 abbrev pub insert_version : List ℕ
-insert_version = codes "INSERT INTO meta(version) VALUES(1)"
+insert_version = codes "INSERT INTO meta(version) VALUES(2)"
 
--- the two tables can be made: their names are free, and `sqlite_sequence` is there if a table counts
+-- the two later tables can be made: their names are free, and `sqlite_sequence` is there if a table counts
+pub record HasLaterRoom (schema : Schema) : Type 0 where
+  pub approval : IsFree schema (codes "approval")
+  pub proposal : IsFree schema (codes "proposal")
+  pub whole : lacks_sequence schema ≡ false
+
+-- the four tables can be made, and no table refers to them
 pub record HasRoom (schema : Schema) : Type 0 where
   pub meta : IsFree schema (codes "meta")
   pub file_rev : IsFree schema (codes "file_rev")
-  pub whole : lacks_sequence schema ≡ false
+  pub later : HasLaterRoom schema
+  pub unreferred : are_referred schema ≡ false
 
--- a schema with `meta` behind its tables, and with `file_rev` and the index of its key behind that
+-- a schema with `meta` behind its tables, and the other three, each with the index of its key, behind that
 abbrev pub with_meta : Schema → Schema
 with_meta schema = created schema (meta_table 0)
 
-abbrev pub with_both : Schema → Schema
-with_both schema = created (with_meta schema) (file_rev_table 0)
+abbrev pub with_four : Schema → Schema
+with_four schema = created (created (created (with_meta schema) (file_rev_table 0)) (approval_table 0)) (proposal_table 0)
 
--- a schema, or it with one table more
-abbrev pub IsGrown : Schema → Schema → Type 0
-IsGrown old new = (new ≡ old) ⊎ ((table : Table) × (new ≡ created old table))
-
--- What statements one after another did: none of them changed what SQL here does not understand. Each left a database that
--- can be opened, with the objects that were listed before, and at most one table more.
-abbrev pub SpareFrozen : Database → List Database → Database → Type 0
-SpareFrozen old [] after = after ≡ old
-SpareFrozen old (next ∷ more) after = SparesFrozen old next × IsDatabase next × IsGrown old.schema next.schema × SpareFrozen next more after
-
--- a database that holds this history in the two tables and that has else what it had: its tables, views and indexes with
+-- a database that holds this history in the four tables and that has else what it had: its tables, views and indexes with
 -- their rows, and all that SQL here does not understand. It is a database that can be opened.
-pub record Makes (history : List Revision) (old after : Database) : Type 0 where
+pub record Makes (history : List Entry) (old after : Database) : Type 0 where
   pub holds : Holds after history
   pub sound : IsDatabase after
-  pub schema : after.schema ≡ with_both old.schema
+  pub schema : after.schema ≡ with_four old.schema
   pub others : AllByRecursion (λ t. after.trees t.tree ≡ old.trees t.tree) old.schema.tables
   pub steps : List Database
   pub frozen : SpareFrozen old steps after
 
--- the two tables are made, with the version, and there is no revision yet
+-- the four tables are made, with the version, and there is no other row yet
 pub record MakesEmpty (old after : Database) : Type 0 where
   pub tables : HasTables after.schema
-  pub version : rows_of after (codes "meta") ≡ (Int (pos 1) ∷ []) ∷ []
+  pub version : rows_of after (codes "meta") ≡ (Int (pos 2) ∷ []) ∷ []
   pub empty : rows_of after (codes "file_rev") ≡ []
+  pub no_approvals : rows_of after (codes "approval") ≡ []
+  pub no_proposals : rows_of after (codes "proposal") ≡ []
   pub sound : IsDatabase after
-  pub schema : after.schema ≡ with_both old.schema
+  pub schema : after.schema ≡ with_four old.schema
   pub others : AllByRecursion (λ t. after.trees t.tree ≡ old.trees t.tree) old.schema.tables
-  pub steps : List Database
-  pub frozen : SpareFrozen old steps after
-
--- Rows stand in `file_rev` beside those before, and all else that SQL understands is as before.
-pub record AddsAll (added : List Row) (old after : Database) : Type 0 where
-  pub sound : IsDatabase old → IsDatabase after
-  pub schema : after.schema ≡ old.schema
-  pub rows : IsPermutation (added ++ rows_of old (codes "file_rev")) (rows_of after (codes "file_rev"))
-  pub version : rows_of after (codes "meta") ≡ rows_of old (codes "meta")
-  pub others : (table : Table) → table_in old.schema (codes "file_rev") ≡ Some table → AllByRecursion (λ t. t.tree ≢ table.tree → after.trees t.tree ≡ old.trees t.tree) old.schema.tables
   pub steps : List Database
   pub frozen : SpareFrozen old steps after
 
@@ -230,30 +218,44 @@ Ran text old new = (count : ℕ) × Executes text [] old new (Ok count)
 abbrev pub MakesRoom : State → State → Type 0
 MakesRoom old new = HasRoom old.now.schema → MakesEmpty old.now new.now
 
--- a row is added, if the tables are there
+-- the two later tables are made: they are behind the others, with no row, and all else is as before
+pub record LaterAreMade (old new : Database) : Type 0 where
+  pub schema : new.schema ≡ created (created old.schema (approval_table 0)) (proposal_table 0)
+  pub no_approvals : rows_of new (codes "approval") ≡ []
+  pub no_proposals : rows_of new (codes "proposal") ≡ []
+  pub others : AllByRecursion (λ t. new.trees t.tree ≡ old.trees t.tree) old.schema.tables
+  pub steps : List Database
+  pub frozen : SpareFrozen old steps new
+  pub sound : IsDatabase new
+
+-- they are made, if there is room for them
+abbrev pub MakesLater : State → State → Type 0
+MakesLater old new = HasLaterRoom old.now.schema → LaterAreMade old.now new.now
+
+-- a revision's row is added, if the tables are there
 abbrev pub AddsRow : Row → State → State → Type 0
-AddsRow row old new = HasTables old.now.schema → Adds row old.now new.now
+AddsRow row old new = HasTables old.now.schema → Writes (row ∷ []) [] (λ proposals. proposals) old.now new.now
 
 -- a transaction is open
 pub record IsInside (s : State) : Type 0 where
   pub is_open : IsTrue s.is_open
   pub mode : s.in_transaction ≡ true
 
--- the rows are added, if the tables are there
+-- the rows are added, if the tables are there (without a row there is no statement after which the database could be opened)
 abbrev pub AddsRows : List Row → State → State → Type 0
-AddsRows rows old new = HasTables old.now.schema → AddsAll rows old.now new.now
+AddsRows rows old new = HasTables old.now.schema → IsDatabase old.now → Writes rows [] (λ proposals. proposals) old.now new.now
 
--- the history is stored in new tables, if there is room for them
+-- revisions that nobody approved are stored in new tables, if there is room for them
 abbrev pub Fills : List Revision → State → State → Type 0
-Fills history old new = HasRoom old.now.schema → IsHistory history → Makes history old.now new.now
+Fills revisions old new = HasRoom old.now.schema → IsHistory (map Revised revisions) → filter_map approval_of revisions ≡ [] → Makes (map Revised revisions) old.now new.now
 
 -- the trees are those of such a database
-abbrev pub MakesTables : List Revision → Database → Trees → Type 0
+abbrev pub MakesTables : List Entry → Database → Trees → Type 0
 MakesTables history old trees = (after : Database) × Makes history old after × (trees ≡ after.trees)
 
 -- What storing a first history in new tables leaves, in one commit, which is the last thing that it does: a crash leaves what
 -- it could before, or that commit; after a success only that commit; and after a refusal the last commit is as it was.
-pub record StoresAll {T : Type 0} (old new : State) (history : List Revision) (result : Result T Error) : Type 0 where
+pub record StoresAll {T : Type 0} (old new : State) (history : List Entry) (result : Result T Error) : Type 0 where
   pub crash : (IsTrue old.is_open → HasRoom old.now.schema) → Survives old new (λ trees. IsTrue old.is_open × MakesTables history old.now trees)
   pub stored : HasCleanDisk new → HasRoom old.now.schema → OnOk result (Makes history old.now new.committed)
   pub settled : HasCleanDisk new → OnOk result (IsTrue new.is_open × (new.now ≡ new.committed))
@@ -322,7 +324,7 @@ MayMake old texts (Err (refused.TooLarge file)) trees = ⊥
 -- How a site is judged when a database is made of it, whatever the disk does: that is done only of a consistent site, whose first
 -- revisions are the history of a site; and a fault, or a text that is too long, is told only of a site that is refused for it.
 abbrev pub JudgesSite : {T : Type 0} → SiteTexts → Result T CreateError → Type 0
-JudgesSite texts (Ok made) = IsConsistent texts × IsSiteHistory (first_history texts)
+JudgesSite texts (Ok made) = IsConsistent (by_second texts) × IsSiteHistory (first_history texts)
 JudgesSite texts (Err (refused.Fault fault)) = RefusesSite texts (refused.Fault fault)
 JudgesSite texts (Err (refused.TooLarge file)) = RefusesSite texts (refused.TooLarge file)
 JudgesSite texts (Err (refused.Store fault)) = IsFaultOf task.MakeTables fault
@@ -332,7 +334,7 @@ JudgesSite texts (Err refused.Memory) = Unit {0}
 -- what making a database did, all together (each part is a clause of `create`)
 pub record IsCreated {V : Type 0} (old new : State) (texts : SiteTexts) (result : Result (Kept V) CreateError) : Type 0 where
   pub judged : JudgesSite texts result
-  pub heads : IfOk result (λ made. made.heads ≡ first_history texts)
+  pub heads : IfOk result (λ made. (made.heads ≡ first_revisions texts) × (made.proposals ≡ []))
   pub made : HasCleanDisk new → IfOk result (IsMade old new texts)
   pub refused : HasCleanDisk new → IfErr result (RefusesToCreate old.committed.schema texts)
   pub unchanged : HasCleanDisk new → IsTrue new.is_open → OnErr result (new.committed ≡ old.committed)

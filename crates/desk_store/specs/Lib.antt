@@ -2,9 +2,12 @@ pub mod Tables
 pub mod History
 pub mod Desk
 pub mod Rows
+pub mod StoredRows
 pub mod Laws
 pub mod Open
 pub mod Create
+pub mod Storing
 pub mod Newest
 pub mod Looks
+pub mod Keys
 pub mod Error

@@ -1,28 +1,30 @@
 //! Making a desk's tables in a database, with the first revisions of a site, in one transaction.
 
-ghost use Rattle.std.specs.Prelude.{◌≡◌, false, is_some, map, IsTrue};
-ghost use Rattle.std.specs.List.{list_any};
+ghost use Rattle.std.specs.Prelude.{◌≡◌, [], false, is_some, map, IsTrue};
+ghost use Rattle.std.specs.List.{filter_map, list_any};
 ghost use Rattle.sqlite.specs.Table.{Table as Declared};
 ghost use Rattle.sqlite.specs.Held.{state};
 ghost use Rattle.sqlite.specs.State.{HasCleanDisk};
 ghost use Rattle.desk_policy.specs.Site.{texts_of};
 ghost use Rattle.desk_core.specs.History.{IsHistory};
+ghost use Rattle.desk_core.specs.declared.entry.Entry.TheVariants.{Revised};
 ghost use Rattle.sqlite.specs.Rows.{sequence};
-ghost use Rattle.desk_store.specs.Create.{HasRoom, IsCreated, IsOfMaking, LooksForRoom, has_one, has_table, is_kept_table, AddsRow, AddsRows, Fills, IsInside, MakesRoom, Ran, RunsInside, StoresAll};
-ghost use Rattle.desk_store.specs.History.{row_of};
+ghost use Rattle.desk_store.specs.Create.{HasLaterRoom, HasRoom, IsCreated, IsOfMaking, LooksForRoom, has_one, AddsRows, Fills, IsInside, MakesLater, MakesRoom, Ran, RunsInside, StoresAll};
+ghost use Rattle.desk_store.specs.History.{approval_of, row_of};
 ghost use Rattle.desk_store.specs.Tables.{IsFree};
 
+use crate::declared::{are_referred, has_later, has_table};
 use crate::error::{CreateError, StoreFault, Task};
 use crate::first::first_state;
+use crate::storing::add_revision;
 use desk_core::{Head, State};
 use desk_policy::{PolicyView, Site};
-use sqlite::{Alter, Connection, Error, ErrorCode, Transaction, params};
-use sqlite_schema::names::same_name;
-use sqlite_schema::schema::{Schema, View};
+use sqlite::{Alter, Connection, Error, ErrorCode, Transaction};
+use sqlite_schema::schema::Schema;
 use std::alloc::Global;
 
 /// Runs a statement without parameters.
-fn run<S: Alter>(tx: &mut Transaction<'_, S>, text: &str) -> Result<(), Error>
+pub(crate) fn run<S: Alter>(tx: &mut Transaction<'_, S>, text: &str) -> Result<(), Error>
     ensures same_reference { tx.new.conn.ghost_name ≡ tx.old.conn.ghost_name }
     ensures ran { RunsInside (state S.Store tx.old.conn.now) (state S.Store tx.new.conn.now) result (Ran text.now) }
 {
@@ -30,7 +32,22 @@ fn run<S: Alter>(tx: &mut Transaction<'_, S>, text: &str) -> Result<(), Error>
     Ok(())
 }
 
-/// Makes the two tables, and writes the version.
+/// Makes the two tables that came with version 2.
+pub(crate) fn make_later<S: Alter>(tx: &mut Transaction<'_, S>) -> Result<(), Error>
+    ensures same_reference { tx.new.conn.ghost_name ≡ tx.old.conn.ghost_name }
+    ensures made { RunsInside (state S.Store tx.old.conn.now) (state S.Store tx.new.conn.now) result MakesLater }
+{
+    run(
+        tx,
+        "CREATE TABLE approval(file TEXT NOT NULL, rev INTEGER NOT NULL,\n  approver TEXT NOT NULL, PRIMARY KEY(file, rev)) STRICT",
+    )?;
+    run(
+        tx,
+        "CREATE TABLE proposal(file TEXT NOT NULL PRIMARY KEY, base INTEGER NOT NULL,\n  author TEXT NOT NULL, body BLOB NOT NULL) STRICT",
+    )
+}
+
+/// Makes the four tables, and writes the version.
 fn make_tables<S: Alter>(tx: &mut Transaction<'_, S>) -> Result<(), Error>
     ensures same_reference { tx.new.conn.ghost_name ≡ tx.old.conn.ghost_name }
     ensures made { RunsInside (state S.Store tx.old.conn.now) (state S.Store tx.new.conn.now) result MakesRoom }
@@ -40,24 +57,8 @@ fn make_tables<S: Alter>(tx: &mut Transaction<'_, S>) -> Result<(), Error>
         tx,
         "CREATE TABLE file_rev(file TEXT NOT NULL, rev INTEGER NOT NULL,\n  author TEXT NOT NULL, profile INTEGER NOT NULL, body BLOB NOT NULL,\n  PRIMARY KEY(file, rev)) STRICT",
     )?;
-    run(tx, "INSERT INTO meta(version) VALUES(1)")
-}
-
-/// Adds a revision.
-fn add_revision<S: Alter>(tx: &mut Transaction<'_, S>, head: &Head) -> Result<(), Error>
-    ensures same_reference { tx.new.conn.ghost_name ≡ tx.old.conn.ghost_name }
-    ensures added { RunsInside (state S.Store tx.old.conn.now) (state S.Store tx.new.conn.now) result (AddsRow (row_of head.now)) }
-{
-    tx.execute(
-        "INSERT INTO file_rev(file, rev, author, profile, body) VALUES(?1, ?2, ?3, 1, ?4)",
-        params![
-            head.file.as_str(),
-            i64::from(head.rev),
-            head.author.as_str(),
-            head.body.as_str().as_bytes()
-        ],
-    )?;
-    Ok(())
+    make_later(tx)?;
+    run(tx, "INSERT INTO meta(version) VALUES(2)")
 }
 
 /// Adds revisions.
@@ -84,8 +85,9 @@ fn fill<S: Alter>(tx: &mut Transaction<'_, S>, heads: &[Head]) -> Result<(), Err
 /// Makes the tables with these revisions, in one transaction. Its commit is the last call of the store.
 fn store_history<S: Alter>(conn: &mut Connection<S>, heads: &[Head]) -> Result<(), Error>
     requires autocommit { (state S.Store conn.old).in_transaction ≡ false }
-    requires history { IsHistory heads.now }
-    ensures stored { StoresAll (state S.Store conn.old) (state S.Store conn.new) heads.now result }
+    requires history { IsHistory (map Revised heads.now) }
+    requires unapproved { filter_map approval_of heads.now ≡ [] }
+    ensures stored { StoresAll (state S.Store conn.old) (state S.Store conn.new) (map Revised heads.now) result }
 {
     let mut tx = conn.transaction();
     fill(&mut tx, heads)?;
@@ -105,37 +107,14 @@ fn not_made(said: Error) -> CreateError
     }
 }
 
-/// Tests whether an object is a table with this name that SQL here does not understand.
-fn is_kept_table(view: &View, name: &[u8]) -> bool
-    ensures { result ≡ is_kept_table name.now view.now }
-{
-    match &view.foreign {
-        Some(owner) => {
-            !view.binds & same_name(view.name.as_slice(), name) & same_name(name, owner.as_slice())
-        }
-        None => false,
-    }
-}
-
-/// Tests whether one of these objects is a table with this name that SQL here does not understand.
-fn keeps_table(views: &[View], name: &[u8]) -> bool
-    ensures { result ≡ list_any (is_kept_table name.now) views.now }
-{
-    views.iter().any(|view| is_kept_table(view, name))
-}
-
-/// Tests whether a schema has a table with this name, be it one that SQL here does not understand.
-fn has_table(schema: &Schema, name: &[u8]) -> bool
-    ensures { result ≡ has_table schema.now name.now }
-{
-    schema.table_named(name).is_some() || keeps_table(schema.views.as_slice(), name)
-}
-
-/// Tests whether a schema has one of the two tables.
+/// Tests whether a schema has one of the four tables, or a table that refers to one.
 fn has_one(schema: &Schema) -> bool
     ensures { result ≡ has_one schema.now }
 {
-    has_table(schema, b"meta".as_slice()) || has_table(schema, b"file_rev".as_slice())
+    has_table(schema, b"meta".as_slice())
+        || has_table(schema, b"file_rev".as_slice())
+        || has_later(schema)
+        || are_referred(schema)
 }
 
 /// Tests whether a name is free.
@@ -168,16 +147,26 @@ fn counts(schema: &Schema) -> bool
         .any(|table| table.is_counted)
 }
 
-/// Tests whether the two tables can be made.
+/// Tests whether the two tables that came with version 2 can be made.
+pub(crate) fn has_later_room(schema: &Schema) -> bool
+    ensures { IsTrue result → HasLaterRoom schema.now }
+{
+    is_free(schema, b"approval".as_slice())
+        && is_free(schema, b"proposal".as_slice())
+        && !(counts(schema) && !has_sequence(schema))
+}
+
+/// Tests whether the four tables can be made.
 fn has_room(schema: &Schema) -> bool
     ensures { IsTrue result → HasRoom schema.now }
 {
     is_free(schema, b"meta".as_slice())
         && is_free(schema, b"file_rev".as_slice())
-        && !(counts(schema) && !has_sequence(schema))
+        && has_later_room(schema)
+        && !are_referred(schema)
 }
 
-/// Tests whether the database of a connection at rest has one of the two tables.
+/// Tests whether the database of a connection at rest has one of the four tables, or a table that refers to one.
 fn sees_one<S: Alter>(conn: &Connection<S>) -> bool
     requires { (state S.Store conn.now).in_transaction ≡ false }
     ensures one { result ≡ has_one (state S.Store conn.now).now.schema }
@@ -186,7 +175,7 @@ fn sees_one<S: Alter>(conn: &Connection<S>) -> bool
     conn.is_autocommit() && has_one(conn.schema())
 }
 
-/// Looks whether the two tables can be made. (A view, an index or a trigger that has one of their names is refused as `sqlite`
+/// Looks whether the four tables can be made. (A view, an index or a trigger that has one of their names is refused as `sqlite`
 /// refuses the statement; so is a schema in which a table counts and `sqlite_sequence` is not there.)
 fn look_for_room<S: Alter>(conn: &mut Connection<S>) -> Result<(), CreateError>
     requires autocommit { (state S.Store conn.old).in_transaction ≡ false }

@@ -4,15 +4,17 @@ ghost use Rattle.std.specs.Prelude.{◌≡◌, ◌≢◌, ◌+◌, ℕ, List, []
 ghost use Rattle.sqlite.specs.Held.{state};
 ghost use Rattle.sqlite.specs.State.{HasCleanDisk, Survives};
 ghost use Rattle.desk_policy.specs.Site.{texts_of};
-ghost use Rattle.desk_core.specs.Edit.{asked, revision_of};
+ghost use Rattle.desk_core.specs.Edit.{asked};
 ghost use Rattle.desk_core.specs.Head.{newest_in};
-ghost use Rattle.desk_core.specs.History.{added_if, newest_of, revisions_of};
-ghost use Rattle.desk_core.specs.Judging.{first_case};
+ghost use Rattle.desk_core.specs.History.{newest_of, revisions_of, standing_of};
+ghost use Rattle.desk_core.specs.Judging.{entry_of, first_case};
 ghost use Rattle.desk_core.specs.Site.{IsConsistent, IsInForce, site_in};
-ghost use Rattle.desk_store.specs.Create.{IsMade, JudgesSite, MayMake, RefusesToCreate, answer_of, first_history};
-ghost use Rattle.desk_store.specs.Desk.{CommitsOne, HasGoodDisk, HasStored, History, IsAccepted, IsEdited, IsJudgedBy, LeavesTables, StandsAt, StaysAsItWas, StepsTo, revision_at, stored_of, told};
-ghost use Rattle.desk_store.specs.History.{row_of};
-ghost use Rattle.desk_store.specs.Open.{IsOfOpening, IsOurs, OpensAt, held_in};
+ghost use Rattle.desk_core.specs.Standing.{proposals_in};
+ghost use Rattle.desk_core.specs.State.{standing};
+ghost use Rattle.desk_store.specs.Create.{IsMade, JudgesSite, MayMake, RefusesToCreate, answer_of, first_revisions};
+ghost use Rattle.desk_store.specs.Desk.{AddsNothing, CommitsOne, HasGoodDisk, HasStored, History, IsAccepted, IsEdited, IsInUtf8, IsJudgedBy, LeavesTables, StandsAt, StaysAsItWas, StepsTo, is_proposed, revision_at, signature_of, stored_of, told};
+ghost use Rattle.desk_store.specs.History.{entry_rows};
+ghost use Rattle.desk_store.specs.Open.{IsOfOpening, IsOurs, LeavesOpened, MayMigrate, OpensAt, held_in};
 ghost use Rattle.desk_store.specs.Rows.{IsOfEdit, IsOfTask};
 ghost use Rattle.desk_store.specs.Tables.{LeavesCommit};
 ghost use Rattle.desk_store.specs.declared.error.DeskError.TheVariants as error;
@@ -21,10 +23,15 @@ ghost use Rattle.desk_store.specs.declared.error.Task.TheVariants as tasks;
 use crate::creating::create_state;
 use crate::database::read_state;
 use crate::error::{CreateError, DeskError, Task};
-use crate::laws::stored_edits_keep_site_histories;
+use crate::laws::answered_edits_keep_site_histories;
 use crate::rows::{find_revision, list_revisions, not_stored};
-use crate::tables::{append_revision, read_numbers, read_revision};
-use desk_core::{Accepted, Edit, Head, Judged, State, newest_of_a_longer_history};
+use crate::signatures::list_signatures;
+use crate::storing::append_entry;
+use crate::tables::{read_approver, read_approvers, read_numbers, read_revision};
+use desk_core::{
+    Accepted, Edit, Entry, Head, Judged, Proposal, State, standing_of_a_longer_history,
+};
+use desk_exports::Profile;
 use desk_policy::{PolicyView, Site};
 use desk_text::{ReadError, Sequence, Text};
 use sqlite::{Alter, Connection};
@@ -39,6 +46,7 @@ pub struct Desk<S: Alter + Drop, V: PolicyView + Drop> {
 }
 
 impl<S: Alter + Drop, V: PolicyView + Drop> Model for Desk<S, V> {
+    ghost use Rattle.std.specs.Prelude.{◌≡◌, false};
     ghost use Rattle.sqlite.specs.Held.{state};
     ghost use Rattle.sqlite.specs.State.{HasCleanDisk};
     ghost use Rattle.desk_store.specs.Desk.{IsDesk, Shown, shown_code};
@@ -49,7 +57,7 @@ impl<S: Alter + Drop, V: PolicyView + Drop> Model for Desk<S, V> {
 
     ghost view = { λ d. record { conn = d.conn; state = d.current } };
 
-    ghost invariant = { λ d. HasCleanDisk (state S.Store d.conn) → IsDesk (state S.Store d.conn) d.current };
+    ghost invariant = { λ d. ((state S.Store d.conn).in_transaction ≡ false) × (HasCleanDisk (state S.Store d.conn) → IsDesk (state S.Store d.conn) d.current) };
 }
 
 /// What an edit is answered that is not refused.
@@ -57,15 +65,32 @@ impl<S: Alter + Drop, V: PolicyView + Drop> Model for Desk<S, V> {
 pub struct Done {
     /// The number of its revision.
     pub rev: u32,
-    /// Whether it was stored before.
+    /// Whether it was stored, or proposed, before.
     pub already: bool,
+    /// Whether it is proposed, and waits for a second custodian.
+    pub proposed: bool,
 }
 
 /// A stored revision.
 #[derive(Drop)]
 pub struct Revision {
     pub author: Text,
+    /// Who approved it, if its file was guarded.
+    pub approver: Option<Text>,
+    /// The profile by which it is read.
+    pub profile: Profile,
     pub body: Text,
+}
+
+/// Who signed a stored revision.
+#[derive(Drop)]
+pub struct Signature {
+    pub rev: u32,
+    pub author: Text,
+    /// Who approved it, if its file was guarded.
+    pub approver: Option<Text>,
+    /// The profile by which it is read.
+    pub profile: Profile,
 }
 
 impl<S: Alter + Drop, V: PolicyView + Drop> Desk<S, V> {
@@ -85,8 +110,11 @@ impl<S: Alter + Drop, V: PolicyView + Drop> Desk<S, V> {
         ensures errors { IfErr result (λ both. IsOfOpening both.0) }
         ensures foreign { IfErr result (λ both. HasCleanDisk (state S.Store both.1) → both.0 ≡ error.Schema → ¬ IsOurs (state S.Store conn).committed) }
 
-        // Whatever is answered, the tables are as before, a crash leaves what it could before, and no transaction is open.
-        ensures tables { LeavesTables (state S.Store conn) (state S.Store (held_in result)) }
+        // A database of version 1 is made one of version 2, with the same history, in one commit; any other stays as it is. Beside an
+        // error the tables are as before. A crash leaves what it could before, or that one commit; and no transaction is open.
+        ensures tables { IfOk result (λ desk. HasGoodDisk S.Store desk → LeavesOpened (state S.Store conn).committed (state S.Store desk.conn).committed) }
+        ensures unchanged { IfErr result (λ both. HasCleanDisk (state S.Store both.1) → IsTrue (state S.Store both.1).is_open → (state S.Store both.1).committed ≡ (state S.Store conn).committed) }
+        ensures crash { Survives (state S.Store conn) (state S.Store (held_in result)) (MayMigrate (state S.Store conn)) }
         ensures mode { (state S.Store (held_in result)).in_transaction ≡ false }
     {
         match read_state(alloc, &mut conn) {
@@ -123,7 +151,26 @@ impl<S: Alter + Drop, V: PolicyView + Drop> Desk<S, V> {
         self.current.heads()
     }
 
-    /// Judges an edit, stores its revision in one commit, and puts it in force. The reply can be made before.
+    /// Lends the proposals, in no order. This takes no statement.
+    pub fn proposals(&self) -> &[Proposal]
+        ensures proposals { result.now ≡ self.now.state.proposals }
+        ensures stood_at { (history pending : History) → StandsAt S.Store self.now history pending
+            → (file : List ℕ) → proposals_in result.now file ≡ (standing_of history).proposals file }
+    {
+        self.current.proposals()
+    }
+
+    /// Finds the proposal of a file. This takes no statement.
+    pub fn proposal(&self, file: &str) -> Option<&Proposal>
+        ensures proposal { option_copied result ≡ proposals_in self.now.state.proposals file.now }
+        ensures stood_at { (history pending : History) → StandsAt S.Store self.now history pending
+            → option_copied result ≡ (standing_of history).proposals file.now }
+    {
+        self.current.proposal(file)
+    }
+
+    /// Judges an edit, stores its revision or its proposal in one commit, and puts a revision in force. The reply can be made
+    /// before.
     pub fn edit(&mut self, alloc: Global, edit: &Edit<'_>) -> Result<Done, DeskError>
         ensures number { IfOk result (λ done. done.rev ≡ edit.now.base + 1) }
 
@@ -134,21 +181,21 @@ impl<S: Alter + Drop, V: PolicyView + Drop> Desk<S, V> {
         ensures step { HasGoodDisk S.Store self.new → (history pending : History)
             → StandsAt S.Store self.old history pending
             → StepsTo S.Store self.new (asked edit.now) (told result) history pending }
-        ensures unanswered { told result ≡ None → first_case (newest_in self.old.state.heads) (asked edit.now) ≡ None }
+        ensures unanswered { told result ≡ None → first_case (standing self.old.state) (asked edit.now) ≡ None }
         ensures schema { result ≢ Err error.Schema }
         ensures errors { IfErr result IsOfEdit }
 
         // What was not stored changed nothing.
-        ensures unchanged { added_if (asked edit.now) (told result) ≡ [] → self.new.state ≡ self.old.state }
-        ensures tables { HasGoodDisk S.Store self.new → IsTrue (state S.Store self.new.conn).is_open → added_if (asked edit.now) (told result) ≡ []
+        ensures unchanged { AddsNothing self.old.state (asked edit.now) (told result) → self.new.state ≡ self.old.state }
+        ensures tables { HasGoodDisk S.Store self.new → IsTrue (state S.Store self.new.conn).is_open → AddsNothing self.old.state (asked edit.now) (told result)
             → (state S.Store self.new.conn).committed ≡ (state S.Store self.old.conn).committed }
 
-        // A crash at any moment leaves what it could before, or the edit's one commit. Once the edit is answered as stored, its
-        // revision is the one row more of the tables, and a crash leaves that.
+        // A crash at any moment leaves what it could before, or the edit's one commit. Once the edit is answered as stored or as
+        // proposed, its rows stand in the tables, and a crash leaves that.
         ensures crash { Survives (state S.Store self.old.conn) (state S.Store self.new.conn)
             (CommitsOne self.old.state (asked edit.now) (told result) (state S.Store self.old.conn).committed) }
-        ensures durable { HasGoodDisk S.Store self.new → added_if (asked edit.now) (told result) ≢ []
-            → HasStored (row_of (revision_of (asked edit.now))) (state S.Store self.old.conn) (state S.Store self.new.conn) }
+        ensures durable { HasGoodDisk S.Store self.new → ¬ AddsNothing self.old.state (asked edit.now) (told result)
+            → HasStored (entry_rows (entry_of (standing self.old.state) (asked edit.now))) (state S.Store self.old.conn) (state S.Store self.new.conn) }
     {
         // The view is that of a consistent site.
         let _view = self.current.view();
@@ -169,9 +216,16 @@ impl<S: Alter + Drop, V: PolicyView + Drop> Desk<S, V> {
         ensures errors { IfErr result (IsOfTask tasks.ReadRevisions) }
         ensures tables { LeavesTables (state S.Store self.old.conn) (state S.Store self.new.conn) }
     {
-        match read_revision(&mut self.conn, file, rev) {
-            Ok(rows) => find_revision(alloc, rows.as_slice()),
-            Err(e) => Err(not_stored(Task::ReadRevisions, e)),
+        let rows = match read_revision(&mut self.conn, file, rev) {
+            Ok(rows) => rows,
+            Err(e) => return Err(not_stored(Task::ReadRevisions, e)),
+        };
+        match read_approver(&mut self.conn, file, rev) {
+            Ok(approvals) => find_revision(alloc, rows.as_slice(), approvals.as_slice()),
+            Err(e) => {
+                drop(rows);
+                Err(not_stored(Task::ReadRevisions, e))
+            }
         }
     }
 
@@ -194,10 +248,36 @@ impl<S: Alter + Drop, V: PolicyView + Drop> Desk<S, V> {
         }
     }
 
+    /// Lists who signed a file's revisions, in the order of their numbers. An error changes nothing.
+    pub fn signatures(
+        &mut self,
+        alloc: Global,
+        file: &str,
+    ) -> Result<Sequence<Signature>, DeskError>
+        ensures stays { StaysAsItWas S.Store self.old self.new }
+        ensures found { HasGoodDisk S.Store self.new → (history pending : History)
+            → StandsAt S.Store self.old history pending
+            → IfOk result (λ found. found ≡ map signature_of (revisions_of file.now history)) }
+        ensures errors { IfErr result (IsOfTask tasks.ReadRevisions) }
+        ensures tables { LeavesTables (state S.Store self.old.conn) (state S.Store self.new.conn) }
+    {
+        let rows = match read_numbers(&mut self.conn, file) {
+            Ok(rows) => rows,
+            Err(e) => return Err(not_stored(Task::ReadRevisions, e)),
+        };
+        match read_approvers(&mut self.conn, file) {
+            Ok(approvals) => list_signatures(alloc, rows.as_slice(), approvals.as_slice()),
+            Err(e) => {
+                drop(rows);
+                Err(not_stored(Task::ReadRevisions, e))
+            }
+        }
+    }
+
     /// Gives the connection back, as it stands, with no transaction open.
     pub fn into_connection(self) -> Connection<S>
         ensures same { result ≡ self.conn }
-        ensures mode { HasCleanDisk (state S.Store result) → (state S.Store result).in_transaction ≡ false }
+        ensures mode { (state S.Store result).in_transaction ≡ false }
     {
         self.conn
     }
@@ -218,7 +298,8 @@ impl<S: Alter + Drop, V: PolicyView + Drop> Desk<S, V> {
         // Whatever the disk does, a desk is made only of a consistent site, and has its first revisions; and a site is refused only
         // for what it is.
         ensures judged { JudgesSite (texts_of site.now) (answer_of result) }
-        ensures heads { IfOk result (λ desk. desk.state.heads ≡ first_history (texts_of site.now)) }
+        ensures heads { IfOk result (λ desk. desk.state.heads ≡ first_revisions (texts_of site.now)) }
+        ensures proposals { IfOk result (λ desk. desk.state.proposals ≡ []) }
 
         // A refusal names the first reason in the order of `RefusesToCreate`, or out of memory or a refused statement. While the
         // store is open the tables are as before; what a crash leaves is said below.
@@ -243,31 +324,57 @@ impl<S: Alter + Drop, V: PolicyView + Drop> Desk<S, V> {
         ensures errors { IfErr result IsOfEdit }
     {
         match self.current.judge(alloc, edit) {
-            Ok(Judged::Already(rev)) => Ok(Done { rev, already: true }),
+            Ok(Judged::Already { rev, proposed }) => Ok(Done {
+                rev,
+                already: true,
+                proposed,
+            }),
             Ok(Judged::Accepted(accepted)) => self.store(edit, accepted),
             Err(ReadError::Fault(refusal)) => Err(DeskError::Refused(refusal)),
             Err(ReadError::Memory) => Err(DeskError::Memory),
         }
     }
 
-    /// Stores the revision of an edit that this desk, as it is, has accepted, and puts it in force.
+    /// Stores the revision or the proposal of an edit that this desk, as it is, has accepted, and puts a revision in force.
     fn store(&mut self, edit: &Edit<'_>, accepted: Accepted<V>) -> Result<Done, DeskError>
         requires sound { IsConsistent (site_in (newest_in self.old.state.heads)) }
         requires accepted { IsAccepted V.in_force self.old.state (asked edit.now) accepted }
         ensures edited { IsEdited (state S.Store self.old.conn) (state S.Store self.new.conn) self.old.state self.new.state (asked edit.now) result }
         ensures errors { IfErr result IsOfEdit }
     {
-        newest_of_a_longer_history();
-        stored_edits_keep_site_histories();
+        standing_of_a_longer_history();
+        answered_edits_keep_site_histories();
+        texts_are_utf8(edit);
         let rev = edit.base + 1;
-        let body = edit.text.as_bytes();
-        if let Err(e) = append_revision(&mut self.conn, edit.file, rev, edit.caller, body) {
-            return Err(not_stored(Task::AddRevision, e));
+        let proposed = is_proposed(accepted.entry());
+        if let Err(e) = append_entry(&mut self.conn, accepted.entry()) {
+            drop(accepted);
+            return Err(not_stored(Task::AddEntry, e));
         }
         self.current.apply(accepted);
         Ok(Done {
             rev,
             already: false,
+            proposed,
         })
+    }
+}
+
+/// The texts of an edit are UTF-8.
+fn texts_are_utf8(edit: &Edit<'_>)
+    ensures { IsInUtf8 (asked edit.now) }
+{
+    edit.file.as_bytes();
+    edit.caller.as_bytes();
+    edit.text.as_bytes();
+}
+
+/// Tests whether what is stored is a proposal.
+fn is_proposed(entry: &Entry) -> bool
+    ensures { result ≡ is_proposed entry.now }
+{
+    match entry {
+        Entry::Proposed(_) => true,
+        Entry::Revised(_) => false,
     }
 }

@@ -20,16 +20,18 @@ pub const MEMORY_NUMBER: u32 = 203;
 /// What a statement was for.
 #[derive(Clone, Copy)]
 pub enum Task {
-    /// Adding the revision of an edit.
-    AddRevision,
+    /// Storing the revision or the proposal of an edit.
+    AddEntry,
     /// Reading the revisions.
     ReadRevisions,
-    /// Looking for the two tables.
+    /// Looking for the tables.
     FindTables,
     /// Reading the version of the database.
     ReadVersion,
-    /// Making the two tables, with the first revisions.
+    /// Making the four tables, with the first revisions.
     MakeTables,
+    /// Making a database of version 1 one of version 2.
+    Migrate,
 }
 
 /// A statement that was refused, or whose answer is not one that a database of this project gives.
@@ -84,7 +86,7 @@ impl DeskError {
 pub enum CreateError {
     /// A statement was refused.
     Store(StoreFault),
-    /// One of the two tables is there.
+    /// One of the four tables is there.
     Schema,
     /// There is no memory.
     Memory,

@@ -10,12 +10,13 @@ ghost use Rattle.desk_policy.specs.SiteFault.{exports_name};
 ghost use Rattle.desk_policy.specs.declared.site_fault.SiteFault.{SiteFault};
 ghost use Rattle.desk_core.specs.Head.{CanBeKept, newest_in};
 ghost use Rattle.desk_core.specs.Judging.{is_of_seven, seven};
-ghost use Rattle.desk_store.specs.Create.{IsFaultOfSeven, IsFaultOrMemory, IsFirstState, IsSevenOrMemory, IsUtf8Revision, RefusesSite, TellsTooLarge, first_long, first_long_exports, first_long_mount, first_revision, history_with, is_long, mounts_of, revision_of_mount, revision_of_seven};
+ghost use Rattle.desk_store.specs.Create.{IsFaultOfSeven, IsFaultOrMemory, IsFirstState, IsSevenOrMemory, IsUtf8Revision, RefusesSite, TellsTooLarge, first_long, first_long_exports, first_long_mount, first_revision, revisions_with, is_long, mounts_of, revision_of_mount, revision_of_seven};
 ghost use Rattle.desk_core.specs.Site.{IsConsistent, site_in};
 ghost use Rattle.desk_store.specs.declared.error.CreateError.TheVariants as refused;
 
 use crate::error::CreateError;
 use desk_core::{Head, LONGEST_REVISION, State};
+use desk_exports::Profile;
 use desk_policy::{PolicyView, Site, SiteFault, SiteFile, exports_file_name};
 use desk_tables::laws::{mount_points_read_back, tables_are_in_order};
 use desk_tables::{FileSystems, Mount};
@@ -61,7 +62,7 @@ fn first_long_mount<'a>(site: &Site, mounts: &'a [Mount]) -> Option<&'a Mount>
         .find(|mount| is_long(site.exports_text(mount.path.text())))
 }
 
-/// Makes revision 1 of a file, by `site`.
+/// Makes revision 1 of a file, by `site`. It is read by profile 2, whatever profile the site has it with.
 fn first_revision(alloc: Global, file: &str, text: &str) -> Result<Head, AllocError>
     ensures made { IfOk result (λ head. head ≡ first_revision file.now text.now) }
     ensures utf8 { IfOk result IsUtf8Revision }
@@ -70,6 +71,8 @@ fn first_revision(alloc: Global, file: &str, text: &str) -> Result<Head, AllocEr
         file: Text::copy(alloc, file)?,
         rev: 1,
         author: Text::copy(alloc, "site")?,
+        approver: None,
+        profile: Profile::Two,
         body: Text::copy(alloc, text)?,
     })
 }
@@ -111,7 +114,7 @@ fn revisions_of_seven(alloc: Global, site: &Site) -> Result<Vec<Head>, AllocErro
 
 /// Makes revision 1 of the seven files and of the exports files of these mount points.
 fn first_heads(alloc: Global, site: &Site, mounts: &[Mount]) -> Result<Vec<Head>, AllocError>
-    ensures made { IfOk result (λ heads. heads.items ≡ history_with (texts_of site.now) mounts.now) }
+    ensures made { IfOk result (λ heads. heads.items ≡ revisions_with (texts_of site.now) mounts.now) }
     ensures utf8 { IfOk result (λ heads. All IsUtf8Revision heads.items) }
 {
     let mut heads = revisions_of_seven(alloc, site)?;
@@ -145,14 +148,15 @@ fn mounts_in(table: &Option<FileSystems>) -> &[Mount]
     }
 }
 
-/// Makes the state of first revisions, or gives the fault of their site.
+/// Makes the state of first revisions, without a proposal, or gives the fault of their site.
 fn state_of<V: PolicyView + Drop>(alloc: Global, heads: Vec<Head>) -> Result<State<V>, CreateError>
     requires { All CanBeKept heads.items }
     ensures made { IfOk result (λ state. state.heads ≡ heads.items) }
+    ensures proposals { IfOk result (λ state. state.proposals ≡ []) }
     ensures consistent { IfOk result (λ state. IsConsistent (site_in (newest_in heads.items))) }
     ensures errors { IfErr result (IsFaultOrMemory (site_in (newest_in heads.items))) }
 {
-    match State::from_heads(alloc, heads) {
+    match State::from_heads(alloc, heads, Vec::new(alloc)) {
         Ok(state) => Ok(state),
         Err(ReadError::Fault(fault)) => Err(CreateError::Fault(fault)),
         Err(ReadError::Memory) => Err(CreateError::Memory),
@@ -195,7 +199,11 @@ fn fault_of_seven<V: PolicyView + Drop>(alloc: Global, site: &Site) -> Result<()
     let Ok(heads) = revisions_of_seven(alloc, site) else {
         return Err(CreateError::Memory);
     };
-    let state: Result<State<V>, ReadError<SiteFault>> = State::from_heads(alloc, heads);
+    let state: Result<State<V>, ReadError<SiteFault>> = State::from_heads(
+        alloc,
+        heads,
+        Vec::new(alloc),
+    );
     match state {
         Ok(_) => Ok(()),
         Err(ReadError::Fault(fault)) => if_seven(fault),
@@ -238,6 +246,7 @@ fn state_with<V: PolicyView + Drop>(
     requires short { first_long (texts_of site.now) ≡ None }
     requires exports { first_long_mount (texts_of site.now) (mounts_of (texts_of site.now)) ≡ None }
     ensures made { IfOk result (λ state. IsFirstState (texts_of site.now) state.heads) }
+    ensures proposals { IfOk result (λ state. state.proposals ≡ []) }
     ensures refused { IfErr result (RefusesSite (texts_of site.now)) }
 {
     tables_are_in_order();
@@ -254,6 +263,7 @@ pub(crate) fn first_state<V: PolicyView + Drop>(
     site: &Site,
 ) -> Result<State<V>, CreateError>
     ensures made { IfOk result (λ state. IsFirstState (texts_of site.now) state.heads) }
+    ensures proposals { IfOk result (λ state. state.proposals ≡ []) }
     ensures refused { IfErr result (RefusesSite (texts_of site.now)) }
 {
     if let Some(file) = first_long(site) {

@@ -1,10 +1,10 @@
 //! What the definitions of this crate come to, each as a function that does nothing of its own.
 
-ghost use Rattle.desk_store.specs.Laws.{CallsAreARun, CrashesLeaveDesks, CrashesLeaveFirstHistories, DeclaredTablesAreOurs, EditsAreARun, OneHistory, PendingEditsHaveNoAnswer, StoredEditsKeepSiteHistories};
+ghost use Rattle.desk_store.specs.Laws.{AnsweredEditsKeepSiteHistories, CallsAreARun, CrashesLeaveDesks, CrashesLeaveFirstHistories, DeclaredTablesAreOurs, EditsAreARun, OneHistory, PendingEditsHaveNoAnswer, StopsInOpeningLeaveDesks};
 
 use desk_core::{
-    answers_are_right, known_files_have_names, newest_of_a_longer_history,
-    stored_edits_keep_the_numbers,
+    answered_edits_keep_the_numbers, answers_are_right, known_files_have_names,
+    standing_of_a_longer_history,
 };
 use desk_policy::PolicyView;
 use sqlite::Alter;
@@ -20,7 +20,7 @@ pub fn calls_are_a_run<S: Alter + Drop, V: PolicyView + Drop>()
     ensures { CallsAreARun S V S.Store }
 {}
 
-/// A revision that a crash may still bring to light is that of an edit that had no answer, after the last stored one.
+/// An entry that a crash may still bring to light is that of an edit that had no answer, after the last stored one.
 pub fn pending_edits_have_no_answer()
     ensures { PendingEditsHaveNoAnswer }
 {}
@@ -37,22 +37,27 @@ pub fn crashes_leave_first_histories<S: Alter + Drop, T: Alter + Drop, V: Policy
     ensures { CrashesLeaveFirstHistories S T V S.Store T.Store }
 {}
 
+/// What a stop while a desk is opened leaves is a database of this project, with the same histories.
+pub fn stops_in_opening_leave_desks<S: Alter + Drop, T: Alter + Drop>()
+    ensures { StopsInOpeningLeaveDesks S T S.Store T.Store }
+{}
+
 /// The same tables hold one history, file by file: the order in which their rows are read does not matter.
 pub fn one_history()
     ensures { OneHistory }
 {}
 
-/// Two tables that a database declares as the project's are the project's tables.
+/// Tables that a database declares as the project's are the project's tables.
 pub fn declared_tables_are_ours()
     ensures { DeclaredTablesAreOurs }
 {}
 
-/// The history of a site with the revision of a stored edit is one, too: no `open` answers `Schema` of tables that hold it.
-pub fn stored_edits_keep_site_histories()
-    ensures { StoredEditsKeepSiteHistories }
+/// The history of a site with what an answered edit adds is one, too: no `open` answers `Schema` of tables that hold it.
+pub fn answered_edits_keep_site_histories()
+    ensures { AnsweredEditsKeepSiteHistories }
 {
     answers_are_right();
     known_files_have_names();
-    newest_of_a_longer_history();
-    stored_edits_keep_the_numbers()
+    standing_of_a_longer_history();
+    answered_edits_keep_the_numbers()
 }

@@ -16,19 +16,26 @@ pub mod declared;
 pub mod desk;
 pub mod error;
 mod first;
+mod keys;
 pub mod laws;
 mod newest;
 mod opening;
+mod pending;
 mod rows;
+mod signatures;
 mod stored;
+mod storing;
 mod tables;
 
-pub use declared::{declares_file_rev, declares_meta};
-pub use desk::{Desk, Done, Revision};
+pub use declared::{
+    Version, declares_approval, declares_file_rev, declares_meta, declares_proposal,
+};
+pub use desk::{Desk, Done, Revision, Signature};
 pub use error::{
     CreateError, DeskError, MEMORY_NUMBER, SCHEMA_NUMBER, STORE_NUMBER, StoreFault, Task,
 };
 pub use laws::{
-    calls_are_a_run, crashes_leave_desks, crashes_leave_first_histories, declared_tables_are_ours,
-    edits_are_a_run, one_history, pending_edits_have_no_answer, stored_edits_keep_site_histories,
+    answered_edits_keep_site_histories, calls_are_a_run, crashes_leave_desks,
+    crashes_leave_first_histories, declared_tables_are_ours, edits_are_a_run, one_history,
+    pending_edits_have_no_answer, stops_in_opening_leave_desks,
 };

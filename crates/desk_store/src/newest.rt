@@ -1,25 +1,26 @@
 //! The newest of a database's revisions.
 
-ghost use Rattle.std.specs.Prelude.{◌≡◌, ◌≢◌, ◌+◌, ◌==◌, ℕ, List, Contains, Err, IfErr, IfOk, IsPermutation, OnOk, filter, if◌then◌else◌};
+ghost use Rattle.std.specs.Prelude.{◌≡◌, ◌≢◌, ◌+◌, ◌==◌, ℕ, List, Contains, Err, IfErr, IfOk, IsPermutation, OnOk, filter, map, if◌then◌else◌};
 ghost use Rattle.std.specs.List.Sorted.{IsNonDecreasingBy};
 ghost use Rattle.std.specs.Str.{bytes_eq};
 ghost use Rattle.desk_core.specs.Head.{Revision, StandOnce, newest_in};
 ghost use Rattle.desk_core.specs.History.{IsHistory, newest_of};
+ghost use Rattle.desk_core.specs.declared.entry.Entry.TheVariants.{Revised};
 ghost use Rattle.desk_store.specs.Newest.{AreNewest, number_in};
 ghost use Rattle.desk_store.specs.Open.{IsOfRows};
 ghost use Rattle.desk_store.specs.declared.error.DeskError.TheVariants as error;
 
 use crate::error::DeskError;
-use desk_core::{Head, newest_of_a_longer_history};
+use desk_core::{Head, standing_of_a_longer_history};
 use std::alloc::{AllocError, Global};
 use std::collections::BTreeMap;
 
 /// Finds the newest revision of each file, if the revisions of each file are numbered 1, 2, .. without a gap; else `Schema`.
 pub(crate) fn newest_heads(alloc: Global, revisions: Vec<Head>) -> Result<Vec<Head>, DeskError>
-    ensures newest { IfOk result (λ heads. (history : List Revision) × IsPermutation revisions.items history × IsHistory history × (newest_in heads.items ≡ newest_of history)) }
+    ensures newest { IfOk result (λ heads. (history : List Revision) × IsPermutation revisions.items history × IsHistory (map Revised history) × (newest_in heads.items ≡ newest_of (map Revised history))) }
     ensures among { IfOk result (λ heads. (head : Revision) → Contains heads.items head → Contains revisions.items head) }
     ensures once { IfOk result (λ heads. StandOnce heads.items) }
-    ensures gap { result ≡ Err error.Schema → (history : List Revision) → IsPermutation revisions.items history → IsHistory history → ⊥ }
+    ensures gap { result ≡ Err error.Schema → (history : List Revision) → IsPermutation revisions.items history → IsHistory (map Revised history) → ⊥ }
     ensures errors { IfErr result IsOfRows }
 {
     let Ok(mut revisions) = by_number(revisions) else {
@@ -80,12 +81,12 @@ fn number_of(numbers: &BTreeMap<String, u32>, file: &str) -> u32
 /// Finds the number of each file's newest revision, if each revision's number is that after those of its file before it;
 /// else `Schema`.
 fn newest_numbers(alloc: Global, revisions: &[Head]) -> Result<BTreeMap<String, u32>, DeskError>
-    ensures history { IfOk result (λ numbers. IsHistory revisions.now) }
-    ensures newest { IfOk result (λ numbers. AreNewest numbers revisions.now) }
-    ensures gap { result ≡ Err error.Schema → IsHistory revisions.now → ⊥ }
+    ensures history { IfOk result (λ numbers. IsHistory (map Revised revisions.now)) }
+    ensures newest { IfOk result (λ numbers. AreNewest numbers (map Revised revisions.now)) }
+    ensures gap { result ≡ Err error.Schema → IsHistory (map Revised revisions.now) → ⊥ }
     ensures errors { IfErr result IsOfRows }
 {
-    newest_of_a_longer_history();
+    standing_of_a_longer_history();
     let mut numbers: BTreeMap<String, u32> = BTreeMap::new(alloc);
     for revision in revisions {
         if let Err(e) = keep_number(alloc, &mut numbers, revision) {

@@ -1,22 +1,28 @@
 //! The state that the rows of a database stand for.
 
-ghost use Rattle.std.specs.Prelude.{◌≡◌, ◌↔◌, ◌∷◌, [], pos, Err, IfErr, IfOk, IsPermutation, IsTrue, OnOk, All, map};
-ghost use Rattle.std.specs.List.{list_all};
+ghost use Rattle.std.specs.Prelude.{◌≡◌, ◌↔◌, ◌∷◌, [], pos, Err, IfErr, IfOk, IsPermutation, IsTrue, List, OnOk, All, map};
+ghost use Rattle.std.specs.List.{filter_map, list_all};
 ghost use Rattle.sqlite.specs.declared.types.Value.TheVariants.{Int};
-ghost use Rattle.desk_core.specs.Head.{CanBeKept, StandOnce, newest_in};
-ghost use Rattle.desk_core.specs.History.{newest_of};
+ghost use Rattle.desk_core.specs.Head.{CanBeKept, Revision, StandOnce, newest_in};
+ghost use Rattle.desk_core.specs.History.{IsHistory, standing_of};
 ghost use Rattle.desk_core.specs.Judging.{seven};
 ghost use Rattle.desk_core.specs.Site.{IsConsistent, site_in};
-ghost use Rattle.desk_store.specs.Desk.{History, IsSiteHistory};
-ghost use Rattle.desk_store.specs.History.{row_of};
+ghost use Rattle.desk_core.specs.Standing.{CanBePending, standing_in};
+ghost use Rattle.desk_core.specs.State.{standing};
+ghost use Rattle.desk_core.specs.declared.entry.Entry.TheVariants.{Revised};
+ghost use Rattle.desk_store.specs.Desk.{History, IsSiteHistory, IsStorable};
+ghost use Rattle.desk_store.specs.History.{approval_of, row_of};
 ghost use Rattle.desk_store.specs.Newest.{has_revision};
-ghost use Rattle.desk_store.specs.Open.{IsOfRows};
+ghost use Rattle.desk_store.specs.Open.{IsOfRows, version_number, version_rows};
+ghost use Rattle.desk_store.specs.StoredRows.{AreNewestOf, AreRowsOf};
 ghost use Rattle.desk_store.specs.declared.error.DeskError.TheVariants as error;
 
+use crate::declared::Version;
 use crate::error::DeskError;
 use crate::newest::newest_heads;
-use crate::stored::{number_in, revisions_in};
-use desk_core::{Head, State, consistent_sites_have_no_fault};
+use crate::pending::{approve, may_follow};
+use crate::stored::{approvals_in, number_in, proposals_in, revisions_in};
+use desk_core::{Head, Proposal, State, consistent_sites_have_no_fault};
 use desk_policy::PolicyView;
 use desk_text::ReadError;
 use sqlite::Row;
@@ -42,73 +48,104 @@ fn has_file(heads: &[Head], file: &str) -> bool
     heads.iter().any(|head| head.file.as_str() == file)
 }
 
-/// Tests whether the rows of `meta` are the one row 1.
-fn is_version_one(rows: &[Row]) -> bool
-    ensures { IsTrue result ↔ (rows.now ≡ (Int (pos 1) ∷ []) ∷ []) }
+/// Returns the number of a version.
+fn number_of(version: Version) -> u32
+    ensures { result ≡ version_number version }
 {
-    match rows {
-        [row] => is_one(row),
-        _ => false,
+    match version {
+        Version::First => 1,
+        Version::Second => 2,
     }
 }
 
-/// Accepts the rows of `meta` if they are the one row 1; else `Schema`.
-pub(crate) fn version_of(rows: &[Row]) -> Result<(), DeskError>
-    ensures version { OnOk result (rows.now ≡ (Int (pos 1) ∷ []) ∷ []) }
-    ensures foreign { result ≡ Err error.Schema → rows.now ≡ (Int (pos 1) ∷ []) ∷ [] → ⊥ }
+/// Accepts the rows of `meta` if they are the one row of this version; else `Schema`.
+pub(crate) fn accept_version(rows: &[Row], version: Version) -> Result<(), DeskError>
+    ensures version { OnOk result (rows.now ≡ version_rows version) }
+    ensures foreign { result ≡ Err error.Schema → rows.now ≡ version_rows version → ⊥ }
     ensures errors { IfErr result IsOfRows }
 {
-    if is_version_one(rows) {
+    if is_version(rows, number_of(version)) {
         Ok(())
     } else {
         Err(DeskError::Schema)
     }
 }
 
-/// Tests whether a row is the number 1 and nothing else.
-fn is_one(row: &Row) -> bool
-    ensures { IsTrue result ↔ (row.now ≡ Int (pos 1) ∷ []) }
+/// Tests whether rows are one row, which is this number and nothing else.
+fn is_version(rows: &[Row], number: u32) -> bool
+    ensures { IsTrue result ↔ (rows.now ≡ (Int (pos number) ∷ []) ∷ []) }
 {
-    if row.column_count() != 1 {
-        return false;
-    }
-    match number_in(row, 0) {
-        Some(number) => number == 1,
-        None => false,
+    match rows {
+        [row] => row.column_count() == 1 && number_in(row, 0) == Some(number),
+        _ => false,
     }
 }
 
-/// Makes the state of the newest revisions; `Schema` if the site that they write is not consistent.
-fn state_of<V: PolicyView + Drop>(alloc: Global, heads: Vec<Head>) -> Result<State<V>, DeskError>
-    requires { All CanBeKept heads.items }
-    ensures made { IfOk result (λ state. state.heads ≡ heads.items) }
+/// Makes the state of the newest revisions and of proposals; `Schema` if the site that they write is not consistent.
+fn state_of<V: PolicyView + Drop>(
+    alloc: Global,
+    heads: Vec<Head>,
+    proposals: Vec<Proposal>,
+) -> Result<State<V>, DeskError>
+    requires heads { All CanBeKept heads.items }
+    requires proposals { All CanBePending proposals.items }
+    ensures made { IfOk result (λ state. standing state ≡ standing_in heads.items proposals.items) }
+    ensures kept { IfOk result (λ state. state.heads ≡ heads.items) }
     ensures consistent { IfOk result (λ state. IsConsistent (site_in (newest_in heads.items))) }
     ensures foreign { result ≡ Err error.Schema → IsConsistent (site_in (newest_in heads.items)) → ⊥ }
     ensures errors { IfErr result IsOfRows }
 {
     consistent_sites_have_no_fault();
-    match State::from_heads(alloc, heads) {
+    match State::from_heads(alloc, heads, proposals) {
         Ok(state) => Ok(state),
         Err(ReadError::Fault(_)) => Err(DeskError::Schema),
         Err(ReadError::Memory) => Err(DeskError::Memory),
     }
 }
 
-/// Makes the state that the rows of `file_rev` stand for; `Schema` if they are not the rows of the history of a site.
+/// Makes the state that the rows of a database stand for; `Schema` if they are not those of the history of a site.
 pub(crate) fn state_in<V: PolicyView + Drop>(
     alloc: Global,
-    rows: &[Row],
+    revisions: &[Row],
+    approvals: &[Row],
+    proposals: &[Row],
 ) -> Result<State<V>, DeskError>
-    ensures history { IfOk result (λ state. (history : History) × IsSiteHistory history × IsPermutation (map row_of history) rows.now × (newest_in state.heads ≡ newest_of history)) }
+    ensures history { IfOk result (λ state. (history : History) × IsSiteHistory history × AreRowsOf history revisions.now approvals.now proposals.now × (standing state ≡ standing_of history)) }
     ensures once { IfOk result (λ state. StandOnce state.heads) }
-    ensures foreign { result ≡ Err error.Schema → (history : History) → IsSiteHistory history → IsPermutation (map row_of history) rows.now → ⊥ }
+    ensures foreign { result ≡ Err error.Schema → (history : History) → IsSiteHistory history → AreRowsOf history revisions.now approvals.now proposals.now → ⊥ }
     ensures errors { IfErr result IsOfRows }
 {
-    let revisions = revisions_in(alloc, rows)?;
-    let heads = newest_heads(alloc, revisions)?;
+    let heads = heads_in(alloc, revisions, approvals)?;
     if !has_the_seven(heads.as_slice()) {
         drop(heads);
         return Err(DeskError::Schema);
     }
-    state_of(alloc, heads)
+    let proposals = match proposals_in(alloc, proposals) {
+        Ok(proposals) => proposals,
+        Err(e) => {
+            drop(heads);
+            return Err(e);
+        }
+    };
+    if !may_follow(heads.as_slice(), proposals.as_slice()) {
+        drop(proposals);
+        drop(heads);
+        return Err(DeskError::Schema);
+    }
+    state_of(alloc, heads, proposals)
+}
+
+/// Makes the newest revisions that rows say, with who approved them; `Schema` if the rows are not those of a history.
+fn heads_in(alloc: Global, revisions: &[Row], approvals: &[Row]) -> Result<Vec<Head>, DeskError>
+    ensures newest { IfOk result (λ heads. (history : List Revision) × AreNewestOf revisions.now approvals.now heads.items history) }
+    ensures once { IfOk result (λ heads. StandOnce heads.items) }
+    ensures kept { IfOk result (λ heads. All CanBeKept heads.items) }
+    ensures foreign { result ≡ Err error.Schema → (history : List Revision) → All IsStorable history → IsHistory (map Revised history)
+        → IsPermutation (map row_of history) revisions.now → IsPermutation (filter_map approval_of history) approvals.now → ⊥ }
+    ensures errors { IfErr result IsOfRows }
+{
+    let mut revisions = revisions_in(alloc, revisions)?;
+    let approvals = approvals_in(alloc, approvals)?;
+    approve(&mut revisions, approvals)?;
+    newest_heads(alloc, revisions)
 }

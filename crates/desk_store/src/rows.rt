@@ -3,12 +3,14 @@
 ghost use Rattle.std.specs.Prelude.{◌≡◌, ◌⊎◌, ◌↔◌, ◌++◌, ◌∷◌, [], IfErr, IfOk, OnOk, map, pos};
 ghost use Rattle.sqlite.specs.Order.{column};
 ghost use Rattle.sqlite.specs.declared.types.Value.TheVariants.{Int, Text as Words};
-ghost use Rattle.desk_store.specs.Rows.{Finds, IsOfTask, Lists, Says, listed};
+ghost use Rattle.desk_exports.specs.Profile.{profile_number};
+ghost use Rattle.desk_store.specs.Rows.{Finds, IsOfTask, Lists, Says, SaysWho, listed};
 ghost use Rattle.desk_store.specs.declared.error.DeskError.TheVariants as error;
 ghost use Rattle.desk_store.specs.declared.error.Task.TheVariants as tasks;
 
 use crate::desk::Revision;
 use crate::error::{DeskError, StoreFault, Task};
+use desk_exports::Profile;
 use desk_text::{Sequence, Text};
 use sqlite::{Error, ErrorCode, Row};
 use sqlite_value::value::ValueRef;
@@ -26,18 +28,47 @@ pub(crate) fn not_stored(task: Task, said: Error) -> DeskError
     }
 }
 
-/// Finds what the rows of a revision say; none if there is no row.
-pub(crate) fn find_revision(alloc: Global, rows: &[Row]) -> Result<Option<Revision>, DeskError>
-    ensures found { IfOk result (Finds rows.now) }
+/// Finds what the rows of a revision and of its approval say; none if there is no row of a revision.
+pub(crate) fn find_revision(
+    alloc: Global,
+    rows: &[Row],
+    approvals: &[Row],
+) -> Result<Option<Revision>, DeskError>
+    ensures found { IfOk result (Finds rows.now approvals.now) }
     ensures errors { IfErr result (IsOfTask tasks.ReadRevisions) }
 {
     match rows.first() {
-        Some(row) => Ok(Some(revision_in(alloc, row)?)),
+        Some(row) => {
+            let approver = find_approver(alloc, approvals)?;
+            Ok(Some(revision_in(alloc, row, approver)?))
+        }
         None => Ok(None),
     }
 }
 
-/// Lists the numbers and authors in rows, in ascending order of the numbers.
+/// Finds who the rows of an approval say approved a revision; nobody if there is no row.
+fn find_approver(alloc: Global, approvals: &[Row]) -> Result<Option<Text>, DeskError>
+    ensures who { IfOk result (SaysWho approvals.now) }
+    ensures errors { IfErr result (IsOfTask tasks.ReadRevisions) }
+{
+    match approvals.first() {
+        Some(row) => Ok(Some(approver_in(alloc, row)?)),
+        None => Ok(None),
+    }
+}
+
+/// Reads the approver in a row.
+fn approver_in(alloc: Global, row: &Row) -> Result<Text, DeskError>
+    ensures approver { IfOk result (λ approver. column row.now 0 ≡ Words approver) }
+    ensures errors { IfErr result (IsOfTask tasks.ReadRevisions) }
+{
+    match row.get_ref(0) {
+        Ok(ValueRef::Text(approver)) => text_in(alloc, approver, 0),
+        _ => Err(unreadable(0)),
+    }
+}
+
+/// Lists the numbers and authors with which rows begin, in ascending order of the numbers.
 pub(crate) fn list_revisions(
     alloc: Global,
     rows: &[Row],
@@ -50,8 +81,8 @@ pub(crate) fn list_revisions(
     Ok(Sequence::from_vec(found))
 }
 
-/// Reads the numbers and authors in rows, in the order of the rows.
-fn listed_rows(alloc: Global, rows: &[Row]) -> Result<Vec<(u32, Text)>, DeskError>
+/// Reads the numbers and authors with which rows begin, or the numbers and approvers, in the order of the rows.
+pub(crate) fn listed_rows(alloc: Global, rows: &[Row]) -> Result<Vec<(u32, Text)>, DeskError>
     ensures listed { IfOk result (λ found. found.items ≡ map listed rows.now) }
     ensures errors { IfErr result (IsOfTask tasks.ReadRevisions) }
 {
@@ -85,7 +116,7 @@ fn listed_in(alloc: Global, row: &Row) -> Result<(u32, Text), DeskError>
 }
 
 /// Reads the number in a row.
-fn number_in(row: &Row) -> Result<u32, DeskError>
+pub(crate) fn number_in(row: &Row) -> Result<u32, DeskError>
     ensures number { IfOk result (λ rev. column row.now 0 ≡ Int (pos rev)) }
     ensures errors { IfErr result (IsOfTask tasks.ReadRevisions) }
 {
@@ -96,7 +127,7 @@ fn number_in(row: &Row) -> Result<u32, DeskError>
 }
 
 /// Reads the author in a row that begins with a number.
-fn author_in(alloc: Global, row: &Row) -> Result<Text, DeskError>
+pub(crate) fn author_in(alloc: Global, row: &Row) -> Result<Text, DeskError>
     ensures author { IfOk result (λ author. column row.now 1 ≡ Words author) }
     ensures errors { IfErr result (IsOfTask tasks.ReadRevisions) }
 {
@@ -106,17 +137,33 @@ fn author_in(alloc: Global, row: &Row) -> Result<Text, DeskError>
     }
 }
 
-/// Reads the author and the text in a row.
-fn revision_in(alloc: Global, row: &Row) -> Result<Revision, DeskError>
+/// Reads the author, the profile and the text in a row, of a revision with this approver.
+fn revision_in(alloc: Global, row: &Row, approver: Option<Text>) -> Result<Revision, DeskError>
     ensures says { IfOk result (Says row.now) }
+    ensures approver { IfOk result (λ found. found.approver ≡ approver) }
     ensures errors { IfErr result (IsOfTask tasks.ReadRevisions) }
 {
-    match (row.get_ref(0), row.get_ref(1)) {
+    let profile = profile_in(row, 1)?;
+    match (row.get_ref(0), row.get_ref(2)) {
         (Ok(ValueRef::Text(author)), Ok(ValueRef::Blob(body))) => Ok(Revision {
             author: text_in(alloc, author, 0)?,
-            body: text_in(alloc, body, 1)?,
+            approver,
+            profile,
+            body: text_in(alloc, body, 2)?,
         }),
-        _ => Err(unreadable(1)),
+        _ => Err(unreadable(2)),
+    }
+}
+
+/// Reads the profile in a column.
+pub(crate) fn profile_in(row: &Row, at: usize) -> Result<Profile, DeskError>
+    ensures profile { IfOk result (λ profile. column row.now at ≡ Int (pos (profile_number profile))) }
+    ensures errors { IfErr result (IsOfTask tasks.ReadRevisions) }
+{
+    match row.get_ref(at) {
+        Ok(ValueRef::Int(1)) => Ok(Profile::One),
+        Ok(ValueRef::Int(2)) => Ok(Profile::Two),
+        _ => Err(unreadable(at)),
     }
 }
 

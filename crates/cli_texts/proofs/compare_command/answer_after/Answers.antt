@@ -1,6 +1,7 @@
 -- NEW is read with the file systems, and either its fault or what changes is told.
 use Rattle.std.proofs.Common.{List, subst}
 use Rattle.std.proofs.lemmas.Result.{err_from_is_err_and}
+use Rattle.desk_exports.specs.declared.profile.Profile.TheVariants.{Two}
 use Rattle.desk_policy.specs.Parsing.{read_whole_with}
 use Rattle.desk_policy.specs.View.{IsFaultOf}
 use Rattle.desk_tables.specs.declared.filesystems.Mount.{Mount}
@@ -10,14 +11,14 @@ use Rattle.cli_texts.proofs.compare_command.answer_after.Goals as goal
 
 pub returns-in-Ok : goal.returns-in-Ok
 returns-in-Ok c =
-    let written = subst (λ (table : List Mount). Writes (read_whole_with c.args.tables.now table c.args.sources.exports.text.now) c.in-Ok.after) c.in_ok-own.ensures c.in-Ok.ensures in
-    reported c.args.before.now c.in-Ok.after (read_whole_with c.args.tables.now c.args.filesystems c.args.sources.exports.text.now) c.args.all c.args.sources c.args.filesystems c.changes.result written c.changes.ensures
+    let written = subst (λ (table : List Mount). Writes (read_whole_with Two c.args.tables.now table c.args.sources.exports.text.now) c.in-Ok.after) c.in_ok-own.ensures c.in-Ok.ensures in
+    reported c.args.before.now c.in-Ok.after (read_whole_with Two c.args.tables.now c.args.filesystems c.args.sources.exports.text.now) c.args.all c.args.sources c.args.filesystems c.changes.result written c.changes.ensures
 
 pub returns-in-Err-Fault : goal.returns-in-Err-Fault
 returns-in-Err-Fault c =
-    let found : IsFaultOf (read_whole_with c.args.tables.now c.in_ok-own.own c.args.sources.exports.text.now) c.in-Err-Fault.fault = rw c.in-Err-Fault.field-0-is at c.in-Err-Fault.ensures in
-    let of = subst (λ (table : List Mount). IsFaultOf (read_whole_with c.args.tables.now table c.args.sources.exports.text.now) c.in-Err-Fault.fault) c.in_ok-own.ensures found in
-    told_new c.args.before.now (read_whole_with c.args.tables.now c.args.filesystems c.args.sources.exports.text.now) c.args.all c.args.sources c.args.filesystems c.in-Err-Fault.fault c.faulty.result of c.faulty.ensures
+    let found : IsFaultOf (read_whole_with Two c.args.tables.now c.in_ok-own.own c.args.sources.exports.text.now) c.in-Err-Fault.fault = rw c.in-Err-Fault.field-0-is at c.in-Err-Fault.ensures in
+    let of = subst (λ (table : List Mount). IsFaultOf (read_whole_with Two c.args.tables.now table c.args.sources.exports.text.now) c.in-Err-Fault.fault) c.in_ok-own.ensures found in
+    told_new c.args.before.now (read_whole_with Two c.args.tables.now c.args.filesystems c.args.sources.exports.text.now) c.args.all c.args.sources c.args.filesystems c.in-Err-Fault.fault c.faulty.result of c.faulty.ensures
 
 pub returns-in_err-own : goal.returns-in_err-own
 returns-in_err-own c =

@@ -9,7 +9,7 @@ pub returns-in-Ok-clause-opened : goal.returns-in-Ok-clause-opened
 unfolding state
 returns-in-Ok-clause-opened c =
     let opened = c.in-Ok.ensures.opened (good_disk (file_state c.in-Ok.desk.conn).is_clean refl) in
-    record { ours = opened.0; each = λ history project. (opened.1 history project).heads }
+    record { ours = opened.0; each = λ history project. (opened.1 history project).standing_is }
 
 pub returns-in-Err-clause-refused : goal.returns-in-Err-clause-refused
 unfolding state

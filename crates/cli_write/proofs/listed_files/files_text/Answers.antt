@@ -1,5 +1,5 @@
 use Rattle.std.proofs.Common.{◌++◌, ◌∙◌, ap, map, Bor, List, ℕ}
-use Rattle.desk_core.specs.Head.{newest_in}
+use Rattle.desk_core.specs.State.{standing}
 use Rattle.cli_write.specs.ListedFiles.{exports_lines, seven_lines}
 use Rattle.cli_write.specs.TextsBack.{listed_now}
 use Rattle.cli_write.proofs.listed_files.files_text.Goals as goal
@@ -9,12 +9,12 @@ texts_in mounts = map (λ (mount : Bor (List ℕ)). mount.now) mounts
 
 pub returns : goal.returns
 returns g c =
-    let newest = newest_in c.args.desk.now.state.heads in
+    let stands = standing c.args.desk.now.state in
     record {
       mounts = texts_in c.in_ok-mounts.mounts.items;
       are = c.in_ok-mounts.ensures;
       text_is = c.in_ok-push_exports.ensures
-          ∙ ap (λ t. t ++ exports_lines c.listed_now.result.now newest (texts_in c.as_slice.result.now)) (c.in_ok-push_seven.ensures ∙ ap (λ t. t ++ seven_lines newest) c.new-text.ensures.bytes)
-          ∙ ap (λ table. seven_lines newest ++ exports_lines table newest (texts_in c.as_slice.result.now)) c.listed_now.ensures
-          ∙ ap (λ (mounts : List (Bor (List ℕ))). seven_lines newest ++ exports_lines (listed_now newest) newest (texts_in mounts)) c.as_slice.ensures.value;
+          ∙ ap (λ t. t ++ exports_lines c.listed_now.result.now stands (texts_in c.as_slice.result.now)) (c.in_ok-push_seven.ensures ∙ ap (λ t. t ++ seven_lines stands.newest) c.new-text.ensures.bytes)
+          ∙ ap (λ table. seven_lines stands.newest ++ exports_lines table stands (texts_in c.as_slice.result.now)) c.listed_now.ensures
+          ∙ ap (λ (mounts : List (Bor (List ℕ))). seven_lines stands.newest ++ exports_lines (listed_now stands.newest) stands (texts_in mounts)) c.as_slice.ensures.value;
     }

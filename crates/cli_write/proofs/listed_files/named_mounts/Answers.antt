@@ -1,17 +1,14 @@
-use Rattle.std.proofs.Common.{[], map, subst, sym, Bor, List, ℕ}
-use Rattle.std.proofs.lemmas.List.{take_all}
+-- The revisions and the proposals name them.
+use Rattle.std.proofs.Common.{[], ◌++◌, map, subst, sym, Bor, List, ℕ}
 use Rattle.cli_write.specs.PrivateFiles.{AreNamed}
-use Rattle.cli_write.proofs.NamedMounts.{named_next, none_named}
+use Rattle.desk_core.specs.declared.head.Head.{Head}
+use Rattle.cli_write.proofs.NamedMounts.{none_named}
 use Rattle.cli_write.proofs.listed_files.named_mounts.Goals as goal
 
-pub loop-head-init : goal.loop-head-init
-loop-head-init c = subst (λ (ms : List (Bor (List ℕ))). AreNamed [] (map (λ (mount : Bor (List ℕ)). mount.now) ms)) (sym c.new-mounts.ensures.items) none_named
-
-pub loop-head-preserved : goal.loop-head-preserved
-loop-head-preserved c =
-    named_next c.args.heads.now c.loop-head.head-index c.head-item.result c.loop-head-test.true c.head-item.is
-    (map (λ (mount : Bor (List ℕ)). mount.now) c.loop-head.mounts.items) (map (λ (mount : Bor (List ℕ)). mount.now) c.push_named.new.mounts.items) c.in_ok-push_named.ensures c.loop-head.invariant
+abbrev texts_in : List (Bor (List ℕ)) → List (List ℕ)
+texts_in mounts = map (λ (mount : Bor (List ℕ)). mount.now) mounts
 
 pub returns : goal.returns
 returns c =
-    subst (λ heads. AreNamed heads (map (λ (mount : Bor (List ℕ)). mount.now) c.loop-head.mounts.items)) (take_all c.loop-head.head-index c.args.heads.now c.loop-head-test.false) c.loop-head.invariant
+    c.in_ok-push_proposed.ensures (map (λ (head : Head). head.file) c.args.heads.now)
+    (c.in_ok-push_revised.ensures [] (subst (λ (ms : List (Bor (List ℕ))). AreNamed [] (texts_in ms)) (sym c.new-mounts.ensures.items) none_named))

@@ -2,9 +2,9 @@
 use Rattle.std.proofs.Common.{◌≡◌, ◌++◌, take, Bor, List, ℕ}
 use Rattle.std.specs.List.{flat_map}
 use Rattle.std.specs.String.{string_bytes}
-use Rattle.desk_core.specs.Head.{newest_in}
-use Rattle.cli_write.specs.ListedFiles.{exports_line}
+use Rattle.desk_core.specs.State.{standing}
+use Rattle.cli_write.specs.ListedFiles.{mount_lines}
 use Rattle.cli_write.proofs.listed_files.push_exports.Given as goal
 
 abbrev pub invariant-loop-mount : goal.invariant-loop-mount
-invariant-loop-mount g l = string_bytes l.text ≡ string_bytes l.initial.text ++ flat_map (λ (mount : Bor (List ℕ)). exports_line l.filesystems (newest_in l.desk.state.heads) mount.now) (take l.mount-index l.mounts)
+invariant-loop-mount g l = string_bytes l.text ≡ string_bytes l.initial.text ++ flat_map (λ (mount : Bor (List ℕ)). mount_lines l.filesystems (standing l.desk.state) mount.now) (take l.mount-index l.mounts)

@@ -2,8 +2,6 @@
 use Rattle.std.proofs.Common.{◌∙◌, List, OnOk, ap, map, subst}
 use Rattle.desk_text.specs.declared.reading.LineFault.{LineFault}
 use Rattle.desk_exports.specs.declared.faults.PlacedFault.{PlacedFault}
-use Rattle.desk_exports.specs.Files.{text_faults}
-use Rattle.desk_exports.specs.Tables.{TableRows}
 use Rattle.desk_exports.specs.declared.rules.Rule.{Rule}
 use Rattle.desk_check.specs.CheckFaults.{Adds}
 use Rattle.desk_check.specs.ToldFault.{TellOneOf}
@@ -12,6 +10,5 @@ use Rattle.desk_check.proofs.told_fault.push_one_with.Goals as goal
 pub returns : goal.returns
 returns c =
     subst (λ (faults : List (LineFault Rule)). OnOk c.push_one_of.result (Adds (TellOneOf c.args.source c.args.fault faults) c.args.found.now c.push_one_of.new.found))
-    (ap (map (λ (one : PlacedFault). one.fault)) c.as_slice.ensures ∙ c.in_ok-faults.ensures.faults
-    ∙ ap (λ (rows : TableRows). text_faults rows c.args.scope c.args.source.text.now) c.tables_with-tables.ensures)
+    (ap (map (λ (one : PlacedFault). one.fault)) c.as_slice.ensures ∙ c.in_ok-faults.ensures.faults)
     c.push_one_of.ensures

@@ -4,6 +4,7 @@ use Rattle.desk_text.specs.Address.{number_of}
 use Rattle.desk_text.specs.declared.reading.ReadError.{ReadError}
 use Rattle.desk_text.specs.declared.reading.ReadError.TheVariants.{Fault, Memory}
 use Rattle.desk_tables.specs.declared.credentials.Cred.{Cred}
+use Rattle.desk_exports.specs.declared.profile.Profile.TheVariants.{Two}
 use Rattle.desk_policy.specs.Parsing.{read_whole_with, without_warnings}
 use Rattle.desk_policy.specs.Policy.{Content}
 use Rattle.desk_policy.specs.View.{WarningsChangeNoAnswer}
@@ -24,6 +25,6 @@ with_warnings_too law (Err fault) own address path (Err Memory) told = tt
 
 pub returns : goal.returns
 returns c =
-    let read = read_whole_with c.args.site_tables.now c.args.filesystems c.args.text.now in
+    let read = read_whole_with Two c.args.site_tables.now c.args.filesystems c.args.text.now in
     let told = subst (λ r. Tries r c.args.own.now (number_of c.args.address) c.args.path.now c.answer_by.result) (sym c.in_ok-policy.ensures) c.answer_by.ensures in
     with_warnings_too c.warnings_change_no_answer.ensures read c.args.own.now (number_of c.args.address) c.args.path.now c.answer_by.result told

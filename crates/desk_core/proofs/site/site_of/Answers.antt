@@ -1,7 +1,7 @@
 use Rattle.std.proofs.Common.{◌≡◌, ◌∙◌, ap, sym, List, [], length, drop, arith}
 use Rattle.std.proofs.lemmas.List.{drop_all}
 use Rattle.desk_core.specs.Head.{newest_in}
-use Rattle.desk_core.specs.Site.{site_in}
+use Rattle.desk_core.specs.Site.{site_in, revision_text}
 use Rattle.desk_core.specs.PrivateSite.{with_text}
 use Rattle.desk_core.specs.declared.head.Head.{Head}
 use Rattle.desk_core.proofs.SiteLemmas.{drop_back, site_cons, site_none}
@@ -17,7 +17,7 @@ loop-left-preserved c =
     let h = c.index-heads-left.result in
     let back = drop_back c.args.heads.now c.loop-left.left h c.loop-left-test.true c.loop-left.invariant.0 c.index-heads-left.is in (
       omega (arith, c.loop-left.invariant.0),
-      c.in_ok-take_head.ensures ∙ ap (λ t. with_text t h.file h.body) c.loop-left.invariant.1
+      c.in_ok-take_head.ensures ∙ ap (λ t. with_text t h.file (revision_text h)) c.loop-left.invariant.1
           ∙ site_cons (drop c.loop-left.left c.args.heads.now) h ∙ ap (λ (hs : List Head). site_in (newest_in hs)) back,
     )
 

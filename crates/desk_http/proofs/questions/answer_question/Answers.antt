@@ -53,6 +53,16 @@ returns-in-File-clause-err g c =
     subst (λ (q : Question). OnErr c.text_at.result (Gives (HasGoodDisk g.S.Store) (StandsAt g.S.Store) (QuestionAnswered q) c.args.desk.now memory_reply c.text_at.new.desk)) (sym (ap question_of c.in-File.is))
     c.text_at.ensures.err
 
+pub returns-in-Proposal-clause-ok : goal.returns-in-Proposal-clause-ok
+returns-in-Proposal-clause-ok g c =
+    subst (λ (q : Question). IfOk c.proposal_text.result (λ text. GivesText (HasGoodDisk g.S.Store) (StandsAt g.S.Store) (QuestionAnswered q) c.args.ends c.args.desk.now (string_bytes text) c.proposal_text.new.desk)) (sym (ap question_of c.in-Proposal.is))
+    c.proposal_text.ensures.ok
+
+pub returns-in-Proposal-clause-err : goal.returns-in-Proposal-clause-err
+returns-in-Proposal-clause-err g c =
+    subst (λ (q : Question). OnErr c.proposal_text.result (Gives (HasGoodDisk g.S.Store) (StandsAt g.S.Store) (QuestionAnswered q) c.args.desk.now memory_reply c.proposal_text.new.desk)) (sym (ap question_of c.in-Proposal.is))
+    c.proposal_text.ensures.err
+
 pub returns-in-Revisions-clause-ok : goal.returns-in-Revisions-clause-ok
 returns-in-Revisions-clause-ok g c =
     subst (λ (q : Question). IfOk c.revisions_text.result (λ text. GivesText (HasGoodDisk g.S.Store) (StandsAt g.S.Store) (QuestionAnswered q) c.args.ends c.args.desk.now (string_bytes text) c.revisions_text.new.desk)) (sym (ap question_of c.in-Revisions.is))

@@ -6,7 +6,7 @@ use Rattle.desk_service.proofs.edits.put_over.Goals as goal
 pub returns-in-Ok : goal.returns-in-Ok
 returns-in-Ok g c =
     puts_over g.S.Store c.args.conn c.in-Ok.desk c.put-answer.new.desk (asked c.args.edit.now) c.in-Ok.ensures.opened
-    (λ good. (c.in-Ok.ensures.durable good).0) c.in-Ok.ensures.tables c.args.replies c.put-answer.result c.put-answer.ensures
+    c.in-Ok.ensures.tables c.in-Ok.ensures.crash c.args.replies c.put-answer.result c.put-answer.ensures
 
 pub returns-in-Err : goal.returns-in-Err
-returns-in-Err g c = record { opening = c.in-Err.ensures.errors; foreign = c.in-Err.ensures.foreign; tables = c.in-Err.ensures.tables }
+returns-in-Err g c = record { opening = c.in-Err.ensures.errors; foreign = c.in-Err.ensures.foreign; unchanged = c.in-Err.ensures.unchanged; crash = c.in-Err.ensures.crash }

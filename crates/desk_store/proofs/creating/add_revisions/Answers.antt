@@ -1,12 +1,14 @@
-use Rattle.std.proofs.Common.{◌+◌, ◌∙◌, arith, map, take, Ok, rules}
+use Rattle.std.proofs.Common.{◌+◌, ◌∙◌, [], arith, map, take, Ok, rules}
 use Rattle.sqlite.specs.Held.{state}
 use Rattle.desk_store.specs.Create.{AddsRow, AddsRows}
 use Rattle.desk_store.specs.History.{row_of}
-use Rattle.desk_store.proofs.Filling.{failed_then, inside_then, nothing_added, rows_next}
+use Rattle.desk_store.proofs.Entries.{writes_nothing}
+use Rattle.desk_store.proofs.Filling.{rows_next}
+use Rattle.desk_store.proofs.Inside.{failed_then, inside_then, no_step}
 use Rattle.desk_store.proofs.creating.add_revisions.Goals as goal
 
 pub loop-head-init : goal.loop-head-init
-loop-head-init g c = record { same_reference = search rules; added = nothing_added (state g.S.Store c.args.tx.now.conn.now) (tt {0}) c.requires }
+loop-head-init g c = record { same_reference = search rules; added = no_step (state g.S.Store c.args.tx.now.conn.now) (tt {0}) (AddsRows []) c.requires (λ clean has sound. writes_nothing (state g.S.Store c.args.tx.now.conn.now).now sound) }
 
 pub loop-head-preserved : goal.loop-head-preserved
 loop-head-preserved g c =

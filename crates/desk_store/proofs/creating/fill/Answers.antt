@@ -2,7 +2,8 @@ use Rattle.std.proofs.Common.{map}
 use Rattle.sqlite.specs.Held.{state}
 use Rattle.desk_store.specs.Create.{AddsRows, Fills, MakesRoom}
 use Rattle.desk_store.specs.History.{row_of}
-use Rattle.desk_store.proofs.Filling.{fills, inside_then}
+use Rattle.desk_store.proofs.Filling.{fills}
+use Rattle.desk_store.proofs.Inside.{inside_then}
 use Rattle.desk_store.proofs.creating.fill.Goals as goal
 
 pub returns-clause-filled : goal.returns-clause-filled

@@ -3,7 +3,7 @@ use Rattle.desk_store.proofs.FirstState.{if_seven, none_but, none_of_seven}
 use Rattle.desk_store.proofs.first.fault_of_seven.Goals as goal
 
 pub returns-in-Ok-state-clause-none : goal.returns-in-Ok-state-clause-none
-returns-in-Ok-state-clause-none g c = none_of_seven (texts_of c.args.site.now) c.in-Ok.heads.items c.in-Ok.ensures.made c.in-Ok-state.ensures.1.consistent
+returns-in-Ok-state-clause-none g c = none_of_seven (texts_of c.args.site.now) c.in-Ok.heads.items c.in-Ok.ensures.made c.in-Ok-state.ensures.2.consistent
 
 pub returns-in-Err-Fault-clause-none : goal.returns-in-Err-Fault-clause-none
 returns-in-Err-Fault-clause-none g c =

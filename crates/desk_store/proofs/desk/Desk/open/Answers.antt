@@ -3,11 +3,14 @@ use Rattle.desk_store.proofs.Opened.{desk_opened, stands_opened}
 use Rattle.desk_store.proofs.desk.Desk.open.Goals as goal
 
 pub invariant_of-result : goal.invariant_of-result
-invariant_of-result g c clean =
-    let a = c.in-Ok.ensures in
-    let live = a.live clean in
-    desk_opened (state g.S.Store c.args.conn) (state g.S.Store c.read_state.new.conn) c.in-Ok.current (a.look.leaves.same clean live) (a.sound clean)
-    (λ trees may. g.met.S.Store.settled c.read_state.new.conn.store trees live may) (a.project clean) (a.rest clean)
+invariant_of-result g c =
+    let a = c.in-Ok.ensures in (
+      c.read_state.ensures.mode,
+      λ clean.
+          let live = a.live clean in
+          desk_opened (state g.S.Store c.args.conn) (state g.S.Store c.read_state.new.conn) c.in-Ok.current (a.opened clean) (a.sound clean)
+          (λ trees may. g.met.S.Store.settled c.read_state.new.conn.store trees live may) (a.project clean) (a.rest clean) (a.keyed clean),
+    )
 
 pub returns-in-Ok-clause-opened : goal.returns-in-Ok-clause-opened
 returns-in-Ok-clause-opened g c clean =
@@ -15,7 +18,7 @@ returns-in-Ok-clause-opened g c clean =
     let live = a.live clean in
     let found = a.project clean in (
       (found.0, found.1),
-      stands_opened (state g.S.Store c.args.conn) (state g.S.Store c.read_state.new.conn) c.in-Ok.current (a.look.leaves.same clean live) (a.sound clean)
+      stands_opened (state g.S.Store c.args.conn) (state g.S.Store c.read_state.new.conn) c.in-Ok.current (a.opened clean) (a.sound clean)
           (λ trees may. g.met.S.Store.settled c.read_state.new.conn.store trees live may) found,
     )
 

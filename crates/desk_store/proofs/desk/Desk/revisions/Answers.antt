@@ -11,7 +11,8 @@ use Rattle.desk_store.proofs.desk.Desk.revisions.Goals.{in-Ok, in-Err}
 
 pub invariant_of-self : goal.invariant_of-self
 invariant_of-self g c =
-    desk_still (state g.S.Store c.self.inside.conn) (state g.S.Store c.read_numbers.new.conn) c.self.inside.current c.read_numbers.ensures.look c.self.invariant
+    let look = c.read_numbers.ensures.look in
+    (look.mode c.self.invariant.0, desk_still (state g.S.Store c.self.inside.conn) (state g.S.Store c.read_numbers.new.conn) c.self.inside.current look c.self.invariant.1)
 
 pub returns-clause-found : goal.returns-clause-found
 returns-clause-found g c clean history pending stands =

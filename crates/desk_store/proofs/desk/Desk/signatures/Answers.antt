@@ -1,0 +1,51 @@
+use Rattle.std.proofs.Common.{◌≡◌, sym, subst, map, IfOk, IsPermutation, arith}
+use Rattle.sqlite.specs.Held.{state}
+use Rattle.sqlite.specs.State.{HasCleanDisk}
+use Rattle.desk_core.specs.History.{revisions_of}
+use Rattle.desk_store.specs.Desk.{Stands, signature_of}
+use Rattle.desk_store.specs.Looks.{approvers_in, numbers_in}
+use Rattle.desk_store.proofs.FoundRows.{desk_still, rest_still, stands_still}
+use Rattle.desk_store.proofs.ListedRows.{signatures_if}
+use Rattle.desk_store.proofs.desk.Desk.signatures.Goals as goal
+use Rattle.desk_store.proofs.desk.Desk.signatures.Goals.{in-Ok-read_approvers, in-Err-read_approvers}
+
+pub invariant_of-self : goal.invariant_of-self
+invariant_of-self g c =
+    let look = c.read_numbers.ensures.look in
+    (look.mode c.self.invariant.0, desk_still (state g.S.Store c.self.inside.conn) (state g.S.Store c.read_numbers.new.conn) c.self.inside.current look c.self.invariant.1)
+
+pub read_approvers-requires : goal.read_approvers-requires
+read_approvers-requires g c = rest_still (state g.S.Store c.self.inside.conn) (state g.S.Store c.read_numbers.new.conn) c.self.inside.current c.read_numbers.ensures.look c.self.invariant.1
+
+pub invariant_of-self-2 : goal.invariant_of-self-2
+invariant_of-self-2 g c =
+    let old = state g.S.Store c.self.inside.conn in
+    let mid = state g.S.Store c.read_numbers.new.conn in
+    let new = state g.S.Store c.read_approvers.new.conn in
+    let kept = c.self.inside.current in
+    let first = c.read_numbers.ensures.look in
+    let second = c.read_approvers.ensures.look in
+    (second.mode (first.mode c.self.invariant.0), desk_still mid new kept second (desk_still old mid kept first c.self.invariant.1))
+
+pub returns-clause-found : goal.returns-clause-found
+returns-clause-found g c clean history pending stands =
+    let old = state g.S.Store c.self.inside.conn in
+    let mid = state g.S.Store c.read_numbers.new.conn in
+    let kept = c.self.inside.current in
+    let file = c.args.file.now in
+    let here : Stands old kept history pending = subst (λ s. Stands (state g.S.Store s.conn) s.state history pending) (sym c.self.view_is) stands in
+    elim c.match-read_approvers.branch [
+      | in-Ok-read_approvers w ↦
+          let a = c.in-Ok.ensures in
+          let b = w.in-Ok-read_approvers.ensures in
+          let before : HasCleanDisk mid = omega (arith, clean, b.look.leaves.crash.clean) in
+          let live = b.look.opened clean (b.live clean) in
+          let there = stands_still old mid kept a.look before history pending here in
+          let shown : IsPermutation (numbers_in file mid.committed) c.in-Ok.rows.items = subst (λ db. IsPermutation (numbers_in file db) c.in-Ok.rows.items) (sym (a.look.leaves.same before live)) (a.rows before) in
+          let rows : IsPermutation (numbers_in file mid.committed) w.as_slice.result.now = subst (IsPermutation (numbers_in file mid.committed)) (sym w.as_slice.ensures.value) shown in
+          let approvals : IsPermutation (approvers_in file mid.committed) w.as_slice-in-Ok-read_approvers.result.now =
+          subst (IsPermutation (approvers_in file mid.committed)) (sym w.as_slice-in-Ok-read_approvers.ensures.value) (b.rows clean) in
+          let found = signatures_if mid.committed history w.as_slice.result.now (there.tables live) file rows w.as_slice-in-Ok-read_approvers.result.now approvals w.list_signatures.result w.list_signatures.ensures.signs in
+          subst (λ r. IfOk r (λ found. found ≡ map signature_of (revisions_of file history))) (sym w.result-is) found
+      | in-Err-read_approvers w ↦ subst (λ r. IfOk r (λ found. found ≡ map signature_of (revisions_of file history))) (sym w.result-is) tt
+    ]

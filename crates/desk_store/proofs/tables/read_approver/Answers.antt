@@ -1,0 +1,10 @@
+use Rattle.std.proofs.Common.{arith, true}
+use Rattle.desk_store.specs.Looks.{approver_in}
+use Rattle.desk_store.proofs.NamedLook.{approver_look}
+use Rattle.desk_store.proofs.Placed.{signed}
+use Rattle.desk_store.proofs.tables.read_approver.Goals as goal
+
+pub returns : goal.returns
+returns g c =
+    let number = signed c.from.result c.args.rev c.from.ensures (omega arith) in
+    (rw (c.params-to_sql.ensures, c.params-to_sql-2.ensures, number) at (c.read.ensures true (approver_in c.args.file.now c.args.rev))) c.requires (approver_look c.args.file.now c.args.rev)
