@@ -35,11 +35,6 @@ mapped_more f xs i x below is now next before added =
     added ∙ ap (λ ys. ys ++ f x ∷ []) before
     ∙ sym (ap (map f) (take_more xs i x below ∙ ap (λ y. take i xs ++ y ∷ []) (sym is)) ∙ map-append f (take i xs) (x ∷ []))
 
--- what has no answer has none, whatever else it would be
-pub failed_too : {T U : Type 0} (newest : Newest) (e : ReadError SiteFault) → Reads {T = T} newest (Err e) → Reads {T = U} newest (Err e)
-failed_too newest (Fault fault) reads = reads
-failed_too newest Memory reads = tt
-
 -- the state that starts from heads reads the newest revisions that they give
 pub starts : (heads : List Head) (newest : Newest) (result : Result (Kept Content) (ReadError SiteFault)) → newest_in heads ≡ newest → Starts (λ content. content) heads [] result → Reads newest result
 starts heads newest (Ok state) is begun = subst (λ (n : Newest). IsConsistent (site_in n)) is begun.2.consistent
