@@ -4,19 +4,47 @@ from databases import NAMES, SITE, TABLES, put_words
 from messages import CONTRADICTING, LOCALHOST, TAKING
 
 STANDARD = "rw sec=sys root=65534:65533"
-STORED = ("hosts", 2, "site", 1, LOCALHOST.encode())
+
+# The text with which the exports file of /u is guarded, and one that is proposed for it.
+GUARDING = "/usr site\n/u !guarded ulf site\n/a ulf\n/u2 ulf\n/cdrom site\n/private site\n/secret site\n"
+PROPOSED = "/u -ro\n"
+# The databases on which commands are run: that of the sample site, with the edits that are put there, each the file, the
+# caller and the text, and with base 1.
+DATABASES = {
+    "first": [],
+    "later": [("hosts", "site", LOCALHOST)],
+    "guarded": [("filesystems", "site", GUARDING)],
+    "proposed": [("filesystems", "site", GUARDING), ("exports:/u", "ulf", PROPOSED)],
+}
+
+
+def revision(name, author, text):
+    """The row of a file's revision 2."""
+    return "file_rev", name, 2, author, 2, text.encode()
+
+
+def proposal(author, text):
+    """The row of a proposal for /u, whose base is 1."""
+    return "proposal", "exports:/u", 1, author, text.encode()
+
+
+STORED = revision("hosts", "site", LOCALHOST)
+GUARDED = revision("filesystems", "site", GUARDING)
+PENDING = proposal("ulf", PROPOSED)
+APPROVED = [revision("exports:/u", "ulf", PROPOSED), ("approval", "exports:/u", 2, "site")]
 
 
 class Command:
     """The words of a command, its input, and what it answers: its status and what it prints.
 
     Among the words `DB` is a copy of a database, the one of this name, `NEW` a file that is not there, `TEXT` a file with
-    this text, and `FOLDER` an empty folder. `stored` are the rows that the command adds.
+    this text, and `FOLDER` an empty folder. `stored` are the rows that the command adds, each behind the name of its table,
+    and `taken` those that it takes out.
     """
 
-    def __init__(self, words, out, status=0, given="", database=None, text="", stored=(), title=None):
+    def __init__(self, words, out, status=0, given="", database=None, text="", stored=(), taken=(), title=None):
         self.words, self.wanted, self.given = words, (status, out.encode()), given.encode()
-        self.database, self.text, self.stored = database, text, list(stored)
+        self.database, self.text, self.stored, self.taken = database, text, list(stored), list(taken)
         self.title = title or f"`{' '.join(map(str, words))}`"
 
 
@@ -38,11 +66,16 @@ def granted_as(credential, root):
     return written_as(credential, f"granted line 1 rw sec=sys root={root}\n")
 
 
-def put(name, caller, key, text, out, status=1, database="first", stored=()):
+def put(name, caller, key, text, out, status=1, database="first", stored=(), taken=()):
     """An edit with base 1."""
     words = put_words("DB", name, "TEXT", 1, caller, key)
     title = f"`put` of {name} by {caller}, which is answered {out.split(chr(10))[0]!r}"
-    return Command(words, out, status, database=database, text=text, stored=stored, title=title)
+    return Command(words, out, status, database=database, text=text, stored=stored, taken=taken, title=title)
+
+
+def put_guarded(caller, text, out, database, stored=(), taken=(), status=0):
+    """An edit of a guarded file, with base 1."""
+    return put("exports:/u", caller, None, text, out, status, database, stored, taken)
 
 
 def foreseen(name, text, out, status, *options):
@@ -50,6 +83,17 @@ def foreseen(name, text, out, status, *options):
     words = ["impact", "DB", name, "TEXT", *options]
     title = f"`impact` of {name}{''.join(f' {option}' for option in options)}, which is answered {out.split(chr(10))[0]!r}"
     return Command(words, out, status, database="first", text=text, title=title)
+
+
+def files_with(others):
+    """What `files` prints of each file of the sample site, where these are told otherwise."""
+    return [others.get(name, f"{name} rev 1 site\n") for name in NAMES]
+
+
+def asked_of(database, words, out, status=0):
+    """A question to the database of this name."""
+    title = f"`{' '.join(words)}` of the database {database!r}, which is answered {out.split(chr(10))[0]!r}"
+    return Command(words, out, status, database=database, title=title)
 
 
 CONTRADICTION = "/a -network 192.168.0/24\n/a /a/x{} -network 192.168.0.0 -mask 255.255.255.0\n"
@@ -82,10 +126,25 @@ EXPORTS = """\
 """
 
 NESTED = "/a -network 10.0.0.0/8 -ro\n/a -network 10.255.255.255/32 -ro\n/a -sec=krb5\n"
+NO_PROPOSAL = "refused 111 NoRevision\n"
+FORESEEN = """\
+== /u
+- 0.0.0.0-131.104.47.255 denied 2 NoLine /u
++ 0.0.0.0-131.104.47.255 granted line 1 ro sec=sys root=65534:65533
+- 131.104.48.0-131.104.48.255 granted line 1 rw sec=sys root=3:
++ 131.104.48.0-131.104.48.255 granted line 1 ro sec=sys root=65534:65533
+- 131.104.49.0-255.255.255.255 denied 2 NoLine /u
++ 131.104.49.0-255.255.255.255 granted line 1 ro sec=sys root=65534:65533
+3 changes, 2 of lines or reasons alone
+"""
+PENDING_FILES = {
+    "filesystems": "filesystems rev 2 site\n",
+    "exports:/u": "exports:/u rev 1 site guarded\nexports:/u proposed rev 2 ulf\n",
+}
 U2 = "/u2 -maproot=root friends\n/u2 -alldirs -network cis-net -mask cis-mask\n"
 FILES = [*TABLES, "exports"]
 
-# The commands from `clients` on were added after the last runs: none of them was run yet.
+# The commands from `clients` on, and in `put` those from GUARDING on, were added after the last runs: none of them was run yet.
 COMMANDS = {
     "try": [
         Command(
@@ -155,6 +214,12 @@ COMMANDS = {
             3,
         ),
         put("filesystems", "site", "abc", TAKING, "fault exports:/usr line 1 rule 4 DirectoryElsewhere\n", 3),
+        put("filesystems", "site", "abc", GUARDING, "accepted rev 2\n", 0, stored=[GUARDED]),
+        put_guarded("ulf", PROPOSED, "proposed rev 2\n", "guarded", [PENDING]),
+        put_guarded("ulf", PROPOSED, "already proposed rev 2\n", "proposed"),
+        put_guarded("site", "/u\n", "proposed rev 2\n", "proposed", [proposal("site", "/u\n")], [PENDING]),
+        put_guarded("site", PROPOSED, "accepted rev 2\n", "proposed", APPROVED, [PENDING]),
+        put_guarded("site", "/u -rw\n", "fault exports:/u line 1 rule 5 UnknownOption\n", "proposed", status=3),
     ],
     "clients": [
         tried(
@@ -216,8 +281,17 @@ COMMANDS = {
         foreseen("exports:/u2", U2, "0 changes\n", 0, "--all"),
         foreseen("exports:/u3", "/u3\n", "refused 3 UnknownFile\n", 1),
         foreseen("hosts", CONTRADICTING, "fault exports:/usr line 2 rule 26 Contradiction line 1 address 131.104.48.16\n", 3),
+        asked_of("proposed", ["impact", "DB", "exports:/u", "--proposal"], FORESEEN, 1),
+        asked_of("guarded", ["impact", "DB", "exports:/u", "--proposal"], NO_PROPOSAL, 1),
     ],
-    "files": [Command(["files", "DB"], "".join(f"{name} rev 1 site\n" for name in NAMES), database="first")],
+    "proposal": [
+        asked_of("proposed", ["proposal", "DB", "exports:/u"], PROPOSED),
+        asked_of("guarded", ["proposal", "DB", "exports:/u"], NO_PROPOSAL, 1),
+    ],
+    "files": [
+        asked_of("first", ["files", "DB"], "".join(files_with({}))),
+        asked_of("proposed", ["files", "DB"], "".join(files_with(PENDING_FILES))),
+    ],
     "write": [
         Command(["write", "DB", "FOLDER"], "".join(f"written {name}\n" for name in FILES), database="first"),
     ],

@@ -14,7 +14,7 @@ from databases import NAMES, answer, fail
 from program import TOP, build
 
 CRATES = ["desk_text", "desk_tables", "desk_netgroup", "desk_exports", "desk_policy", "desk_index", "desk_core", "desk_store"]
-LIBRARIES = "desk_store desk_core desk_index desk_policy desk_text sqlite anyhow"
+LIBRARIES = "desk_store desk_core desk_index desk_policy desk_exports desk_text sqlite anyhow"
 PUTS = 1000
 RUNS = 7
 # (Seconds since 1970, to a millisecond.)
@@ -82,7 +82,7 @@ class Bench:
             return [self.program, *way, self.site, str(database), name, caller, key, str(path)], ""
         if way:
             shutil.copy(self.first, database)
-        rows = [f"'{name}', {place}, '{caller}', 1, X'{text.encode().hex()}'" for place, text in enumerate(texts, 2)]
+        rows = [f"'{name}', {place}, '{caller}', 2, X'{text.encode().hex()}'" for place, text in enumerate(texts, 2)]
         inserts = [f"BEGIN; INSERT INTO file_rev VALUES ({row}); COMMIT;" for row in rows[:count]]
         begin = way if way else self.dump
         return ["sqlite3", "-bail", database if way else ":memory:"], "\n".join([begin, NOW, *inserts, NOW, ""])

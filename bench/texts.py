@@ -38,7 +38,7 @@ def line_of_options(mounts, rng):
         [
             f"-ro -maproot=0:{a}:{b} -sec=krb5i:krb5:sys -network 10.{a}.{b} -mask 255.255.255.0",
             f"-quiet,o -mapall 65534:{a} -network=11.{a}.{b}.0/{rng.randrange(16, 33)}",
-            f"-r {a}: -sec krb5p:krb5p -network 192.{a}.{b}",
+            f"-r {a}: -sec krb5p:krb5p -network 192.{a}.{b}/24",
             f"-maproot={a}:{b} -network 3ffe:{a}:{b}::/64",
             f"-o,sec=sys,mapall={a}:5 10.{a}.{b}.5 10.{b}.{a}.6 fe80::{a}",
         ]
