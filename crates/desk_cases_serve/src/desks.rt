@@ -1,7 +1,8 @@
 //! The desk that is served: its site, and what it holds.
 
+use desk_exports::Profile;
 use desk_index::Index;
-use desk_policy::Site;
+use desk_policy::{ExportsText, Site};
 use desk_store::Desk;
 use desk_text::Text;
 use sqlite::{Connection, MemStore};
@@ -47,7 +48,10 @@ fn site(alloc: Global) -> Result<Site, AllocError> {
     let mut exports = BTreeMap::new(alloc);
     exports.insert(
         String::from_str(alloc, "/usr")?,
-        Text::copy(alloc, "/usr -ro\n")?,
+        ExportsText {
+            profile: Profile::Two,
+            body: Text::copy(alloc, "/usr -ro\n")?,
+        },
     )?;
     Ok(Site {
         custodians: Text::copy(alloc, CUSTODIANS)?,
