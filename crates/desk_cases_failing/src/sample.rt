@@ -16,6 +16,10 @@ pub const FILESYSTEMS: &str =
 pub const GUARDED: &str =
     "/usr site\n/u !guarded ulf site\n/a ulf\n/u2 ulf\n/cdrom site\n/private site\n/secret site\n";
 
+/// The same keepers of a file that is guarded no longer.
+pub const UNGUARDED: &str =
+    "/usr site\n/u ulf site\n/a ulf\n/u2 ulf\n/cdrom site\n/private site\n/secret site\n";
+
 const HOSTS: &str =
     "131.104.48.17 grumpy.example grumpy\n131.104.48.20 sneezy\n131.104.48.21 doc\n";
 

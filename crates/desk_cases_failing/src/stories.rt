@@ -1,6 +1,6 @@
 //! Stories of a desk: how it comes to be, the edits that are put, and how the files stand after each.
 
-use crate::sample::{EXPORTS, FILESYSTEMS, GUARDED, TABLES};
+use crate::sample::{EXPORTS, FILESYSTEMS, GUARDED, TABLES, UNGUARDED};
 use desk_core::Edit;
 use desk_exports::Profile;
 use std::alloc::{AllocError, Global};
@@ -111,8 +111,9 @@ const PROPOSED_LATER: Told = Told {
     text: "/u\n",
 };
 
-/// A text is proposed for a guarded file and approved, and another is proposed; then the file is guarded no longer, and an edit of
-/// it removes the proposal that was left over.
+/// A text is proposed for a guarded file and approved, and another is proposed; then the file is guarded no longer, and the edit is
+/// made, which removes the proposal that was left over. (All edits are made once more on what is left, wherever that stands: none
+/// may then be refused, or change what the story comes to.)
 pub const SECONDED: Story = Story {
     name: "a guarded file, and ",
     start: Start::Creates,
@@ -162,13 +163,13 @@ pub const SECONDED: Story = Story {
                 base: 1,
                 caller: "site",
                 key: "abc",
-                text: FILESYSTEMS,
+                text: UNGUARDED,
             },
             revisions: &[Told {
                 number: 2,
                 author: "site",
                 approver: None,
-                text: FILESYSTEMS,
+                text: UNGUARDED,
             }],
             proposal: None,
         },
@@ -178,7 +179,7 @@ pub const SECONDED: Story = Story {
                 base: 2,
                 caller: "ulf",
                 key: "hello",
-                text: "/u -alldirs\n",
+                text: "/u\n",
             },
             revisions: &[
                 APPROVED,
@@ -186,7 +187,7 @@ pub const SECONDED: Story = Story {
                     number: 3,
                     author: "ulf",
                     approver: None,
-                    text: "/u -alldirs\n",
+                    text: "/u\n",
                 },
             ],
             proposal: None,

@@ -166,10 +166,11 @@ pub fn written_files(alloc: Global, files: &Files<File>) -> io::Result<Files<Mem
     })
 }
 
-/// Makes a file that holds these bytes.
+/// Makes a file that holds these bytes, all synced.
 pub fn file_of(alloc: Global, bytes: &[u8]) -> io::Result<Memory> {
     let mut file = Memory::new(alloc);
     file.write_at(0, bytes)?;
+    file.sync()?;
     Ok(file)
 }
 
