@@ -1,11 +1,13 @@
 -- A statement that only looked changes nothing, and nor do two such statements, one after the other.
-use Rattle.std.proofs.Common.{◌≡◌, ◌⊎◌, inl, inr, Bool, ℕ, List, false, IsTrue, sym, subst, ◌∙◌, arith}
+use Rattle.std.proofs.Common.{◌≡◌, ◌⊎◌, ◌≤◌, inl, inr, Bool, ℕ, List, false, true≢false, IsTrue, sym, subst, ◌∙◌, arith}
+use Rattle.std.specs.Prelude.{IsSome}
 use Rattle.sqlite.specs.Effect.{Database}
 use Rattle.sqlite.specs.Order.{Row}
 use Rattle.sqlite.specs.State.{ExecutesIn, HasCleanDisk, IsNotRun, IsRolledBack, IsUnchanged, State, Survives}
 use Rattle.sqlite.specs.declared.error.Error.{Error}
 use Rattle.sqlite.proofs.InsideLemmas.{fails_whole}
 use Rattle.sqlite.proofs.StateLemmas.{survives_then}
+use Rattle.desk_store.specs.Desk.{MayRefuse}
 use Rattle.desk_store.specs.Looks.{ChangesNothing}
 use Rattle.desk_store.specs.Tables.{HasThese, IsAtRestWith}
 
@@ -64,3 +66,9 @@ rest_after all old new look rest clean = look.rest clean all (rest (early old ne
 
 pub same_after : (old new : State) → ChangesNothing old new → HasCleanDisk new → IsTrue new.is_open → new.committed ≡ old.committed
 same_after old new look clean live = look.leaves.same clean live
+
+-- what a look may be refused for, it may be refused for after another one
+pub refused_later : (old mid new : State) → old.faults ≤ mid.faults → mid.step_limit ≡ old.step_limit → IsTrue mid.is_open → MayRefuse mid new → MayRefuse old new
+refused_later old mid new counts limit live (inl more) = inl (omega (arith, counts, more))
+refused_later old mid new counts limit live (inr (inl shut)) = absurd (true≢false (sym live ∙ shut))
+refused_later old mid new counts limit live (inr (inr steps)) = inr (inr (subst IsSome limit steps))

@@ -69,9 +69,9 @@ proposal_accepted : (schema : Schema) (place tree : ℕ) (found : table_named sc
 unfolding program.program
 proposal_accepted schema place tree found there alone low = rw (low, alone)
 
-pub proposal_keys_mean : MeansAnywhere select_proposal_keys (codes "proposal") proposal_table (q key_columns) key_names
+pub proposal_keys_mean : MeansAnywhere select_proposal_keys [] (codes "proposal") proposal_table (q key_columns) key_names
 proposal_keys_mean schema place tree found there alone low under =
-    means_so select_proposal_keys (parsed (codes "proposal") (own_column key ∷ []) None [] 26) (select (codes "proposal") (own_column key ∷ []) None) proposal_first refl refl schema tree (q key_columns) key_names
+    means_so select_proposal_keys (parsed (codes "proposal") (own_column key ∷ []) None [] 26) (select (codes "proposal") (own_column key ∷ []) None) proposal_first refl refl schema tree (q key_columns) key_names refl
     (keys_read schema (codes "proposal") place (proposal_table tree) found there (proposal_has_key schema place tree there under) proposal_open (proposal_accepted schema place tree found there alone low))
 
 version_open : Opens (codes "meta") (own_column key ∷ []) None
@@ -88,7 +88,7 @@ version_accepted : (schema : Schema) (place tree : ℕ) (found : table_named sch
 unfolding program.program
 version_accepted schema place tree found there alone low = rw (low, alone)
 
-pub version_keys_mean : MeansAnywhere select_version_keys (codes "meta") meta_table (q key_columns) key_names
+pub version_keys_mean : MeansAnywhere select_version_keys [] (codes "meta") meta_table (q key_columns) key_names
 version_keys_mean schema place tree found there alone low under =
-    means_so select_version_keys (parsed (codes "meta") (own_column key ∷ []) None [] 22) (select (codes "meta") (own_column key ∷ []) None) version_first refl refl schema tree (q key_columns) key_names
+    means_so select_version_keys (parsed (codes "meta") (own_column key ∷ []) None [] 22) (select (codes "meta") (own_column key ∷ []) None) version_first refl refl schema tree (q key_columns) key_names refl
     (keys_read schema (codes "meta") place (meta_table tree) found there (version_has_key schema place tree there under) version_open (version_accepted schema place tree found there alone low))

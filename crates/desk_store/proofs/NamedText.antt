@@ -273,22 +273,22 @@ module _ (schema : Schema) (place tree : ℕ) (found : table_named schema (codes
         (record { lets = []; body = approvers_query tree }) approvers_accepted
 
 -- what the four texts mean
-pub numbers_mean : MeansAnywhere select_numbers (codes "file_rev") file_rev_table numbers_query numbers_names
+pub numbers_mean : MeansAnywhere select_numbers (codes "?1" ∷ []) (codes "file_rev") file_rev_table numbers_query numbers_names
 numbers_mean schema place tree found there alone low under =
-    means_so select_numbers (parsed (codes "file_rev") numbers_shown (Some of_file) (codes "?1" ∷ []) 57) (select (codes "file_rev") numbers_shown (Some of_file)) numbers_first refl refl schema tree numbers_query numbers_names
+    means_so select_numbers (parsed (codes "file_rev") numbers_shown (Some of_file) (codes "?1" ∷ []) 57) (select (codes "file_rev") numbers_shown (Some of_file)) numbers_first refl refl schema tree numbers_query numbers_names refl
     (numbers_read schema place tree found there alone low)
 
-pub revision_means : MeansAnywhere select_revision (codes "file_rev") file_rev_table revision_query revision_names
+pub revision_means : MeansAnywhere select_revision (codes "?1" ∷ codes "?2" ∷ []) (codes "file_rev") file_rev_table revision_query revision_names
 revision_means schema place tree found there alone low under =
-    means_so select_revision (parsed (codes "file_rev") revision_shown (Some at_rev) (codes "?1" ∷ codes "?2" ∷ []) 71) (select (codes "file_rev") revision_shown (Some at_rev)) revision_first refl refl schema tree revision_query revision_names
+    means_so select_revision (parsed (codes "file_rev") revision_shown (Some at_rev) (codes "?1" ∷ codes "?2" ∷ []) 71) (select (codes "file_rev") revision_shown (Some at_rev)) revision_first refl refl schema tree revision_query revision_names refl
     (revision_read schema place tree found there alone low)
 
-pub approver_means : MeansAnywhere select_approver (codes "approval") approval_table approver_query approver_names
+pub approver_means : MeansAnywhere select_approver (codes "?1" ∷ codes "?2" ∷ []) (codes "approval") approval_table approver_query approver_names
 approver_means schema place tree found there alone low under =
-    means_so select_approver (parsed (codes "approval") approver_shown (Some at_rev) (codes "?1" ∷ codes "?2" ∷ []) 58) (select (codes "approval") approver_shown (Some at_rev)) approver_first refl refl schema tree approver_query approver_names
+    means_so select_approver (parsed (codes "approval") approver_shown (Some at_rev) (codes "?1" ∷ codes "?2" ∷ []) 58) (select (codes "approval") approver_shown (Some at_rev)) approver_first refl refl schema tree approver_query approver_names refl
     (approver_read schema place tree found there alone low)
 
-pub approvers_mean : MeansAnywhere select_approvers (codes "approval") approval_table approvers_query approvers_names
+pub approvers_mean : MeansAnywhere select_approvers (codes "?1" ∷ []) (codes "approval") approval_table approvers_query approvers_names
 approvers_mean schema place tree found there alone low under =
-    means_so select_approvers (parsed (codes "approval") approvers_shown (Some of_file) (codes "?1" ∷ []) 50) (select (codes "approval") approvers_shown (Some of_file)) approvers_first refl refl schema tree approvers_query approvers_names
+    means_so select_approvers (parsed (codes "approval") approvers_shown (Some of_file) (codes "?1" ∷ []) 50) (select (codes "approval") approvers_shown (Some of_file)) approvers_first refl refl schema tree approvers_query approvers_names refl
     (approvers_read schema place tree found there alone low)

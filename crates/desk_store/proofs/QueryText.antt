@@ -26,7 +26,6 @@ use Rattle.sqlite.specs.Listing.{reads_listing, understood}
 use Rattle.sqlite.specs.Command.{Command}
 use Rattle.sqlite.specs.Command.TheVariants.{Select}
 use Rattle.sqlite_resolve.specs.Program as program
-use Rattle.sqlite.proofs.Callers.{IsPlain, command_of}
 use Rattle.sqlite_schema.specs.declared.program.Program.{Program}
 use Rattle.sqlite_tied.specs.Compute.{everything}
 use Rattle.sqlite_resolve.specs.declared.scope.Bound.{Bound}
@@ -50,7 +49,7 @@ use Rattle.sqlite_resolve.specs.Select as selecting
 use Rattle.sqlite_resolve.specs.Select.{outermost}
 use Rattle.sqlite.specs.declared.types.Value.TheVariants.{Int}
 use Rattle.sqlite_value.specs.declared.keys.Collation.{Collation}
-use Rattle.desk_store.proofs.SelectText.{Means}
+use Rattle.desk_store.proofs.SelectText.{Means, one_query}
 use Rattle.sqlite_resolve.specs.Terms.{conjuncts}
 
 -- a column, as it is written
@@ -273,8 +272,9 @@ module _ (sql : List ℕ) (parsed : Parsed) (written_as : written_select.Select)
   unfolding compiled
   listed_as schema command reads = rw (is, planned_as schema command reads)
 
-  pub means_so : (schema : Schema) (tree : ℕ) (shape : ℕ → Query) (names : List (List ℕ)) → read schema written_as ≡ Ok (Select (record { lets = []; body = shape tree }) names) → Means sql shape names schema tree
-  means_so schema tree shape names reads =
+  pub means_so : (schema : Schema) (tree : ℕ) (shape : ℕ → Query) (names : List (List ℕ))
+      → with_command parsed ([], (Select (record { lets = []; body = shape tree }) names, None)) ≡ one_query sql parsed.names (shape tree) names
+      → read schema written_as ≡ Ok (Select (record { lets = []; body = shape tree }) names) → Means sql parsed.names shape names schema tree
+  means_so schema tree shape names whole reads =
       let command = Select (record { lets = []; body = shape tree }) names in
-      let known = understood_as schema command reads in
-      record { is = ap command_of known; plain = subst IsPlain (sym known) (refl, refl); unlisted = listed_as schema command reads }
+      record { is = understood_as schema command reads ∙ ap Ok whole; unlisted = listed_as schema command reads }

@@ -1,5 +1,5 @@
 -- The rows that a query of one table answers: of those that pass its tests what it shows, in some order.
-use Rattle.std.proofs.Common.{nat_le, ◌^◌, ◌≡◌, ◌∙◌, sym, ap, subst₂, refl, ℕ, pos, negsuc, Bool, true, false, cond, None, List, [], ◌∷◌, ◌++◌, filter, map}
+use Rattle.std.proofs.Common.{nat_le, ◌^◌, ◌≡◌, ◌∙◌, sym, ap, subst₂, refl, ℕ, pos, negsuc, Bool, true, false, cond, None, List, [], ◌∷◌, ◌++◌, filter, inl, inr, map}
 use Rattle.std.specs.Prelude.{IsPermutation}
 use Rattle.std.specs.List.{flat_map, list_all}
 use Rattle.std.proofs.lemmas.List.Sorted.{IsPermutation-map}
@@ -7,6 +7,7 @@ use Rattle.sqlite.specs.declared.types.Value.TheVariants.{Null, Int}
 use Rattle.sqlite.specs.Order.{Row}
 use Rattle.sqlite.specs.Tree.{Trees}
 use Rattle.sqlite.specs.Program.{overlay, IsProgramAnswer}
+use Rattle.sqlite_sql.specs.Program.{QueryOverflows}
 use Rattle.sqlite.specs.Term.{Env, Term, eval_all, holds, lit}
 use Rattle.sqlite.specs.Query.{Query, inner, end, Output, output, IsAnswer}
 
@@ -60,3 +61,8 @@ module _ (tests project : List Term) (tree : ℕ) (params : Row) (test : Row →
 pub filter_all : {X : Type 0} (xs : List X) → filter (λ x. true) xs ≡ xs
 filter_all [] = refl
 filter_all (x ∷ xs) = ap (λ more. x ∷ more) (filter_all xs)
+
+-- it has no sum that could be too large
+pub never_overflows : (tests project : List Term) (params : Row) (tree : ℕ) (db : Trees) → QueryOverflows (query tests project tree) db params → ⊥
+never_overflows tests project params tree db (inl none) = none
+never_overflows tests project params tree db (inr some) = some.4

@@ -1,9 +1,10 @@
 -- What a desk shows, how it stands to a history, and what its calls promise. (this project's own)
-use Rattle.std.specs.Prelude.{◌≡◌, ◌≢◌, ◌⊎◌, ℕ, ◌+◌, ◌<◌, ◌≤◌, ◌++◌, ◌==◌, Bool, true, false, List, [], ◌∷◌, Option, Some, None, Result, Ok, Err, All, Contains, IfOk, IsTrue, OnErr, OnOk, codes, find, length, if◌then◌else◌, refl}
+use Rattle.std.specs.Prelude.{◌≡◌, ◌≢◌, ◌⊎◌, ℕ, ◌+◌, ◌<◌, ◌≤◌, ◌++◌, ◌==◌, Bool, true, false, List, [], ◌∷◌, Option, Some, None, Result, Ok, Err, All, Contains, IfOk, IsSome, IsTrue, OnErr, OnOk, codes, find, length, if◌then◌else◌, refl}
 use Rattle.std.specs.List.{cons_option}
 use Rattle.std.specs.Option.{option_map}
 use Rattle.std.specs.Str.{IsUtf8}
 use Rattle.std.specs.Coded.{Coded, code_by, coded×}
+use Rattle.sqlite_disk.specs.Disk.{MoreFaults}
 use Rattle.sqlite_trees.specs.declared.store.Store.{Ghosts}
 use Rattle.sqlite_trees.specs.View.{doubt}
 use Rattle.sqlite.specs.Held.{Held, held_code, state}
@@ -234,6 +235,11 @@ pub record LeavesTables (old new : State) : Type 0 where
   pub same : HasCleanDisk new → IsTrue new.is_open → new.committed ≡ old.committed
   pub crash : Survives old new (λ _. ⊥)
 
+-- what a question may be refused for, whatever it asks: the disk failed or refused once more, the connection was shut, or a limit on
+-- steps was set
+abbrev pub MayRefuse : State → State → Type 0
+MayRefuse old new = MoreFaults old.faults new.faults ⊎ ((old.is_open ≡ false) ⊎ IsSome old.step_limit)
+
 -- The words of a desk for the layers above, which know nothing of tables.
 module _ {S V : Type 0} (g : Ghosts S) where
   -- nothing else has written its files, and the disk has returned what was written
@@ -250,3 +256,7 @@ module _ {S V : Type 0} (g : Ghosts S) where
   -- a desk after a call that changes nothing
   abbrev pub StaysAsItWas : Shown S V → Shown S V → Type 0
   StaysAsItWas old new = Stays (state g old.conn) (state g new.conn) old.state new.state
+
+  -- why a question has no answer: there is no memory, or it may be refused
+  abbrev pub IsExcused : Shown S V → Shown S V → DeskError → Type 0
+  IsExcused old new e = (e ≡ error.Memory) ⊎ MayRefuse (state g old.conn) (state g new.conn)

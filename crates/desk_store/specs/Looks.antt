@@ -1,17 +1,19 @@
 -- What a look changes, which is nothing, and what the queries read. (this project's own)
-use Rattle.std.specs.Prelude.{◌≡◌, ◌&&◌, ℕ, Bool, true, false, List, [], ◌∷◌, Option, Some, None, IfOk, IsPermutation, IsTrue, Ok, OnOk, Result, Vec, codes, filter, map, pos}
+use Rattle.std.specs.Prelude.{◌≡◌, ◌⊎◌, ◌≤◌, ◌&&◌, ℕ, Bool, true, false, List, [], ◌∷◌, Option, Some, None, IfErr, IfOk, IsPermutation, IsSome, IsTrue, Ok, OnOk, Result, Vec, codes, filter, length, map, pos}
 use Rattle.std.specs.Ordering.{is_eq}
-use Rattle.sqlite.specs.Effect.{Database, IsDatabase, Reads}
+use Rattle.sqlite.specs.Effect.{Database, IsDatabase, Reads, RefusesToRead}
 use Rattle.sqlite.specs.Given.{IsPlain}
 use Rattle.sqlite.specs.Listing.{reads_listing, understood}
 use Rattle.sqlite.specs.Schema.{Schema}
 use Rattle.sqlite.specs.State.{HasCleanDisk, State}
 use Rattle.sqlite.specs.declared.error.Error.{Error}
+use Rattle.sqlite.specs.declared.error.Error.TheVariants.{SqliteFailure}
+use Rattle.sqlite.specs.declared.error.ErrorCode.TheVariants as code
 use Rattle.sqlite_resolve.specs.declared.compiled.Compiled.{Compiled}
 use Rattle.sqlite.specs.Order.{Row, column, value_cmp}
 use Rattle.sqlite.specs.declared.types.Value.{Value}
 use Rattle.sqlite.specs.declared.types.Value.TheVariants.{Int, Text as Words}
-use Rattle.desk_store.specs.Desk.{LeavesTables}
+use Rattle.desk_store.specs.Desk.{LeavesTables, MayRefuse}
 use Rattle.desk_store.specs.Tables.{HasFirstTables, HasTables, HasThese, IsAtRestWith, has_later, rows_of}
 use Rattle.desk_store.specs.declared.declared.Version.{Version}
 use Rattle.desk_store.specs.declared.declared.Version.TheVariants as version
@@ -24,17 +26,22 @@ pub record ChangesNothing (old new : State) : Type 0 where
   pub opened : HasCleanDisk new → IsTrue new.is_open → IsTrue old.is_open
   pub leaves : LeavesTables old new
 
--- a query changes nothing, and reads these rows of the database, in some order, over a connection that is open
+-- A query changes nothing, and reads these rows of the database, in some order, over a connection that is open. Where it does not,
+-- there is no memory, or it may be refused whatever it asks.
 pub record ReadsRows {Y : Type 0} (of : Database → List Row) (old new : State) (result : Result (Vec Row Y) Error) : Type 0 where
   pub look : ChangesNothing old new
   pub live : HasCleanDisk new → OnOk result (IsTrue new.is_open)
   pub rows : HasCleanDisk new → IfOk result (λ rows. IsPermutation (of old.committed) rows.items)
+  pub cause : HasCleanDisk new → IfErr result (λ e. (e ≡ SqliteFailure code.OutOfMemory) ⊎ MayRefuse old new)
 
--- a query that writes nothing, and that shows these rows of a database with the tables of version 1, or with all four, in some order
+-- A query that writes nothing, and that shows these rows of a database with the tables of version 1, or with all four, in some order.
+-- It is one statement with so many parameters, and is refused only where a limit on steps is set.
 pub record IsLook (all : Bool) (sql : List ℕ) (params : Row) (of : Database → List Row) : Type 0 where
   pub plain : (schema : Schema) → HasThese all schema → IsPlain (understood schema sql)
   pub unlisted : (schema : Schema) → HasThese all schema → reads_listing schema sql ≡ false
   pub rows : (db : Database) (rows : List Row) (c : Compiled) → HasThese all db.schema → understood db.schema sql ≡ Ok c → Reads c.command db params rows → IsPermutation (of db) rows
+  pub whole : (schema : Schema) (c : Compiled) → HasThese all schema → understood schema sql ≡ Ok c → (length sql ≤ c.tail) × (length params ≡ length c.names)
+  pub calm : (limit : Option ℕ) (db : Database) (e : Error) (c : Compiled) → HasThese all db.schema → understood db.schema sql ≡ Ok c → RefusesToRead limit c.command db params e → IsSome limit
 
 -- the version whose tables a schema declares: the second, if it has all four; the first, if it has those of version 1 and none with
 -- the name of a later one; or neither

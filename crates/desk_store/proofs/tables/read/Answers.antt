@@ -12,5 +12,6 @@ returns-in-Ok g c all of rest look =
 
 pub returns-in-Err : goal.returns-in-Err
 returns-in-Err g c all of rest look =
-    not_read of (state g.S.Store c.args.conn.now) (state g.S.Store c.prepare.new.self) c.in-Err.e
+    not_read all c.args.query.now (bound c.args.params.now) of (state g.S.Store c.args.conn.now) (state g.S.Store c.prepare.new.self) c.in-Err.e rest look
     (changes_nothing _ _ c.prepare.ensures.mode (λ clean. not_run _ _ _ [] _ (c.in-Err.ensures.err clean [])) c.prepare.ensures.survives)
+    (λ clean. c.in-Err.ensures.err clean (bound c.args.params.now))
