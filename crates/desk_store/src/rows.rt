@@ -1,10 +1,11 @@
 //! What the rows say that are read of revisions.
 
-ghost use Rattle.std.specs.Prelude.{◌≡◌, ◌⊎◌, ◌↔◌, ◌++◌, ◌∷◌, [], IfErr, IfOk, OnOk, map, pos};
+ghost use Rattle.std.specs.Prelude.{◌≡◌, ◌⊎◌, ◌↔◌, ◌++◌, ◌∷◌, [], All, IfErr, IfOk, OnOk, map, pos};
 ghost use Rattle.sqlite.specs.Order.{column};
+ghost use Rattle.std.specs.Str.{IsUtf8};
 ghost use Rattle.sqlite.specs.declared.types.Value.TheVariants.{Int, Text as Words};
 ghost use Rattle.desk_exports.specs.Profile.{profile_number};
-ghost use Rattle.desk_store.specs.Rows.{Finds, IsOfTask, Lists, Says, SaysWho, listed};
+ghost use Rattle.desk_store.specs.Rows.{Finds, IsApproved, IsFound, IsListed, IsName, IsNumber, IsOfTask, IsProfile, Lists, Says, SaysWho, listed};
 ghost use Rattle.desk_store.specs.declared.error.DeskError.TheVariants as error;
 ghost use Rattle.desk_store.specs.declared.error.Task.TheVariants as tasks;
 
@@ -36,6 +37,7 @@ pub(crate) fn find_revision(
 ) -> Result<Option<Revision>, DeskError>
     ensures found { IfOk result (Finds rows.now approvals.now) }
     ensures errors { IfErr result (IsOfTask tasks.ReadRevisions) }
+    ensures readable { All IsFound rows.now → All IsApproved approvals.now → IfErr result (λ e. e ≡ error.Memory) }
 {
     match rows.first() {
         Some(row) => {
@@ -50,6 +52,7 @@ pub(crate) fn find_revision(
 fn find_approver(alloc: Global, approvals: &[Row]) -> Result<Option<Text>, DeskError>
     ensures who { IfOk result (SaysWho approvals.now) }
     ensures errors { IfErr result (IsOfTask tasks.ReadRevisions) }
+    ensures readable { All IsApproved approvals.now → IfErr result (λ e. e ≡ error.Memory) }
 {
     match approvals.first() {
         Some(row) => Ok(Some(approver_in(alloc, row)?)),
@@ -61,6 +64,7 @@ fn find_approver(alloc: Global, approvals: &[Row]) -> Result<Option<Text>, DeskE
 fn approver_in(alloc: Global, row: &Row) -> Result<Text, DeskError>
     ensures approver { IfOk result (λ approver. column row.now 0 ≡ Words approver) }
     ensures errors { IfErr result (IsOfTask tasks.ReadRevisions) }
+    ensures readable { IsApproved row.now → IfErr result (λ e. e ≡ error.Memory) }
 {
     match row.get_ref(0) {
         Ok(ValueRef::Text(approver)) => text_in(alloc, approver, 0),
@@ -75,6 +79,7 @@ pub(crate) fn list_revisions(
 ) -> Result<Sequence<(u32, Text)>, DeskError>
     ensures listed { IfOk result (Lists rows.now) }
     ensures errors { IfErr result (IsOfTask tasks.ReadRevisions) }
+    ensures readable { All IsListed rows.now → IfErr result (λ e. e ≡ error.Memory) }
 {
     let mut found = listed_rows(alloc, rows)?;
     found.sort_unstable_by_key(|one| one.0);
@@ -85,6 +90,7 @@ pub(crate) fn list_revisions(
 pub(crate) fn listed_rows(alloc: Global, rows: &[Row]) -> Result<Vec<(u32, Text)>, DeskError>
     ensures listed { IfOk result (λ found. found.items ≡ map listed rows.now) }
     ensures errors { IfErr result (IsOfTask tasks.ReadRevisions) }
+    ensures readable { All IsListed rows.now → IfErr result (λ e. e ≡ error.Memory) }
 {
     let mut found = Vec::new(alloc);
     for row in rows {
@@ -97,6 +103,7 @@ pub(crate) fn listed_rows(alloc: Global, rows: &[Row]) -> Result<Vec<(u32, Text)
 fn add_listed(alloc: Global, found: &mut Vec<(u32, Text)>, row: &Row) -> Result<(), DeskError>
     ensures added { OnOk result (found.new.items ≡ found.old.items ++ listed row.now ∷ []) }
     ensures errors { IfErr result (IsOfTask tasks.ReadRevisions) }
+    ensures readable { IsListed row.now → IfErr result (λ e. e ≡ error.Memory) }
 {
     let one = listed_in(alloc, row)?;
     match found.push(one) {
@@ -109,6 +116,7 @@ fn add_listed(alloc: Global, found: &mut Vec<(u32, Text)>, row: &Row) -> Result<
 fn listed_in(alloc: Global, row: &Row) -> Result<(u32, Text), DeskError>
     ensures listed { IfOk result (λ one. one ≡ listed row.now) }
     ensures errors { IfErr result (IsOfTask tasks.ReadRevisions) }
+    ensures readable { IsListed row.now → IfErr result (λ e. e ≡ error.Memory) }
 {
     let rev = number_in(row)?;
     let author = author_in(alloc, row)?;
@@ -119,6 +127,7 @@ fn listed_in(alloc: Global, row: &Row) -> Result<(u32, Text), DeskError>
 pub(crate) fn number_in(row: &Row) -> Result<u32, DeskError>
     ensures number { IfOk result (λ rev. column row.now 0 ≡ Int (pos rev)) }
     ensures errors { IfErr result (IsOfTask tasks.ReadRevisions) }
+    ensures readable { IsNumber (column row.now 0) → IfErr result (λ e. e ≡ error.Memory) }
 {
     match row.get_ref(0) {
         Ok(ValueRef::Int(number)) => u32::try_from(number).map_err(|_| unreadable(0)),
@@ -130,6 +139,7 @@ pub(crate) fn number_in(row: &Row) -> Result<u32, DeskError>
 pub(crate) fn author_in(alloc: Global, row: &Row) -> Result<Text, DeskError>
     ensures author { IfOk result (λ author. column row.now 1 ≡ Words author) }
     ensures errors { IfErr result (IsOfTask tasks.ReadRevisions) }
+    ensures readable { IsName (column row.now 1) → IfErr result (λ e. e ≡ error.Memory) }
 {
     match row.get_ref(1) {
         Ok(ValueRef::Text(author)) => text_in(alloc, author, 1),
@@ -142,6 +152,7 @@ fn revision_in(alloc: Global, row: &Row, approver: Option<Text>) -> Result<Revis
     ensures says { IfOk result (Says row.now) }
     ensures approver { IfOk result (λ found. found.approver ≡ approver) }
     ensures errors { IfErr result (IsOfTask tasks.ReadRevisions) }
+    ensures readable { IsFound row.now → IfErr result (λ e. e ≡ error.Memory) }
 {
     let profile = profile_in(row, 1)?;
     match (row.get_ref(0), row.get_ref(2)) {
@@ -159,6 +170,7 @@ fn revision_in(alloc: Global, row: &Row, approver: Option<Text>) -> Result<Revis
 pub(crate) fn profile_in(row: &Row, at: usize) -> Result<Profile, DeskError>
     ensures profile { IfOk result (λ profile. column row.now at ≡ Int (pos (profile_number profile))) }
     ensures errors { IfErr result (IsOfTask tasks.ReadRevisions) }
+    ensures readable { IsProfile (column row.now at) → IfErr result (λ e. e ≡ error.Memory) }
 {
     match row.get_ref(at) {
         Ok(ValueRef::Int(1)) => Ok(Profile::One),
@@ -171,6 +183,7 @@ pub(crate) fn profile_in(row: &Row, at: usize) -> Result<Profile, DeskError>
 fn text_in(alloc: Global, bytes: &[u8], column: usize) -> Result<Text, DeskError>
     ensures text { IfOk result (λ text. text ≡ bytes.now) }
     ensures errors { IfErr result (IsOfTask tasks.ReadRevisions) }
+    ensures readable { IsUtf8 bytes.now → IfErr result (λ e. e ≡ error.Memory) }
 {
     let Ok(text) = std::str::from_utf8(bytes) else {
         return Err(unreadable(column));

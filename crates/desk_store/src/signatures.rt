@@ -1,7 +1,8 @@
 //! Who signed the revisions of a file, as rows say.
 
-ghost use Rattle.std.specs.Prelude.{◌≡◌, ◌++◌, ◌∷◌, [], IfErr, IfOk, OnOk, map};
-ghost use Rattle.desk_store.specs.Rows.{IsOfTask, Signs, approver_at, signed};
+ghost use Rattle.std.specs.Prelude.{◌≡◌, ◌++◌, ◌∷◌, [], All, IfErr, IfOk, OnOk, map};
+ghost use Rattle.desk_store.specs.Rows.{IsListed, IsOfTask, IsSigned, Signs, approver_at, signed};
+ghost use Rattle.desk_store.specs.declared.error.DeskError.TheVariants as error;
 ghost use Rattle.desk_store.specs.declared.error.Task.TheVariants as tasks;
 
 use crate::desk::Signature;
@@ -19,6 +20,7 @@ pub(crate) fn list_signatures(
 ) -> Result<Sequence<Signature>, DeskError>
     ensures signs { IfOk result (Signs rows.now approvals.now) }
     ensures errors { IfErr result (IsOfTask tasks.ReadRevisions) }
+    ensures readable { All IsSigned rows.now → All IsListed approvals.now → IfErr result (λ e. e ≡ error.Memory) }
 {
     let approved = listed_rows(alloc, approvals)?;
     let mut found = signed_rows(alloc, rows, approved.as_slice())?;
@@ -34,6 +36,7 @@ fn signed_rows(
 ) -> Result<Vec<Signature>, DeskError>
     ensures signed { IfOk result (λ found. found.items ≡ map (signed approved.now) rows.now) }
     ensures errors { IfErr result (IsOfTask tasks.ReadRevisions) }
+    ensures readable { All IsSigned rows.now → IfErr result (λ e. e ≡ error.Memory) }
 {
     let mut found = Vec::new(alloc);
     for row in rows {
@@ -51,6 +54,7 @@ fn add_signed(
 ) -> Result<(), DeskError>
     ensures added { OnOk result (found.new.items ≡ found.old.items ++ signed approved.now row.now ∷ []) }
     ensures errors { IfErr result (IsOfTask tasks.ReadRevisions) }
+    ensures readable { IsSigned row.now → IfErr result (λ e. e ≡ error.Memory) }
 {
     let one = signature_in(alloc, row, approved)?;
     match found.push(one) {
@@ -63,6 +67,7 @@ fn add_signed(
 fn signature_in(alloc: Global, row: &Row, approved: &[(u32, Text)]) -> Result<Signature, DeskError>
     ensures signed { IfOk result (λ one. one ≡ signed approved.now row.now) }
     ensures errors { IfErr result (IsOfTask tasks.ReadRevisions) }
+    ensures readable { IsSigned row.now → IfErr result (λ e. e ≡ error.Memory) }
 {
     let rev = number_in(row)?;
     let profile = profile_in(row, 2)?;
@@ -79,7 +84,7 @@ fn signature_in(alloc: Global, row: &Row, approved: &[(u32, Text)]) -> Result<Si
 /// Copies who approved the revision with a number, if it was approved.
 fn approver_of(alloc: Global, approved: &[(u32, Text)], rev: u32) -> Result<Option<Text>, DeskError>
     ensures approver { IfOk result (λ approver. approver ≡ approver_at approved.now rev) }
-    ensures errors { IfErr result (IsOfTask tasks.ReadRevisions) }
+    ensures errors { IfErr result (λ e. e ≡ error.Memory) }
 {
     match approved.iter().find(|one| one.0 == rev) {
         Some(one) => match Text::copy(alloc, one.1.as_str()) {
