@@ -1,11 +1,13 @@
 -- What the rows say of a revision is what the history says, and a look leaves a desk as it was.
 use Rattle.std.proofs.Common.{Err, List, None, Ok, Option, Result, Some, [], ap, arith, codes, filter_map, inl, inr, map, pos, refl, subst, sym, true, ℕ, ◌==◌, ◌&&◌, ◌∙◌, ◌∷◌, ◌≡◌, filter}
-use Rattle.std.specs.Prelude.{Contains, IfOk, IsPermutation}
+use Rattle.std.specs.Prelude.{All, Contains, IfErr, IfOk, IsPermutation}
+use Rattle.std.specs.List.{cons_option}
 use Rattle.std.specs.Option.{option_map}
 use Rattle.std.specs.Cmp.{Equal-is, int_cmp_is}
 use Rattle.std.specs.Ordering.{int_cmp, is_eq}
 use Rattle.std.specs.declared.cmp.Ordering.TheVariants.{Equal}
-use Rattle.std.specs.Str.{bytes_eq}
+use Rattle.std.specs.Str.{IsUtf8, bytes_eq}
+use Rattle.std.proofs.lemmas.List.Elements.{All-contains}
 use Rattle.std.specs.FinMap.{int_cmp-IsAntisymmetric}
 use Rattle.sqlite_value.proofs.OrderLemmas.{value_cmp-Int}
 use Rattle.std.proofs.lemmas.Bool.{eqb-true, eq-eqb}
@@ -21,15 +23,16 @@ use Rattle.desk_core.specs.Head.{Revision}
 use Rattle.desk_core.specs.History.{revisions_of}
 use Rattle.desk_core.specs.Views.{Kept}
 use Rattle.desk_core.specs.declared.entry.Entry.{Entry}
-use Rattle.desk_store.specs.Desk.{IsDesk, Stands, Stays, revision_at, stored_of}
+use Rattle.desk_store.specs.Desk.{IsDesk, IsStorable, Stands, Stays, revision_at, stored_of}
 use Rattle.desk_store.specs.History.{Holds, approval_of, revisions_in, row_of}
-use Rattle.desk_store.specs.Rows.{Finds, Says, SaysWho}
+use Rattle.desk_store.specs.Rows.{Finds, IsApproved, IsFound, Says, SaysWho}
 use Rattle.desk_store.specs.Looks.{ChangesNothing, approver_in, approver_of, are_equal, author_profile_and_text, is_at, is_of, revision_in}
 use Rattle.desk_store.specs.Tables.{IsAtRest, IsKeyed, approval_row, rows_of}
 use Rattle.desk_store.specs.declared.error.DeskError.{DeskError}
+use Rattle.desk_store.specs.declared.error.DeskError.TheVariants as error
 use Rattle.desk_store.specs.declared.desk.Revision.{Revision as Found}
 use Rattle.desk_store.proofs.HistoryStep.{same_text}
-use Rattle.desk_store.proofs.Members.{find_none, find_only, from_filter, from_filter_map, from_map, in_filter, in_filter_map, in_map, both_true}
+use Rattle.desk_store.proofs.Members.{each_is, find_none, find_only, from_filter, from_filter_map, from_map, in_filter, in_filter_map, in_map, both_true}
 use Rattle.desk_store.proofs.OneOrder.{same_profile}
 use Rattle.desk_store.proofs.Revisions.{one_number}
 
@@ -70,6 +73,10 @@ approval_row_of r a is = ap (option_map (approval_row r.file r.rev)) is
 pub row_parts : (file : List ℕ) (rev : ℕ) (approver : Option (List ℕ)) (row : Row) → option_map (approval_row file rev) approver ≡ Some row → (a : List ℕ) × (approver ≡ Some a) × (approval_row file rev a ≡ row)
 row_parts file rev None row e = absurd (cc)
 row_parts file rev (Some a) row e = let same : approval_row file rev a ≡ row = cc in (a, refl, same)
+
+pub approver_text : (approver : Option (List ℕ)) (a : List ℕ) → approver ≡ Some a → All IsUtf8 (cons_option approver []) → IsUtf8 a
+approver_text None a is utf8 = absurd (cc)
+approver_text (Some own) a is utf8 = let same : own ≡ a = cc in subst IsUtf8 same (utf8 0 [] (omega arith))
 
 module _ (db : Database) (history : List Entry) (rows approvals : List Row) (holds : Holds db history) (file : List ℕ) (rev : ℕ)
     (same : IsPermutation (revision_in file rev db) rows) (approved : IsPermutation (approver_in file rev db) approvals) where
@@ -169,6 +176,24 @@ module _ (db : Database) (history : List Entry) (rows approvals : List Row) (hol
   pub found_if : (result : Result (Option Found) DeskError) → IfOk result (Finds rows approvals) → IfOk result (λ found. found ≡ stored_of (revision_at history file rev))
   found_if (Ok found) h = found_is found h
   found_if (Err e) h = tt
+
+  -- if the history may be stored, the rows can be read
+  found_row : All IsStorable stored → (row : Row) → Contains rows row → IsFound row
+  found_row each row h =
+      let it = revision_there row h in
+      let kept = All-contains IsStorable stored it.0 each it.1 in
+      let own : IsFound (author_profile_and_text (row_of it.0)) = ((refl, kept.author), (it.0.profile, refl), (it.0.body, refl, kept.body)) in
+      subst IsFound it.4 own
+
+  approved_row : All IsStorable stored → (row : Row) → Contains approvals row → IsApproved row
+  approved_row each row h =
+      let it = who_there row h in
+      let kept = All-contains IsStorable stored it.0 each it.1 in
+      let own : IsApproved (Words it.4.0 ∷ []) = (refl, approver_text it.0.approver it.4.0 it.4.1 kept.approver) in
+      subst IsApproved it.4.2 own
+
+  pub found_or_memory : {T : Type 0} (result : Result T DeskError) → All IsStorable stored → (All IsFound rows → All IsApproved approvals → IfErr result (λ e. e ≡ error.Memory)) → IfErr result (λ e. e ≡ error.Memory)
+  found_or_memory result each read = read (each_is IsFound rows (found_row each)) (each_is IsApproved approvals (approved_row each))
 
 -- a look leaves a desk as it was
 module _ {V : Type 0} (old new : State) (kept : Kept V) (look : ChangesNothing old new) where

@@ -8,6 +8,7 @@ pub mod Entries
 pub mod InsertText
 pub mod InsertEffect
 pub mod ChangesNothing
+pub mod Excused
 pub mod Inserting
 pub mod Placed
 pub mod SelectText

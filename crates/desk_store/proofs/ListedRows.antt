@@ -1,11 +1,12 @@
 -- What the rows of a file's revisions and of their approvals tell, in ascending order of the numbers, is told by its revisions.
 use Rattle.std.proofs.Common.{◌≡◌, ◌∙◌, sym, ap, subst, refl, ℕ, suc, ◌+◌, ◌<◌, ◌≤◌, ◌==◌, Bool, true, List, [], ◌∷◌, ◌++◌, Option, Some, None, Result, Ok, Err, IfOk, IsPermutation, codes, filter, filter_map, get_or, length, map, option_map, take, arith}
-use Rattle.std.specs.Prelude.{Contains}
+use Rattle.std.specs.Prelude.{All, Contains, IfErr, ◌^◌}
 use Rattle.std.specs.List.{AllByRecursion, range_with_len}
 use Rattle.std.specs.List.Sorted.{IsNonDecreasingBy}
 use Rattle.std.specs.Str.{bytes_eq}
 use Rattle.std.proofs.lemmas.Bool.{eq-eqb, eqb-true}
 use Rattle.std.proofs.lemmas.List.{map-append, take_more, get_or-map, length-map}
+use Rattle.std.proofs.lemmas.List.Elements.{All-contains}
 use Rattle.std.proofs.lemmas.List.FromFn.{get_or-range_with_len, length-range_with_len}
 use Rattle.std.proofs.lemmas.List.Sorted.{Contains-permutation, IsPermutation-map, IsPermutation-sym, IsPermutation-trans}
 use Rattle.sqlite.specs.Order.{Row}
@@ -17,16 +18,17 @@ use Rattle.desk_exports.specs.declared.profile.Profile.TheVariants.{One, Two}
 use Rattle.desk_core.specs.Head.{Revision}
 use Rattle.desk_core.specs.History.{revisions_of}
 use Rattle.desk_core.specs.declared.entry.Entry.{Entry}
-use Rattle.desk_store.specs.Desk.{signature_of}
+use Rattle.desk_store.specs.Desk.{IsStorable, signature_of}
 use Rattle.desk_store.specs.History.{Holds, approval_of, revisions_in, row_of}
-use Rattle.desk_store.specs.Rows.{Lists, Signs, approver_at, listed, profile_with, signed}
+use Rattle.desk_store.specs.Rows.{IsListed, IsSigned, Lists, Signs, approver_at, listed, profile_with, signed}
 use Rattle.desk_store.specs.Looks.{approvers_in, is_of, number_and_approver, number_author_and_profile, numbers_in}
 use Rattle.desk_store.specs.Tables.{approval_row, rows_of}
 use Rattle.desk_store.specs.declared.desk.Signature.{Signature}
 use Rattle.desk_store.specs.declared.error.DeskError.{DeskError}
-use Rattle.desk_store.proofs.FoundRows.{of_file, row_parts}
+use Rattle.desk_store.specs.declared.error.DeskError.TheVariants as error
+use Rattle.desk_store.proofs.FoundRows.{approver_text, of_file, row_parts}
 use Rattle.desk_store.proofs.HistoryStep.{same_text}
-use Rattle.desk_store.proofs.Members.{default, find_none, find_only, from_filter, from_filter_map, from_map, in_filter, in_filter_map, in_map, same_lists}
+use Rattle.desk_store.proofs.Members.{default, each_is, find_none, find_only, from_filter, from_filter_map, from_map, in_filter, in_filter_map, in_map, same_lists}
 use Rattle.desk_store.proofs.Revisions.{one_number}
 use Rattle.desk_store.proofs.SortedNumbers.{Rises, same_range}
 
@@ -122,6 +124,20 @@ module _ (db : Database) (history : List Entry) (rows : List Row) (holds : Holds
   listed_if (Ok found) h = listed_is found h
   listed_if (Err e) h = tt
 
+  -- if the history may be stored, the rows can be read
+  signed_row : All IsStorable stored → (row : Row) → Contains rows row → IsSigned row
+  signed_row each row h =
+      let seen = from_map number_author_and_profile (map row_of mine) row (Contains-permutation rows _ row shown h) in
+      let it = from_map row_of mine seen.0 seen.1 in
+      let from = from_filter (λ (r : Revision). bytes_eq r.file file) stored it.0 it.1 in
+      let kept = All-contains IsStorable stored it.0 each from.0 in
+      let low : it.0.rev < 2 ^ 32 = omega (arith, kept.rev) in
+      let own : IsSigned (number_author_and_profile (row_of it.0)) = (((refl, low), (refl, kept.author)), (it.0.profile, refl)) in
+      subst IsSigned (ap number_author_and_profile it.2 ∙ seen.2) own
+
+  pub listed_or_memory : {T : Type 0} (result : Result T DeskError) → All IsStorable stored → (All IsListed rows → IfErr result (λ e. e ≡ error.Memory)) → IfErr result (λ e. e ≡ error.Memory)
+  listed_or_memory result each read = read (each_is IsListed rows (λ row h. (signed_row each row h).0))
+
   module _ (approvals : List Row) (same_approvals : IsPermutation (approvers_in file db) approvals) where
     abbrev approved : List (ℕ × List ℕ)
     approved = map listed approvals
@@ -161,6 +177,20 @@ module _ (db : Database) (history : List Entry) (rows : List Row) (holds : Holds
         let it = from_filter_map approval_of stored seen.0 (Contains-permutation whole (filter_map approval_of stored) seen.0 (IsPermutation-sym (filter_map approval_of stored) whole holds.approvals) passes.0) in
         let its = approval_pair it.0 seen.0 one it.2 (ap listed seen.2 ∙ at.2) in
         (it.0, in_filter (λ (x : Revision). bytes_eq x.file file) stored it.0 it.1 (approval_file it.0 seen.0 it.2 passes.1), its.0, its.1)
+
+    approval_row_is : All IsStorable stored → (row : Row) → Contains approvals row → IsListed row
+    approval_row_is each row h =
+        let seen = from_map number_and_approver (filter (is_of file) whole) row (Contains-permutation approvals (approvers_in file db) row (IsPermutation-sym (approvers_in file db) approvals same_approvals) h) in
+        let passes = from_filter (is_of file) whole seen.0 seen.1 in
+        let it = from_filter_map approval_of stored seen.0 (Contains-permutation whole (filter_map approval_of stored) seen.0 (IsPermutation-sym (filter_map approval_of stored) whole holds.approvals) passes.0) in
+        let parts = row_parts it.0.file it.0.rev it.0.approver seen.0 it.2 in
+        let kept = All-contains IsStorable stored it.0 each it.1 in
+        let low : it.0.rev < 2 ^ 32 = omega (arith, kept.rev) in
+        let own : IsListed (number_and_approver (approval_row it.0.file it.0.rev parts.0)) = ((refl, low), (refl, approver_text it.0.approver parts.0 parts.1 kept.approver)) in
+        subst IsListed (ap number_and_approver parts.2 ∙ seen.2) own
+
+    pub signed_or_memory : {T : Type 0} (result : Result T DeskError) → All IsStorable stored → (All IsSigned rows → All IsListed approvals → IfErr result (λ e. e ≡ error.Memory)) → IfErr result (λ e. e ≡ error.Memory)
+    signed_or_memory result each read = read (each_is IsSigned rows (signed_row each)) (each_is IsListed approvals (approval_row_is each))
 
     one_of : (r s : Revision) → Contains mine r → Contains mine s → r.rev ≡ s.rev → r ≡ s
     one_of r s h k same = one_number mine r s (holds.numbers.numbered file) h k same

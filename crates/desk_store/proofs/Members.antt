@@ -61,6 +61,10 @@ default [] k d e below = absurd (omega arith)
 default (x ∷ xs) zero d e below = refl
 default (x ∷ xs) (suc k) d e below = default xs k d e (omega arith)
 
+-- what each element is
+pub each_is : {X : Type 0} (P : X → Type 0) (xs : List X) → ((x : X) → Contains xs x → P x) → All P xs
+each_is P xs h k d below = h (get_or xs k d) (k, below, default xs k (get_or xs k d) d below)
+
 pub same_lists : {X : Type 0} (xs ys : List X) → length xs ≡ length ys → ((k : ℕ) (d : X) → k < length xs → get_or xs k d ≡ get_or ys k d) → xs ≡ ys
 same_lists [] [] e h = refl
 same_lists [] (y ∷ ys) e h = absurd (omega (arith, e))

@@ -12,7 +12,7 @@ ghost use Rattle.desk_core.specs.Site.{IsConsistent, IsInForce, site_in};
 ghost use Rattle.desk_core.specs.Standing.{proposals_in};
 ghost use Rattle.desk_core.specs.State.{standing};
 ghost use Rattle.desk_store.specs.Create.{IsMade, JudgesSite, MayMake, RefusesToCreate, answer_of, first_revisions};
-ghost use Rattle.desk_store.specs.Desk.{AddsNothing, CommitsOne, HasGoodDisk, HasStored, History, IsAccepted, IsEdited, IsInUtf8, IsJudgedBy, LeavesTables, StandsAt, StaysAsItWas, StepsTo, is_proposed, revision_at, signature_of, stored_of, told};
+ghost use Rattle.desk_store.specs.Desk.{AddsNothing, CommitsOne, HasGoodDisk, HasStored, History, IsAccepted, IsEdited, IsExcused, IsInUtf8, IsJudgedBy, LeavesTables, StandsAt, StaysAsItWas, StepsTo, is_proposed, revision_at, signature_of, stored_of, told};
 ghost use Rattle.desk_store.specs.History.{entry_rows};
 ghost use Rattle.desk_store.specs.Open.{IsOfOpening, IsOurs, LeavesOpened, MayMigrate, OpensAt, held_in};
 ghost use Rattle.desk_store.specs.Rows.{IsOfEdit, IsOfTask};
@@ -214,6 +214,7 @@ impl<S: Alter + Drop, V: PolicyView + Drop> Desk<S, V> {
             → StandsAt S.Store self.old history pending
             → IfOk result (λ found. found ≡ stored_of (revision_at history file.now rev)) }
         ensures errors { IfErr result (IsOfTask tasks.ReadRevisions) }
+        ensures cause { HasGoodDisk S.Store self.new → IfErr result (IsExcused S.Store self.old self.new) }
         ensures tables { LeavesTables (state S.Store self.old.conn) (state S.Store self.new.conn) }
     {
         let rows = match read_revision(&mut self.conn, file, rev) {
@@ -240,6 +241,7 @@ impl<S: Alter + Drop, V: PolicyView + Drop> Desk<S, V> {
             → StandsAt S.Store self.old history pending
             → IfOk result (λ found. found ≡ map (λ r. (r.rev, r.author)) (revisions_of file.now history)) }
         ensures errors { IfErr result (IsOfTask tasks.ReadRevisions) }
+        ensures cause { HasGoodDisk S.Store self.new → IfErr result (IsExcused S.Store self.old self.new) }
         ensures tables { LeavesTables (state S.Store self.old.conn) (state S.Store self.new.conn) }
     {
         match read_numbers(&mut self.conn, file) {
@@ -259,6 +261,7 @@ impl<S: Alter + Drop, V: PolicyView + Drop> Desk<S, V> {
             → StandsAt S.Store self.old history pending
             → IfOk result (λ found. found ≡ map signature_of (revisions_of file.now history)) }
         ensures errors { IfErr result (IsOfTask tasks.ReadRevisions) }
+        ensures cause { HasGoodDisk S.Store self.new → IfErr result (IsExcused S.Store self.old self.new) }
         ensures tables { LeavesTables (state S.Store self.old.conn) (state S.Store self.new.conn) }
     {
         let rows = match read_numbers(&mut self.conn, file) {

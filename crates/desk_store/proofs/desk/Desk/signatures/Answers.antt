@@ -1,11 +1,15 @@
-use Rattle.std.proofs.Common.{◌≡◌, sym, subst, map, IfOk, IsPermutation, arith}
+use Rattle.std.proofs.Common.{◌≡◌, ◌⊎◌, sym, subst, map, IfErr, IfOk, IsPermutation, arith}
 use Rattle.sqlite.specs.Held.{state}
 use Rattle.sqlite.specs.State.{HasCleanDisk}
+use Rattle.sqlite.specs.declared.error.Error.TheVariants.{SqliteFailure}
+use Rattle.sqlite.specs.declared.error.ErrorCode.TheVariants as code
+use Rattle.desk_store.specs.declared.error.DeskError.TheVariants as error
 use Rattle.desk_core.specs.History.{revisions_of}
-use Rattle.desk_store.specs.Desk.{Stands, signature_of}
+use Rattle.desk_store.specs.Desk.{MayRefuse, Stands, signature_of}
 use Rattle.desk_store.specs.Looks.{approvers_in, numbers_in}
+use Rattle.desk_store.proofs.Excused.{for_look, for_memory, for_second}
 use Rattle.desk_store.proofs.FoundRows.{desk_still, rest_still, stands_still}
-use Rattle.desk_store.proofs.ListedRows.{signatures_if}
+use Rattle.desk_store.proofs.ListedRows.{signatures_if, signed_or_memory}
 use Rattle.desk_store.proofs.desk.Desk.signatures.Goals as goal
 use Rattle.desk_store.proofs.desk.Desk.signatures.Goals.{in-Ok-read_approvers, in-Err-read_approvers}
 
@@ -48,4 +52,44 @@ returns-clause-found g c clean history pending stands =
           let found = signatures_if mid.committed history w.as_slice.result.now (there.tables live) file rows w.as_slice-in-Ok-read_approvers.result.now approvals w.list_signatures.result w.list_signatures.ensures.signs in
           subst (λ r. IfOk r (λ found. found ≡ map signature_of (revisions_of file history))) (sym w.result-is) found
       | in-Err-read_approvers w ↦ subst (λ r. IfOk r (λ found. found ≡ map signature_of (revisions_of file history))) (sym w.result-is) tt
+    ]
+
+pub returns-in-Err-clause-cause : goal.returns-in-Err-clause-cause
+returns-in-Err-clause-cause g c clean =
+    let mid = state g.S.Store c.read_numbers.new.conn in
+    let cause = subst (λ s. (c.in-Err.e ≡ SqliteFailure code.OutOfMemory) ⊎ MayRefuse (state g.S.Store s.conn) mid) c.self.view_is (c.in-Err.ensures.cause clean) in
+    for_look (state g.S.Store c.args.self.now.conn) mid c.in-Err.e c.not_stored.result c.not_stored.ensures.memory cause
+
+pub returns-clause-cause : goal.returns-clause-cause
+returns-clause-cause g c clean =
+    let old = state g.S.Store c.self.inside.conn in
+    let mid = state g.S.Store c.read_numbers.new.conn in
+    let new = state g.S.Store c.read_approvers.new.conn in
+    let start = state g.S.Store c.args.self.now.conn in
+    let kept = c.self.inside.current in
+    let file = c.args.file.now in
+    let a = c.in-Ok.ensures in
+    elim c.match-read_approvers.branch [
+      | in-Ok-read_approvers w ↦
+          let b = w.in-Ok-read_approvers.ensures in
+          let before : HasCleanDisk mid = omega (arith, clean, b.look.leaves.crash.clean) in
+          let first : HasCleanDisk old = omega (arith, before, a.look.leaves.crash.clean) in
+          let desk = c.self.invariant.1 first in
+          let live = b.look.opened clean (b.live clean) in
+          let there = stands_still old mid kept a.look before desk.history desk.pending desk.stands in
+          let shown : IsPermutation (numbers_in file mid.committed) c.in-Ok.rows.items = subst (λ db. IsPermutation (numbers_in file db) c.in-Ok.rows.items) (sym (a.look.leaves.same before live)) (a.rows before) in
+          let rows : IsPermutation (numbers_in file mid.committed) w.as_slice.result.now = subst (IsPermutation (numbers_in file mid.committed)) (sym w.as_slice.ensures.value) shown in
+          let approvals : IsPermutation (approvers_in file mid.committed) w.as_slice-in-Ok-read_approvers.result.now =
+          subst (IsPermutation (approvers_in file mid.committed)) (sym w.as_slice-in-Ok-read_approvers.ensures.value) (b.rows clean) in
+          let memory = signed_or_memory mid.committed desk.history w.as_slice.result.now (there.tables live) file rows w.as_slice-in-Ok-read_approvers.result.now approvals
+          w.list_signatures.result there.stored.each w.list_signatures.ensures.readable in
+          subst (λ r. IfErr r (λ e. (e ≡ error.Memory) ⊎ MayRefuse start new)) (sym w.result-is) (for_memory start new w.list_signatures.result memory)
+      | in-Err-read_approvers w ↦
+          let b = w.in-Err-read_approvers.ensures in
+          let e = w.not_stored-in-Err-read_approvers.result in
+          let before : HasCleanDisk mid = omega (arith, clean, b.look.leaves.crash.clean) in
+          let late = for_look mid new w.in-Err-read_approvers.e e w.not_stored-in-Err-read_approvers.ensures.memory (b.cause clean) in
+          let whole = for_second old mid new e a.look.leaves.crash.counts a.look.leaves.crash.limit (a.live before) late in
+          let told = subst (λ s. (e ≡ error.Memory) ⊎ MayRefuse (state g.S.Store s.conn) new) c.self.view_is whole in
+          subst (λ r. IfErr r (λ e. (e ≡ error.Memory) ⊎ MayRefuse start new)) (sym w.result-is) told
     ]
