@@ -6,17 +6,17 @@ use Rattle.std.specs.Str.{bytes_eq}
 use Rattle.std.proofs.lemmas.List.Elements.{recursion_from_All}
 use Rattle.desk_text.specs.declared.reading.ReadError.{ReadError}
 use Rattle.desk_text.specs.declared.reading.ReadError.TheVariants.{Fault, Memory}
-use Rattle.desk_tables.specs.Custodians.{read_custodians}
 use Rattle.desk_policy.specs.Policy.{Content}
 use Rattle.desk_policy.specs.Site.{SiteTexts}
+use Rattle.desk_policy.specs.declared.row.Row.{Row}
 use Rattle.desk_policy.specs.declared.site_fault.SiteFault.{SiteFault}
 use Rattle.desk_core.specs.Edit.{Edit, revision_of}
 use Rattle.desk_core.specs.Head.{CanBeKept, Revision, last_revision, longest_revision, newest_in, newest_number, put}
 use Rattle.desk_core.specs.Judging.{AnswersBySite, answer_of, entry_of, first_case}
-use Rattle.desk_core.specs.PrivateState.{Accepts, PutsInForce, refusal_of}
-use Rattle.desk_core.specs.Site.{IsConsistent, IsInForce, revision_text, site_in}
+use Rattle.desk_core.specs.PrivateState.{Accepts, MakesChange, refusal_of}
+use Rattle.desk_core.specs.Site.{IsConsistent, revision_text, site_in}
 use Rattle.desk_core.specs.Standing.{standing_in}
-use Rattle.desk_core.specs.State.{PutsEntry, PutsRevision, standing}
+use Rattle.desk_core.specs.State.{PutsEntry, PutsRevision, PutsSite, standing}
 use Rattle.desk_core.specs.Views.{Kept, Ready}
 use Rattle.desk_core.specs.declared.entry.Entry.{Entry}
 use Rattle.desk_core.specs.declared.entry.Entry.TheVariants as entry
@@ -52,31 +52,31 @@ module _ {V : Type 0} (in_force : V → Content) (state : Kept V) (e : Edit) (re
 
   -- a revision with the text of the edit
   puts : (r : Revision) → r.file ≡ e.file → r.rev ≡ e.base + 1 → revision_text r ≡ revision_text (revision_of e) → e.base < last_revision → length e.text ≤ longest_revision
-      → read_custodians own_site.custodians ≡ Ok ready.custodians → IsInForce own_site (in_force ready.view) → PutsRevision in_force state ready r
-  puts r file rev text below short custodians view =
-      let site : site_in (put (newest_in state.heads) r) ≡ own_site = same_site (newest_in state.heads) r (revision_of e) file text in
+      → PutsSite in_force state ready.change own_site → PutsRevision in_force state ready r
+  puts r file rev text below short site =
+      let same : site_in (put (newest_in state.heads) r) ≡ own_site = same_site (newest_in state.heads) r (revision_of e) file text in
       let body : length r.body ≡ length e.text = ap (λ t. length t.body) text in
       record {
         can_be_kept = record { from = omega (arith, rev); to = omega (arith, rev, below); short = omega (arith, body, short) };
-        view = subst (λ t. IsInForce t (in_force ready.view)) (sym site) view;
-        custodians = ap (λ t. read_custodians t.custodians) site ∙ custodians;
+        site = subst (PutsSite in_force state ready.change) (sym same) site;
       }
 
   pub accepted : All CanBeKept state.heads → first_case (standing state) e ≡ None → ready.entry ≡ entry_of (standing state) e → length state.heads < ready.room → length state.proposals < ready.proposal_room
-      → read_custodians own_site.custodians ≡ Ok ready.custodians → IsInForce own_site (in_force ready.view) → Accepts in_force state e (Ok ready)
-  accepted kept none is room proposal_room custodians view =
+      → PutsSite in_force state ready.change own_site → Accepts in_force state e (Ok ready)
+  accepted kept none is room proposal_room site =
       let w = within state.heads state.proposals e kept none in
       let P : Entry → Type 0 = PutsEntry in_force state ready in
       let puts_own : P (entry_of (standing state) e) = elim (ways (standing state) e) [
-        | inl itself ↦ subst P (sym itself.1) (puts (revision_of e) refl refl refl w.0 w.1 custodians view)
+        | inl itself ↦ subst P (sym itself.1) (puts (revision_of e) refl refl refl w.0 w.1 site)
         | inr guarded ↦ elim guarded [
-          | inl approval ↦ subst P (sym approval.1.2) (puts _ refl refl refl w.0 w.1 custodians view)
+          | inl approval ↦ subst P (sym approval.1.2) (puts _ refl refl refl w.0 w.1 site)
           | inr proposal ↦ subst P (sym proposal.2) (omega (arith, w.0))
         ]
       ] in
-      (by_entry own_site (entry_of (standing state) e) ready.entry is view.consistent, is, record { room = room; proposal_room = proposal_room; puts = subst P (sym is) puts_own })
+      (by_entry own_site (entry_of (standing state) e) ready.entry is site.view.consistent, is, record { room = room; proposal_room = proposal_room; puts = subst P (sym is) puts_own })
 
 -- the fault of the site with the edit's text
-pub not_accepted : {V : Type 0} (in_force : V → Content) (state : Kept V) (e : Edit) (error : ReadError SiteFault) → PutsInForce in_force (site_in (put (newest_in state.heads) (revision_of e))) (Err error) → Accepts in_force state e (Err (refusal_of error))
-not_accepted in_force state e (Fault fault) has = (fault, refl, has)
-not_accepted in_force state e Memory has = tt
+pub not_accepted : {V P : Type 0} (in_force : V → Content) (part_rows : P → List Row) (state : Kept V) (e : Edit) (error : ReadError SiteFault)
+    → MakesChange in_force part_rows state (site_in (put (newest_in state.heads) (revision_of e))) (Err error) → Accepts in_force state e (Err (refusal_of error))
+not_accepted in_force part_rows state e (Fault fault) has = (fault, refl, has)
+not_accepted in_force part_rows state e Memory has = tt

@@ -4,16 +4,21 @@ use Rattle.desk_text.specs.declared.reading.ReadError.{ReadError}
 use Rattle.desk_text.specs.declared.reading.ReadError.TheVariants.{Fault, Memory}
 use Rattle.desk_tables.specs.Custodians.{read_custodians}
 use Rattle.desk_tables.specs.declared.custodians.Custodian.{Custodian}
+use Rattle.desk_policy.specs.Parsing.{read_site_tables}
 use Rattle.desk_policy.specs.Policy.{Content}
 use Rattle.desk_policy.specs.Site.{SiteTexts}
-use Rattle.desk_policy.specs.View.{HasFault}
+use Rattle.desk_policy.specs.View.{HasFault, IsPart}
+use Rattle.desk_policy.specs.declared.parsing.SiteTables.{SiteTables}
+use Rattle.desk_policy.specs.declared.row.Row.{Row}
 use Rattle.desk_policy.specs.declared.site_fault.SiteFault.{SiteFault}
 use Rattle.desk_core.specs.Edit.{Answer, Edit, Refused, revision_of}
 use Rattle.desk_core.specs.Judging.{AnswersBySite, answer_of, entry_of}
 use Rattle.desk_core.specs.Head.{CanBeKept, newest_in, put}
 use Rattle.desk_core.specs.Site.{IsInForce, site_in}
-use Rattle.desk_core.specs.State.{IsJudged, again, standing}
-use Rattle.desk_core.specs.Views.{Kept, Ready}
+use Rattle.desk_core.specs.State.{IsJudged, PutsSite, again, standing}
+use Rattle.desk_core.specs.Views.{Changed, Kept, Lines, Ready, Whole, shown}
+use Rattle.desk_core.specs.declared.change.Change.{Change}
+use Rattle.desk_core.specs.declared.change.SiteInForce.{SiteInForce}
 use Rattle.desk_core.specs.declared.edit.Refusal.{Refusal}
 use Rattle.desk_core.specs.declared.edit.Refusal.TheVariants as refusal
 use Rattle.desk_core.specs.Standing.{CanBePending}
@@ -22,10 +27,11 @@ use Rattle.desk_core.specs.declared.proposal.Proposal.{Proposal}
 use Rattle.desk_core.specs.declared.state.Judged.{Judged}
 use Rattle.desk_core.specs.declared.state.Judged.TheVariants as judged
 
--- what a state keeps: the policy in force, and the custodians of the site
-pub record IsState (heads : List Head) (proposals : List Proposal) (content : Content) (custodians : List Custodian) : Type 0 where
+-- what a state keeps: the policy in force, and the custodians and the tables of the site
+pub record IsState (heads : List Head) (proposals : List Proposal) (content : Content) (custodians : List Custodian) (tables : SiteTables) : Type 0 where
   pub in_force : IsInForce (site_in (newest_in heads)) content
   pub custodians_are : read_custodians (site_in (newest_in heads)).custodians ≡ Ok custodians
+  pub tables_are : read_site_tables (site_in (newest_in heads)) ≡ Ok tables
   pub kept : All CanBeKept heads
   pub pending : All CanBePending proposals
 
@@ -44,11 +50,37 @@ Accepts in_force state e (Ok ready) =
 Accepts in_force state e (Err (Fault refused)) = (fault : SiteFault) × (refused ≡ refusal.Fault fault) × HasFault (site_in (put (newest_in state.heads) (revision_of e))) fault
 Accepts in_force state e (Err Memory) = Unit {0}
 
--- the custodians and the policy of the site, in force, or the site's fault; out of memory says nothing
-abbrev pub PutsInForce : {V : Type 0} → (V → Content) → SiteTexts → Result (List Custodian × V) (ReadError SiteFault) → Type 0
-PutsInForce in_force texts (Ok both) = (read_custodians texts.custodians ≡ Ok both.0) × IsInForce texts (in_force both.1)
+-- what was made is the site's: its custodians, its tables, and its policy in force
+pub record IsSiteInForce {V : Type 0} (in_force : V → Content) (texts : SiteTexts) (made : SiteInForce V) : Type 0 where
+  pub custodians : read_custodians texts.custodians ≡ Ok made.custodians
+  pub tables : read_site_tables texts ≡ Ok made.tables
+  pub view : IsInForce texts (in_force made.view)
+
+-- that, or the site's fault; out of memory says nothing
+abbrev pub PutsInForce : {V : Type 0} → (V → Content) → SiteTexts → Result (SiteInForce V) (ReadError SiteFault) → Type 0
+PutsInForce in_force texts (Ok made) = IsSiteInForce in_force texts made
 PutsInForce in_force texts (Err (Fault fault)) = HasFault texts fault
 PutsInForce in_force texts (Err Memory) = Unit {0}
+
+-- a change puts the policy of this site in force, or there is the site's fault; out of memory says nothing
+abbrev pub MakesChange : {V P : Type 0} → (V → Content) → (P → List Row) → Kept V → SiteTexts → Result (Change V P) (ReadError SiteFault) → Type 0
+MakesChange in_force part_rows state texts (Ok change) = PutsSite in_force state (shown part_rows change) texts
+MakesChange in_force part_rows state texts (Err (Fault fault)) = HasFault texts fault
+MakesChange in_force part_rows state texts (Err Memory) = Unit {0}
+
+-- the custodians and the tables after a change
+abbrev pub custodians_after : {V : Type 0} → List Custodian → Changed V → List Custodian
+custodians_after custodians (Whole made) = made.custodians
+custodians_after custodians (Lines fs rows) = custodians
+
+abbrev pub tables_after : {V : Type 0} → SiteTables → Changed V → SiteTables
+tables_after tables (Whole made) = made.tables
+tables_after tables (Lines fs rows) = tables
+
+-- the lines of a change may stand in this policy
+abbrev pub MayStand : {V : Type 0} → Content → Changed V → Type 0
+MayStand content (Whole made) = Unit {0}
+MayStand content (Lines fs rows) = IsPart content fs rows
 
 -- the fault of the site as why an edit is refused
 abbrev pub refusal_of : ReadError SiteFault → ReadError Refusal

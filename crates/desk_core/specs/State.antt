@@ -3,15 +3,17 @@ use Rattle.std.specs.Prelude.{◌≡◌, ◌<◌, ℕ, Bool, List, None, Result,
 use Rattle.desk_text.specs.declared.reading.ReadError.{ReadError}
 use Rattle.desk_text.specs.declared.reading.ReadError.TheVariants.{Fault, Memory}
 use Rattle.desk_tables.specs.Custodians.{read_custodians}
-use Rattle.desk_policy.specs.Policy.{Content}
-use Rattle.desk_policy.specs.View.{HasFault}
+use Rattle.desk_policy.specs.Parsing.{read_site_tables}
+use Rattle.desk_policy.specs.Policy.{Content, with_rows}
+use Rattle.desk_policy.specs.Site.{SiteTexts}
+use Rattle.desk_policy.specs.View.{HasFault, IsPart}
 use Rattle.desk_policy.specs.declared.site_fault.SiteFault.{SiteFault}
 use Rattle.desk_core.specs.Edit.{Already, Answer, Edit, Pending, Refused}
 use Rattle.desk_core.specs.Head.{CanBeKept, Revision, newest_in, put}
 use Rattle.desk_core.specs.Judging.{Answers, answer_of, entry_of, first_case}
 use Rattle.desk_core.specs.Site.{IsInForce, site_in}
 use Rattle.desk_core.specs.Standing.{CanBePending, Standing, standing_in}
-use Rattle.desk_core.specs.Views.{Kept, Ready}
+use Rattle.desk_core.specs.Views.{Changed, Kept, Lines, Ready, Whole}
 use Rattle.desk_core.specs.declared.edit.Refusal.{Refusal}
 use Rattle.desk_core.specs.declared.entry.Entry.{Entry}
 use Rattle.desk_core.specs.declared.entry.Entry.TheVariants as entry
@@ -24,11 +26,27 @@ use Rattle.desk_core.specs.declared.state.Judged.TheVariants as judged
 abbrev pub standing : {V : Type 0} → Kept V → Standing
 standing state = standing_in state.heads state.proposals
 
--- a revision, once it is the newest of its file: the view is in force, and the custodians are the site's
+-- the policy in force after a change, where this one was
+abbrev pub changed : {V : Type 0} → (V → Content) → Content → Changed V → Content
+changed in_force content (Whole made) = in_force made.view
+changed in_force content (Lines fs rows) = with_rows content fs rows
+
+-- What a change from one site to another rests on: the custodians and the tables are those of the new site; or the lines may
+-- stand for those of the file system, and the custodians and the tables are written as before.
+abbrev pub RestsOn : {V : Type 0} → Content → SiteTexts → SiteTexts → Changed V → Type 0
+RestsOn content old new (Whole made) = (read_custodians new.custodians ≡ Ok made.custodians) × (read_site_tables new ≡ Ok made.tables)
+RestsOn content old new (Lines fs rows) =
+    IsPart content fs rows × (read_custodians new.custodians ≡ read_custodians old.custodians) × (read_site_tables new ≡ read_site_tables old)
+
+-- a change of a state puts the policy of a site in force
+pub record PutsSite {V : Type 0} (in_force : V → Content) (state : Kept V) (change : Changed V) (texts : SiteTexts) : Type 0 where
+  pub view : IsInForce texts (changed in_force (in_force state.view) change)
+  pub rests_on : RestsOn (in_force state.view) (site_in (newest_in state.heads)) texts change
+
+-- a revision, once it is the newest of its file: the change puts its site in force
 pub record PutsRevision {V : Type 0} (in_force : V → Content) (state : Kept V) (ready : Ready V) (revision : Revision) : Type 0 where
   pub can_be_kept : CanBeKept revision
-  pub view : IsInForce (site_in (put (newest_in state.heads) revision)) (in_force ready.view)
-  pub custodians : read_custodians (site_in (put (newest_in state.heads) revision)).custodians ≡ Ok ready.custodians
+  pub site : PutsSite in_force state ready.change (site_in (put (newest_in state.heads) revision))
 
 -- what is to be stored: of a revision, that; a proposal can be kept, and puts nothing in force
 abbrev pub PutsEntry : {V : Type 0} → (V → Content) → Kept V → Ready V → Entry → Type 0

@@ -170,7 +170,7 @@ fn is_printed_path(alloc: Global, text: &str) -> Result<bool, AllocError>
 }
 
 /// Finds the file system whose exports file has this name.
-fn exports_place(table: &FileSystems, file: &str) -> Option<FsId>
+pub(crate) fn exports_place(table: &FileSystems, file: &str) -> Option<FsId>
     ensures { result ≡ option_map (λ place. record { 0 = place }) (spec.exports_place table.now file.now) }
 {
     match mount_of(file) {

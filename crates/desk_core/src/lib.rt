@@ -13,6 +13,7 @@
 //! ```
 #![tactic(auto)]
 
+pub mod change;
 pub mod edit;
 pub mod entry;
 pub mod head;

@@ -1,9 +1,8 @@
 //! The site that the newest revisions write.
 
-ghost use Rattle.std.specs.Prelude.{◌≡◌, ◌≤◌, ◌++◌, ℕ, List, [], IfOk, IsOk, Ok, OnOk, codes, length, unwrap_or};
+ghost use Rattle.std.specs.Prelude.{◌≡◌, ◌++◌, ℕ, List, IfOk, OnOk, codes, unwrap_or};
 ghost use Rattle.std.specs.BTreeMap.{get_by_text};
-ghost use Rattle.desk_tables.specs.Custodians.{read_custodians};
-ghost use Rattle.desk_policy.specs.Site.{longest_text, no_exports, texts_of};
+ghost use Rattle.desk_policy.specs.Site.{no_exports, texts_of};
 ghost use Rattle.desk_core.specs.Head.{newest_in, put};
 ghost use Rattle.desk_core.specs.PrivateSite.{no_texts, text_or, with_text};
 ghost use Rattle.desk_core.specs.Site.{site_in, revision_text};
@@ -11,8 +10,7 @@ ghost use Rattle.desk_core.specs.Site.{site_in, revision_text};
 use crate::head::Head;
 use desk_exports::Profile;
 use desk_policy::{ExportsText, Site, mount_of};
-use desk_tables::Custodians;
-use desk_text::{ReadError, Text};
+use desk_text::Text;
 use std::alloc::{AllocError, Global};
 use std::collections::BTreeMap;
 
@@ -104,17 +102,4 @@ fn put_exports(
         exports.insert(mount, ExportsText { profile, body })?;
     }
     Ok(())
-}
-
-/// Reads the custodians of a text that has no fault.
-pub(crate) fn read_good(alloc: Global, text: &str) -> Result<Custodians, AllocError>
-    requires length { length text.now ≤ longest_text }
-    requires good { IsOk (read_custodians text.now) }
-    ensures { IfOk result (λ custodians. read_custodians text.now ≡ Ok custodians) }
-{
-    match Custodians::read(alloc, text) {
-        Ok(custodians) => Ok(custodians),
-        Err(ReadError::Fault(_)) => unreachable!(),
-        Err(ReadError::Memory) => Err(AllocError),
-    }
 }

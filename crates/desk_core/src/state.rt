@@ -1,38 +1,41 @@
 //! States: the newest revision of each file, the proposals, and the policy that is in force.
 
-ghost use Rattle.std.specs.Prelude.{◌≡◌, ◌<◌, [], All, IfOk, None, Ok, Some, length, vec_capacity, vec_len};
+ghost use Rattle.std.specs.Prelude.{◌≡◌, ◌<◌, ◌≤◌, [], All, IfOk, None, Some, length, vec_capacity, vec_len};
 ghost use Rattle.std.specs.Option.{option_copied};
-ghost use Rattle.desk_tables.specs.Custodians.{read_custodians};
-ghost use Rattle.desk_policy.specs.Site.{HaveReadableLengths, texts_of};
+ghost use Rattle.desk_policy.specs.Site.{HaveReadableLengths};
 ghost use Rattle.desk_core.specs.Edit as spec;
 ghost use Rattle.desk_core.specs.Edit.{asked};
-ghost use Rattle.desk_core.specs.Head.{CanBeKept, StandOnce, last_revision, newest_in, put};
-ghost use Rattle.desk_core.specs.Judging.{answer_in, entry_of, first_case};
-ghost use Rattle.desk_core.specs.PrivateState.{Accepts, AnswersCase, PutsInForce, refusal_of};
+ghost use Rattle.desk_core.specs.Head.{CanBeKept, StandOnce, last_revision, longest_revision, newest_in, put};
+ghost use Rattle.desk_core.specs.Judging.{answer_in, entry_of, exports_place, first_case};
+ghost use Rattle.desk_core.specs.PrivateState.{Accepts, AnswersCase, MakesChange, PutsInForce, refusal_of};
 ghost use Rattle.desk_core.specs.Site.{IsInForce, site_in};
 ghost use Rattle.desk_core.specs.Standing.{CanBePending, proposals_in, with_entry, without};
-ghost use Rattle.desk_core.specs.State.{IsJudged, Judges, Starts, standing};
+ghost use Rattle.desk_core.specs.State.{IsJudged, Judges, PutsSite, Starts, standing};
+ghost use Rattle.desk_core.specs.Views.{shown};
 ghost use Rattle.desk_core.specs.declared.entry.Entry.TheVariants.{Revised};
 
+use crate::change::{Change, SiteInForce, put_change, put_head_in_force, put_heads_in_force};
 use crate::edit::{Edit, Refusal};
 use crate::entry::Entry;
 use crate::head::{Head, newest, newest_number, put_head};
-use crate::judging::{Case, entry_by, first_case, revision_of};
+use crate::judging::{Case, entry_by, exports_place, first_case, revision_of};
 use crate::proposal::{Proposal, proposal_for, put_proposal, withdraw};
-use crate::site::{read_good, site_of, site_with};
-use desk_policy::{PolicyView, Site, SiteFault, compile};
-use desk_tables::Custodians;
+use desk_exports::Profile;
+use desk_policy::{PolicyView, SiteFault, SiteTables, one_file_is_replaced, read_lines};
+use desk_tables::laws::tables_are_in_order;
+use desk_tables::{Custodians, FsId};
 use desk_text::ReadError;
 use std::alloc::{AllocError, Global};
 use std::marker::Model;
 
-/// The newest revision of each file, the proposals, the custodians that the revisions list, and a view of the policy that
-/// these write.
+/// The newest revision of each file, the proposals, the custodians and the tables that the revisions list, and a view of the
+/// policy that they write.
 #[derive(Drop)]
 pub struct State<V: PolicyView + Drop> {
     heads: Vec<Head>,
     proposals: Vec<Proposal>,
     custodians: Custodians,
+    tables: SiteTables,
     view: V,
 }
 
@@ -46,29 +49,28 @@ impl<V: PolicyView + Drop> Model for State<V> {
 
     ghost view = { λ s. record { heads = s.heads.items; proposals = s.proposals.items; view = s.view } };
 
-    ghost invariant = { λ s. IsState s.heads.items s.proposals.items (V.in_force s.view) s.custodians };
+    ghost invariant = { λ s. IsState s.heads.items s.proposals.items (V.in_force s.view) s.custodians s.tables };
 }
 
-/// An accepted edit: what is to be stored of it, the custodians and the view of the site with its text, and room for the
-/// heads and the proposals.
+/// An accepted edit: what is to be stored of it, what it changes of what is in force, and room for the heads and the
+/// proposals.
 #[derive(Drop)]
 pub struct Accepted<V: PolicyView + Drop> {
     entry: Entry,
     room: Vec<Head>,
     proposal_room: Vec<Proposal>,
-    custodians: Custodians,
-    view: V,
+    change: Change<V, V::Part>,
 }
 
 impl<V: PolicyView + Drop> Model for Accepted<V> {
     ghost use Rattle.std.specs.Prelude.{◌≡◌, [], vec_capacity};
-    ghost use Rattle.desk_core.specs.Views.{Ready, ready_code};
+    ghost use Rattle.desk_core.specs.Views.{Ready, ready_code, shown};
 
     ghost Value = { Ready V };
 
     ghost coded = { ready_code V.code };
 
-    ghost view = { λ a. record { entry = a.entry; room = vec_capacity a.room; proposal_room = vec_capacity a.proposal_room; custodians = a.custodians; view = a.view } };
+    ghost view = { λ a. record { entry = a.entry; room = vec_capacity a.room; proposal_room = vec_capacity a.proposal_room; change = shown V.part_rows a.change } };
 
     ghost invariant = { λ a. (a.room.items ≡ []) × (a.proposal_room.items ≡ []) };
 }
@@ -105,11 +107,16 @@ impl<V: PolicyView + Drop> State<V> {
         requires proposals { All CanBePending proposals.items }
         ensures { Starts V.in_force heads.items proposals.items result }
     {
-        let (custodians, view) = put_heads_in_force(alloc, heads.as_slice())?;
+        let SiteInForce {
+            custodians,
+            tables,
+            view,
+        } = put_heads_in_force(alloc, heads.as_slice())?;
         Ok(State {
             heads,
             proposals,
             custodians,
+            tables,
             view,
         })
     }
@@ -140,31 +147,33 @@ impl<V: PolicyView + Drop> State<V> {
             entry,
             room,
             proposal_room,
-            custodians,
-            view,
+            change,
         } = accepted;
         match entry {
-            Entry::Revised(head) => self.revise(room, head, custodians, view),
+            Entry::Revised(head) => self.revise(room, head, change),
             Entry::Proposed(proposal) => {
                 put_proposal(&mut self.proposals, proposal_room, proposal);
             }
         }
     }
 
-    /// Puts a revision in force, with the custodians and the view of the site with its text. It takes no memory.
-    fn revise(&mut self, room: Vec<Head>, head: Head, custodians: Custodians, view: V)
+    /// Puts a revision in force, with what it changes. It takes no memory.
+    fn revise(&mut self, room: Vec<Head>, head: Head, change: Change<V, V::Part>)
         requires empty { room.items ≡ [] }
         requires room { length self.old.heads < vec_capacity room }
         requires can_be_kept { CanBeKept head }
-        requires custodians { read_custodians (site_in (put (newest_in self.old.heads) head)).custodians ≡ Ok custodians }
-        requires view { IsInForce (site_in (put (newest_in self.old.heads) head)) (V.in_force view) }
+        requires site { PutsSite V.in_force self.old (shown V.part_rows change) (site_in (put (newest_in self.old.heads) head)) }
         ensures standing { standing self.new ≡ with_entry (standing self.old) (Revised head) }
         ensures once { StandOnce self.old.heads → StandOnce self.new.heads }
         ensures view { IsInForce (site_in (newest_in self.new.heads)) (V.in_force self.new.view) }
     {
         put_revision(&mut self.heads, &mut self.proposals, room, head);
-        self.custodians = custodians;
-        self.view = view;
+        put_change(
+            &mut self.custodians,
+            &mut self.tables,
+            &mut self.view,
+            change,
+        );
     }
 
     /// Lends the view of the policy in force.
@@ -257,17 +266,15 @@ impl<V: PolicyView + Drop> State<V> {
         requires { first_case (standing self.now) (asked edit.now) ≡ None }
         ensures { Accepts V.in_force self.now (asked edit.now) result }
     {
-        let heads = self.heads.as_slice();
-        let room = Vec::with_capacity(alloc, heads.len() + 1)?;
+        let room = Vec::with_capacity(alloc, self.heads.len() + 1)?;
         let proposal_room = Vec::with_capacity(alloc, self.proposals.len() + 1)?;
         let entry = self.entry_of(alloc, edit)?;
-        match put_edit_in_force(alloc, heads, edit) {
-            Ok((custodians, view)) => Ok(Accepted {
+        match self.change_by(alloc, edit) {
+            Ok(change) => Ok(Accepted {
                 entry,
                 room,
                 proposal_room,
-                custodians,
-                view,
+                change,
             }),
             Err(error) => {
                 drop(entry);
@@ -276,6 +283,53 @@ impl<V: PolicyView + Drop> State<V> {
                 Err(refused(error))
             }
         }
+    }
+
+    /// Makes what an edit of which no case holds changes of what is in force, or gives the fault of the site with its text.
+    fn change_by(
+        &self,
+        alloc: Global,
+        edit: &Edit<'_>,
+    ) -> Result<Change<V, V::Part>, ReadError<SiteFault>>
+        requires { first_case (standing self.now) (asked edit.now) ≡ None }
+        ensures { MakesChange V.in_force V.part_rows self.now (site_in (put (newest_in self.now.heads) (spec.revision_of (asked edit.now)))) result }
+    {
+        match exports_place(self.view.policy().filesystems(), edit.file) {
+            Some(fs) => self.lines_by(alloc, edit, fs),
+            None => Ok(Change::Whole(put_edit_in_force(
+                alloc,
+                self.heads.as_slice(),
+                edit,
+            )?)),
+        }
+    }
+
+    /// Makes the lines of an edit of an exports file ready to stand for those of its file system, or gives the fault of the
+    /// site with them. No other file is read.
+    fn lines_by(
+        &self,
+        alloc: Global,
+        edit: &Edit<'_>,
+        fs: FsId,
+    ) -> Result<Change<V, V::Part>, ReadError<SiteFault>>
+        requires place { exports_place (V.in_force self.now.view).table edit.now.file.now ≡ Some fs.0 }
+        requires short { length edit.now.text.now ≤ longest_revision }
+        ensures { MakesChange V.in_force V.part_rows self.now (site_in (put (newest_in self.now.heads) (spec.revision_of (asked edit.now)))) result }
+    {
+        // The rest of the site is as it was, and no other mount point is printed alike.
+        one_file_is_replaced();
+        tables_are_in_order();
+        let filesystems = self.view.policy().filesystems();
+        let rows = read_lines(
+            alloc,
+            Profile::Two,
+            edit.text,
+            filesystems,
+            &self.tables,
+            fs,
+        )?;
+        let part = self.view.part(alloc, fs, rows)?;
+        Ok(Change::Lines(fs, part))
     }
 
     /// Makes what is to be stored of an edit of which no case holds.
@@ -313,55 +367,16 @@ fn refused(error: ReadError<SiteFault>) -> ReadError<Refusal>
     }
 }
 
-/// Makes the custodians and the view of the site of these heads, or gives its fault.
-fn put_heads_in_force<V: PolicyView + Drop>(
-    alloc: Global,
-    heads: &[Head],
-) -> Result<(Custodians, V), ReadError<SiteFault>>
-    requires { HaveReadableLengths (site_in (newest_in heads.now)) }
-    ensures { PutsInForce V.in_force (site_in (newest_in heads.now)) result }
-{
-    let site = site_of(alloc, heads)?;
-    put_in_force(alloc, &site)
-}
-
-/// Makes the custodians and the view of the site of these heads, if the text of an edit is that of its file, or gives its
-/// fault.
+/// Puts the site of these heads in force, if the text of an edit is that of its file, or gives its fault.
 fn put_edit_in_force<V: PolicyView + Drop>(
     alloc: Global,
     heads: &[Head],
     edit: &Edit<'_>,
-) -> Result<(Custodians, V), ReadError<SiteFault>>
+) -> Result<SiteInForce<V>, ReadError<SiteFault>>
     requires base { edit.now.base < last_revision }
     requires lengths { HaveReadableLengths (site_in (put (newest_in heads.now) (spec.revision_of (asked edit.now)))) }
     ensures { PutsInForce V.in_force (site_in (put (newest_in heads.now) (spec.revision_of (asked edit.now)))) result }
 {
     let head = revision_of(alloc, edit)?;
     put_head_in_force(alloc, heads, &head)
-}
-
-/// Makes the custodians and the view of the site of these heads, if this head is that of its file, or gives its fault.
-fn put_head_in_force<V: PolicyView + Drop>(
-    alloc: Global,
-    heads: &[Head],
-    head: &Head,
-) -> Result<(Custodians, V), ReadError<SiteFault>>
-    requires { HaveReadableLengths (site_in (put (newest_in heads.now) head.now)) }
-    ensures { PutsInForce V.in_force (site_in (put (newest_in heads.now) head.now)) result }
-{
-    let site = site_with(alloc, heads, head)?;
-    put_in_force(alloc, &site)
-}
-
-/// Makes the custodians and the view of a consistent site, or gives its fault.
-fn put_in_force<V: PolicyView + Drop>(
-    alloc: Global,
-    site: &Site,
-) -> Result<(Custodians, V), ReadError<SiteFault>>
-    requires { HaveReadableLengths (texts_of site.now) }
-    ensures { PutsInForce V.in_force (texts_of site.now) result }
-{
-    let view: V = compile(alloc, site)?;
-    let custodians = read_good(alloc, site.custodians.as_str())?;
-    Ok((custodians, view))
 }

@@ -5,7 +5,9 @@ use Rattle.std.proofs.Math.Seq.{drop-cons}
 use Rattle.std.proofs.lemmas.Grind.{flat_map-append}
 use Rattle.std.proofs.lemmas.List.{append-nil, get_or-map, length-map, map-append}
 use Rattle.std.proofs.lemmas.List.Elements.{All-push}
+use Rattle.desk_text.specs.Reading.{ReadsAs}
 use Rattle.desk_text.specs.declared.reading.ReadError.{ReadError}
+use Rattle.desk_text.specs.declared.reading.ReadError.TheVariants.{Fault, Memory}
 use Rattle.desk_tables.specs.declared.filesystems.Mount.{Mount}
 use Rattle.desk_tables.specs.declared.hosts.HostRow.{HostRow}
 use Rattle.desk_netgroup.specs.declared.group_line.GroupLine.{GroupLine}
@@ -135,3 +137,15 @@ pub content_pushed : (table : List Mount) (read : Result (List ExportsFile) Site
     → PushesFiles result read (length table) rows rows' warnings warnings' → OnOk result (IsContent (record { table = table; rows = rows'; warnings = warnings' }))
 content_pushed table read (Ok done) rows rows' warnings warnings' empty adds = is_content table read rows rows' warnings warnings' empty adds
 content_pushed table read (Err error) rows rows' warnings warnings' empty pushes = tt
+
+abbrev content_of_parts : List Mount → List (List Row) → List Warning → Content
+content_of_parts table rows warnings = record { table = table; rows = rows; warnings = warnings }
+
+-- the policy after the exports files, or the first fault
+pub policy_pushed : (table : List Mount) (site_tables : SiteTables) (read : Result (List ExportsFile) SiteFault) (result : Result (Unit {0}) (ReadError SiteFault)) (rows rows' : List (List Row)) (warnings warnings' : List Warning) → rows ≡ []
+    → warnings ≡ netgroup_warnings site_tables.netgroups site_tables.hosts → PushesFiles result read (length table) rows rows' warnings warnings'
+    → ReadsAs (λ (done : Unit {0}). content_of_parts table rows' warnings') result (then_read read (λ files. Ok (content_with table site_tables files)))
+policy_pushed table site_tables read (Ok done) rows rows' warnings warnings' empty of_groups adds =
+    ap (λ r. then_read r (λ files. Ok (content_with table site_tables files))) adds.is ∙ ap Ok (content_is table site_tables read rows rows' warnings warnings' empty of_groups adds)
+policy_pushed table site_tables read (Err (Fault fault)) rows rows' warnings warnings' empty of_groups told = ap (λ r. then_read r (λ files. Ok (content_with table site_tables files))) told
+policy_pushed table site_tables read (Err Memory) rows rows' warnings warnings' empty of_groups told = tt

@@ -21,9 +21,11 @@ pub mod Gathered
 pub mod FirstDiffers
 pub mod LeastOfAll
 pub mod SiteLaws
+pub mod Replaced
 pub mod OwnDirectories
 pub mod ClassWarnings
 pub mod Compiling
+pub mod ContentsRead
 pub mod SiteLengths
 pub mod SlotLemmas
 pub mod Commas

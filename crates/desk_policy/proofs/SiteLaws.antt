@@ -36,7 +36,7 @@ module _ (texts : SiteTexts) (table : List Mount) (tables : SiteTables) where
   before_all fs more file = then_read (all (fs + 1) more) (λ files. Ok (file ∷ files))
 
   -- the file of each place, if all can be read
-  file_at : (fs : ℕ) (mounts : List Mount) (files : List ExportsFile) → all fs mounts ≡ Ok files → (i at : ℕ) → at ≡ fs + i → (mount : Mount) → slice_get mounts i ≡ Some mount
+  pub file_at : (fs : ℕ) (mounts : List Mount) (files : List ExportsFile) → all fs mounts ≡ Ok files → (i at : ℕ) → at ≡ fs + i → (mount : Mount) → slice_get mounts i ≡ Some mount
       → (file : ExportsFile) × (one at mount ≡ Ok file) × (get_or (map (λ (f : ExportsFile). f.rows) files) i [] ≡ file.rows)
   file_at fs [] files is i at there mount here = cc
   file_at fs (first ∷ more) files is zero at there mount here =

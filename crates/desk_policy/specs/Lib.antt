@@ -20,6 +20,8 @@ pub mod PrivateSite
 pub mod SiteFault
 pub mod PerTable
 pub mod Parsing
+pub mod SiteContents
+pub mod Replacing
 pub mod PrivateParsing
 pub mod View
 pub mod Listings

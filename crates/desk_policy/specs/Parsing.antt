@@ -92,11 +92,15 @@ file_with site_tables name entries = record {
 abbrev pub entries_in : ExportsText → List Mount → SiteTables → FsId → Result (List Entry) (LineFault Rule)
 entries_in text table site_tables fs = file_answer (rows_with text.profile table site_tables) fs text.body
 
+-- what this text gives as the exports file of the file system with this number and mount point, or its fault
+abbrev pub read_text : ExportsText → List Mount → SiteTables → ℕ → List (List ℕ) → Result ExportsFile SiteFault
+read_text text table site_tables fs mount =
+    then_read (in_file (line_fault (exports_name mount)) (entries_in text table site_tables (record { 0 = fs })))
+    (λ entries. Ok (file_with site_tables (exports_name mount) entries))
+
 -- what the exports file of the file system with this number and mount point gives
 abbrev pub read_exports : SiteTexts → List Mount → SiteTables → ℕ → List (List ℕ) → Result ExportsFile SiteFault
-read_exports texts table site_tables fs mount =
-    then_read (in_file (line_fault (exports_name mount)) (entries_in (texts.exports (path_text mount)) table site_tables (record { 0 = fs })))
-    (λ entries. Ok (file_with site_tables (exports_name mount) entries))
+read_exports texts table site_tables fs mount = read_text (texts.exports (path_text mount)) table site_tables fs mount
 
 -- what the exports files of these file systems give, of which the first has this number
 abbrev pub read_files : SiteTexts → List Mount → SiteTables → ℕ → List Mount → Result (List ExportsFile) SiteFault
@@ -112,10 +116,13 @@ content_with table site_tables files = record {
   warnings = netgroup_warnings site_tables.netgroups site_tables.hosts ++ flat_map (λ file. file.warnings) files;
 }
 
+-- the policy that the exports files write, with these file systems and tables
+abbrev pub read_policy : SiteTexts → List Mount → SiteTables → Result Content SiteFault
+read_policy texts table site_tables = then_read (read_files texts table site_tables 0 table) (λ files. Ok (content_with table site_tables files))
+
 -- what the files after the file systems say
 abbrev pub read_after_filesystems : SiteTexts → List Mount → Result Content SiteFault
-read_after_filesystems texts table =
-    then_read (read_site_tables texts) (λ site_tables. then_read (read_files texts table site_tables 0 table) (λ files. Ok (content_with table site_tables files)))
+read_after_filesystems texts table = then_read (read_site_tables texts) (read_policy texts table)
 
 -- the policy that the texts write, or the fault of the first faulty file, in the order in which they are read
 unfoldable pub read_site : SiteTexts → Result Content SiteFault

@@ -3,8 +3,11 @@ use Rattle.std.specs.Prelude.{◌≡◌, ℕ, All, List, [], ◌∷◌, ◌++◌
 use Rattle.std.specs.List.{flat_map}
 use Rattle.desk_text.specs.declared.reading.ReadError.{ReadError}
 use Rattle.desk_text.specs.declared.reading.ReadError.TheVariants.{Fault, Memory}
-use Rattle.desk_policy.specs.Parsing.{ExportsFile}
-use Rattle.desk_policy.specs.Policy.{AreAscending}
+use Rattle.desk_tables.specs.declared.filesystems.Mount.{Mount}
+use Rattle.desk_policy.specs.Parsing.{ExportsFile, read_after_filesystems, read_policy, read_site_tables}
+use Rattle.desk_policy.specs.Policy.{AreAscending, Content}
+use Rattle.desk_policy.specs.Site.{SiteTexts}
+use Rattle.desk_policy.specs.declared.parsing.SiteTables.{SiteTables}
 use Rattle.desk_policy.specs.declared.row.Row.{Row}
 use Rattle.desk_policy.specs.declared.site_fault.SiteFault.{SiteFault}
 use Rattle.desk_policy.specs.declared.warning.Warning.{Warning}
@@ -37,3 +40,9 @@ abbrev pub PushesFiles : Result (Unit {0}) (ReadError SiteFault) → Result (Lis
 PushesFiles (Ok done) read count rows rows' warnings warnings' = AddsFiles read count rows rows' warnings warnings'
 PushesFiles (Err Memory) read count rows rows' warnings warnings' = Unit {0}
 PushesFiles (Err (Fault fault)) read count rows rows' warnings warnings' = read ≡ Err fault
+
+-- the tables after the file systems, and the policy with them; or the fault of the first faulty file
+abbrev pub ReadsAfter : Result (SiteTables × Content) (ReadError SiteFault) → SiteTexts → List Mount → Type 0
+ReadsAfter (Ok both) texts table = (read_site_tables texts ≡ Ok both.0) × (read_policy texts table both.0 ≡ Ok both.1)
+ReadsAfter (Err (Fault fault)) texts table = read_after_filesystems texts table ≡ Err fault
+ReadsAfter (Err Memory) texts table = Unit {0}

@@ -43,12 +43,16 @@ pub use laws::{
     addresses_are_unique, ascending_entries_ascend_in_each_file, each_has_its_lines,
     each_has_its_own_lines, first_faulty_file_is_reported, least_lines_are_named,
     lines_are_selected_by_keys, lines_write_their_own, listed_are_granted, listings_show_their_own,
-    listings_show_what_is_granted, no_class_is_warned_of_by_profile_two, warnings_change_no_answer,
+    listings_show_what_is_granted, no_class_is_warned_of_by_profile_two, one_file_is_replaced,
+    warnings_change_no_answer,
 };
 pub use listing_prints::{all_exports, listing_text};
 pub use listings::{Shown, listing};
 pub use names::addresses_of;
-pub use parsing::{SiteTables, parse, parse_whole, parse_whole_with, parse_whole_without_warnings};
+pub use parsing::{
+    SiteContents, SiteTables, parse, parse_whole, parse_whole_with, parse_whole_without_warnings,
+    read_lines, read_site,
+};
 pub use per_table::PerTable;
 pub use policy::{Policy, are_ascending};
 pub use prints::{mount_text, verdict_text};

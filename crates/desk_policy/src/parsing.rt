@@ -3,9 +3,8 @@
 //! The files are read in this order: custodians, filesystems, hosts, networks, passwd, group, netgroup, and then the
 //! exports files by mount point. The first faulty one is refused, with its first faulty line.
 
-ghost use Rattle.std.specs.Prelude.{◌≡◌, ◌≤◌, [], ◌++◌, IfOk, None, Ok, OnOk, Result, codes, length, map};
+ghost use Rattle.std.specs.Prelude.{◌≡◌, ◌<◌, ◌≤◌, [], ◌++◌, IfOk, None, Ok, OnOk, Result, codes, length, map};
 ghost use Rattle.std.specs.List.{flat_map};
-ghost use Rattle.desk_text.specs.Path.{path_text};
 ghost use Rattle.desk_text.specs.Reading.{Reads, ReadsAs};
 ghost use Rattle.desk_tables.specs.FileSystemsText as filesystems;
 ghost use Rattle.desk_tables.specs.Rules as tables;
@@ -14,14 +13,16 @@ ghost use Rattle.desk_exports.specs.Files.{EntriesAscend, FileAscends, whole_ans
 ghost use Rattle.desk_exports.specs.declared.rules.Rule.{Rule};
 ghost use Rattle.desk_text.specs.declared.reading.LineFault.{LineFault};
 ghost use Rattle.desk_policy.specs.Parsing as spec;
-ghost use Rattle.desk_policy.specs.PrivateParsing.{PushesFile, PushesFiles};
+ghost use Rattle.desk_policy.specs.Replacing.{ReadsLines};
+ghost use Rattle.desk_policy.specs.PrivateParsing.{PushesFile, PushesFiles, ReadsAfter};
 ghost use Rattle.desk_policy.specs.Row.{row_of};
 ghost use Rattle.desk_policy.specs.PerTable.{EachTable, map_tables};
 ghost use Rattle.desk_policy.specs.Policy.{IsContent};
 ghost use Rattle.desk_policy.specs.Site.{HaveReadableLengths, longest_text, texts_of};
+ghost use Rattle.desk_policy.specs.SiteContents.{ReadsSite};
 ghost use Rattle.desk_policy.specs.SiteFault.{group_fault, line_fault, table_fault};
 ghost use Rattle.desk_policy.specs.SiteFile.{file_name};
-ghost use Rattle.desk_policy.specs.Warning.{entry_warnings, netgroup_warnings};
+ghost use Rattle.desk_policy.specs.Warning.{entry_warnings};
 
 use crate::per_table::PerTable;
 use crate::policy::Policy;
@@ -115,17 +116,41 @@ fn put<T: Drop>(
     }
 }
 
+/// What the texts of a site write: its custodians, the tables that its exports files are read with, and its policy.
+#[derive(Drop)]
+pub struct SiteContents {
+    pub custodians: Custodians,
+    pub tables: SiteTables,
+    pub policy: Policy,
+}
+
 /// Reads the policy that the texts of a site write, or the fault of the first faulty file. Whether its lines contradict each
 /// other is not looked at. Each text has at most 4,294,967,294 bytes.
 pub fn parse(alloc: Global, site: &Site) -> Result<Policy, ReadError<SiteFault>>
     requires { HaveReadableLengths (texts_of site.now) }
     ensures { Reads result (spec.read_site (texts_of site.now)) }
 {
+    match read_site(alloc, site) {
+        Ok(SiteContents { policy, .. }) => Ok(policy),
+        Err(error) => Err(error),
+    }
+}
+
+/// Reads what the texts of a site write, as `parse` does, with the custodians and the tables.
+pub fn read_site(alloc: Global, site: &Site) -> Result<SiteContents, ReadError<SiteFault>>
+    requires { HaveReadableLengths (texts_of site.now) }
+    ensures { ReadsSite result (texts_of site.now) }
+{
     let custodians = Custodians::read(alloc, site.custodians.as_str());
     let custodians = in_table(alloc, SiteFile::Custodians, custodians)?;
     let filesystems = read_filesystems(alloc, site.filesystems.as_str(), &custodians);
     let filesystems = in_table(alloc, SiteFile::Filesystems, filesystems)?;
-    read_after_filesystems(alloc, site, filesystems)
+    let (tables, policy) = read_after_filesystems(alloc, site, filesystems)?;
+    Ok(SiteContents {
+        custodians,
+        tables,
+        policy,
+    })
 }
 
 /// Reads the file systems, whose custodians have to be listed. That is asked once no line breaks another rule.
@@ -148,46 +173,54 @@ fn read_filesystems(
     }
 }
 
-/// Reads the files after the file systems.
+/// Reads the files after the file systems: the tables, and the policy with them.
 fn read_after_filesystems(
     alloc: Global,
     site: &Site,
     filesystems: FileSystems,
+) -> Result<(SiteTables, Policy), ReadError<SiteFault>>
+    requires lengths { HaveReadableLengths (texts_of site.now) }
+    requires few { length filesystems ≤ 256 }
+    ensures { ReadsAfter result (texts_of site.now) filesystems }
+{
+    let site_tables = read_site_tables(alloc, site)?;
+    match read_policy(alloc, site, filesystems, &site_tables) {
+        Ok(policy) => Ok((site_tables, policy)),
+        Err(error) => {
+            drop(site_tables);
+            Err(error)
+        }
+    }
+}
+
+/// Reads the policy that the exports files write, with these file systems and tables.
+fn read_policy(
+    alloc: Global,
+    site: &Site,
+    filesystems: FileSystems,
+    site_tables: &SiteTables,
 ) -> Result<Policy, ReadError<SiteFault>>
     requires lengths { HaveReadableLengths (texts_of site.now) }
     requires few { length filesystems ≤ 256 }
-    ensures { Reads result (spec.read_after_filesystems (texts_of site.now) filesystems) }
+    ensures { Reads result (spec.read_policy (texts_of site.now) filesystems site_tables.now) }
 {
     let mut rows = Vec::new(alloc);
     let mut warnings = Sequence::new(alloc);
-    match push_site(alloc, site, &filesystems, &mut rows, &mut warnings) {
+    match push_policy(
+        alloc,
+        site,
+        &filesystems,
+        site_tables,
+        &mut rows,
+        &mut warnings,
+    ) {
         Ok(()) => Ok(Policy::of_parts(filesystems, rows, warnings)),
         Err(error) => Err(error),
     }
 }
 
-/// Reads the files after the file systems, and adds their lines and warnings to lists that are empty.
-fn push_site(
-    alloc: Global,
-    site: &Site,
-    filesystems: &FileSystems,
-    rows: &mut Vec<Sequence<Row>>,
-    warnings: &mut Sequence<Warning>,
-) -> Result<(), ReadError<SiteFault>>
-    requires lengths { HaveReadableLengths (texts_of site.now) }
-    requires few { length filesystems.now ≤ 256 }
-    requires rows { rows.old.items ≡ [] }
-    requires warnings { warnings.old ≡ [] }
-    ensures read { ReadsAs (λ done. record { table = filesystems.now; rows = rows.new.items; warnings = warnings.new }) result
-        (spec.read_after_filesystems (texts_of site.now) filesystems.now) }
-    ensures content { OnOk result (IsContent (record { table = filesystems.now; rows = rows.new.items; warnings = warnings.new })) }
-{
-    let site_tables = read_site_tables(alloc, site)?;
-    push_with_tables(alloc, site, filesystems, &site_tables, rows, warnings)
-}
-
-/// Adds the warnings of the netgroup file, and then the lines and the warnings of the exports files.
-fn push_with_tables(
+/// Adds the warnings of the netgroup file, and then the lines and the warnings of the exports files, to lists that are empty.
+fn push_policy(
     alloc: Global,
     site: &Site,
     filesystems: &FileSystems,
@@ -197,8 +230,11 @@ fn push_with_tables(
 ) -> Result<(), ReadError<SiteFault>>
     requires lengths { HaveReadableLengths (texts_of site.now) }
     requires few { length filesystems.now ≤ 256 }
-    ensures { PushesFiles result (spec.read_files (texts_of site.now) filesystems.now site_tables.now 0 filesystems.now) (length filesystems.now)
-        rows.old.items rows.new.items (warnings.old ++ netgroup_warnings site_tables.now.netgroups site_tables.now.hosts) warnings.new }
+    requires rows { rows.old.items ≡ [] }
+    requires warnings { warnings.old ≡ [] }
+    ensures read { ReadsAs (λ done. record { table = filesystems.now; rows = rows.new.items; warnings = warnings.new }) result
+        (spec.read_policy (texts_of site.now) filesystems.now site_tables.now) }
+    ensures content { OnOk result (IsContent (record { table = filesystems.now; rows = rows.new.items; warnings = warnings.new })) }
 {
     push_netgroup(alloc, &site_tables.netgroups, &site_tables.hosts, warnings)?;
     push_files(alloc, site, filesystems, site_tables, rows, warnings)
@@ -263,59 +299,95 @@ fn push_file(
     ensures { PushesFile result (spec.read_exports (texts_of site.now) filesystems.now site_tables.now fs.0 mount.now)
         rows.old.items rows.new.items warnings.old warnings.new }
 {
-    let name = exports_file_name(alloc, mount.text())?;
-    let entries = file_entries(alloc, site, filesystems, site_tables, fs, mount);
+    let printed = mount.text();
+    let name = exports_file_name(alloc, printed)?;
+    let profile = site.exports_profile(printed);
+    let text = site.exports_text(printed);
+    let entries = file_entries(alloc, profile, text, filesystems, site_tables, fs);
     let entries = in_exports(alloc, name.as_str(), entries)?;
-    rows.push(lines_in_force(alloc, site_tables, name.as_str(), entries, warnings)?)?;
+    push_entries(alloc, site_tables, name.as_str(), entries.as_slice(), warnings)?;
+    rows.push(lines_in_force(alloc, site_tables, entries)?)?;
     Ok(())
 }
 
-/// Reads the entries of the exports file of a file system with this mount point, by the profile of its text.
-fn file_entries(
+/// Reads the lines in force of one exports file by itself, by this profile, with the tables of its site; or its fault. The
+/// lines come in the order of their numbers. What is odd about the file is not looked for.
+pub fn read_lines(
     alloc: Global,
-    site: &Site,
+    profile: Profile,
+    text: &str,
     filesystems: &FileSystems,
     site_tables: &SiteTables,
     fs: FsId,
-    mount: &Path,
+) -> Result<Sequence<Row>, ReadError<SiteFault>>
+    requires length { length text.now ≤ longest_text }
+    requires fs { fs.0 < length filesystems.now }
+    ensures { ReadsLines result (record { profile = profile; body = text.now }) filesystems.now site_tables.now fs.0 }
+{
+    let mount = &filesystems.as_slice()[fs.0 as usize];
+    let name = exports_file_name(alloc, mount.path.text())?;
+    let entries = file_entries(alloc, profile, text, filesystems, site_tables, fs);
+    let entries = in_exports(alloc, name.as_str(), entries)?;
+    Ok(lines_in_force(alloc, site_tables, entries)?)
+}
+
+/// Reads the entries of the exports file of a file system, by this profile.
+fn file_entries(
+    alloc: Global,
+    profile: Profile,
+    text: &str,
+    filesystems: &FileSystems,
+    site_tables: &SiteTables,
+    fs: FsId,
 ) -> Result<Sequence<Boxed<Entry>>, ReadError<LineFault<Rule>>>
-    requires { HaveReadableLengths (texts_of site.now) }
-    ensures read { Reads result (spec.entries_in ((texts_of site.now).exports (path_text mount.now)) filesystems.now site_tables.now fs) }
+    requires { length text.now ≤ longest_text }
+    ensures read { Reads result (spec.entries_in (record { profile = profile; body = text.now }) filesystems.now site_tables.now fs) }
     ensures ascending { IfOk result FileAscends }
 {
-    let printed = mount.text();
     let tables = Tables {
-        profile: site.exports_profile(printed),
+        profile,
         networks: &site_tables.networks,
         users: &site_tables.users,
         groups: &site_tables.groups,
         filesystems,
     };
-    read_file(alloc, site.exports_text(printed), &tables, fs)
+    read_file(alloc, text, &tables, fs)
 }
 
-/// Makes the lines in force of the entries of the exports file of this name, and adds its warnings.
-fn lines_in_force(
+/// Adds the warnings of the entries of the exports file of this name.
+fn push_entries(
     alloc: Global,
     site_tables: &SiteTables,
     name: &str,
-    entries: Sequence<Boxed<Entry>>,
+    entries: &[Boxed<Entry>],
     warnings: &mut Sequence<Warning>,
-) -> Result<Sequence<Row>, AllocError>
-    ensures rows { IfOk result (λ rows. rows ≡ map (row_of site_tables.now.netgroups site_tables.now.hosts) entries) }
-    ensures warnings { OnOk result (warnings.new
-        ≡ warnings.old ++ flat_map (entry_warnings site_tables.now.netgroups site_tables.now.hosts name.now) entries) }
+) -> Result<(), AllocError>
+    ensures { OnOk result (warnings.new
+        ≡ warnings.old ++ flat_map (entry_warnings site_tables.now.netgroups site_tables.now.hosts name.now) entries.now) }
 {
-    let mut rows = Sequence::from_vec(Vec::with_capacity(alloc, entries.len())?);
-    for entry in entries.into_vec() {
+    for entry in entries {
         push_entry(
             alloc,
             &site_tables.netgroups,
             &site_tables.hosts,
             name,
-            &entry,
+            entry,
             warnings,
         )?;
+    }
+    Ok(())
+}
+
+/// Makes the lines in force of the entries of an exports file.
+fn lines_in_force(
+    alloc: Global,
+    site_tables: &SiteTables,
+    entries: Sequence<Boxed<Entry>>,
+) -> Result<Sequence<Row>, AllocError>
+    ensures { IfOk result (λ rows. rows ≡ map (row_of site_tables.now.netgroups site_tables.now.hosts) entries) }
+{
+    let mut rows = Sequence::from_vec(Vec::with_capacity(alloc, entries.len())?);
+    for entry in entries.into_vec() {
         rows.push(Row::of_entry(alloc, &site_tables.netgroups, &site_tables.hosts, entry)?)?;
     }
     Ok(rows)

@@ -1,12 +1,7 @@
--- The lines and the warnings of the entries so far.
-use Rattle.std.proofs.Common.{◌≡◌, ◌++◌, map}
-use Rattle.std.specs.List.{flat_map}
+-- The lines of the entries so far.
+use Rattle.std.proofs.Common.{◌≡◌, map}
 use Rattle.desk_policy.specs.Row.{row_of}
-use Rattle.desk_policy.specs.Warning.{entry_warnings}
 use Rattle.desk_policy.proofs.parsing.lines_in_force.Given as goal
 
 abbrev pub invariant-loop-entry : goal.invariant-loop-entry
-invariant-loop-entry l = record {
-  rows : l.rows ≡ map (row_of l.site_tables.netgroups l.site_tables.hosts) l.yielded;
-  warned : l.warnings ≡ l.initial.warnings ++ flat_map (entry_warnings l.site_tables.netgroups l.site_tables.hosts l.name) l.yielded;
-}
+invariant-loop-entry l = l.rows ≡ map (row_of l.site_tables.netgroups l.site_tables.hosts) l.yielded

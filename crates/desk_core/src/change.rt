@@ -1,0 +1,107 @@
+//! What an accepted edit changes of what is in force.
+
+ghost use Rattle.std.specs.Prelude.{◌≡◌};
+ghost use Rattle.desk_policy.specs.Site.{HaveReadableLengths, texts_of};
+ghost use Rattle.desk_core.specs.Head.{newest_in, put};
+ghost use Rattle.desk_core.specs.PrivateState.{MayStand, PutsInForce, custodians_after, tables_after};
+ghost use Rattle.desk_core.specs.Site.{site_in};
+ghost use Rattle.desk_core.specs.State.{changed};
+ghost use Rattle.desk_core.specs.Views.{shown};
+
+use crate::head::Head;
+use crate::site::{site_of, site_with};
+use desk_policy::{PolicyView, Site, SiteContents, SiteFault, SiteTables, read_site};
+use desk_tables::{Custodians, FsId};
+use desk_text::ReadError;
+use std::alloc::Global;
+
+/// A consistent site in force: its custodians, the tables that its exports files are read with, and a view of its policy.
+#[derive(Drop)]
+pub struct SiteInForce<V> {
+    pub custodians: Custodians,
+    pub tables: SiteTables,
+    pub view: V,
+}
+
+/// What an edit puts in the place of what is in force. One of an exports file changes the lines of its file system alone.
+#[derive(Drop)]
+pub enum Change<V, P> {
+    /// The site with the edit's text.
+    Whole(SiteInForce<V>),
+    /// Lines that were made ready to stand for those of a file system.
+    Lines(FsId, P),
+}
+
+/// Puts a change in force. It takes no memory.
+pub(crate) fn put_change<V: PolicyView + Drop>(
+    custodians: &mut Custodians,
+    tables: &mut SiteTables,
+    view: &mut V,
+    change: Change<V, V::Part>,
+)
+    requires { MayStand (V.in_force view.old) (shown V.part_rows change) }
+    ensures custodians { custodians.new ≡ custodians_after custodians.old (shown V.part_rows change) }
+    ensures tables { tables.new ≡ tables_after tables.old (shown V.part_rows change) }
+    ensures view { V.in_force view.new ≡ changed V.in_force (V.in_force view.old) (shown V.part_rows change) }
+{
+    match change {
+        Change::Whole(made) => {
+            *custodians = made.custodians;
+            *tables = made.tables;
+            *view = made.view;
+        }
+        Change::Lines(fs, part) => view.set(fs, part),
+    }
+}
+
+/// Puts the site of these heads in force, or gives its fault.
+pub(crate) fn put_heads_in_force<V: PolicyView + Drop>(
+    alloc: Global,
+    heads: &[Head],
+) -> Result<SiteInForce<V>, ReadError<SiteFault>>
+    requires { HaveReadableLengths (site_in (newest_in heads.now)) }
+    ensures { PutsInForce V.in_force (site_in (newest_in heads.now)) result }
+{
+    let site = site_of(alloc, heads)?;
+    put_in_force(alloc, &site)
+}
+
+/// Puts the site of these heads in force, if this head is that of its file, or gives its fault.
+pub(crate) fn put_head_in_force<V: PolicyView + Drop>(
+    alloc: Global,
+    heads: &[Head],
+    head: &Head,
+) -> Result<SiteInForce<V>, ReadError<SiteFault>>
+    requires { HaveReadableLengths (site_in (put (newest_in heads.now) head.now)) }
+    ensures { PutsInForce V.in_force (site_in (put (newest_in heads.now) head.now)) result }
+{
+    let site = site_with(alloc, heads, head)?;
+    put_in_force(alloc, &site)
+}
+
+/// Puts a consistent site in force, or gives its fault.
+fn put_in_force<V: PolicyView + Drop>(
+    alloc: Global,
+    site: &Site,
+) -> Result<SiteInForce<V>, ReadError<SiteFault>>
+    requires { HaveReadableLengths (texts_of site.now) }
+    ensures { PutsInForce V.in_force (texts_of site.now) result }
+{
+    let SiteContents {
+        custodians,
+        tables,
+        policy,
+    } = read_site(alloc, site)?;
+    match V::build(alloc, policy) {
+        Ok(view) => Ok(SiteInForce {
+            custodians,
+            tables,
+            view,
+        }),
+        Err(error) => {
+            drop(tables);
+            drop(custodians);
+            Err(error)
+        }
+    }
+}
