@@ -1,22 +1,20 @@
 //! Questions that put lines in the place of those of a file system, by a part of each view.
 
-ghost use Rattle.std.specs.Prelude.{◌≤◌, length};
 ghost use Rattle.desk_policy.specs.Site.{HaveReadableLengths, texts_of};
 
 use crate::answers::{Asked, numbers, say, split};
-use crate::exports;
 use crate::filesystems::fs_id;
 use crate::indexes::add_by_keys;
 use crate::site::{InForce, Site};
 use crate::sites::say_fault;
-use desk_exports::{BoxedMapping, Flavour, Profile, Rule, Tables, Terms, read_file};
+use desk_exports::{BoxedMapping, Flavour, Profile, Terms};
 use desk_index::Index;
 use desk_policy::{
     Denial, ExportsText, LONGEST_TEXT, PerTable, PolicyView, Row, SiteFault, SiteTables, Verdict,
-    are_ascending,
+    are_ascending, read_lines,
 };
-use desk_tables::{FileSystems, FsId};
-use desk_text::{Addr, LineFault, Path, ReadError, Sequence, Text};
+use desk_tables::FsId;
+use desk_text::{Addr, Path, ReadError, Sequence, Text};
 use std::alloc::{AllocError, Global};
 
 /// Answers a question that sets lines.
@@ -136,45 +134,14 @@ fn set_part<V: PolicyView>(
     fs: FsId,
     text: &str,
 ) -> Asked {
-    if text.len() > LONGEST_TEXT {
+    let filesystems = view.policy().filesystems();
+    if text.len() > LONGEST_TEXT || fs.0 as usize >= filesystems.len() {
         return Ok(false);
     }
-    match read_rows(
-        alloc,
-        view.policy().filesystems(),
-        tables,
-        profile,
-        fs,
-        text,
-    ) {
+    match read_lines(alloc, profile, text, filesystems, tables, fs) {
         Ok(rows) => put_part(alloc, view, out, fs, rows),
-        Err(error) => exports::say_fault(alloc, out, error),
+        Err(error) => say_fault(out, error),
     }
-}
-
-/// Reads the lines of the exports file of a file system.
-fn read_rows(
-    alloc: Global,
-    filesystems: &FileSystems,
-    tables: &SiteTables,
-    profile: Profile,
-    fs: FsId,
-    text: &str,
-) -> Result<Sequence<Row>, ReadError<LineFault<Rule>>>
-    requires { length text.now ≤ 4294967294 }
-{
-    let written = Tables {
-        profile,
-        networks: &tables.networks,
-        users: &tables.users,
-        groups: &tables.groups,
-        filesystems,
-    };
-    let mut rows = Sequence::new(alloc);
-    for entry in read_file(alloc, text, &written, fs)?.into_vec() {
-        rows.push(Row::of_entry(alloc, &tables.netgroups, &tables.hosts, entry)?)?;
-    }
-    Ok(rows)
 }
 
 /// Makes lines a part of a view, and sets it: `set`, or the contradiction.

@@ -27,8 +27,8 @@ use Rattle.desk_core.specs.declared.proposal.Proposal.{Proposal}
 use Rattle.desk_core.proofs.SiteLemmas.{in_force as policy_in_force}
 
 pub is_place : (found : Option ℕ) (fs : FsId) → option_map (λ place. record { 0 = place }) found ≡ Some fs → found ≡ Some fs.0
-is_place None fs is = cc
-is_place (Some place) fs is = (let same : record { 0 = place } ≡ fs = cc in ap (λ (f : FsId). Some f.0) same)
+is_place None fs is = ap (option_map (λ (f : FsId). f.0)) is
+is_place (Some place) fs is = ap (option_map (λ (f : FsId). f.0)) is
 
 -- ---- made
 

@@ -1,5 +1,5 @@
 -- What an edit of one exports file changes: the lines of its file system.
-use Rattle.std.proofs.Common.{◌≡◌, ◌≢◌, ◌∙◌, ◌<◌, ℕ, true, List, Option, Some, Result, Ok, Err, ap, arith, get_or, inl, inr, refl, set, subst, sym}
+use Rattle.std.proofs.Common.{◌≡◌, ◌≢◌, ◌∙◌, ◌<◌, ℕ, true, List, [], ◌∷◌, Option, Some, Result, Ok, Err, ap, arith, get_or, inl, inr, refl, set, subst, sym}
 use Rattle.std.specs.Prelude.{slice_get}
 use Rattle.std.specs.Option.{option_map}
 use Rattle.std.specs.Str.{bytes_eq}
@@ -44,7 +44,7 @@ sound_policy (Err fault) none = absurd none
 
 -- the mount point whose exports file a place has
 pub place_of : (table : List Mount) (file : List ℕ) (fs : ℕ) → exports_place table file ≡ Some fs → (mount : Mount) × (slice_get table fs ≡ Some mount) × (file ≡ exports_name mount.path) × (fs < length table)
-place_of [] file fs is = cc
+place_of [] file fs is = absurd (cc)
 place_of (first ∷ more) file fs is =
     let found = position-Some (λ (mount : Mount). bytes_eq (exports_name mount.path) file) (first ∷ more) fs first is in (
       get_or (first ∷ more) fs first,

@@ -1,5 +1,5 @@
 -- The texts of a site, if a revision is that of an exports file: those of the other files are as they were.
-use Rattle.std.proofs.Common.{◌≡◌, ◌≢◌, ◌∙◌, ◌<◌, ◌++◌, ℕ, Bool, true, false, cond, List, Option, Some, ap, arith, codes, get_or, inl, inr, subst, sym}
+use Rattle.std.proofs.Common.{◌≡◌, ◌≢◌, ◌∙◌, ◌<◌, ◌++◌, ℕ, Bool, true, false, cond, List, Option, Some, Result, ap, arith, codes, get_or, inl, inr, subst, sym}
 use Rattle.std.specs.Prelude.{slice_get}
 use Rattle.std.specs.Cmp.Lexicographic.{slice_cmp}
 use Rattle.std.specs.Option.{option_map_or}
@@ -19,7 +19,9 @@ use Rattle.desk_policy.specs.Parsing.{read_site_tables, read_tables}
 use Rattle.desk_policy.specs.Replacing.{DifferIn}
 use Rattle.desk_policy.specs.Site.{SiteTexts, no_exports}
 use Rattle.desk_policy.specs.SiteFault.{exports_name}
+use Rattle.desk_policy.specs.declared.parsing.SiteTables.{SiteTables}
 use Rattle.desk_policy.specs.declared.site.ExportsText.{ExportsText}
+use Rattle.desk_policy.specs.declared.site_fault.SiteFault.{SiteFault}
 use Rattle.desk_core.specs.Head.{Newest, Revision, put}
 use Rattle.desk_core.specs.Site.{revision_text, site_in, text_in}
 
@@ -91,7 +93,7 @@ module _ (newest : Newest) (r : Revision) where
 -- texts that differ in an exports file write the same tables
 pub same_tables : {table : List Mount} {fs : ℕ} (texts other : SiteTexts) → DifferIn table fs texts other → read_site_tables other ≡ read_site_tables texts
 same_tables texts other differ =
-    let T : List ℕ → List ℕ → List ℕ → List ℕ → List ℕ → _ = λ hosts networks passwd group netgroup.
+    let T : List ℕ → List ℕ → List ℕ → List ℕ → List ℕ → Result SiteTables SiteFault = λ hosts networks passwd group netgroup.
     read_tables (record { hosts = hosts; networks = networks; passwd = passwd; group = group; netgroup = netgroup }) in
     ap (λ t. T t other.networks other.passwd other.group other.netgroup) differ.hosts
     ∙ ap (λ t. T texts.hosts t other.passwd other.group other.netgroup) differ.networks

@@ -1,5 +1,5 @@
 -- The site of heads, one head after another.
-use Rattle.std.proofs.Common.{◌≡◌, ◌∙◌, sym, ap, subst, refl, ℕ, ◌+◌, ◌<◌, ◌≤◌, ◌++◌, Bool, true, false, cond, List, [], ◌∷◌, Option, Some, Result, Ok, Err, IfOk, IsOk, All, ◌-◌, length, get_or, drop, arith}
+use Rattle.std.proofs.Common.{◌≡◌, ◌∙◌, sym, ap, subst, refl, ℕ, ◌+◌, ◌<◌, ◌≤◌, ◌++◌, Bool, true, false, cond, List, [], ◌∷◌, Option, Some, Result, Ok, Err, IfOk, All, ◌-◌, length, get_or, drop, arith}
 use Rattle.std.specs.Prelude.{codes, find}
 use Rattle.std.specs.List.{AllByRecursion}
 use Rattle.std.specs.Option.{option_map_or}
@@ -9,15 +9,13 @@ use Rattle.std.proofs.Math.Path.{fun_ext}
 use Rattle.std.proofs.lemmas.List.{at_drop_more}
 use Rattle.std.proofs.lemmas.List.Elements.{recursion_from_All}
 use Rattle.desk_tables.specs.Custodians.{read_custodians}
-use Rattle.desk_tables.specs.FileSystemsText.{read_filesystems}
 use Rattle.desk_tables.specs.Rules.{TableFault}
 use Rattle.desk_tables.specs.declared.custodians.Custodian.{Custodian}
 use Rattle.desk_policy.specs.Contradiction.{HasNoContradiction}
-use Rattle.desk_policy.specs.Parsing.{if_listed, in_file, read_after_filesystems, read_site, then_read}
+use Rattle.desk_policy.specs.Parsing.{read_site}
 use Rattle.desk_policy.specs.Policy.{Content}
 use Rattle.desk_policy.specs.Site.{HaveReadableLengths, SiteTexts, longest_text, no_exports}
 use Rattle.desk_policy.specs.declared.site.ExportsText.{ExportsText}
-use Rattle.desk_policy.specs.SiteFault.{table_fault}
 use Rattle.desk_policy.specs.View.{HasFault, IsFaultOf}
 use Rattle.desk_policy.specs.declared.site_fault.SiteFault.{SiteFault}
 use Rattle.desk_core.specs.Head.{CanBeKept, Newest, newest_in, put}
@@ -62,16 +60,6 @@ site_none = refl
 pub site_cons : (heads : List Head) (h : Head) → with_text (site_in (newest_in heads)) h.file (revision_text h) ≡ site_in (newest_in (h ∷ heads))
 unfolding newest_in
 site_cons heads h = site_put (newest_in heads) h
-
-is_ok_read : (read : Result (List Custodian) TableFault) (next : List Custodian → Result Content SiteFault) (content : Content) → then_read (in_file (table_fault (codes "custodians")) read) next ≡ Ok content → IsOk read
-is_ok_read (Ok custodians) next content e = refl
-is_ok_read (Err fault) next content e = cc
-
--- the custodians of a site that was read were read
-pub custodians_read : (texts : SiteTexts) (content : Content) → read_site texts ≡ Ok content → IsOk (read_custodians texts.custodians)
-unfolding read_site
-custodians_read texts content e =
-    is_ok_read (read_custodians texts.custodians) (λ custodians. then_read (in_file (table_fault (codes "filesystems")) (if_listed custodians (read_filesystems texts.filesystems))) (λ table. read_after_filesystems texts table)) content e
 
 pub in_force : (texts : SiteTexts) (content : Content) → read_site texts ≡ Ok content → HasNoContradiction content → IsInForce texts content
 in_force texts content e none =

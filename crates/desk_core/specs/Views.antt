@@ -12,7 +12,7 @@ use Rattle.desk_core.specs.contracts.entry.Entry as stored
 use Rattle.desk_core.specs.contracts.head.Head as head
 use Rattle.desk_core.specs.contracts.proposal.Proposal as proposal
 use Rattle.desk_core.specs.declared.change.Change.{Change}
-use Rattle.desk_core.specs.declared.change.Change.TheVariants as change
+use Rattle.desk_core.specs.declared.change.Change.TheVariants as variant
 use Rattle.desk_core.specs.declared.change.SiteInForce.{SiteInForce}
 use Rattle.desk_core.specs.declared.entry.Entry.{Entry}
 use Rattle.desk_core.specs.declared.head.Head.{Head}
@@ -38,8 +38,8 @@ pub data Changed (V : Type 0) : Type 0 where
 
 -- a change, of which a part is seen as its lines
 abbrev pub shown : {V P : Type 0} → (P → List Row) → Change V P → Changed V
-shown part_rows (change.Whole made) = Whole made
-shown part_rows (change.Lines fs part) = Lines fs.0 (part_rows part)
+shown part_rows (variant.Whole made) = Whole made
+shown part_rows (variant.Lines fs part) = Lines fs.0 (part_rows part)
 
 module _ {V : Type 0} where
   abbrev Parts : Type 0
@@ -53,7 +53,7 @@ module _ {V : Type 0} where
   from_parts (inl made) = Whole (record { custodians = made.0; tables = made.1.0; view = made.1.1 })
   from_parts (inr lines) = Lines lines.0 lines.1
 
-  pub from_parts-to_parts : (change : Changed V) → from_parts (to_parts change) ≡ change
+  pub from_parts-to_parts : (it : Changed V) → from_parts (to_parts it) ≡ it
   from_parts-to_parts (Whole made) = refl
   from_parts-to_parts (Lines fs rows) = refl
 
