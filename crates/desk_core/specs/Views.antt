@@ -41,27 +41,26 @@ abbrev pub shown : {V P : Type 0} → (P → List Row) → Change V P → Change
 shown part_rows (variant.Whole made) = Whole made
 shown part_rows (variant.Lines fs part) = Lines fs.0 (part_rows part)
 
-module _ {V : Type 0} where
-  abbrev Parts : Type 0
-  Parts = (List Custodian × (SiteTables × V)) ⊎ (ℕ × List Row)
+abbrev Parts : Type 0 → Type 0
+Parts V = (List Custodian × (SiteTables × V)) ⊎ (ℕ × List Row)
 
-  abbrev to_parts : Changed V → Parts
-  to_parts (Whole made) = inl (made.custodians, (made.tables, made.view))
-  to_parts (Lines fs rows) = inr (fs, rows)
+abbrev to_parts : {V : Type 0} → Changed V → Parts V
+to_parts (Whole made) = inl (made.custodians, (made.tables, made.view))
+to_parts (Lines fs rows) = inr (fs, rows)
 
-  abbrev from_parts : Parts → Changed V
-  from_parts (inl made) = Whole (record { custodians = made.0; tables = made.1.0; view = made.1.1 })
-  from_parts (inr lines) = Lines lines.0 lines.1
+abbrev from_parts : {V : Type 0} → Parts V → Changed V
+from_parts (inl made) = Whole (record { custodians = made.0; tables = made.1.0; view = made.1.1 })
+from_parts (inr lines) = Lines lines.0 lines.1
 
-  pub from_parts-to_parts : (it : Changed V) → from_parts (to_parts it) ≡ it
-  from_parts-to_parts (Whole made) = refl
-  from_parts-to_parts (Lines fs rows) = refl
+pub from_parts-to_parts : {V : Type 0} (it : Changed V) → from_parts (to_parts it) ≡ it
+from_parts-to_parts (Whole made) = refl
+from_parts-to_parts (Lines fs rows) = refl
 
-  abbrev pub changed_code : Coded V → Coded (Changed V)
-  changed_code view =
-      code_by Parts
-      (coded⊎ (coded× (coded_list custodian.the_row.coded) (coded× tables.the_row.coded view)) (coded× coded_ℕ (coded_list row.the_row.coded)))
-      to_parts from_parts from_parts-to_parts
+abbrev pub changed_code : {V : Type 0} → Coded V → Coded (Changed V)
+changed_code {V} view =
+    code_by (Parts V)
+    (coded⊎ (coded× (coded_list custodian.the_row.coded) (coded× tables.the_row.coded view)) (coded× coded_ℕ (coded_list row.the_row.coded)))
+    to_parts from_parts from_parts-to_parts
 
 -- what an accepted edit brings: what is to be stored, room for so many heads and so many proposals, and what it changes
 pub record Ready (V : Type 0) : Type 0 where

@@ -34,23 +34,17 @@ pub enum Change<V, P> {
 
 /// Puts a change in force. It takes no memory.
 pub(crate) fn put_change<V: PolicyView + Drop>(
-    custodians: &mut Custodians,
-    tables: &mut SiteTables,
-    view: &mut V,
+    site: &mut SiteInForce<V>,
     change: Change<V, V::Part>,
 )
-    requires { MayStand (V.in_force view.old) (shown V.part_rows change) }
-    ensures custodians { custodians.new ≡ custodians_after custodians.old (shown V.part_rows change) }
-    ensures tables { tables.new ≡ tables_after tables.old (shown V.part_rows change) }
-    ensures view { V.in_force view.new ≡ changed V.in_force (V.in_force view.old) (shown V.part_rows change) }
+    requires { MayStand (V.in_force site.old.view) (shown V.part_rows change) }
+    ensures custodians { site.new.custodians ≡ custodians_after site.old.custodians (shown V.part_rows change) }
+    ensures tables { site.new.tables ≡ tables_after site.old.tables (shown V.part_rows change) }
+    ensures view { V.in_force site.new.view ≡ changed V.in_force (V.in_force site.old.view) (shown V.part_rows change) }
 {
     match change {
-        Change::Whole(made) => {
-            *custodians = made.custodians;
-            *tables = made.tables;
-            *view = made.view;
-        }
-        Change::Lines(fs, part) => view.set(fs, part),
+        Change::Whole(made) => *site = made,
+        Change::Lines(fs, part) => site.view.set(fs, part),
     }
 }
 

@@ -21,22 +21,19 @@ use crate::head::{Head, newest, newest_number, put_head};
 use crate::judging::{Case, entry_by, exports_place, first_case, revision_of};
 use crate::proposal::{Proposal, proposal_for, put_proposal, withdraw};
 use desk_exports::Profile;
-use desk_policy::{PolicyView, SiteFault, SiteTables, one_file_is_replaced, read_lines};
+use desk_policy::{PolicyView, SiteFault, one_file_is_replaced, read_lines};
+use desk_tables::FsId;
 use desk_tables::laws::tables_are_in_order;
-use desk_tables::{Custodians, FsId};
 use desk_text::ReadError;
 use std::alloc::{AllocError, Global};
 use std::marker::Model;
 
-/// The newest revision of each file, the proposals, the custodians and the tables that the revisions list, and a view of the
-/// policy that they write.
+/// The newest revision of each file, the proposals, and the site that the revisions write, in force.
 #[derive(Drop)]
 pub struct State<V: PolicyView + Drop> {
     heads: Vec<Head>,
     proposals: Vec<Proposal>,
-    custodians: Custodians,
-    tables: SiteTables,
-    view: V,
+    site: SiteInForce<V>,
 }
 
 impl<V: PolicyView + Drop> Model for State<V> {
@@ -47,9 +44,9 @@ impl<V: PolicyView + Drop> Model for State<V> {
 
     ghost coded = { kept_code V.code };
 
-    ghost view = { λ s. record { heads = s.heads.items; proposals = s.proposals.items; view = s.view } };
+    ghost view = { λ s. record { heads = s.heads.items; proposals = s.proposals.items; view = s.site.view } };
 
-    ghost invariant = { λ s. IsState s.heads.items s.proposals.items (V.in_force s.view) s.custodians s.tables };
+    ghost invariant = { λ s. IsState s.heads.items s.proposals.items (V.in_force s.site.view) s.site.custodians s.site.tables };
 }
 
 /// An accepted edit: what is to be stored of it, what it changes of what is in force, and room for the heads and the
@@ -107,17 +104,11 @@ impl<V: PolicyView + Drop> State<V> {
         requires proposals { All CanBePending proposals.items }
         ensures { Starts V.in_force heads.items proposals.items result }
     {
-        let SiteInForce {
-            custodians,
-            tables,
-            view,
-        } = put_heads_in_force(alloc, heads.as_slice())?;
+        let site = put_heads_in_force(alloc, heads.as_slice())?;
         Ok(State {
             heads,
             proposals,
-            custodians,
-            tables,
-            view,
+            site,
         })
     }
 
@@ -168,12 +159,7 @@ impl<V: PolicyView + Drop> State<V> {
         ensures view { IsInForce (site_in (newest_in self.new.heads)) (V.in_force self.new.view) }
     {
         put_revision(&mut self.heads, &mut self.proposals, room, head);
-        put_change(
-            &mut self.custodians,
-            &mut self.tables,
-            &mut self.view,
-            change,
-        );
+        put_change(&mut self.site, change);
     }
 
     /// Lends the view of the policy in force.
@@ -181,7 +167,7 @@ impl<V: PolicyView + Drop> State<V> {
         ensures value { result.now ≡ self.now.view }
         ensures in_force { IsInForce (site_in (newest_in self.now.heads)) (V.in_force result.now) }
     {
-        &self.view
+        &self.site.view
     }
 
     /// Lends the newest revision of each file, in no order.
@@ -219,8 +205,8 @@ impl<V: PolicyView + Drop> State<V> {
         let newest = newest(self.heads.as_slice(), edit.file);
         let proposal = proposal_for(self.proposals.as_slice(), edit.file);
         first_case(
-            &self.custodians,
-            self.view.policy().filesystems(),
+            &self.site.custodians,
+            self.site.view.policy().filesystems(),
             newest,
             proposal,
             edit,
@@ -294,7 +280,7 @@ impl<V: PolicyView + Drop> State<V> {
         requires { first_case (standing self.now) (asked edit.now) ≡ None }
         ensures { MakesChange V.in_force V.part_rows self.now (site_in (put (newest_in self.now.heads) (spec.revision_of (asked edit.now)))) result }
     {
-        match exports_place(self.view.policy().filesystems(), edit.file) {
+        match exports_place(self.site.view.policy().filesystems(), edit.file) {
             Some(fs) => self.lines_by(alloc, edit, fs),
             None => Ok(Change::Whole(put_edit_in_force(
                 alloc,
@@ -319,16 +305,16 @@ impl<V: PolicyView + Drop> State<V> {
         // The rest of the site is as it was, and no other mount point is printed alike.
         one_file_is_replaced();
         tables_are_in_order();
-        let filesystems = self.view.policy().filesystems();
+        let filesystems = self.site.view.policy().filesystems();
         let rows = read_lines(
             alloc,
             Profile::Two,
             edit.text,
             filesystems,
-            &self.tables,
+            &self.site.tables,
             fs,
         )?;
-        let part = self.view.part(alloc, fs, rows)?;
+        let part = self.site.view.part(alloc, fs, rows)?;
         Ok(Change::Lines(fs, part))
     }
 
@@ -338,7 +324,7 @@ impl<V: PolicyView + Drop> State<V> {
         ensures { IfOk result (λ stored. stored ≡ entry_of (standing self.now) (asked edit.now)) }
     {
         let proposal = proposal_for(self.proposals.as_slice(), edit.file);
-        entry_by(alloc, self.view.policy().filesystems(), edit, proposal)
+        entry_by(alloc, self.site.view.policy().filesystems(), edit, proposal)
     }
 }
 

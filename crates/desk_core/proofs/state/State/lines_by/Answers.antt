@@ -23,7 +23,7 @@ pub returns-in_err-rows : goal.returns-in_err-rows
 returns-in_err-rows g c =
     let F = g.V.PolicyView.in_force in
     let state = c.args.self.now in
-    let tables = c.self.inside.tables in
+    let tables = c.self.inside.site.tables in
     let text : ExportsText = record { profile = Two; body = c.args.edit.now.text.now } in
     let holds = subst (λ s. IsInForce (site_in (newest_in s.heads)) (F s.view)) c.self.view_is c.self.invariant.in_force in
     let tables_are = subst (λ s. read_site_tables (site_in (newest_in s.heads)) ≡ Ok tables) c.self.view_is c.self.invariant.tables_are in
@@ -42,7 +42,7 @@ pub part-requires-clause-ascending : goal.part-requires-clause-ascending
 part-requires-clause-ascending g c =
     let F = g.V.PolicyView.in_force in
     let state = c.args.self.now in
-    let tables = c.self.inside.tables in
+    let tables = c.self.inside.site.tables in
     let text : ExportsText = record { profile = Two; body = c.args.edit.now.text.now } in
     let holds = subst (λ s. IsInForce (site_in (newest_in s.heads)) (F s.view)) c.self.view_is c.self.invariant.in_force in
     let tables_are = subst (λ s. read_site_tables (site_in (newest_in s.heads)) ≡ Ok tables) c.self.view_is c.self.invariant.tables_are in
@@ -54,7 +54,7 @@ pub returns-in_err-part : goal.returns-in_err-part
 returns-in_err-part g c =
     let F = g.V.PolicyView.in_force in
     let state = c.args.self.now in
-    let tables = c.self.inside.tables in
+    let tables = c.self.inside.site.tables in
     let text : ExportsText = record { profile = Two; body = c.args.edit.now.text.now } in
     let holds = subst (λ s. IsInForce (site_in (newest_in s.heads)) (F s.view)) c.self.view_is c.self.invariant.in_force in
     let tables_are = subst (λ s. read_site_tables (site_in (newest_in s.heads)) ≡ Ok tables) c.self.view_is c.self.invariant.tables_are in
@@ -69,7 +69,7 @@ pub returns : goal.returns
 returns g c =
     let F = g.V.PolicyView.in_force in
     let state = c.args.self.now in
-    let tables = c.self.inside.tables in
+    let tables = c.self.inside.site.tables in
     let text : ExportsText = record { profile = Two; body = c.args.edit.now.text.now } in
     let holds = subst (λ s. IsInForce (site_in (newest_in s.heads)) (F s.view)) c.self.view_is c.self.invariant.in_force in
     let tables_are = subst (λ s. read_site_tables (site_in (newest_in s.heads)) ≡ Ok tables) c.self.view_is c.self.invariant.tables_are in

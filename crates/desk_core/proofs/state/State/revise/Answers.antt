@@ -22,10 +22,10 @@ invariant_of-self g c =
     let F = g.V.PolicyView.in_force in
     let state = c.args.self.now in
     let change = shown g.V.PolicyView.part_rows c.args.change in
-    let custodians_are = subst (λ s. read_custodians (site_in (newest_in s.heads)).custodians ≡ Ok c.self.inside.custodians) c.self.view_is c.self.invariant.custodians_are in
-    let tables_are = subst (λ s. read_site_tables (site_in (newest_in s.heads)) ≡ Ok c.self.inside.tables) c.self.view_is c.self.invariant.tables_are in
+    let custodians_are = subst (λ s. read_custodians (site_in (newest_in s.heads)).custodians ≡ Ok c.self.inside.site.custodians) c.self.view_is c.self.invariant.custodians_are in
+    let tables_are = subst (λ s. read_site_tables (site_in (newest_in s.heads)) ≡ Ok c.self.inside.site.tables) c.self.view_is c.self.invariant.tables_are in
     let newest = c.put_revision.ensures.newest ∙ ap (λ s. put (newest_in s.heads) c.args.head) c.self.view_is in
     let kept = c.put_revision.ensures.kept c.requires.can_be_kept c.self.invariant.kept in
     let pending = c.put_revision.ensures.pending c.self.invariant.pending in
     let view = c.put_change.ensures.view ∙ ap (λ s. changed F (F s.view) change) c.self.view_is in
-    revised F state c.self.inside.custodians _ c.self.inside.tables _ change c.args.head _ _ _ custodians_are tables_are c.requires.site newest kept pending c.put_change.ensures.custodians c.put_change.ensures.tables view
+    revised F state c.self.inside.site.custodians _ c.self.inside.site.tables _ change c.args.head _ _ _ custodians_are tables_are c.requires.site newest kept pending c.put_change.ensures.custodians c.put_change.ensures.tables view
