@@ -282,11 +282,7 @@ impl<V: PolicyView + Drop> State<V> {
     {
         match exports_place(self.site.view.policy().filesystems(), edit.file) {
             Some(fs) => self.lines_by(alloc, edit, fs),
-            None => Ok(Change::Whole(put_edit_in_force(
-                alloc,
-                self.heads.as_slice(),
-                edit,
-            )?)),
+            None => Ok(Change::Whole(put_edit_in_force(alloc, self.heads.as_slice(), edit)?)),
         }
     }
 

@@ -305,7 +305,13 @@ fn push_file(
     let text = site.exports_text(printed);
     let entries = file_entries(alloc, profile, text, filesystems, site_tables, fs);
     let entries = in_exports(alloc, name.as_str(), entries)?;
-    push_entries(alloc, site_tables, name.as_str(), entries.as_slice(), warnings)?;
+    push_entries(
+        alloc,
+        site_tables,
+        name.as_str(),
+        entries.as_slice(),
+        warnings,
+    )?;
     rows.push(lines_in_force(alloc, site_tables, entries)?)?;
     Ok(())
 }
