@@ -5,6 +5,7 @@
 
 ghost use Rattle.std.specs.Prelude.{◌≡◌, ◌<◌, ◌≤◌, [], ◌++◌, IfOk, None, Ok, OnOk, Result, codes, length, map};
 ghost use Rattle.std.specs.List.{flat_map};
+ghost use Rattle.desk_text.specs.Path.{path_text};
 ghost use Rattle.desk_text.specs.Reading.{Reads, ReadsAs};
 ghost use Rattle.desk_tables.specs.FileSystemsText as filesystems;
 ghost use Rattle.desk_tables.specs.Rules as tables;
@@ -299,11 +300,8 @@ fn push_file(
     ensures { PushesFile result (spec.read_exports (texts_of site.now) filesystems.now site_tables.now fs.0 mount.now)
         rows.old.items rows.new.items warnings.old warnings.new }
 {
-    let printed = mount.text();
-    let name = exports_file_name(alloc, printed)?;
-    let profile = site.exports_profile(printed);
-    let text = site.exports_text(printed);
-    let entries = file_entries(alloc, profile, text, filesystems, site_tables, fs);
+    let name = exports_file_name(alloc, mount.text())?;
+    let entries = site_entries(alloc, site, filesystems, site_tables, fs, mount);
     let entries = in_exports(alloc, name.as_str(), entries)?;
     push_entries(
         alloc,
@@ -335,6 +333,25 @@ pub fn read_lines(
     let entries = file_entries(alloc, profile, text, filesystems, site_tables, fs);
     let entries = in_exports(alloc, name.as_str(), entries)?;
     Ok(lines_in_force(alloc, site_tables, entries)?)
+}
+
+/// Reads the entries of the exports file that a site has for this mount point, by the profile of its text.
+fn site_entries(
+    alloc: Global,
+    site: &Site,
+    filesystems: &FileSystems,
+    site_tables: &SiteTables,
+    fs: FsId,
+    mount: &Path,
+) -> Result<Sequence<Boxed<Entry>>, ReadError<LineFault<Rule>>>
+    requires { HaveReadableLengths (texts_of site.now) }
+    ensures read { Reads result (spec.entries_in ((texts_of site.now).exports (path_text mount.now)) filesystems.now site_tables.now fs) }
+    ensures ascending { IfOk result FileAscends }
+{
+    let printed = mount.text();
+    let profile = site.exports_profile(printed);
+    let text = site.exports_text(printed);
+    file_entries(alloc, profile, text, filesystems, site_tables, fs)
 }
 
 /// Reads the entries of the exports file of a file system, by this profile.
