@@ -10,12 +10,12 @@ ghost use Rattle.desk_core.specs.Views.{shown};
 
 use crate::head::Head;
 use crate::site::{site_of, site_with};
-use desk_policy::{PolicyView, Site, SiteContents, SiteFault, SiteTables, read_site};
+use desk_policy::{PolicyView, Site, SiteContents, SiteFault, SiteTables, read_contents};
 use desk_tables::{Custodians, FsId};
 use desk_text::ReadError;
 use std::alloc::Global;
 
-/// A consistent site in force: its custodians, the tables that its exports files are read with, and a view of its policy.
+/// What is kept of a site in force: its custodians, the tables that its exports files are read with, and a view of its policy.
 #[derive(Drop)]
 pub struct SiteInForce<V> {
     pub custodians: Custodians,
@@ -23,7 +23,7 @@ pub struct SiteInForce<V> {
     pub view: V,
 }
 
-/// What an edit puts in the place of what is in force. One of an exports file changes the lines of its file system alone.
+/// What an edit puts in the place of what is in force. An edit of an exports file changes the lines of its file system alone.
 #[derive(Drop)]
 pub enum Change<V, P> {
     /// The site with the edit's text.
@@ -48,7 +48,7 @@ pub(crate) fn put_change<V: PolicyView + Drop>(
     }
 }
 
-/// Puts the site of these heads in force, or gives its fault.
+/// Makes the site of these heads ready to be in force, or gives its fault.
 pub(crate) fn put_heads_in_force<V: PolicyView + Drop>(
     alloc: Global,
     heads: &[Head],
@@ -60,7 +60,7 @@ pub(crate) fn put_heads_in_force<V: PolicyView + Drop>(
     put_in_force(alloc, &site)
 }
 
-/// Puts the site of these heads in force, if this head is that of its file, or gives its fault.
+/// Makes the site of these heads, with this head as that of its file, ready to be in force; or gives its fault.
 pub(crate) fn put_head_in_force<V: PolicyView + Drop>(
     alloc: Global,
     heads: &[Head],
@@ -73,7 +73,7 @@ pub(crate) fn put_head_in_force<V: PolicyView + Drop>(
     put_in_force(alloc, &site)
 }
 
-/// Puts a consistent site in force, or gives its fault.
+/// Reads a site and builds the view of its policy, or gives the site's fault.
 fn put_in_force<V: PolicyView + Drop>(
     alloc: Global,
     site: &Site,
@@ -85,7 +85,7 @@ fn put_in_force<V: PolicyView + Drop>(
         custodians,
         tables,
         policy,
-    } = read_site(alloc, site)?;
+    } = read_contents(alloc, site)?;
     match V::build(alloc, policy) {
         Ok(view) => Ok(SiteInForce {
             custodians,

@@ -28,7 +28,7 @@ GivesLines (Err Memory) read = Unit {0}
 abbrev pub ReadsLines : Result (List Row) (ReadError SiteFault) → ExportsText → List Mount → SiteTables → ℕ → Type 0
 ReadsLines result text table site_tables fs = (mount : Mount) → slice_get table fs ≡ Some mount → GivesLines result (read_text text table site_tables fs mount.path)
 
--- texts that differ in the exports file of this file system alone
+-- texts that differ, of the files that are read, in the exports file of this file system alone
 pub record DifferIn (table : List Mount) (fs : ℕ) (texts other : SiteTexts) : Type 0 where
   pub custodians : other.custodians ≡ texts.custodians
   pub filesystems : other.filesystems ≡ texts.filesystems
@@ -39,8 +39,8 @@ pub record DifferIn (table : List Mount) (fs : ℕ) (texts other : SiteTexts) : 
   pub netgroup : other.netgroup ≡ texts.netgroup
   pub exports : (place : ℕ) (mount : Mount) → place ≢ fs → slice_get table place ≡ Some mount → other.exports (path_text mount.path) ≡ texts.exports (path_text mount.path)
 
--- the policy that was read has these lines for one file system, and the other lines of a former policy; its warnings are those
--- of its own texts
+-- the policy that was read has these lines for one file system, and the other lines of a former policy (its warnings may be
+-- others)
 pub record ReplacesLines (former : Content) (fs : ℕ) (rows : List Row) (read : Result Content SiteFault) : Type 0 where
   pub policy : Content
   pub is : read ≡ Ok policy
@@ -48,13 +48,13 @@ pub record ReplacesLines (former : Content) (fs : ℕ) (rows : List Row) (read :
   pub lines : policy.rows ≡ slice_set former.rows fs rows
   pub own : rows_of policy fs ≡ rows
 
--- so it is with the lines of a file, or the file's fault was found
+-- the lines of a file stand in the policy, or the file's fault is the site's
 abbrev pub ReadsWith : Content → ℕ → Result ExportsFile SiteFault → Result Content SiteFault → Type 0
 ReadsWith former fs (Ok file) read = ReplacesLines former fs file.rows read
 ReadsWith former fs (Err fault) read = read ≡ Err fault
 
--- Texts that differ from those of a site in one exports file alone write the policy with the lines of that file in the place
--- of the former ones, or the file's fault is theirs.
+-- If no file of a site is faulty, and other texts differ from its texts in one exports file alone, their policy is the site's
+-- with that file's lines in place of the former ones, or that file's fault is theirs.
 abbrev pub OneFileIsReplaced : Type 0
 OneFileIsReplaced =
     (texts other : SiteTexts) (content : Content) (site_tables : SiteTables) (fs : ℕ) (mount : Mount)

@@ -1,4 +1,4 @@
--- What is read of a site beside its policy. (this project's own)
+-- What the texts of a site write: custodians, tables and policy. (this project's own)
 use Rattle.std.specs.Prelude.{◌≡◌, List, Result, Ok, Err}
 use Rattle.desk_text.specs.declared.reading.ReadError.{ReadError}
 use Rattle.desk_text.specs.declared.reading.ReadError.TheVariants.{Fault, Memory}

@@ -51,7 +51,7 @@ pub use listings::{Shown, listing};
 pub use names::addresses_of;
 pub use parsing::{
     SiteContents, SiteTables, parse, parse_whole, parse_whole_with, parse_whole_without_warnings,
-    read_lines, read_site,
+    read_contents, read_lines,
 };
 pub use per_table::PerTable;
 pub use policy::{Policy, are_ascending};

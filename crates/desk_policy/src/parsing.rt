@@ -131,14 +131,14 @@ pub fn parse(alloc: Global, site: &Site) -> Result<Policy, ReadError<SiteFault>>
     requires { HaveReadableLengths (texts_of site.now) }
     ensures { Reads result (spec.read_site (texts_of site.now)) }
 {
-    match read_site(alloc, site) {
+    match read_contents(alloc, site) {
         Ok(SiteContents { policy, .. }) => Ok(policy),
         Err(error) => Err(error),
     }
 }
 
 /// Reads what the texts of a site write, as `parse` does, with the custodians and the tables.
-pub fn read_site(alloc: Global, site: &Site) -> Result<SiteContents, ReadError<SiteFault>>
+pub fn read_contents(alloc: Global, site: &Site) -> Result<SiteContents, ReadError<SiteFault>>
     requires { HaveReadableLengths (texts_of site.now) }
     ensures { ReadsSite result (texts_of site.now) }
 {
@@ -314,8 +314,8 @@ fn push_file(
     Ok(())
 }
 
-/// Reads the lines in force of one exports file by itself, by this profile, with the tables of its site; or its fault. The
-/// lines come in the order of their numbers. What is odd about the file is not looked for.
+/// Reads one exports file by itself, by this profile, with the tables of its site: its lines, in the order of their numbers,
+/// or its fault. Warnings are not made. The text has at most 4,294,967,294 bytes.
 pub fn read_lines(
     alloc: Global,
     profile: Profile,

@@ -15,7 +15,7 @@ use Rattle.desk_policy.specs.SiteFault.{table_fault}
 use Rattle.desk_policy.specs.declared.site_fault.SiteFault.{SiteFault}
 use Rattle.desk_policy.proofs.Chain.{goes_on, refused}
 use Rattle.desk_policy.proofs.ContentsRead.{after_refused, site_refused}
-use Rattle.desk_policy.proofs.parsing.read_site.Goals as goal
+use Rattle.desk_policy.proofs.parsing.read_contents.Goals as goal
 
 module _ (texts : SiteTexts) where
   abbrev custodians_in : Result (List Custodian) SiteFault
