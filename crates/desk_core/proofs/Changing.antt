@@ -70,6 +70,12 @@ tables_put : {V : Type 0} (content : Content) (old new : SiteTexts) (change : Ch
 tables_put content old new (Whole made) tables rests_on is = rests_on.1
 tables_put content old new (Lines fs rows) tables rests_on is = rests_on.2 ∙ is
 
+-- the policy in force after a change, whose revision is the newest of its file
+pub view_revised : {V : Type 0} (in_force : V → Content) (state : Kept V) (change : Changed V) (head : Head) (heads' : List Head) (content' : Content) → PutsSite in_force state change (site_in (put (newest_in state.heads) head))
+    → newest_in heads' ≡ put (newest_in state.heads) head → content' ≡ changed in_force (in_force state.view) change → IsInForce (site_in (newest_in heads')) content'
+view_revised in_force state change head heads' content' puts newest view =
+    subst (IsInForce (site_in (newest_in heads'))) (sym view) (subst (λ texts. IsInForce texts (changed in_force (in_force state.view) change)) (sym (ap site_in newest)) puts.view)
+
 -- a state after a change, whose revision is the newest of its file
 pub revised : {V : Type 0} (in_force : V → Content) (state : Kept V) (custodians custodians' : List Custodian) (tables tables' : SiteTables) (change : Changed V) (head : Head) (heads' : List Head) (proposals' : List Proposal) (content' : Content)
     → read_custodians (site_in (newest_in state.heads)).custodians ≡ Ok custodians → read_site_tables (site_in (newest_in state.heads)) ≡ Ok tables
@@ -80,7 +86,7 @@ revised in_force state custodians custodians' tables tables' change head heads' 
     let new = site_in (put (newest_in state.heads) head) in
     let site : site_in (newest_in heads') ≡ new = ap site_in newest in
     record {
-      in_force = subst (IsInForce (site_in (newest_in heads'))) (sym v) (subst (λ texts. IsInForce texts (changed in_force (in_force state.view) change)) (sym site) puts.view);
+      in_force = view_revised in_force state change head heads' content' puts newest v;
       custodians_are = ap (λ (texts : SiteTexts). read_custodians texts.custodians) site ∙ custodians_put (in_force state.view) old new change custodians puts.rests_on custodians_are ∙ ap Ok (sym c);
       tables_are = ap read_site_tables site ∙ tables_put (in_force state.view) old new change tables puts.rests_on tables_are ∙ ap Ok (sym t);
       kept = kept;

@@ -1,5 +1,5 @@
 -- What an edit of one exports file changes: the lines of its file system.
-use Rattle.std.proofs.Common.{◌≡◌, ◌≢◌, ◌∙◌, ◌<◌, ℕ, true, List, [], ◌∷◌, Option, Some, Result, Ok, Err, ap, arith, get_or, inl, inr, refl, set, subst, sym}
+use Rattle.std.proofs.Common.{◌≡◌, ◌≢◌, ◌∙◌, ◌<◌, ℕ, true, List, [], ◌∷◌, Option, Some, Result, Ok, Err, ap, arith, get_or, inl, inr, length, refl, set, subst, sym}
 use Rattle.std.specs.Prelude.{slice_get}
 use Rattle.std.specs.Option.{option_map}
 use Rattle.std.specs.Str.{bytes_eq}

@@ -20,12 +20,12 @@ file_read : {X F : Type 0} (fault_of : F → SiteFault) (read : Result X F) (val
 file_read fault_of (Ok found) value is = let same : found ≡ value = cc in ap Ok same
 file_read fault_of (Err fault) value is = cc
 
+all_listed : (found table : List Mount) (unlisted : Option ℕ) → unless_unlisted found unlisted ≡ Ok table → (let read : Result (List Mount) TableFault = Ok found in read) ≡ Ok table
+all_listed found table None is = is
+all_listed found table (Some line) is = cc
+
 listed_read : (custodians : List Custodian) (read : Result (List Mount) TableFault) (table : List Mount) → if_listed custodians read ≡ Ok table → read ≡ Ok table
-listed_read custodians (Ok found) table is = unless (unlisted_line custodians found) is
-  where
-    unless : (unlisted : Option ℕ) → unless_unlisted found unlisted ≡ Ok table → Ok found ≡ Ok table
-    unless None is = is
-    unless (Some line) is = cc
+listed_read custodians (Ok found) table is = all_listed found table (unlisted_line custodians found) is
 listed_read custodians (Err fault) table is = is
 
 pub table_read : (texts : SiteTexts) (policy : Content) → read_site texts ≡ Ok policy → read_filesystems texts.filesystems ≡ Ok policy.table

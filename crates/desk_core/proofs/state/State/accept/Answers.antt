@@ -1,4 +1,4 @@
-use Rattle.std.proofs.Common.{◌≡◌, ◌<◌, subst, sym, ap, All, length, arith}
+use Rattle.std.proofs.Common.{◌≡◌, ◌<◌, subst, sym, ap, All, Err, length, arith}
 use Rattle.std.specs.Prelude.{vec_capacity}
 use Rattle.desk_core.specs.Edit.{asked, revision_of}
 use Rattle.desk_core.specs.Head.{CanBeKept, newest_in, put}

@@ -41,8 +41,8 @@ put_edit_in_force-requires-clause-lengths g c =
     let body : length head.body ≡ length c.args.edit.now.text.now = refl in
     subst (λ (hs : List Head). HaveReadableLengths (site_in (put (newest_in hs) head))) (sym same) (put_readable c.args.self.now.heads head kept (omega (arith, body, w.1)))
 
-pub returns-in_err-put_edit_in_force : goal.returns-in_err-put_edit_in_force
-returns-in_err-put_edit_in_force g c =
+pub returns-in_err-put_edit_in_force-in-None : goal.returns-in_err-put_edit_in_force-in-None
+returns-in_err-put_edit_in_force-in-None g c =
     let F = g.V.PolicyView.in_force in
     let state = c.args.self.now in
     let e = asked c.args.edit.now in
@@ -52,8 +52,8 @@ returns-in_err-put_edit_in_force g c =
     let p = err_from_is_err_and c.from_residual.result c.from_residual.ensures.1 in
     rw (p.1, p.2) (whole_refused F g.V.PolicyView.part_rows state (site_in (put (newest_in state.heads) (revision_of e))) error told)
 
-pub returns-in_ok-put_edit_in_force : goal.returns-in_ok-put_edit_in_force
-returns-in_ok-put_edit_in_force g c =
+pub returns-in_ok-put_edit_in_force-in-None : goal.returns-in_ok-put_edit_in_force-in-None
+returns-in_ok-put_edit_in_force-in-None g c =
     let F = g.V.PolicyView.in_force in
     let state = c.args.self.now in
     let e = asked c.args.edit.now in

@@ -6,7 +6,7 @@ use Rattle.desk_core.specs.PrivateState.{MayStand}
 use Rattle.desk_core.specs.Site.{site_in}
 use Rattle.desk_core.specs.State.{changed}
 use Rattle.desk_core.specs.Views.{shown}
-use Rattle.desk_core.proofs.Changing.{may_stand, revised}
+use Rattle.desk_core.proofs.Changing.{may_stand, revised, view_revised}
 use Rattle.desk_core.proofs.state.State.revise.Goals as goal
 
 pub put_change-requires : goal.put_change-requires
@@ -29,3 +29,12 @@ invariant_of-self g c =
     let pending = c.put_revision.ensures.pending c.self.invariant.pending in
     let view = c.put_change.ensures.view ∙ ap (λ s. changed F (F s.view) change) c.self.view_is in
     revised F state c.self.inside.site.custodians _ c.self.inside.site.tables _ change c.args.head _ _ _ custodians_are tables_are c.requires.site newest kept pending c.put_change.ensures.custodians c.put_change.ensures.tables view
+
+pub returns-clause-view : goal.returns-clause-view
+returns-clause-view g c =
+    let F = g.V.PolicyView.in_force in
+    let state = c.args.self.now in
+    let change = shown g.V.PolicyView.part_rows c.args.change in
+    let newest = c.put_revision.ensures.newest ∙ ap (λ s. put (newest_in s.heads) c.args.head) c.self.view_is in
+    let view = c.put_change.ensures.view ∙ ap (λ s. changed F (F s.view) change) c.self.view_is in
+    view_revised F state change c.args.head _ _ c.requires.site newest view
