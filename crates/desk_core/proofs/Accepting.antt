@@ -12,11 +12,12 @@ use Rattle.desk_policy.specs.declared.row.Row.{Row}
 use Rattle.desk_policy.specs.declared.site_fault.SiteFault.{SiteFault}
 use Rattle.desk_core.specs.Edit.{Edit, revision_of}
 use Rattle.desk_core.specs.Head.{CanBeKept, Revision, last_revision, longest_revision, newest_in, newest_number, put}
+use Rattle.desk_core.specs.History.{entry_file}
 use Rattle.desk_core.specs.Judging.{AnswersBySite, answer_of, entry_of, first_case}
 use Rattle.desk_core.specs.PrivateState.{Accepts, MakesChange, refusal_of}
 use Rattle.desk_core.specs.Site.{IsConsistent, revision_text, site_in}
-use Rattle.desk_core.specs.Standing.{standing_in}
-use Rattle.desk_core.specs.State.{PutsEntry, PutsRevision, PutsSite, standing}
+use Rattle.desk_core.specs.Standing.{Standing, standing_in}
+use Rattle.desk_core.specs.State.{IsChangeOf, PutsEntry, PutsRevision, PutsSite, standing}
 use Rattle.desk_core.specs.Views.{Kept, Ready}
 use Rattle.desk_core.specs.declared.entry.Entry.{Entry}
 use Rattle.desk_core.specs.declared.entry.Entry.TheVariants as entry
@@ -46,6 +47,13 @@ by_entry : (site : SiteTexts) (stored own : Entry) → own ≡ stored → IsCons
 by_entry site stored (entry.Revised r) is sound = (ap answer_of is, sound)
 by_entry site stored (entry.Proposed p) is sound = (ap answer_of is, sound)
 
+-- what is to be stored of an edit is of its file
+file_of_entry : (stands : Standing) (e : Edit) → entry_file (entry_of stands e) ≡ e.file
+file_of_entry stands e = elim (ways stands e) [
+  | inl itself ↦ ap entry_file itself.1
+  | inr guarded ↦ elim guarded [ inl approval ↦ ap entry_file approval.1.2 | inr proposal ↦ ap entry_file proposal.2 ]
+]
+
 module _ {V : Type 0} (in_force : V → Content) (state : Kept V) (e : Edit) (ready : Ready V) where
   abbrev own_site : SiteTexts
   own_site = site_in (put (newest_in state.heads) (revision_of e))
@@ -62,8 +70,8 @@ module _ {V : Type 0} (in_force : V → Content) (state : Kept V) (e : Edit) (re
       }
 
   pub accepted : All CanBeKept state.heads → first_case (standing state) e ≡ None → ready.entry ≡ entry_of (standing state) e → length state.heads < ready.room → length state.proposals < ready.proposal_room
-      → PutsSite in_force state ready.change own_site → Accepts in_force state e (Ok ready)
-  accepted kept none is room proposal_room site =
+      → IsChangeOf (in_force state.view).table e.file ready.change → PutsSite in_force state ready.change own_site → Accepts in_force state e (Ok ready)
+  accepted kept none is room proposal_room own site =
       let w = within state.heads state.proposals e kept none in
       let P : Entry → Type 0 = PutsEntry in_force state ready in
       let puts_own : P (entry_of (standing state) e) = elim (ways (standing state) e) [
@@ -73,10 +81,12 @@ module _ {V : Type 0} (in_force : V → Content) (state : Kept V) (e : Edit) (re
           | inr proposal ↦ subst P (sym proposal.2) (omega (arith, w.0))
         ]
       ] in
-      (by_entry own_site (entry_of (standing state) e) ready.entry is site.view.consistent, is, record { room = room; proposal_room = proposal_room; puts = subst P (sym is) puts_own })
+      let file : entry_file ready.entry ≡ e.file = ap entry_file is ∙ file_of_entry (standing state) e in
+      let change : IsChangeOf (in_force state.view).table (entry_file ready.entry) ready.change = subst (λ f. IsChangeOf (in_force state.view).table f ready.change) (sym file) own in
+      (by_entry own_site (entry_of (standing state) e) ready.entry is site.view.consistent, is, record { room = room; proposal_room = proposal_room; own = change; puts = subst P (sym is) puts_own })
 
 -- the fault of the site with the edit's text
 pub not_accepted : {V P : Type 0} (in_force : V → Content) (part_rows : P → List Row) (state : Kept V) (e : Edit) (error : ReadError SiteFault)
-    → MakesChange in_force part_rows state (site_in (put (newest_in state.heads) (revision_of e))) (Err error) → Accepts in_force state e (Err (refusal_of error))
+    → MakesChange in_force part_rows state e.file (site_in (put (newest_in state.heads) (revision_of e))) (Err error) → Accepts in_force state e (Err (refusal_of error))
 not_accepted in_force part_rows state e (Fault fault) has = (fault, refl, has)
 not_accepted in_force part_rows state e Memory has = tt

@@ -26,6 +26,10 @@ use Rattle.desk_core.specs.declared.head.Head.{Head}
 use Rattle.desk_core.specs.declared.proposal.Proposal.{Proposal}
 use Rattle.desk_core.proofs.SiteLemmas.{in_force as policy_in_force}
 
+pub is_no_place : (found : Option ℕ) → option_map (λ place. let fs : FsId = record { 0 = place } in fs) found ≡ None → found ≡ None
+is_no_place None is = refl
+is_no_place (Some place) is = cc
+
 pub is_place : (found : Option ℕ) (fs : FsId) → option_map (λ place. record { 0 = place }) found ≡ Some fs → found ≡ Some fs.0
 is_place None fs is = ap (option_map (λ (f : FsId). f.0)) is
 is_place (Some place) fs is = ap (option_map (λ (f : FsId). f.0)) is
@@ -48,9 +52,9 @@ site_made in_force texts contents view written built = record {
   view = subst (IsInForce texts) (sym built.0) (policy_in_force texts contents.policy written.policy built.1);
 }
 
-pub whole_refused : {V P : Type 0} (in_force : V → Content) (part_rows : P → List Row) (state : Kept V) (texts : SiteTexts) (error : ReadError SiteFault) → PutsInForce in_force texts (Err error) → MakesChange in_force part_rows state texts (Err error)
-whole_refused in_force part_rows state texts (Fault fault) told = told
-whole_refused in_force part_rows state texts Memory told = tt
+pub whole_refused : {V P : Type 0} (in_force : V → Content) (part_rows : P → List Row) (state : Kept V) (file : List ℕ) (texts : SiteTexts) (error : ReadError SiteFault) → PutsInForce in_force texts (Err error) → MakesChange in_force part_rows state file texts (Err error)
+whole_refused in_force part_rows state file texts (Fault fault) told = told
+whole_refused in_force part_rows state file texts Memory told = tt
 
 pub whole_put : {V : Type 0} (in_force : V → Content) (state : Kept V) (texts : SiteTexts) (made : SiteInForce V) → IsSiteInForce in_force texts made → PutsSite in_force state (Whole made) texts
 whole_put in_force state texts made is = record { view = is.view; rests_on = (is.custodians, is.tables) }

@@ -155,12 +155,12 @@ module _ {V P : Type 0} (law : OneFileIsReplaced) (order : TablesAreInOrder) (in
           }
 
   -- the text is faulty, or memory ran out
-  pub file_refused : (error : ReadError SiteFault) → ReadsLines (Err error) text content.table tables fs → MakesChange in_force part_rows state new (Err error)
+  pub file_refused : (error : ReadError SiteFault) → ReadsLines (Err error) text content.table tables fs → MakesChange in_force part_rows state e.file new (Err error)
   file_refused (Fault fault) told = let at = place_of content.table e.file fs place in faulty_at at.0 at.1 at.2 fault (told at.0 at.1)
   file_refused Memory told = tt
 
   -- its lines contradict each other, or memory ran out
-  pub lines_refused : (rows : List Row) (error : ReadError SiteFault) → ReadsLines (Ok rows) text content.table tables fs → MakesPart part_rows content fs rows (Err error) → MakesChange in_force part_rows state new (Err error)
+  pub lines_refused : (rows : List Row) (error : ReadError SiteFault) → ReadsLines (Ok rows) text content.table tables fs → MakesPart part_rows content fs rows (Err error) → MakesChange in_force part_rows state e.file new (Err error)
   lines_refused rows (Fault fault) told names = let at = place_of content.table e.file fs place in contradicts_at at.0 at.1 at.2 rows (told at.0 at.1) fault names
   lines_refused rows Memory told names = tt
 

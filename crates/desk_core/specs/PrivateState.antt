@@ -1,5 +1,5 @@
 -- What the invariant of a state and the private contracts behind judging cite.
-use Rattle.std.specs.Prelude.{◌≡◌, List, All, Result, Ok, Err}
+use Rattle.std.specs.Prelude.{◌≡◌, ℕ, List, All, Result, Ok, Err}
 use Rattle.desk_text.specs.declared.reading.ReadError.{ReadError}
 use Rattle.desk_text.specs.declared.reading.ReadError.TheVariants.{Fault, Memory}
 use Rattle.desk_tables.specs.Custodians.{read_custodians}
@@ -15,7 +15,7 @@ use Rattle.desk_core.specs.Edit.{Answer, Edit, Refused, revision_of}
 use Rattle.desk_core.specs.Judging.{AnswersBySite, answer_of, entry_of}
 use Rattle.desk_core.specs.Head.{CanBeKept, newest_in, put}
 use Rattle.desk_core.specs.Site.{IsInForce, site_in}
-use Rattle.desk_core.specs.State.{IsJudged, PutsSite, again, standing}
+use Rattle.desk_core.specs.State.{IsChangeOf, IsJudged, PutsSite, again, standing}
 use Rattle.desk_core.specs.Views.{Changed, Kept, Lines, Ready, Whole, shown}
 use Rattle.desk_core.specs.declared.change.Change.{Change}
 use Rattle.desk_core.specs.declared.change.SiteInForce.{SiteInForce}
@@ -62,11 +62,11 @@ PutsInForce in_force texts (Ok made) = IsSiteInForce in_force texts made
 PutsInForce in_force texts (Err (Fault fault)) = HasFault texts fault
 PutsInForce in_force texts (Err Memory) = Unit {0}
 
--- a change puts the policy of this site in force, or there is the site's fault; out of memory says nothing
-abbrev pub MakesChange : {V P : Type 0} → (V → Content) → (P → List Row) → Kept V → SiteTexts → Result (Change V P) (ReadError SiteFault) → Type 0
-MakesChange in_force part_rows state texts (Ok change) = PutsSite in_force state (shown part_rows change) texts
-MakesChange in_force part_rows state texts (Err (Fault fault)) = HasFault texts fault
-MakesChange in_force part_rows state texts (Err Memory) = Unit {0}
+-- a change is one of this file, and puts the policy of this site in force; or there is the site's fault; out of memory says nothing
+abbrev pub MakesChange : {V P : Type 0} → (V → Content) → (P → List Row) → Kept V → List ℕ → SiteTexts → Result (Change V P) (ReadError SiteFault) → Type 0
+MakesChange in_force part_rows state file texts (Ok change) = IsChangeOf (in_force state.view).table file (shown part_rows change) × PutsSite in_force state (shown part_rows change) texts
+MakesChange in_force part_rows state file texts (Err (Fault fault)) = HasFault texts fault
+MakesChange in_force part_rows state file texts (Err Memory) = Unit {0}
 
 -- the custodians and the tables after a change
 abbrev pub custodians_after : {V : Type 0} → List Custodian → Changed V → List Custodian

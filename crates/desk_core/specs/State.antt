@@ -1,8 +1,9 @@
 -- What starting from heads and proposals and judging an edit promise. (this project's own)
-use Rattle.std.specs.Prelude.{◌≡◌, ◌<◌, ℕ, Bool, List, None, Result, Ok, Err, length, if◌then◌else◌}
+use Rattle.std.specs.Prelude.{◌≡◌, ◌<◌, ℕ, Bool, List, None, Some, Result, Ok, Err, length, if◌then◌else◌}
 use Rattle.desk_text.specs.declared.reading.ReadError.{ReadError}
 use Rattle.desk_text.specs.declared.reading.ReadError.TheVariants.{Fault, Memory}
 use Rattle.desk_tables.specs.Custodians.{read_custodians}
+use Rattle.desk_tables.specs.declared.filesystems.Mount.{Mount}
 use Rattle.desk_policy.specs.Parsing.{read_site_tables}
 use Rattle.desk_policy.specs.Policy.{Content, with_rows}
 use Rattle.desk_policy.specs.Site.{SiteTexts}
@@ -10,7 +11,8 @@ use Rattle.desk_policy.specs.View.{HasFault, IsPart}
 use Rattle.desk_policy.specs.declared.site_fault.SiteFault.{SiteFault}
 use Rattle.desk_core.specs.Edit.{Already, Answer, Edit, Pending, Refused}
 use Rattle.desk_core.specs.Head.{CanBeKept, Revision, newest_in, put}
-use Rattle.desk_core.specs.Judging.{Answers, answer_of, entry_of, first_case}
+use Rattle.desk_core.specs.History.{entry_file}
+use Rattle.desk_core.specs.Judging.{Answers, answer_of, entry_of, exports_place, first_case}
 use Rattle.desk_core.specs.Site.{IsInForce, site_in}
 use Rattle.desk_core.specs.Standing.{CanBePending, Standing, standing_in}
 use Rattle.desk_core.specs.Views.{Changed, Kept, Lines, Ready, Whole}
@@ -26,13 +28,13 @@ use Rattle.desk_core.specs.declared.state.Judged.TheVariants as judged
 abbrev pub standing : {V : Type 0} → Kept V → Standing
 standing state = standing_in state.heads state.proposals
 
--- the policy in force after a change, where this one was
+-- the policy in force after a change of this one
 abbrev pub changed : {V : Type 0} → (V → Content) → Content → Changed V → Content
 changed in_force content (Whole made) = in_force made.view
 changed in_force content (Lines fs rows) = with_rows content fs rows
 
--- What a change from one site to another rests on: the custodians and the tables are those of the new site; or the lines may
--- stand for those of the file system, and the custodians and the tables are written as before.
+-- Beside the policy: a whole site has the custodians and the tables of the new texts; lines may stand for those of their file
+-- system, and the new texts write the same custodians and tables as the old.
 abbrev pub RestsOn : {V : Type 0} → Content → SiteTexts → SiteTexts → Changed V → Type 0
 RestsOn content old new (Whole made) = (read_custodians new.custodians ≡ Ok made.custodians) × (read_site_tables new ≡ Ok made.tables)
 RestsOn content old new (Lines fs rows) =
@@ -53,11 +55,18 @@ abbrev pub PutsEntry : {V : Type 0} → (V → Content) → Kept V → Ready V �
 PutsEntry in_force state ready (entry.Revised revision) = PutsRevision in_force state ready revision
 PutsEntry in_force state ready (entry.Proposed proposal) = CanBePending proposal
 
--- This state, as it is, accepted the edit: there is room for one head and for one proposal more, and what was made puts the
--- edit's revision in force.
+-- An edit of the exports file of a listed mount point changes the lines of its file system alone, and one of any other file the
+-- whole site.
+abbrev pub IsChangeOf : {V : Type 0} → List Mount → List ℕ → Changed V → Type 0
+IsChangeOf table file (Whole made) = exports_place table file ≡ None
+IsChangeOf table file (Lines fs rows) = exports_place table file ≡ Some fs
+
+-- This state, as it is, accepted the edit: there is room for one head and for one proposal more, and what was made changes no
+-- more than the edit's file asks, and puts the edit's revision in force.
 pub record IsJudged {V : Type 0} (in_force : V → Content) (state : Kept V) (ready : Ready V) : Type 0 where
   pub room : length state.heads < ready.room
   pub proposal_room : length state.proposals < ready.proposal_room
+  pub own : IsChangeOf (in_force state.view).table (entry_file ready.entry) ready.change
   pub puts : PutsEntry in_force state ready ready.entry
 
 -- The site that the heads write is consistent, and the state has just these heads, these proposals and its policy in

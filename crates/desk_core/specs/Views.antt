@@ -36,7 +36,7 @@ pub data Changed (V : Type 0) : Type 0 where
   Whole : SiteInForce V → Changed V
   Lines : ℕ → List Row → Changed V
 
--- a change, of which a part is seen as its lines
+-- what a change shows: the site, or the lines of its part
 abbrev pub shown : {V P : Type 0} → (P → List Row) → Change V P → Changed V
 shown part_rows (variant.Whole made) = Whole made
 shown part_rows (variant.Lines fs part) = Lines fs.0 (part_rows part)

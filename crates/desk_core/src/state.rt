@@ -271,14 +271,14 @@ impl<V: PolicyView + Drop> State<V> {
         }
     }
 
-    /// Makes what an edit of which no case holds changes of what is in force, or gives the fault of the site with its text.
+    /// Makes the change that an edit brings of which none of the nine cases holds, or gives the fault of the site with its text.
     fn change_by(
         &self,
         alloc: Global,
         edit: &Edit<'_>,
     ) -> Result<Change<V, V::Part>, ReadError<SiteFault>>
         requires { first_case (standing self.now) (asked edit.now) ≡ None }
-        ensures { MakesChange V.in_force V.part_rows self.now (site_in (put (newest_in self.now.heads) (spec.revision_of (asked edit.now)))) result }
+        ensures { MakesChange V.in_force V.part_rows self.now edit.now.file.now (site_in (put (newest_in self.now.heads) (spec.revision_of (asked edit.now)))) result }
     {
         match exports_place(self.site.view.policy().filesystems(), edit.file) {
             Some(fs) => self.lines_by(alloc, edit, fs),
@@ -296,7 +296,7 @@ impl<V: PolicyView + Drop> State<V> {
     ) -> Result<Change<V, V::Part>, ReadError<SiteFault>>
         requires place { exports_place (V.in_force self.now.view).table edit.now.file.now ≡ Some fs.0 }
         requires short { length edit.now.text.now ≤ longest_revision }
-        ensures { MakesChange V.in_force V.part_rows self.now (site_in (put (newest_in self.now.heads) (spec.revision_of (asked edit.now)))) result }
+        ensures { MakesChange V.in_force V.part_rows self.now edit.now.file.now (site_in (put (newest_in self.now.heads) (spec.revision_of (asked edit.now)))) result }
     {
         // The rest of the site is as it was, and no other mount point is printed alike.
         one_file_is_replaced();
@@ -349,7 +349,7 @@ fn refused(error: ReadError<SiteFault>) -> ReadError<Refusal>
     }
 }
 
-/// Puts the site of these heads in force, if the text of an edit is that of its file, or gives its fault.
+/// Makes the site of these heads, with the text of an edit as that of its file, ready to be in force; or gives its fault.
 fn put_edit_in_force<V: PolicyView + Drop>(
     alloc: Global,
     heads: &[Head],

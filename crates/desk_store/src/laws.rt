@@ -26,7 +26,7 @@ pub fn pending_edits_have_no_answer()
 {}
 
 /// What a crash leaves of a desk is a database of this project, with the history at which the desk stood, or that and one of the
-/// revisions whose edits had no answer: no `open` answers `Schema` of it, and a desk that opens on it stands there.
+/// entries whose edits had no answer: no `open` answers `Schema` of it, and a desk that opens on it stands there.
 pub fn crashes_leave_desks<S: Alter + Drop, T: Alter + Drop, V: PolicyView + Drop>()
     ensures { CrashesLeaveDesks S T V S.Store T.Store }
 {}

@@ -24,7 +24,7 @@ returns-in-Ok g c =
     let proposal_room : length state.proposals < vec_capacity c.in_ok-proposal_room.proposal_room = omega (arith, c.in_ok-proposal_room.ensures.exact, ap length proposals) in
     accepted g.V.PolicyView.in_force state e
     (record { entry = c.in_ok-entry.entry; room = vec_capacity c.in_ok-room.room; proposal_room = vec_capacity c.in_ok-proposal_room.proposal_room; change = shown g.V.PolicyView.part_rows c.in-Ok.change })
-    kept c.requires c.in_ok-entry.ensures room proposal_room c.in-Ok.ensures
+    kept c.requires c.in_ok-entry.ensures room proposal_room c.in-Ok.ensures.0 c.in-Ok.ensures.1
 
 pub returns-in-Err : goal.returns-in-Err
 returns-in-Err g c =

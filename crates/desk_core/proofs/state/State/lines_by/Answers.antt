@@ -76,4 +76,4 @@ returns g c =
     let table = c.filesystems-filesystems.ensures ∙ ap (λ (k : Content). k.table) (c.policy.ensures ∙ ap (λ s. F s.view) c.self.view_is) in
     let told = subst (λ (ms : List Mount). ReadsLines (Ok c.in_ok-rows.rows) text ms tables c.args.fs.0) table c.in_ok-rows.ensures in
     let made = subst (λ s. MakesPart g.V.PolicyView.part_rows (F s.view) c.args.fs.0 c.in_ok-rows.rows (Ok c.in_ok-part.part)) c.self.view_is c.in_ok-part.ensures in
-    lines_put c.one_file_is_replaced.ensures c.tables_are_in_order.ensures F g.V.PolicyView.part_rows state tables (asked c.args.edit.now) c.args.fs.0 holds tables_are c.requires.place c.in_ok-rows.rows c.in_ok-part.part told made
+    (c.requires.place, lines_put c.one_file_is_replaced.ensures c.tables_are_in_order.ensures F g.V.PolicyView.part_rows state tables (asked c.args.edit.now) c.args.fs.0 holds tables_are c.requires.place c.in_ok-rows.rows c.in_ok-part.part told made)
