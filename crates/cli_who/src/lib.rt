@@ -13,3 +13,4 @@
 mod asking;
 mod foreseen;
 pub mod impact_command;
+pub mod laws;
