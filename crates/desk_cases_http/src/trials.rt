@@ -25,10 +25,21 @@ pub fn try_text(
     text: &str,
 ) -> Result<(), AllocError> {
     let mut subject = Subject::new(alloc);
-    if !read_site(alloc, &mut subject, site)? || !make_desk(alloc, &mut subject)? {
+    try_at_site(alloc, report, &mut subject, site, text)
+}
+
+/// Makes the desk of a site, and tries the cases of a text at it. (The subject is lent, since each `?` would drop all that it has.)
+fn try_at_site(
+    alloc: Global,
+    report: &mut Report,
+    subject: &mut Subject,
+    site: &str,
+    text: &str,
+) -> Result<(), AllocError> {
+    if !read_site(alloc, subject, site)? || !make_desk(alloc, subject)? {
         return report.add_difference(0, "the site", "cannot be made");
     }
-    try_lines(alloc, report, &mut subject, text)
+    try_lines(alloc, report, subject, text)
 }
 
 fn try_lines(
