@@ -281,27 +281,34 @@ struct Subject {
     wrong: String,
 }
 
-/// Tries all connections of a trial. Returns what is wrong.
+/// Tries all connections of a trial. Returns what is wrong. (The subject is lent, since each `?` would drop its desk.)
 pub fn try_all(alloc: Global, trial: &Trial) -> Result<String, AllocError> {
     let mut subject = Subject {
         site: site(alloc, FILESYSTEMS)?,
         unused: None,
         wrong: String::new(alloc),
     };
-    match trial.kind {
-        Kind::Reader(requests, pace, reads) => {
-            try_reader(alloc, &mut subject, &requests.stream(), pace, reads)?;
-        }
-        Kind::Input(requests, pace) => {
-            try_input(alloc, &mut subject, &requests.stream(), pace)?;
-        }
-        Kind::Writer(requests, pace, ends) => {
-            try_writer(alloc, &mut subject, &requests.stream(), pace, ends)?;
-        }
-        Kind::Requests => try_requests(alloc, &mut subject)?,
-        Kind::Head(pace, reads) => try_head(alloc, &mut subject, pace, reads)?,
+    let tried = try_kind(alloc, &mut subject, trial.kind);
+    let Subject { wrong, .. } = subject;
+    match tried {
+        Ok(()) => Ok(wrong),
+        Err(error) => Err(error),
     }
-    Ok(subject.wrong)
+}
+
+/// Tries all connections of one kind. Adds what is wrong.
+fn try_kind(alloc: Global, subject: &mut Subject, kind: Kind) -> Result<(), AllocError> {
+    match kind {
+        Kind::Reader(requests, pace, reads) => {
+            try_reader(alloc, subject, &requests.stream(), pace, reads)
+        }
+        Kind::Input(requests, pace) => try_input(alloc, subject, &requests.stream(), pace),
+        Kind::Writer(requests, pace, ends) => {
+            try_writer(alloc, subject, &requests.stream(), pace, ends)
+        }
+        Kind::Requests => try_requests(alloc, subject),
+        Kind::Head(pace, reads) => try_head(alloc, subject, pace, reads),
+    }
 }
 
 /// Serves the requests to a reader of which each read fails in turn, and to one that does not fail. Adds what is wrong.
