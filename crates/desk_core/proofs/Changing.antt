@@ -1,16 +1,16 @@
 -- A change of what is in force, made and put.
-use Rattle.std.proofs.Common.{◌≡◌, ◌∙◌, ◌<◌, ℕ, List, Option, Some, None, Result, Ok, Err, All, ap, refl, subst, sym}
+use Rattle.std.proofs.Common.{◌≡◌, ◌∙◌, ℕ, List, Option, Some, None, Ok, Err, All, ap, refl, subst, sym}
 use Rattle.std.specs.Option.{option_map}
 use Rattle.desk_text.specs.declared.reading.ReadError.{ReadError}
 use Rattle.desk_text.specs.declared.reading.ReadError.TheVariants.{Fault, Memory}
 use Rattle.desk_tables.specs.Custodians.{read_custodians}
 use Rattle.desk_tables.specs.declared.custodians.Custodian.{Custodian}
 use Rattle.desk_tables.specs.declared.filesystems.FsId.{FsId}
-use Rattle.desk_policy.specs.Parsing.{read_site, read_site_tables}
+use Rattle.desk_policy.specs.Parsing.{read_site_tables}
 use Rattle.desk_policy.specs.Policy.{Content}
 use Rattle.desk_policy.specs.Site.{SiteTexts}
 use Rattle.desk_policy.specs.SiteContents.{AreWritten, ReadsSite}
-use Rattle.desk_policy.specs.View.{Builds, HasFault, IsFaultOf}
+use Rattle.desk_policy.specs.View.{Builds, IsFaultOf}
 use Rattle.desk_policy.specs.declared.parsing.SiteContents.{SiteContents}
 use Rattle.desk_policy.specs.declared.parsing.SiteTables.{SiteTables}
 use Rattle.desk_policy.specs.declared.row.Row.{Row}

@@ -1,5 +1,5 @@
 -- What an edit of one exports file changes: the lines of its file system.
-use Rattle.std.proofs.Common.{◌≡◌, ◌≢◌, ◌∙◌, ◌<◌, ℕ, true, List, [], ◌∷◌, Option, Some, Result, Ok, Err, ap, arith, get_or, inl, inr, length, refl, set, subst, sym}
+use Rattle.std.proofs.Common.{◌≡◌, ◌≢◌, ◌∙◌, ◌<◌, ℕ, List, [], ◌∷◌, Some, Result, Ok, Err, ap, arith, get_or, inl, inr, length, refl, set, subst, sym}
 use Rattle.std.specs.Prelude.{slice_get}
 use Rattle.std.specs.Option.{option_map}
 use Rattle.std.specs.Str.{bytes_eq}
@@ -13,13 +13,12 @@ use Rattle.desk_text.specs.declared.reading.ReadError.{ReadError}
 use Rattle.desk_text.specs.declared.reading.ReadError.TheVariants.{Fault, Memory}
 use Rattle.desk_exports.specs.declared.profile.Profile.TheVariants.{Two}
 use Rattle.desk_tables.specs.Custodians.{read_custodians}
-use Rattle.desk_tables.specs.FileSystems.{AreAscending}
 use Rattle.desk_tables.specs.Laws.{TablesAreInOrder}
 use Rattle.desk_tables.specs.declared.filesystems.Mount.{Mount}
 use Rattle.desk_policy.specs.Contradiction.{AreConsistent, HasNoContradiction, IsLeastIn}
 use Rattle.desk_policy.specs.Parsing.{ExportsFile, read_exports, read_site, read_site_tables, read_text}
-use Rattle.desk_policy.specs.Policy.{AreAscending as LinesAscend, Content, rows_of, with_rows}
-use Rattle.desk_policy.specs.Replacing.{DifferIn, GivesLines, HasLines, OneFileIsReplaced, ReadsLines, ReadsWith, ReplacesLines}
+use Rattle.desk_policy.specs.Policy.{AreAscending as LinesAscend, Content, rows_of}
+use Rattle.desk_policy.specs.Replacing.{DifferIn, HasLines, OneFileIsReplaced, ReadsLines, ReadsWith, ReplacesLines}
 use Rattle.desk_policy.specs.Site.{SiteTexts}
 use Rattle.desk_policy.specs.SiteFault.{contradiction_fault, exports_name}
 use Rattle.desk_policy.specs.View.{HasFault, IsFaultOf, IsLeastContradiction, IsPart, MakesPart, NamesLeast}
@@ -30,8 +29,8 @@ use Rattle.desk_policy.specs.declared.site_fault.SiteFault.{SiteFault}
 use Rattle.desk_core.specs.Edit.{Edit, revision_of}
 use Rattle.desk_core.specs.Head.{newest_in, put}
 use Rattle.desk_core.specs.Judging.{exports_place}
-use Rattle.desk_core.specs.PrivateState.{MakesChange}
-use Rattle.desk_core.specs.Site.{IsConsistent, IsInForce, IsSound, policy_of, policy_read, site_in}
+use Rattle.desk_core.specs.PrivateState.{AreLinesOf, MakesChange, ReadsRows}
+use Rattle.desk_core.specs.Site.{IsInForce, IsSound, policy_of, policy_read, site_in}
 use Rattle.desk_core.specs.State.{PutsSite}
 use Rattle.desk_core.specs.Views.{Kept, Lines}
 use Rattle.desk_core.proofs.OtherTexts.{differ_in, own_text, same_tables}
@@ -58,7 +57,7 @@ lines_read : (former : Content) (fs : ℕ) (file : Result ExportsFile SiteFault)
 lines_read former fs (Ok file) rows read has replaced = subst (λ rs. ReplacesLines former fs rs read) (sym has.0) replaced
 lines_read former fs (Err fault) rows read has replaced = absurd has
 
-pub lines_ascend : (file : Result ExportsFile SiteFault) (rows : List Row) → HasLines file rows → LinesAscend rows
+lines_ascend : (file : Result ExportsFile SiteFault) (rows : List Row) → HasLines file rows → LinesAscend rows
 lines_ascend (Ok file) rows has = has.1
 lines_ascend (Err fault) rows has = absurd has
 
@@ -85,7 +84,7 @@ module _ (former : Content) (none : HasNoContradiction former) (fs : ℕ) (rows 
     before = λ place less. consistent_elsewhere place (λ eq. omega arith);
   }
 
-module _ {V P : Type 0} (law : OneFileIsReplaced) (order : TablesAreInOrder) (in_force : V → Content) (part_rows : P → List Row) (state : Kept V) (tables : SiteTables) (e : Edit) (fs : ℕ)
+module _ {V : Type 0} (law : OneFileIsReplaced) (order : TablesAreInOrder) (in_force : V → Content) (state : Kept V) (tables : SiteTables) (e : Edit) (fs : ℕ)
     (holds : IsInForce (site_in (newest_in state.heads)) (in_force state.view)) (tables_are : read_site_tables (site_in (newest_in state.heads)) ≡ Ok tables)
     (place : exports_place (in_force state.view).table e.file ≡ Some fs) where
   abbrev old : SiteTexts
@@ -154,22 +153,35 @@ module _ {V P : Type 0} (law : OneFileIsReplaced) (order : TablesAreInOrder) (in
             rests_on = (part, ap read_custodians differ.custodians, same_tables old new differ);
           }
 
-  -- the text is faulty, or memory ran out
-  pub file_refused : (error : ReadError SiteFault) → ReadsLines (Err error) text content.table tables fs → MakesChange in_force part_rows state e.file new (Err error)
-  file_refused (Fault fault) told = let at = place_of content.table e.file fs place in faulty_at at.0 at.1 at.2 fault (told at.0 at.1)
-  file_refused Memory told = tt
-
-  -- its lines contradict each other, or memory ran out
-  pub lines_refused : (rows : List Row) (error : ReadError SiteFault) → ReadsLines (Ok rows) text content.table tables fs → MakesPart part_rows content fs rows (Err error) → MakesChange in_force part_rows state e.file new (Err error)
-  lines_refused rows (Fault fault) told names = let at = place_of content.table e.file fs place in contradicts_at at.0 at.1 at.2 rows (told at.0 at.1) fault names
-  lines_refused rows Memory told names = tt
-
-  -- its lines may stand for those of the file system
-  pub lines_put : (rows : List Row) (part : P) → ReadsLines (Ok rows) text content.table tables fs → MakesPart part_rows content fs rows (Ok part) → PutsSite in_force state (Lines fs (part_rows part)) new
-  lines_put rows part told made =
+  -- the lines of the text, or its fault
+  pub rows_read : (result : Result (List Row) (ReadError SiteFault)) → ReadsLines result text content.table tables fs → ReadsRows in_force state fs new result
+  rows_read (Ok rows) told =
       let at = place_of content.table e.file fs place in
-      subst (λ rs. PutsSite in_force state (Lines fs rs) new) (sym made.0) (puts_at at.0 at.1 at.2 rows (told at.0 at.1) made.1)
+      let has = told at.0 at.1 in
+      let up = lines_ascend (gives at.0 at.1 at.2) rows has in
+      record {
+        file_system = at.3;
+        ascending = up;
+        puts = λ own. puts_at at.0 at.1 at.2 rows has (record { file_system = at.3; ascending = up; consistent = own });
+        contradict = λ fault names. contradicts_at at.0 at.1 at.2 rows has fault names;
+      }
+  rows_read (Err (Fault fault)) told = let at = place_of content.table e.file fs place in faulty_at at.0 at.1 at.2 fault (told at.0 at.1)
+  rows_read (Err Memory) told = tt
 
-  -- what is asked of `PolicyView::part`
-  pub lines_up : (rows : List Row) → ReadsLines (Ok rows) text content.table tables fs → LinesAscend rows
-  lines_up rows told = let at = place_of content.table e.file fs place in lines_ascend (gives at.0 at.1 at.2) rows (told at.0 at.1)
+-- ---- lines that were read, made ready to stand for those of their file system
+
+module _ {V P : Type 0} (in_force : V → Content) (part_rows : P → List Row) (state : Kept V) (fs : ℕ) (texts : SiteTexts) where
+  -- the text is faulty, or memory ran out
+  pub none_read : (file : List ℕ) (error : ReadError SiteFault) → ReadsRows in_force state fs texts (Err error) → MakesChange in_force part_rows state file texts (Err error)
+  none_read file (Fault fault) told = told
+  none_read file Memory told = tt
+
+  -- the lines contradict each other, or memory ran out
+  pub lines_refused : (file : List ℕ) (rows : List Row) (error : ReadError SiteFault) → AreLinesOf in_force state fs texts rows → MakesPart part_rows (in_force state.view) fs rows (Err error)
+      → MakesChange in_force part_rows state file texts (Err error)
+  lines_refused file rows (Fault fault) are names = are.contradict fault names
+  lines_refused file rows Memory are names = tt
+
+  -- the lines may stand for those of the file system
+  pub lines_put : (rows : List Row) (part : P) → AreLinesOf in_force state fs texts rows → MakesPart part_rows (in_force state.view) fs rows (Ok part) → PutsSite in_force state (Lines fs (part_rows part)) texts
+  lines_put rows part are made = subst (λ rs. PutsSite in_force state (Lines fs rs) texts) (sym made.0) (are.puts made.1.consistent)

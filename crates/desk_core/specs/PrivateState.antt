@@ -1,17 +1,19 @@
 -- What the invariant of a state and the private contracts behind judging cite.
-use Rattle.std.specs.Prelude.{◌≡◌, ℕ, List, All, Result, Ok, Err}
+use Rattle.std.specs.Prelude.{◌≡◌, ◌<◌, ℕ, List, All, Result, Ok, Err, length}
 use Rattle.desk_text.specs.declared.reading.ReadError.{ReadError}
 use Rattle.desk_text.specs.declared.reading.ReadError.TheVariants.{Fault, Memory}
 use Rattle.desk_tables.specs.Custodians.{read_custodians}
 use Rattle.desk_tables.specs.declared.custodians.Custodian.{Custodian}
+use Rattle.desk_policy.specs.Contradiction.{AreConsistent}
 use Rattle.desk_policy.specs.Parsing.{read_site_tables}
-use Rattle.desk_policy.specs.Policy.{Content}
+use Rattle.desk_policy.specs.Policy.{AreAscending, Content, with_lines_of}
 use Rattle.desk_policy.specs.Site.{SiteTexts}
-use Rattle.desk_policy.specs.View.{HasFault, IsPart}
+use Rattle.desk_policy.specs.View.{HasFault, IsPart, NamesLeast}
 use Rattle.desk_policy.specs.declared.parsing.SiteTables.{SiteTables}
 use Rattle.desk_policy.specs.declared.row.Row.{Row}
 use Rattle.desk_policy.specs.declared.site_fault.SiteFault.{SiteFault}
 use Rattle.desk_core.specs.Edit.{Answer, Edit, Refused, revision_of}
+use Rattle.desk_core.specs.Foresight.{HasLinesAlone}
 use Rattle.desk_core.specs.Judging.{AnswersBySite, answer_of, entry_of}
 use Rattle.desk_core.specs.Head.{CanBeKept, newest_in, put}
 use Rattle.desk_core.specs.Site.{IsInForce, site_in}
@@ -67,6 +69,27 @@ abbrev pub MakesChange : {V P : Type 0} → (V → Content) → (P → List Row)
 MakesChange in_force part_rows state file texts (Ok change) = IsChangeOf (in_force state.view).table file (shown part_rows change) × PutsSite in_force state (shown part_rows change) texts
 MakesChange in_force part_rows state file texts (Err (Fault fault)) = HasFault texts fault
 MakesChange in_force part_rows state file texts (Err Memory) = Unit {0}
+
+-- Lines of a file system: if they do not contradict each other, they put the policy of a site in force beside the other lines of a
+-- state, and if they do, their least contradiction is the site's fault.
+pub record AreLinesOf {V : Type 0} (in_force : V → Content) (state : Kept V) (fs : ℕ) (texts : SiteTexts) (rows : List Row) : Type 0 where
+  pub file_system : fs < length (in_force state.view).table
+  pub ascending : AreAscending rows
+  pub puts : AreConsistent rows → PutsSite in_force state (Lines fs rows) texts
+  pub contradict : (fault : SiteFault) → NamesLeast (in_force state.view) fs rows fault → HasFault texts fault
+
+-- lines that are such, or the site's fault; out of memory says nothing
+abbrev pub ReadsRows : {V : Type 0} → (V → Content) → Kept V → ℕ → SiteTexts → Result (List Row) (ReadError SiteFault) → Type 0
+ReadsRows in_force state fs texts (Ok rows) = AreLinesOf in_force state fs texts rows
+ReadsRows in_force state fs texts (Err (Fault fault)) = HasFault texts fault
+ReadsRows in_force state fs texts (Err Memory) = Unit {0}
+
+-- a view of lines alone, which put the policy of a site in force beside the other lines of a state; or the site's fault; out of memory
+-- says nothing
+abbrev pub ShowsLines : {V : Type 0} → (V → Content) → Kept V → ℕ → SiteTexts → Result V (ReadError SiteFault) → Type 0
+ShowsLines in_force state fs texts (Ok view) = HasLinesAlone (in_force state.view) fs (in_force view) × IsInForce texts (with_lines_of (in_force state.view) fs (in_force view))
+ShowsLines in_force state fs texts (Err (Fault fault)) = HasFault texts fault
+ShowsLines in_force state fs texts (Err Memory) = Unit {0}
 
 -- the custodians and the tables after a change
 abbrev pub custodians_after : {V : Type 0} → List Custodian → Changed V → List Custodian

@@ -32,6 +32,14 @@ pub enum Change<V, P> {
     Lines(FsId, P),
 }
 
+/// Takes the view of a site. The rest is dropped.
+pub(crate) fn view_of<V: Drop>(site: SiteInForce<V>) -> V
+    ensures { result ≡ site.view }
+{
+    let SiteInForce { view, .. } = site;
+    view
+}
+
 /// Puts a change in force. It takes no memory.
 pub(crate) fn put_change<V: PolicyView + Drop>(
     site: &mut SiteInForce<V>,

@@ -3,6 +3,7 @@
 //! Its promise: an edit takes effect exactly if its caller is listed with the key's digest and keeps the file, it names
 //! the file's newest revision, it is within the limits, the site with its text is consistent, and if the file is guarded,
 //! another custodian's proposal of that text is pending. Nothing else changes anything but a file's one proposal.
+//! [`State::foresee`] says what would be in force if a file had another text, and changes nothing.
 //!
 //! ```text
 //! let mut state: State<Plain> = State::from_heads(alloc, heads, proposals)?;
@@ -16,6 +17,7 @@
 pub mod change;
 pub mod edit;
 pub mod entry;
+pub mod foresight;
 pub mod head;
 pub mod judging;
 pub mod laws;
@@ -26,6 +28,7 @@ pub mod state;
 
 pub use edit::{Edit, Refusal};
 pub use entry::Entry;
+pub use foresight::Foresight;
 pub use head::{Head, LAST_REVISION, LONGEST_REVISION, can_be_kept};
 pub use judging::{Case, is_exports_name, is_file_name};
 pub use laws::{

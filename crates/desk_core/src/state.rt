@@ -5,26 +5,30 @@ ghost use Rattle.std.specs.Option.{option_copied};
 ghost use Rattle.desk_policy.specs.Site.{HaveReadableLengths};
 ghost use Rattle.desk_core.specs.Edit as spec;
 ghost use Rattle.desk_core.specs.Edit.{asked};
+ghost use Rattle.desk_core.specs.Foresight.{Foresees};
 ghost use Rattle.desk_core.specs.Head.{CanBeKept, StandOnce, last_revision, longest_revision, newest_in, put};
 ghost use Rattle.desk_core.specs.Judging.{answer_in, entry_of, exports_place, first_case};
-ghost use Rattle.desk_core.specs.PrivateState.{Accepts, AnswersCase, MakesChange, PutsInForce, refusal_of};
+ghost use Rattle.desk_core.specs.PrivateState.{Accepts, AnswersCase, MakesChange, PutsInForce, ReadsRows, ShowsLines, refusal_of};
 ghost use Rattle.desk_core.specs.Site.{IsInForce, site_in};
 ghost use Rattle.desk_core.specs.Standing.{CanBePending, proposals_in, with_entry, without};
 ghost use Rattle.desk_core.specs.State.{IsJudged, Judges, PutsSite, Starts, standing};
 ghost use Rattle.desk_core.specs.Views.{shown};
 ghost use Rattle.desk_core.specs.declared.entry.Entry.TheVariants.{Revised};
 
-use crate::change::{Change, SiteInForce, put_change, put_head_in_force, put_heads_in_force};
+use crate::change::{
+    Change, SiteInForce, put_change, put_head_in_force, put_heads_in_force, view_of,
+};
 use crate::edit::{Edit, Refusal};
 use crate::entry::Entry;
+use crate::foresight::Foresight;
 use crate::head::{Head, newest, newest_number, put_head};
 use crate::judging::{Case, entry_by, exports_place, first_case, revision_of};
 use crate::proposal::{Proposal, proposal_for, put_proposal, withdraw};
 use desk_exports::Profile;
-use desk_policy::{PolicyView, SiteFault, one_file_is_replaced, read_lines};
+use desk_policy::{Policy, PolicyView, Row, SiteFault, one_file_is_replaced, read_lines};
 use desk_tables::FsId;
 use desk_tables::laws::tables_are_in_order;
-use desk_text::ReadError;
+use desk_text::{ReadError, Sequence};
 use std::alloc::{AllocError, Global};
 use std::marker::Model;
 
@@ -124,6 +128,27 @@ impl<V: PolicyView + Drop> State<V> {
         match self.first_case(edit) {
             Some(case) => self.answer_in(edit, case),
             None => Ok(Judged::Accepted(self.accept(alloc, edit)?)),
+        }
+    }
+
+    /// Makes what would be in force if a file had this text, read by profile 2 as that of an edit is, or gives the fault of the
+    /// site with it. If it is the exports file of a listed mount point, no other file is read. The state stays as it is.
+    pub fn foresee(
+        &self,
+        alloc: Global,
+        file: &str,
+        text: &str,
+    ) -> Result<Foresight<V>, ReadError<SiteFault>>
+        requires { length text.now ≤ longest_revision }
+        ensures { Foresees V.in_force self.now file.now text.now result }
+    {
+        let edit = edit_by_nobody(file, text);
+        match exports_place(self.site.view.policy().filesystems(), file) {
+            Some(fs) => Ok(Foresight::Lines(fs, self.view_of_lines(alloc, &edit, fs)?)),
+            None => {
+                let site = put_edit_in_force(alloc, self.heads.as_slice(), &edit)?;
+                Ok(Foresight::Whole(view_of(site)))
+            }
         }
     }
 
@@ -287,7 +312,7 @@ impl<V: PolicyView + Drop> State<V> {
     }
 
     /// Makes the lines of an edit of an exports file ready to stand for those of its file system, or gives the fault of the
-    /// site with them. No other file is read.
+    /// site with them.
     fn lines_by(
         &self,
         alloc: Global,
@@ -298,20 +323,52 @@ impl<V: PolicyView + Drop> State<V> {
         requires short { length edit.now.text.now ≤ longest_revision }
         ensures { MakesChange V.in_force V.part_rows self.now edit.now.file.now (site_in (put (newest_in self.now.heads) (spec.revision_of (asked edit.now)))) result }
     {
+        let rows = self.rows_by(alloc, edit, fs)?;
+        let part = self.site.view.part(alloc, fs, rows)?;
+        Ok(Change::Lines(fs, part))
+    }
+
+    /// Makes a view of the lines of an edit of an exports file, beside no others, or gives the fault of the site with them.
+    fn view_of_lines(
+        &self,
+        alloc: Global,
+        edit: &Edit<'_>,
+        fs: FsId,
+    ) -> Result<V, ReadError<SiteFault>>
+        requires place { exports_place (V.in_force self.now.view).table edit.now.file.now ≡ Some fs.0 }
+        requires short { length edit.now.text.now ≤ longest_revision }
+        ensures { ShowsLines V.in_force self.now fs.0 (site_in (put (newest_in self.now.heads) (spec.revision_of (asked edit.now)))) result }
+    {
+        let rows = self.rows_by(alloc, edit, fs)?;
+        let filesystems = self.site.view.policy().filesystems().copy()?;
+        let policy = Policy::of_lines(alloc, filesystems, fs, rows)?;
+        V::build(alloc, policy)
+    }
+
+    /// Reads the text of an edit as the exports file of a file system, or gives the fault of the site with it. No other file is
+    /// read.
+    fn rows_by(
+        &self,
+        alloc: Global,
+        edit: &Edit<'_>,
+        fs: FsId,
+    ) -> Result<Sequence<Row>, ReadError<SiteFault>>
+        requires place { exports_place (V.in_force self.now.view).table edit.now.file.now ≡ Some fs.0 }
+        requires short { length edit.now.text.now ≤ longest_revision }
+        ensures { ReadsRows V.in_force self.now fs.0 (site_in (put (newest_in self.now.heads) (spec.revision_of (asked edit.now)))) result }
+    {
         // The rest of the site is as it was, and no other mount point is printed alike.
         one_file_is_replaced();
         tables_are_in_order();
         let filesystems = self.site.view.policy().filesystems();
-        let rows = read_lines(
+        read_lines(
             alloc,
             Profile::Two,
             edit.text,
             filesystems,
             &self.site.tables,
             fs,
-        )?;
-        let part = self.site.view.part(alloc, fs, rows)?;
-        Ok(Change::Lines(fs, part))
+        )
     }
 
     /// Makes what is to be stored of an edit of which no case holds.
@@ -346,6 +403,19 @@ fn refused(error: ReadError<SiteFault>) -> ReadError<Refusal>
     match error {
         ReadError::Fault(fault) => ReadError::Fault(Refusal::Fault(fault)),
         ReadError::Memory => ReadError::Memory,
+    }
+}
+
+/// Makes the edit of a file with this text that nobody asks for.
+fn edit_by_nobody<'a>(file: &'a str, text: &'a str) -> Edit<'a>
+    ensures { asked result ≡ record { file = file.now; base = 0; caller = []; key = []; text = text.now } }
+{
+    Edit {
+        file,
+        base: 0,
+        caller: "",
+        key: "",
+        text,
     }
 }
 

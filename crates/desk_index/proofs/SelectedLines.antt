@@ -8,7 +8,7 @@ use Rattle.std.proofs.lemmas.Bool.{cases_Bool, cond-true, cond-false, eq-eqb, eq
 use Rattle.desk_tables.specs.FileSystems.{fs_of}
 use Rattle.desk_tables.specs.declared.filesystems.FsId.{FsId}
 use Rattle.desk_policy.specs.Keys as lines
-use Rattle.desk_policy.specs.Keys.{HasBlock, HasNoKey, IsHeaviestKey, IsLineKey, KeysSelect, LineKey, LinesAreSelectedByKeys, has_key, is_used}
+use Rattle.desk_policy.specs.Keys.{IsHeaviestKey, IsLineKey, KeysSelect, LineKey, has_key, is_used}
 use Rattle.desk_policy.specs.Policy.{AreAscending, Content, rows_of}
 use Rattle.desk_policy.specs.Verdict.{Grant, granted_by, is_directory_among, is_in, lists, verdict_among, lists_here}
 use Rattle.desk_policy.specs.Weights.{selected}

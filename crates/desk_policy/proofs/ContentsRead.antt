@@ -1,6 +1,6 @@
 -- What was read of a site, or why it is refused.
 use Rattle.std.proofs.Common.{◌≡◌, ◌∙◌, List, ap}
-use Rattle.std.specs.Prelude.{Result, Ok, Err}
+use Rattle.std.specs.Prelude.{Ok, Err}
 use Rattle.desk_text.specs.Reading.{Reads}
 use Rattle.desk_text.specs.declared.reading.ReadError.{ReadError}
 use Rattle.desk_text.specs.declared.reading.ReadError.TheVariants.{Fault, Memory}

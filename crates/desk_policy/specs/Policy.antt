@@ -1,5 +1,5 @@
 -- What a policy has in force: the table of file systems, the lines of each, and what its texts are warned of.
-use Rattle.std.specs.Prelude.{◌≡◌, ℕ, ◌<◌, ◌==◌, List, [], nat_lt, length, map, filter, slice_index_or, slice_set, if◌then◌else◌}
+use Rattle.std.specs.Prelude.{◌≡◌, ℕ, ◌<◌, ◌==◌, List, [], nat_lt, length, map, filter, replicate, slice_index_or, slice_set, if◌then◌else◌}
 use Rattle.std.specs.List.{All, AllPairs, range_with_len}
 use Rattle.desk_tables.specs.declared.filesystems.FsId.{FsId}
 use Rattle.desk_tables.specs.declared.filesystems.Mount.{Mount}
@@ -45,6 +45,14 @@ AscendingEntriesAscendInEachFile = (placed : List (FsId × Entry)) → EntriesAs
 -- other lines for one file system
 abbrev pub with_rows : Content → ℕ → List Row → Content
 with_rows content fs rows = record { table = content.table; rows = slice_set content.rows fs rows; warnings = content.warnings }
+
+-- a policy, with the lines that another has for one file system in place of its own
+abbrev pub with_lines_of : Content → ℕ → Content → Content
+with_lines_of content fs other = with_rows content fs (rows_of other fs)
+
+-- the policy with these file systems of which one has these lines, and no other has any; nothing is warned of
+abbrev pub content_of_lines : List Mount → ℕ → List Row → Content
+content_of_lines table fs rows = record { table = table; rows = slice_set (replicate (length table) []) fs rows; warnings = [] }
 
 -- each file system has the lines of the entries that are placed in it; nothing is warned of
 unfoldable pub content_of : List GroupLine → List HostRow → List Mount → List (FsId × Entry) → Content

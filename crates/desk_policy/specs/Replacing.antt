@@ -11,7 +11,6 @@ use Rattle.desk_policy.specs.declared.parsing.SiteTables.{SiteTables}
 use Rattle.desk_policy.specs.declared.row.Row.{Row}
 use Rattle.desk_policy.specs.declared.site.ExportsText.{ExportsText}
 use Rattle.desk_policy.specs.declared.site_fault.SiteFault.{SiteFault}
-use Rattle.desk_policy.specs.declared.warning.Warning.{Warning}
 
 -- these are the lines of a file that was read, and they ascend
 abbrev pub HasLines : Result ExportsFile SiteFault → List Row → Type 0

@@ -1,5 +1,5 @@
 -- What the texts of a site write: custodians, tables and policy. (this project's own)
-use Rattle.std.specs.Prelude.{◌≡◌, List, Result, Ok, Err}
+use Rattle.std.specs.Prelude.{◌≡◌, Result, Ok, Err}
 use Rattle.desk_text.specs.declared.reading.ReadError.{ReadError}
 use Rattle.desk_text.specs.declared.reading.ReadError.TheVariants.{Fault, Memory}
 use Rattle.desk_tables.specs.Custodians.{read_custodians}

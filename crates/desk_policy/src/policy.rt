@@ -1,7 +1,7 @@
 //! A policy: the table of file systems, the lines in force of each, and the warnings of their texts.
 
 ghost use Rattle.std.specs.Prelude.{◌≡◌, ◌<◌, All, Decides, List, [], IfOk, OnOk, length, replicate};
-ghost use Rattle.desk_policy.specs.Policy.{AreAscending, EachFileAscends, IsContent, content_of, rows_of, with_rows, with_warnings};
+ghost use Rattle.desk_policy.specs.Policy.{AreAscending, EachFileAscends, IsContent, content_of, content_of_lines, rows_of, with_rows, with_warnings};
 ghost use Rattle.desk_policy.specs.PrivatePolicy.{with_row};
 
 use crate::row::Row;
@@ -55,6 +55,27 @@ impl Policy {
         Ok(Policy {
             filesystems,
             rows,
+            warnings,
+        })
+    }
+
+    /// Makes the policy with these file systems of which one has these lines, and no other has any. There are no warnings.
+    pub fn of_lines(
+        alloc: Global,
+        filesystems: FileSystems,
+        fs: FsId,
+        rows: Sequence<Row>,
+    ) -> Result<Policy, AllocError>
+        requires fs { fs.0 < length filesystems }
+        requires ascending { AreAscending rows }
+        ensures { IfOk result (λ policy. policy ≡ content_of_lines filesystems fs.0 rows) }
+    {
+        let mut lists = empty_lists(alloc, &filesystems)?;
+        lists[fs.0 as usize] = rows;
+        let warnings = Sequence::new(alloc);
+        Ok(Policy {
+            filesystems,
+            rows: lists,
             warnings,
         })
     }

@@ -1,11 +1,12 @@
 //! A desk: a connection to a database, and the state that its tables stand for.
 
-ghost use Rattle.std.specs.Prelude.{◌≡◌, ◌≢◌, ◌+◌, ℕ, List, [], false, Err, IfErr, IfOk, IsTrue, None, map, option_copied};
+ghost use Rattle.std.specs.Prelude.{◌≡◌, ◌≢◌, ◌+◌, ◌≤◌, ℕ, List, [], false, Err, IfErr, IfOk, IsTrue, None, length, map, option_copied};
 ghost use Rattle.sqlite.specs.Held.{state};
 ghost use Rattle.sqlite.specs.State.{HasCleanDisk, Survives};
 ghost use Rattle.desk_policy.specs.Site.{texts_of};
 ghost use Rattle.desk_core.specs.Edit.{asked};
-ghost use Rattle.desk_core.specs.Head.{newest_in};
+ghost use Rattle.desk_core.specs.Foresight.{Foresees};
+ghost use Rattle.desk_core.specs.Head.{longest_revision, newest_in};
 ghost use Rattle.desk_core.specs.History.{newest_of, revisions_of, standing_of};
 ghost use Rattle.desk_core.specs.Judging.{entry_of, first_case};
 ghost use Rattle.desk_core.specs.Site.{IsConsistent, IsInForce, site_in};
@@ -29,10 +30,10 @@ use crate::signatures::list_signatures;
 use crate::storing::append_entry;
 use crate::tables::{read_approver, read_approvers, read_numbers, read_revision};
 use desk_core::{
-    Accepted, Edit, Entry, Head, Judged, Proposal, State, standing_of_a_longer_history,
+    Accepted, Edit, Entry, Foresight, Head, Judged, Proposal, State, standing_of_a_longer_history,
 };
 use desk_exports::Profile;
-use desk_policy::{PolicyView, Site};
+use desk_policy::{PolicyView, Site, SiteFault};
 use desk_text::{ReadError, Sequence, Text};
 use sqlite::{Alter, Connection};
 use std::alloc::Global;
@@ -167,6 +168,20 @@ impl<S: Alter + Drop, V: PolicyView + Drop> Desk<S, V> {
             → option_copied result ≡ (standing_of history).proposals file.now }
     {
         self.current.proposal(file)
+    }
+
+    /// Makes what would be in force if a file had this text, read by profile 2 as that of an edit is, or gives the fault of the
+    /// site with it. This takes no statement, and if it is the exports file of a listed mount point, no other file is read.
+    pub fn foresee(
+        &self,
+        alloc: Global,
+        file: &str,
+        text: &str,
+    ) -> Result<Foresight<V>, ReadError<SiteFault>>
+        requires { length text.now ≤ longest_revision }
+        ensures { Foresees V.in_force self.now.state file.now text.now result }
+    {
+        self.current.foresee(alloc, file, text)
     }
 
     /// Judges an edit, stores its revision or its proposal in one commit, and puts a revision in force. The reply can be made

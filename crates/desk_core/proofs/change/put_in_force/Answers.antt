@@ -1,4 +1,3 @@
-use Rattle.std.proofs.Common.{Err, subst}
 use Rattle.std.proofs.lemmas.Result.{err_from_is_err_and}
 use Rattle.desk_policy.specs.Site.{texts_of}
 use Rattle.desk_core.proofs.Changing.{policy_refused, site_made, site_refused}

@@ -1,4 +1,4 @@
-use Rattle.std.proofs.Common.{List, Result, subst, ℕ}
+use Rattle.std.proofs.Common.{List, subst, ℕ}
 use Rattle.desk_text.specs.Reading.{Reads}
 use Rattle.desk_exports.specs.declared.profile.Profile.{Profile}
 use Rattle.desk_policy.specs.Parsing.{entries_in}

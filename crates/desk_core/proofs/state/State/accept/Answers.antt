@@ -1,9 +1,8 @@
-use Rattle.std.proofs.Common.{◌≡◌, ◌<◌, subst, sym, ap, All, Err, length, arith}
+use Rattle.std.proofs.Common.{◌<◌, subst, sym, ap, All, Err, length, arith}
 use Rattle.std.specs.Prelude.{vec_capacity}
-use Rattle.desk_core.specs.Edit.{asked, revision_of}
-use Rattle.desk_core.specs.Head.{CanBeKept, newest_in, put}
-use Rattle.desk_core.specs.PrivateState.{Accepts, MakesChange}
-use Rattle.desk_core.specs.Site.{site_in}
+use Rattle.desk_core.specs.Edit.{asked}
+use Rattle.desk_core.specs.Head.{CanBeKept}
+use Rattle.desk_core.specs.PrivateState.{Accepts}
 use Rattle.desk_core.specs.Views.{shown}
 use Rattle.desk_core.proofs.Accepting.{accepted, not_accepted, within}
 use Rattle.desk_core.proofs.state.State.accept.Goals as goal
