@@ -54,7 +54,10 @@ fn set_lines(alloc: Global, site: &mut Site, out: &mut String, text: &str) -> As
 }
 
 /// Reads the tables of a site with which its exports files are read.
-fn tables_of(alloc: Global, texts: &desk_policy::Site) -> Result<SiteTables, ReadError<SiteFault>>
+pub(crate) fn tables_of(
+    alloc: Global,
+    texts: &desk_policy::Site,
+) -> Result<SiteTables, ReadError<SiteFault>>
     requires { HaveReadableLengths (texts_of texts.now) }
 {
     let texts = PerTable {

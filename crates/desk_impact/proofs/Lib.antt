@@ -7,3 +7,4 @@ pub mod Under
 pub mod Elsewhere
 pub mod Covering
 pub mod Reporting
+pub mod OtherLines

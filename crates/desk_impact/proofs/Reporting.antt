@@ -16,7 +16,7 @@ use Rattle.desk_who.specs.Runs.{HasValue, Run}
 use Rattle.desk_who.specs.declared.changes.Change.{Change}
 use Rattle.desk_impact.specs.Places.{ArePlaces, Directory, Others, Place, dirs_of_both, has_room, is_home, mounts_of_both, others_of, place_of, place_verdicts, places_at}
 use Rattle.desk_impact.specs.PrivatePlaces.{IsFree}
-use Rattle.desk_impact.specs.PrivateReport.{AreTold, HasRoomIfOthers, IsTold, taken_by}
+use Rattle.desk_impact.specs.PrivateReport.{AreTold, HasRoomIfOthers, IsReportOf, IsTold, taken_by}
 use Rattle.desk_impact.specs.Report.{AreChangesAt, IsReport, PlaceChanges, last_line, mattering_count, other_count, section, section_of}
 use Rattle.desk_impact.specs.declared.places.Place.{Place as LentPlace}
 use Rattle.desk_impact.specs.declared.report.Report.{Report}
@@ -33,7 +33,7 @@ same_values f g same (run ∷ runs) values = (
   same_values f g same runs values.1,
 )
 
-same_impact : (before after : Content) (f g : ℕ → TwoVerdicts) (changes : List (Run TwoVerdicts)) → ((address : ℕ) → f address ≡ g address) → IsImpact before after f changes → IsImpact before after g changes
+pub same_impact : (before after : Content) (f g : ℕ → TwoVerdicts) (changes : List (Run TwoVerdicts)) → ((address : ℕ) → f address ≡ g address) → IsImpact before after f changes → IsImpact before after g changes
 same_impact before after f g changes same impact = record {
   whole = impact.whole;
   runs = record { values = same_values f g same impact.whole impact.runs.values; complete = impact.runs.complete; ascend = impact.runs.ascend; apart = impact.runs.apart };
@@ -102,8 +102,8 @@ room_at mounts dirs (mount ∷ some) =
     (All-cons HasRoomIfOthers (Directory mount) _ tt (All-append HasRoomIfOthers _ (others_of mount) (room_of_dirs _) (room_of_others mount)))
     (room_at mounts dirs some)
 
-pub have_room : (before after : Content) (places : List Place) → ArePlaces before after places → All HasRoomIfOthers places
-have_room before after places are = subst (All HasRoomIfOthers) (sym are.are) (room_at are.mounts are.dirs are.mounts)
+pub have_room : (mounts dirs : List Path) (places : List Place) → places ≡ flat_map (places_at mounts dirs) mounts → All HasRoomIfOthers places
+have_room mounts dirs places are = subst (All HasRoomIfOthers) (sym are) (room_at mounts dirs mounts)
 
 pub told_first : (before after : Content) (all : Bool) (text : List ℕ) → text ≡ [] → AreTold before after all [] text 0 0
 told_first before after all text none = record { found = []; places_are = refl; changes = All-nil (AreChangesAt before after); written = none; mattering_is = refl; others_are = refl }
@@ -121,11 +121,11 @@ told_more before after all places text next mattering others place told so_far o
 }
 
 module _ (items : List LentPlace) (i : ℕ) (item : LentPlace) (below : i < length items) (is : item ≡ get_or items i item) where
-  pub room_of : (was will : Content) → ArePlaces was will (map place_of items) → HasRoomIfOthers (place_of item)
-  room_of was will are =
+  pub room_of : All HasRoomIfOthers (map place_of items) → HasRoomIfOthers (place_of item)
+  room_of have =
       let count = length-map items place_of in
       subst HasRoomIfOthers (get_or-map place_of items i item (place_of item) below ∙ ap place_of (sym is))
-      (All-get_or HasRoomIfOthers (map place_of items) i (place_of item) (omega arith) (have_room was will (map place_of items) are))
+      (All-get_or HasRoomIfOthers (map place_of items) i (place_of item) (omega arith) have)
 
   pub told_next : (before after : Content) (all : Bool) (text next : List ℕ) (mattering others : ℕ) (told : Told)
       → AreTold before after all (map place_of (take i items)) text mattering others → IsTold before after (place_of item) all text next told
@@ -136,18 +136,19 @@ module _ (items : List LentPlace) (i : ℕ) (item : LentPlace) (below : i < leng
       subst (λ ps. AreTold before after all ps next (mattering + told.mattering) (others + told.others)) (sym more)
       (told_more before after all (map place_of (take i items)) text next mattering others (place_of item) told so_far one)
 
-pub reported : (was will before after : Content) (all : Bool) (items : List LentPlace) (i : ℕ) (text : List ℕ) (others : ℕ) (report : Report) → was ≡ before → will ≡ after → length items ≤ i
-    → ArePlaces was will (map place_of items) → AreTold before after all (map place_of (take i items)) text report.mattering others → string_bytes report.text ≡ text ++ last_line report.mattering others
-    → IsReport before after all report
-reported was will before after all items i text others report old new end are told written =
-    let places : map (λ (one : PlaceChanges). one.place) told.found ≡ map place_of items = told.places_are ∙ ap (map place_of) (take_all i items end) in
-    let are' : ArePlaces before after (map place_of items) = subst (λ (c : Content). ArePlaces before c (map place_of items)) new (subst (λ (c : Content). ArePlaces c will (map place_of items)) old are) in
-    record {
-      found = told.found;
-      places = subst (ArePlaces before after) (sym places) are';
-      changes = told.changes;
-      text = written ∙ ap (λ t. t ++ last_line report.mattering others) told.written
-          ∙ ap (λ n. flat_map (section before after all) told.found ++ last_line n others) told.mattering_is
-          ∙ ap (λ n. flat_map (section before after all) told.found ++ last_line (mattering_count told.found) n) told.others_are;
-      count = told.mattering_is;
-    }
+pub reported : (before after : Content) (all : Bool) (items : List LentPlace) (i : ℕ) (text : List ℕ) (others : ℕ) (report : Report) → length items ≤ i
+    → AreTold before after all (map place_of (take i items)) text report.mattering others → string_bytes report.text ≡ text ++ last_line report.mattering others
+    → IsReportOf before after (map place_of items) all report
+reported before after all items i text others report end told written = record {
+  found = told.found;
+  places_are = told.places_are ∙ ap (map place_of) (take_all i items end);
+  changes = told.changes;
+  text = written ∙ ap (λ t. t ++ last_line report.mattering others) told.written
+      ∙ ap (λ n. flat_map (section before after all) told.found ++ last_line n others) told.mattering_is
+      ∙ ap (λ n. flat_map (section before after all) told.found ++ last_line (mattering_count told.found) n) told.others_are;
+  count = told.mattering_is;
+}
+
+-- a report of the places of two policies
+pub reported_whole : (before after : Content) (all : Bool) (places : List Place) (report : Report) → ArePlaces before after places → IsReportOf before after places all report → IsReport before after all report
+reported_whole before after all places report are is = record { found = is.found; places = subst (ArePlaces before after) (sym is.places_are) are; changes = is.changes; text = is.text; count = is.count }

@@ -1,9 +1,11 @@
 -- What the private contracts of the report cite.
 use Rattle.std.specs.Prelude.{◌≡◌, ℕ, ◌++◌, ◌-◌, All, Bool, List, length, map, true}
 use Rattle.std.specs.List.{flat_map}
+use Rattle.std.specs.String.{string_bytes}
 use Rattle.desk_policy.specs.Policy.{Content}
 use Rattle.desk_impact.specs.Places.{Directory, Others, Place, dirs_of_both, has_room, mounts_of_both}
-use Rattle.desk_impact.specs.Report.{AreChangesAt, PlaceChanges, mattering_count, other_count, section}
+use Rattle.desk_impact.specs.Report.{AreChangesAt, PlaceChanges, mattering_count, other_count, report_text, section}
+use Rattle.desk_impact.specs.declared.report.Report.{Report}
 use Rattle.desk_impact.specs.declared.report.Told.{Told}
 
 -- the mount points of two policies, and the directories that their lines write
@@ -32,3 +34,11 @@ pub record AreTold (before after : Content) (all : Bool) (places : List Place) (
   pub written : text ≡ flat_map (section before after all) found
   pub mattering_is : mattering ≡ mattering_count found
   pub others_are : others ≡ other_count found
+
+-- The report tells what changes at each of these places between these policies, and how many changes matter.
+pub record IsReportOf (before after : Content) (places : List Place) (all : Bool) (report : Report) : Type 0 where
+  pub found : List PlaceChanges
+  pub places_are : map (λ one. one.place) found ≡ places
+  pub changes : All (AreChangesAt before after) found
+  pub text : string_bytes report.text ≡ report_text before after all found
+  pub count : report.mattering ≡ mattering_count found

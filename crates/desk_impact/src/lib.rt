@@ -3,7 +3,8 @@
 //! Its promise: [`impact_report`] tells, place by place, the addresses of which two policies say something else, and how many
 //! ranges of them matter to a client. Its laws say that no path is left out: one under a mount point is decided on as one of
 //! the places is, and any other is in no file system. Of a mount point of more than 1,000 bytes alone, the directories that no
-//! line writes are not told of.
+//! line writes are not told of. [`lines_report`] gives the same report of policies that differ in the lines of one file system, and
+//! asks for verdicts there alone.
 //!
 //! ```text
 //! let report = impact_report(alloc, desk.view(), &new, false)?;
@@ -19,4 +20,4 @@ mod unwritten;
 
 pub use laws::{other_paths_have_none, paths_have_homes, places_tell_all};
 pub use places::{LONGEST_TOLD, Place, places_of_both};
-pub use report::{Report, impact_report};
+pub use report::{Report, impact_report, lines_report};

@@ -1,16 +1,17 @@
 //! The places of which two policies may say something: each mount point, each written directory, and all other directories.
 
-ghost use Rattle.std.specs.Prelude.{◌≡◌, ◌&&◌, ◌++◌, ◌∷◌, [], IfOk, OnOk, map, not};
+ghost use Rattle.std.specs.Prelude.{◌≡◌, ◌&&◌, ◌++◌, ◌∷◌, [], IfOk, OnOk, filter, map, not};
+ghost use Rattle.std.specs.List.{flat_map};
 ghost use Rattle.desk_text.specs.Path.{same_path};
 ghost use Rattle.desk_tables.specs.FileSystems.{mount_points};
 ghost use Rattle.desk_policy.specs.Listings.{written};
 ghost use Rattle.desk_impact.specs.Places as spec;
 ghost use Rattle.desk_impact.specs.Places.{AreInOrder, ArePlaces, all_written, dirs_below, has_room, is_home, place_of, places_at};
-ghost use Rattle.desk_impact.specs.PrivatePlaces.{paths_in};
+ghost use Rattle.desk_impact.specs.PrivatePlaces.{ArePlacesWith, dirs_with, is_place_in, paths_in};
 ghost use Rattle.desk_impact.specs.PrivateReport.{taken_by};
 
 use desk_policy::{Policy, Row};
-use desk_tables::Mount;
+use desk_tables::{FileSystems, FsId, Mount};
 use desk_text::{Path, ReadError};
 use std::alloc::{AllocError, Global};
 
@@ -39,17 +40,81 @@ pub fn places_of_both<'a>(
 {
     let mounts = in_order(mounts_of_both(alloc, before, after)?);
     let dirs = in_order(dirs_of_both(alloc, before, after)?);
+    places_among(alloc, mounts.as_slice(), dirs.as_slice())
+}
+
+/// Lists the places of a policy, and of the same with these lines for one of its file systems.
+pub(crate) fn places_with<'a>(
+    alloc: Global,
+    policy: &'a Policy,
+    rows: &'a [Row],
+) -> Result<Vec<Place<'a>>, AllocError>
+    ensures { IfOk result (λ places. ArePlacesWith policy.now rows.now (map place_of places.items)) }
+{
+    let mounts = in_order(mounts_of_both(alloc, policy, policy)?);
+    let dirs = in_order(dirs_with(alloc, policy, rows)?);
+    places_among(alloc, mounts.as_slice(), dirs.as_slice())
+}
+
+/// Lists the places of these mount points, of which these directories are written; both are in byte order.
+fn places_among<'a>(
+    alloc: Global,
+    mounts: &[&'a Path],
+    dirs: &[&'a Path],
+) -> Result<Vec<Place<'a>>, AllocError>
+    ensures { IfOk result (λ places. map place_of places.items ≡ flat_map (places_at (paths_in mounts.now) (paths_in dirs.now)) (paths_in mounts.now)) }
+{
     let mut places = Vec::new(alloc);
-    for mount in &mounts {
-        push_places(
-            alloc,
-            &mut places,
-            mounts.as_slice(),
-            dirs.as_slice(),
-            mount,
-        )?;
+    for mount in mounts {
+        push_places(alloc, &mut places, mounts, dirs, mount)?;
     }
     Ok(places)
+}
+
+/// Chooses the places in a file system.
+pub(crate) fn places_in<'a>(
+    alloc: Global,
+    table: &FileSystems,
+    fs: FsId,
+    places: &[Place<'a>],
+) -> Result<Vec<Place<'a>>, AllocError>
+    ensures { IfOk result (λ chosen. map place_of chosen.items ≡ filter (is_place_in table.now fs.0) (map place_of places.now)) }
+{
+    let mut chosen = Vec::new(alloc);
+    for place in places {
+        push_if_in(&mut chosen, table, fs, *place)?;
+    }
+    Ok(chosen)
+}
+
+/// Adds a place, if it is in a file system.
+fn push_if_in<'a>(
+    chosen: &mut Vec<Place<'a>>,
+    table: &FileSystems,
+    fs: FsId,
+    place: Place<'a>,
+) -> Result<(), AllocError>
+    ensures { OnOk result (map place_of chosen.new.items
+        ≡ map place_of chosen.old.items ++ filter (is_place_in table.now fs.0) (place_of place.entry ∷ [])) }
+{
+    if is_place_in(table, fs, place) {
+        chosen.push(place)?;
+    }
+    Ok(())
+}
+
+/// Tests whether a place is in a file system.
+fn is_place_in(table: &FileSystems, fs: FsId, place: Place<'_>) -> bool
+    ensures { result ≡ is_place_in table.now fs.0 (place_of place.entry) }
+{
+    let path = match place {
+        Place::Directory(path) => path,
+        Place::Others(mount) => mount,
+    };
+    match table.of(path) {
+        Some(own) => own.0 == fs.0,
+        None => false,
+    }
 }
 
 /// Lists the mount points of two policies and the directories that their lines write, in byte order, each once.
@@ -91,6 +156,20 @@ fn dirs_of_both<'a>(
     let mut dirs = Vec::new(alloc);
     push_all_written(&mut dirs, before)?;
     push_all_written(&mut dirs, after)?;
+    Ok(dirs)
+}
+
+/// Lists the directories that lines of a policy and these lines write, some of them more than once.
+fn dirs_with<'a>(
+    alloc: Global,
+    policy: &'a Policy,
+    rows: &'a [Row],
+) -> Result<Vec<&'a Path>, AllocError>
+    ensures { IfOk result (λ dirs. paths_in dirs.items ≡ dirs_with policy.now rows.now) }
+{
+    let mut dirs = Vec::new(alloc);
+    push_all_written(&mut dirs, policy)?;
+    push_written(&mut dirs, rows)?;
     Ok(dirs)
 }
 

@@ -1,19 +1,21 @@
 //! What another policy would change, told place by place.
 
-ghost use Rattle.std.specs.Prelude.{◌≡◌, ◌++◌, IfOk, OnOk, if◌then◌else◌, map};
+ghost use Rattle.std.specs.Prelude.{◌≡◌, ◌<◌, ◌++◌, All, IfOk, OnOk, if◌then◌else◌, length, map};
 ghost use Rattle.std.specs.String.{string_bytes};
+ghost use Rattle.desk_policy.specs.Policy.{with_lines_of};
 ghost use Rattle.desk_who.specs.Impact.{IsImpact, change_value};
 ghost use Rattle.desk_impact.specs.Places.{AreInOrder, place_of, place_verdicts};
 ghost use Rattle.desk_impact.specs.PrivatePlaces.{paths_in};
-ghost use Rattle.desk_impact.specs.PrivateReport.{HasRoomIfOthers, IsTold, taken_by};
+ghost use Rattle.desk_impact.specs.PrivateReport.{HasRoomIfOthers, IsReportOf, IsTold, taken_by};
 ghost use Rattle.desk_impact.specs.Report as spec;
 ghost use Rattle.desk_impact.specs.Report.{IsReport};
 
-use crate::places::{Place, places_of_both, taken_paths};
+use crate::places::{Place, places_in, places_of_both, places_with, taken_paths};
 use crate::unwritten::free_path;
 use desk_policy::{Policy, PolicyView};
+use desk_tables::FsId;
 use desk_text::Path;
-use desk_who::{Change, impact, impact_text, those_that_matter};
+use desk_who::{Change, impact, impact_text, same_sayings_are_no_change, those_that_matter};
 use std::alloc::{AllocError, Global};
 
 /// What another policy would change: the printed text, and how many of the changes matter to a client.
@@ -34,11 +36,48 @@ pub fn impact_report<V: PolicyView>(
     ensures { IfOk result (IsReport (V.in_force before.now) (V.in_force after.now) all) }
 {
     let places = places_of_both(alloc, before.policy(), after.policy())?;
+    report_of(alloc, before, after, places.as_slice(), all)
+}
+
+/// Tells what would change if a file system had the lines that it has in another policy, which has the same file systems; what
+/// other lines that one has does not count. It is the report that `impact_report` gives of the two whole policies, but only the
+/// places of that file system are asked, since nothing changes elsewhere.
+pub fn lines_report<V: PolicyView>(
+    alloc: Global,
+    before: &V,
+    lines: &V,
+    fs: FsId,
+    all: bool,
+) -> Result<Report, AllocError>
+    requires fs { fs.0 < length (V.in_force before.now).table }
+    requires table { (V.in_force lines.now).table ≡ (V.in_force before.now).table }
+    ensures { IfOk result (IsReport (V.in_force before.now) (with_lines_of (V.in_force before.now) fs.0 (V.in_force lines.now)) all) }
+{
+    // Verdicts that say the same are no change, and a policy has one list of lines for each file system.
+    same_sayings_are_no_change();
+    let policy = before.policy();
+    let _rows = policy.rows_by_filesystem();
+    let places = places_with(alloc, policy, lines.policy().rows(fs))?;
+    let own = places_in(alloc, policy.filesystems(), fs, places.as_slice())?;
+    report_of(alloc, before, lines, own.as_slice(), all)
+}
+
+/// Tells what would change at these places if another policy were in force.
+fn report_of<V: PolicyView>(
+    alloc: Global,
+    before: &V,
+    after: &V,
+    places: &[Place<'_>],
+    all: bool,
+) -> Result<Report, AllocError>
+    requires { All HasRoomIfOthers (map place_of places.now) }
+    ensures { IfOk result (IsReportOf (V.in_force before.now) (V.in_force after.now) (map place_of places.now) all) }
+{
     let taken = taken_paths(alloc, before.policy(), after.policy())?;
     let mut text = String::new(alloc);
     let mut mattering: u128 = 0;
     let mut others: u128 = 0;
-    for place in &places {
+    for place in places {
         let told = tell_place(
             alloc,
             before,

@@ -17,7 +17,7 @@ abbrev pub IsSameOrNot : {A : Type 0} → A → A → Type 0
 IsSameOrNot x y = (x ≡ y) ⊎ (x ≢ y)
 
 -- by a function that tells values apart, and keeps equal ones equal
-by_part : {A B : Type 0} (x y : A) (part : A → B) → IsSameOrNot (part x) (part y) → (part x ≡ part y → IsSameOrNot x y) → IsSameOrNot x y
+pub by_part : {A B : Type 0} (x y : A) (part : A → B) → IsSameOrNot (part x) (part y) → (part x ≡ part y → IsSameOrNot x y) → IsSameOrNot x y
 by_part x y part compared next = elim compared as (λ _. IsSameOrNot x y) [ inl is ↦ next is | inr apart ↦ inr (λ e. apart (ap part e)) ]
 
 pub two_lists : {A : Type 0} → ((x y : A) → IsSameOrNot x y) → (xs ys : List A) → IsSameOrNot xs ys

@@ -7,3 +7,4 @@ pub mod Discrete
 pub mod WhoLaws
 pub mod Telling
 pub mod Changing
+pub mod Unchanged

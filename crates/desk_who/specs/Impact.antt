@@ -1,5 +1,5 @@
 -- What another policy would change for the clients of a path. (this project's own)
-use Rattle.std.specs.Prelude.{◌≡◌, ◌≢◌, ℕ, ◌<◌, ◌^◌, Bool, filter, find, slice_get, List, Option, Some, None, Result, Ok, Err}
+use Rattle.std.specs.Prelude.{◌≡◌, ◌≢◌, ℕ, ◌<◌, ◌^◌, Bool, filter, find, slice_get, List, [], Option, Some, None, Result, Ok, Err}
 use Rattle.std.specs.Bool.{Decides}
 use Rattle.std.specs.Option.{option_map}
 use Rattle.desk_text.specs.Address.{number_of}
@@ -98,3 +98,9 @@ ImpactsTellEffects =
 abbrev pub ImpactsAreUnique : Type 0
 ImpactsAreUnique =
     (before after : Content) (verdicts : ℕ → TwoVerdicts) (changes other : List (Run TwoVerdicts)) → IsImpact before after verdicts changes → IsImpact before after verdicts other → other ≡ changes
+
+-- If the verdicts say the same at each address, the list has no change, and so none that matters.
+abbrev pub SameSayingsAreNoChange : Type 0
+SameSayingsAreNoChange =
+    (before after : Content) (verdicts : ℕ → TwoVerdicts) → ((address : ℕ) → address < 2 ^ 32 → saying after (verdicts address).after ≡ saying before (verdicts address).before)
+    → IsImpact before after verdicts [] × ThoseThatMatter [] []

@@ -1,6 +1,6 @@
 //! What the definitions of this crate keep, each as a function that does nothing.
 
-ghost use Rattle.desk_who.specs.Impact.{ImpactsAreUnique, ImpactsTellChanges, ImpactsTellEffects};
+ghost use Rattle.desk_who.specs.Impact.{ImpactsAreUnique, ImpactsTellChanges, ImpactsTellEffects, SameSayingsAreNoChange};
 ghost use Rattle.desk_who.specs.Who.{RangesTellVerdicts, ThereIsOneList};
 
 /// Every policy and path have exactly one list of ranges.
@@ -27,4 +27,9 @@ pub fn impacts_tell_effects()
 /// Two policies and a path have one list of changes.
 pub fn impacts_are_unique()
     ensures { ImpactsAreUnique }
+{}
+
+/// Verdicts that say the same at each address have no change.
+pub fn same_sayings_are_no_change()
+    ensures { SameSayingsAreNoChange }
 {}

@@ -24,7 +24,7 @@ pub use change_prints::impact_text;
 pub use changes::{Change, impact, those_that_matter};
 pub use laws::{
     impacts_are_unique, impacts_tell_changes, impacts_tell_effects, ranges_tell_verdicts,
-    there_is_one_list,
+    same_sayings_are_no_change, there_is_one_list,
 };
 pub use range_prints::who_text;
 pub use ranges::{Range, who};

@@ -1,46 +1,23 @@
-use Rattle.std.proofs.Common.{arith, map, subst, sym}
-use Rattle.std.specs.String.{string_bytes}
-use Rattle.desk_impact.specs.Places.{AreInOrder, ArePlaces, place_of}
-use Rattle.desk_impact.specs.PrivatePlaces.{paths_in}
-use Rattle.desk_impact.specs.PrivateReport.{taken_by}
-use Rattle.desk_impact.proofs.Reporting.{reported, room_of, told_first, told_next}
+use Rattle.std.proofs.Common.{All, IfOk, map, subst, sym}
+use Rattle.std.proofs.lemmas.Result.{IfOk-weaker}
+use Rattle.desk_impact.specs.Places.{ArePlaces, place_of}
+use Rattle.desk_impact.specs.PrivateReport.{HasRoomIfOthers, IsReportOf}
+use Rattle.desk_impact.specs.Report.{IsReport}
+use Rattle.desk_impact.proofs.Reporting.{have_room, reported_whole}
 use Rattle.desk_impact.proofs.report.impact_report.Goals as goal
 
-pub loop-place-init : goal.loop-place-init
-loop-place-init g c = record {
-  told = told_first (g.V.PolicyView.in_force c.args.before.now) (g.V.PolicyView.in_force c.args.after.now) c.args.all (string_bytes c.new-text.result) c.new-text.ensures.bytes;
-  few = omega arith;
-  few_others = omega arith;
-}
-
-pub tell_place-requires : goal.tell_place-requires
-tell_place-requires g c = record {
-  room = room_of c.deref-place-items.result.now c.loop-place.place-index c.place-item.result c.loop-place-test.true c.place-item.is c.policy.result.now c.policy-2.result.now
-      (subst (λ items. ArePlaces c.policy.result.now c.policy-2.result.now (map place_of items)) (sym c.deref-place-items.ensures.value) c.in_ok-places.ensures);
-  taken = subst (λ items. AreInOrder (taken_by (g.V.PolicyView.in_force c.args.before.now) (g.V.PolicyView.in_force c.args.after.now)) (paths_in items)) (sym c.as_slice.ensures.value)
-      (subst (λ content. AreInOrder (taken_by (g.V.PolicyView.in_force c.args.before.now) content) (paths_in c.in_ok-taken.taken.items)) c.policy-4.ensures
-      (subst (λ content. AreInOrder (taken_by content c.policy-4.result.now) (paths_in c.in_ok-taken.taken.items)) c.policy-3.ensures c.in_ok-taken.ensures));
-}
-
-pub overflow_add-mattering : goal.overflow_add-mattering
-overflow_add-mattering g c = omega arith
-
-pub overflow_add-others : goal.overflow_add-others
-overflow_add-others g c = omega arith
-
-pub loop-place-preserved : goal.loop-place-preserved
-loop-place-preserved g c = record {
-  told = told_next c.deref-place-items.result.now c.loop-place.place-index c.place-item.result c.loop-place-test.true c.place-item.is
-      (g.V.PolicyView.in_force c.args.before.now) (g.V.PolicyView.in_force c.args.after.now) c.args.all (string_bytes c.loop-place.text) (string_bytes c.tell_place.new.text)
-      c.loop-place.mattering c.loop-place.others c.in_ok-told.told c.loop-place.invariant.told c.in_ok-told.ensures;
-  few = omega arith;
-  few_others = omega arith;
-}
+pub report_of-requires : goal.report_of-requires
+report_of-requires g c =
+    let are = c.in_ok-places.ensures in
+    subst (λ items. All HasRoomIfOthers (map place_of items)) (sym c.as_slice.ensures.value) (have_room are.mounts are.dirs (map place_of c.in_ok-places.places.items) are.are)
 
 pub returns : goal.returns
 returns g c =
-    reported c.policy.result.now c.policy-2.result.now (g.V.PolicyView.in_force c.args.before.now) (g.V.PolicyView.in_force c.args.after.now) c.args.all
-    c.deref-place-items.result.now c.loop-place.place-index (string_bytes c.loop-place.text) c.loop-place.others (record { text = c.push_last_line.new.text; mattering = c.loop-place.mattering })
-    c.policy.ensures c.policy-2.ensures c.loop-place-test.false
-    (subst (λ items. ArePlaces c.policy.result.now c.policy-2.result.now (map place_of items)) (sym c.deref-place-items.ensures.value) c.in_ok-places.ensures)
-    c.loop-place.invariant.told c.in_ok-push_last_line.ensures
+    let old = g.V.PolicyView.in_force c.args.before.now in
+    let new = g.V.PolicyView.in_force c.args.after.now in
+    let own = map place_of c.in_ok-places.places.items in
+    let are : ArePlaces old new own =
+    subst (λ content. ArePlaces old content own) c.policy-2.ensures (subst (λ content. ArePlaces content c.policy-2.result.now own) c.policy.ensures c.in_ok-places.ensures) in
+    IfOk-weaker c.report_of.result (λ report. IsReportOf old new own c.args.all report) (λ report. IsReport old new c.args.all report)
+    (λ report is. reported_whole old new c.args.all own report are is)
+    (subst (λ items. IfOk c.report_of.result (λ report. IsReportOf old new (map place_of items) c.args.all report)) c.as_slice.ensures.value c.report_of.ensures)
