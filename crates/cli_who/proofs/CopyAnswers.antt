@@ -22,7 +22,7 @@ use Rattle.cli_output.specs.declared.refused.Refused.{Refused as Why}
 use Rattle.cli_output.specs.declared.refused.Refused.TheVariants as refused
 use Rattle.cli_database_files.specs.Copy.{is_out_of_memory}
 use Rattle.cli_database.specs.RefusedOutputs.{IsRefusedByDesk, TellsError, copy_error}
-use Rattle.cli_who.specs.Asking.{Asked, OfProposal, OfText, TellsAsked, TellsAtPath, TellsByDatabase, TellsImpact, TellsProposal}
+use Rattle.cli_who.specs.Asking.{Asked, OfProposal, OfText, TellsAsked, TellsAtPath, TellsByDatabase, TellsProposal}
 
 -- a database at a path tells
 pub at_path : (path : List ℕ) (db : Database) (asked : Asked) (result : Result Output Failure) → TellsByDatabase db asked result → TellsAtPath path asked result

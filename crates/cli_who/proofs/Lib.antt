@@ -1,4 +1,3 @@
 pub mod CopyAnswers
 pub mod ExportsNames
-pub mod Foreseeing
 pub mod Telling

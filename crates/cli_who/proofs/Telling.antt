@@ -5,6 +5,7 @@ use Rattle.desk_policy.specs.View.{HasFault}
 use Rattle.desk_policy.specs.declared.site_fault.SiteFault.{SiteFault}
 use Rattle.desk_impact.specs.Report.{IsReport}
 use Rattle.desk_impact.specs.declared.report.Report.{Report}
+use Rattle.desk_core.specs.Foresight.{with_text}
 use Rattle.desk_core.specs.Head.{Newest, longest_revision}
 use Rattle.desk_core.specs.Site.{IsInForce, site_in}
 use Rattle.desk_core.specs.declared.edit.Refusal.TheVariants as refusal
@@ -15,7 +16,6 @@ use Rattle.cli_output.specs.declared.output.Output.{Output}
 use Rattle.cli_output.specs.declared.output.Output.TheVariants.{Foreseen}
 use Rattle.cli_database.specs.RefusedOutputs.{IsRefusedByDesk}
 use Rattle.cli_who.specs.Asking.{NewText, ReportsFrom, TellsChangesTo, TellsImpact, is_known_by}
-use Rattle.cli_who.specs.Foreseen.{with_text}
 use Rattle.cli_who.proofs.CopyAnswers.{told_so}
 
 -- a report from the policy in force

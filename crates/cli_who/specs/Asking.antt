@@ -6,6 +6,7 @@ use Rattle.desk_policy.specs.View.{HasFault}
 use Rattle.desk_policy.specs.declared.site_fault.SiteFault.{SiteFault}
 use Rattle.desk_impact.specs.Report.{IsReport}
 use Rattle.desk_impact.specs.declared.report.Report.{Report}
+use Rattle.desk_core.specs.Foresight.{with_text}
 use Rattle.desk_core.specs.Head.{Newest, longest_revision}
 use Rattle.desk_core.specs.History.{standing_of}
 use Rattle.desk_core.specs.Judging.{is_known}
@@ -24,7 +25,6 @@ use Rattle.cli_output.specs.declared.output.Output.{Output}
 use Rattle.cli_output.specs.declared.output.Output.TheVariants.{Foreseen, Refused}
 use Rattle.cli_output.specs.declared.refused.Refused.TheVariants as refused
 use Rattle.cli_database.specs.RefusedOutputs.{IsRefusedByDesk}
-use Rattle.cli_who.specs.Foreseen.{with_text}
 use Rattle.cli_who.specs.declared.asking.Asked.{Asked as LentAsked}
 use Rattle.cli_who.specs.declared.asking.Asked.TheVariants as lent
 use Rattle.cli_who.specs.declared.asking.NewText.{NewText as LentText}

@@ -1,3 +1,3 @@
 pub mod Asking
-pub mod Foreseen
 pub mod ImpactCommand
+pub mod Laws

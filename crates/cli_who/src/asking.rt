@@ -1,20 +1,21 @@
 //! What a desk on a copy of a database tells of a text that a file might have, as the proposal of a guarded one.
 
-ghost use Rattle.std.specs.Prelude.{◌≡◌, false, None};
+ghost use Rattle.std.specs.Prelude.{◌≡◌, false, IfOk, None};
 ghost use Rattle.sqlite.specs.Held.{state};
 ghost use Rattle.sqlite.specs.State.{HasCleanDisk};
+ghost use Rattle.desk_core.specs.Foresight.{IsForesightOf, foreseen_content};
 ghost use Rattle.desk_core.specs.Head.{newest_in};
 ghost use Rattle.desk_core.specs.Judging.{is_known};
 ghost use Rattle.desk_core.specs.Standing.{proposals_in};
 ghost use Rattle.desk_core.specs.Site.{policy_of, site_in};
 ghost use Rattle.desk_core.specs.State.{standing};
+ghost use Rattle.desk_impact.specs.Report.{IsReport};
 ghost use Rattle.desk_service.specs.declared.refused.Refused.TheVariants as by_desk;
 ghost use Rattle.cli_database.specs.Opening.{OnlyMigrates};
 ghost use Rattle.cli_database.specs.RefusedOutputs.{IsRefusedByDesk};
 ghost use Rattle.cli_who.specs.Asking.{TellsAsked, TellsAtPath, TellsByDatabase, TellsChangesTo, TellsImpact, TellsProposal, asked_of, text_of};
-ghost use Rattle.cli_who.specs.Foreseen.{Foresees, with_text};
 
-use crate::foreseen::{foresee, is_guarded, is_known};
+use crate::file_names::{is_guarded, is_known};
 use cli_database::View;
 use cli_database::file_outputs::proposal_told;
 use cli_database::put_command::refused;
@@ -22,9 +23,9 @@ use cli_database::refused_outputs::{no_revision, not_opened_at, refused_by_copy}
 use cli_database_files::copy::{Unopened, open_copy};
 use cli_files::failure::Failure;
 use cli_output::output::Output;
-use desk_core::{Edit, LONGEST_REVISION, Proposal, Refusal, State};
-use desk_impact::impact_report;
-use desk_policy::{PolicyView, SiteFault};
+use desk_core::{Edit, Foresight, LONGEST_REVISION, Proposal, Refusal};
+use desk_impact::{Report, impact_report, lines_report};
+use desk_policy::PolicyView;
 use desk_service::FileQuestion;
 use desk_store::Desk;
 use desk_text::ReadError;
@@ -169,22 +170,11 @@ fn ask_text<S: Alter + Drop>(
     if new.text.len() > LONGEST_REVISION {
         return refuse(alloc, desk, new, Refusal::TooLarge);
     }
-    match foresee_by(alloc, desk, new) {
-        Ok(after) => compare(alloc, desk, &after, new),
+    match desk.foresee(alloc, new.name, new.text) {
+        Ok(foresight) => compare(alloc, desk, &foresight, new),
         Err(ReadError::Fault(fault)) => refuse(alloc, desk, new, Refusal::Fault(fault)),
         Err(ReadError::Memory) => Err(Failure::Memory),
     }
-}
-
-/// Makes the state of a desk if a file had this text, or gives the site's fault.
-fn foresee_by<S: Alter + Drop>(
-    alloc: Global,
-    desk: &Desk<S, View>,
-    new: NewText<'_>,
-) -> Result<State<View>, ReadError<SiteFault>>
-    ensures { Foresees (with_text (newest_in desk.now.state.heads) new.entry.name.now new.entry.text.now) result }
-{
-    foresee(alloc, desk.heads(), new.name, new.text)
 }
 
 /// Tests whether a desk has a file of this name: one of the seven, or the exports file of a listed mount point.
@@ -194,21 +184,38 @@ fn knows<S: Alter + Drop>(desk: &Desk<S, View>, name: &str) -> bool
     is_known(desk.view().policy().filesystems(), name)
 }
 
-/// Tells what changes from the policy of a desk to that of a state, which is the site's with a text. Standard error says who
-/// proposes the text, or that it would be proposed.
+/// Tells what changes from the policy of a desk to the one that is foreseen of a text. Standard error says who proposes the text,
+/// or that it would be proposed.
 #[tactic(auto, using(crate::proofs::Telling::reports))]
 fn compare<S: Alter + Drop>(
     alloc: Global,
     desk: &Desk<S, View>,
-    after: &State<View>,
+    foresight: &Foresight<View>,
     new: NewText<'_>,
 ) -> Result<Output, Failure>
-    ensures { TellsChangesTo (newest_in desk.now.state.heads) after.now.view new.entry.all result }
+    requires { IsForesightOf (λ content. content) desk.now.state.view new.name.now foresight.now }
+    ensures { TellsChangesTo (newest_in desk.now.state.heads) (foreseen_content (λ content. content) desk.now.state.view foresight.now) new.entry.all result }
 {
     let told = foreseen_told(alloc, desk, new)?;
-    match impact_report(alloc, desk.view(), after.view(), new.all) {
+    match report_of(alloc, desk.view(), foresight, new) {
         Ok(report) => Ok(Output::Foreseen(report, told)),
         Err(_) => Err(Failure::Memory),
+    }
+}
+
+/// Tells what changes from a policy to the one that is foreseen of a text.
+fn report_of(
+    alloc: Global,
+    before: &View,
+    foresight: &Foresight<View>,
+    new: NewText<'_>,
+) -> Result<Report, AllocError>
+    requires { IsForesightOf (λ content. content) before.now new.name.now foresight.now }
+    ensures { IfOk result (IsReport before.now (foreseen_content (λ content. content) before.now foresight.now) new.entry.all) }
+{
+    match foresight {
+        Foresight::Whole(after) => impact_report(alloc, before, after, new.all),
+        Foresight::Lines(fs, lines) => lines_report(alloc, before, lines, *fs, new.all),
     }
 }
 

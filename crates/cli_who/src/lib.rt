@@ -11,6 +11,6 @@
 #![tactic(auto)]
 
 mod asking;
-mod foreseen;
+mod file_names;
 pub mod impact_command;
 pub mod laws;

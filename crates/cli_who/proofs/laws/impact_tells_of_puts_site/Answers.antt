@@ -4,9 +4,9 @@ use Rattle.std.specs.Str.{bytes_eq}
 use Rattle.std.proofs.Math.Path.{fun_ext}
 use Rattle.desk_policy.specs.Site.{no_exports}
 use Rattle.desk_core.specs.Edit.{revision_of}
+use Rattle.desk_core.specs.Foresight.{revision_with}
 use Rattle.desk_core.specs.Site.{revision_text, site_by}
 use Rattle.desk_core.specs.declared.head.Head.{Head}
-use Rattle.cli_who.specs.Foreseen.{revision_with}
 use Rattle.cli_who.proofs.laws.impact_tells_of_puts_site.Goals as goal
 
 -- of a revision a site has the text alone
