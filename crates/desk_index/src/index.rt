@@ -1,22 +1,24 @@
 //! A policy by keys.
 
-ghost use Rattle.std.specs.Prelude.{◌≡◌, ◌≤◌, IfOk, List};
+ghost use Rattle.std.specs.Prelude.{◌≡◌, ◌<◌, ◌≤◌, IfErr, IfOk, List, OnOk, length};
 ghost use Rattle.std.specs.Option.{option_copied};
 ghost use Rattle.desk_text.specs.Address.{number_of};
-ghost use Rattle.desk_policy.specs.Policy.{rows_of};
+ghost use Rattle.desk_policy.specs.Contradiction.{AreConsistent};
+ghost use Rattle.desk_policy.specs.Policy.{AreAscending, rows_of};
 ghost use Rattle.desk_policy.specs.Verdict.{lists_here, verdict_among, verdict_result};
 ghost use Rattle.desk_policy.specs.Weights.{selected};
-ghost use Rattle.desk_index.specs.Keys.{lines_under, listed, numbers};
+ghost use Rattle.desk_index.specs.Keys.{HasNoHostBits, lines_under, listed, numbers};
+ghost use Rattle.desk_index.specs.PrivateIndex.{Refuses};
 ghost use Rattle.desk_index.specs.PrivateKeyed.{AreKeyed};
 
 use crate::index_row::IndexRow;
 use crate::keyed::Keyed;
 use crate::keys::Key;
-use crate::numbered::{first_listing, numbered};
+use crate::laws::select_finds_the_selected_lines;
+use crate::numbered::first_listing;
 use crate::selection::{Rows, select};
 use desk_policy::{
-    Denial, Policy, PolicyView, Row, SiteFault, Verdict, contradiction_of_rows,
-    least_contradiction, lines_are_selected_by_keys,
+    Denial, Policy, PolicyView, Row, SiteFault, Verdict, contradiction_of_rows, least_contradiction,
 };
 use desk_tables::FsId;
 use desk_text::{Addr, Path, ReadError, Sequence};
@@ -74,14 +76,12 @@ impl Index {
     }
 
     /// Finds the numbers of the selected lines of a file system, in at most 35 look-ups.
-    fn selected(&self, fs: FsId, address: Addr) -> Option<&IndexRow>
+    pub fn selected(&self, fs: FsId, address: Addr) -> Option<&IndexRow>
         ensures { option_copied result ≡ listed (numbers (selected (rows_of self.now fs.0) (number_of address))) }
     {
-        // Lines are selected by their heaviest key.
-        lines_are_selected_by_keys();
+        select_finds_the_selected_lines();
         let _number = address.number();
         let mut probes = Probes::new(self);
-        let _ = &self.policy;
         select(&mut probes, fs, address)
     }
 
@@ -129,6 +129,24 @@ fn parts_of(alloc: Global, policy: &Policy) -> Result<Vec<Keyed>, AllocError>
     Ok(parts)
 }
 
+/// Refuses lines of a file system that contradict each other, by their least contradiction.
+fn refuse_contradiction(
+    alloc: Global,
+    policy: &Policy,
+    fs: FsId,
+    rows: &[Row],
+) -> Result<(), ReadError<SiteFault>>
+    requires fs { fs.0 < length policy.now.table }
+    requires ascending { AreAscending rows.now }
+    ensures consistent { OnOk result (AreConsistent rows.now) }
+    ensures fault { IfErr result (Refuses policy.now fs.0 rows.now) }
+{
+    match contradiction_of_rows(alloc, policy, fs, rows)? {
+        Some(fault) => Err(ReadError::Fault(fault)),
+        None => Ok(()),
+    }
+}
+
 impl PolicyView for Index {
     type Part = IndexPart;
 
@@ -163,13 +181,9 @@ impl PolicyView for Index {
         fs: FsId,
         rows: Sequence<Row>,
     ) -> Result<IndexPart, ReadError<SiteFault>> {
-        match contradiction_of_rows(alloc, &self.policy, fs, rows.as_slice())? {
-            Some(fault) => Err(ReadError::Fault(fault)),
-            None => {
-                let keyed = Keyed::of_rows(alloc, rows.as_slice())?;
-                Ok(IndexPart { rows, keyed })
-            }
-        }
+        refuse_contradiction(alloc, &self.policy, fs, rows.as_slice())?;
+        let keyed = Keyed::of_rows(alloc, rows.as_slice())?;
+        Ok(IndexPart { rows, keyed })
     }
 
     fn set(&mut self, fs: FsId, part: IndexPart) {
@@ -191,7 +205,9 @@ impl<'a> Probes<'a> {
     pub fn new(index: &'a Index) -> Probes<'a>
         ensures start { result.made ≡ 0 }
         ensures index { result.index.now ≡ index.now }
+        ensures networks { HasNoHostBits result.index.now }
     {
+        let _ = &index.policy;
         Probes { index, made: 0 }
     }
 
