@@ -64,18 +64,29 @@ fn range_value(alloc: Global, policy: &Policy, range: &Range<'_>) -> Result<Valu
 {
     let first = address_text(alloc, range.first)?;
     let last = address_text(alloc, range.last)?;
-    match range.verdict {
+    ended_range(alloc, policy, first.as_str(), last.as_str(), range.value)
+}
+
+/// Makes the value of a range from one address to another.
+fn ended_range(
+    alloc: Global,
+    policy: &Policy,
+    first: &str,
+    last: &str,
+    verdict: Verdict<'_>,
+) -> Result<Value, AllocError>
+    ensures { IfOk result (λ value. data_of value ≡ ended_range policy.now first.now last.now (verdict_result verdict.entry)) }
+{
+    match verdict {
         Verdict::Granted { fs, line, terms } => granted_range(
             alloc,
-            first.as_str(),
-            last.as_str(),
+            first,
+            last,
             mount_text(policy, fs),
             line,
             terms,
         ),
-        Verdict::Denied(denial) => {
-            denied_range(alloc, policy, first.as_str(), last.as_str(), denial)
-        }
+        Verdict::Denied(denial) => denied_range(alloc, policy, first, last, denial),
     }
 }
 

@@ -13,7 +13,8 @@ use Rattle.desk_policy.specs.Policy.{Content}
 use Rattle.desk_policy.specs.Verdict.{is_directory_among}
 use Rattle.desk_who.specs.Impact.{IsImpact, ThoseThatMatter, TwoVerdicts, change_value, verdicts_at}
 use Rattle.desk_who.specs.Runs.{HasValue, Run}
-use Rattle.desk_who.specs.declared.changes.Change.{Change}
+use Rattle.desk_who.specs.declared.changes.TwoVerdicts.{TwoVerdicts as KeptVerdicts}
+use Rattle.desk_who.specs.declared.runs.Run.{Run as KeptRun}
 use Rattle.desk_impact.specs.Places.{ArePlaces, Directory, Others, Place, dirs_of_both, has_room, is_home, mounts_of_both, others_of, place_of, place_verdicts, places_at}
 use Rattle.desk_impact.specs.PrivatePlaces.{IsFree}
 use Rattle.desk_impact.specs.PrivateReport.{AreTold, HasRoomIfOthers, IsReportOf, IsTold, taken_by}
@@ -67,21 +68,21 @@ changes_of_others before after mount path changes free impact =
     (λ address. ap (λ (q : Path). verdicts_at before after q address) free.below ∙ decided_as_others before after mount child home p.1 address) impact
 
 -- ---- a section
-pub fewer : (changes mattering : List Change) → ThoseThatMatter (map change_value changes) (map change_value mattering) → length mattering ≤ length changes
+pub fewer : (changes mattering : List (KeptRun KeptVerdicts)) → ThoseThatMatter (map change_value changes) (map change_value mattering) → length mattering ≤ length changes
 fewer changes mattering those =
     let all = map change_value changes in
     let count = ap length those.are ∙ length-filter those.test all in
     omega (arith, count, count_by-le-length those.test all, length-map changes change_value, length-map mattering change_value)
 
 -- what is listed of a place is its section
-pub section_is : (was will before after : Content) (place : Place) (all : Bool) (shown changes mattering : List Change) → was ≡ before → will ≡ after → shown ≡ cond all changes mattering
+pub section_is : (was will before after : Content) (place : Place) (all : Bool) (shown changes mattering : List (KeptRun KeptVerdicts)) → was ≡ before → will ≡ after → shown ≡ cond all changes mattering
     → section_of was will place (map change_value shown) ≡ section before after all (record { place = place; changes = map change_value changes; mattering = map change_value mattering })
 section_is was will before after place true shown changes mattering old new are =
     ap (λ (c : Content). section_of c will place (map change_value shown)) old ∙ ap (λ (c : Content). section_of before c place (map change_value shown)) new
-    ∙ ap (λ (s : List Change). section_of before after place (map change_value s)) are
+    ∙ ap (λ (s : List (KeptRun KeptVerdicts)). section_of before after place (map change_value s)) are
 section_is was will before after place false shown changes mattering old new are =
     ap (λ (c : Content). section_of c will place (map change_value shown)) old ∙ ap (λ (c : Content). section_of before c place (map change_value shown)) new
-    ∙ ap (λ (s : List Change). section_of before after place (map change_value s)) are
+    ∙ ap (λ (s : List (KeptRun KeptVerdicts)). section_of before after place (map change_value s)) are
 
 -- ---- all places
 -- a place has room if it tells of others

@@ -2,9 +2,10 @@ pub mod Chain
 pub mod Existence
 pub mod Going
 pub mod Gathered
+pub mod Joined
 pub mod Steady
 pub mod Discrete
 pub mod WhoLaws
 pub mod Telling
-pub mod Changing
 pub mod Unchanged
+pub mod Kept

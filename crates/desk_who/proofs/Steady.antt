@@ -15,7 +15,9 @@ use Rattle.desk_policy.specs.Verdict.{lists, verdict_among, verdict_in, verdict_
 use Rattle.desk_policy.specs.Weights.{is_at_most, is_greatest, name_weight, selected, weight_by, weight_of}
 use Rattle.desk_policy.specs.declared.row.Row.{Row}
 use Rattle.desk_policy.specs.Keys.{HasBlock}
-use Rattle.desk_who.specs.PrivateWho.{AreStarts, AreVerdictStarts, IsSteadyLine, around, has_one_before, kept, starts_by, starts_of}
+use Rattle.desk_who.specs.PrivateStarts.{around, has_one_before, kept, starts_by, starts_of}
+use Rattle.desk_who.specs.Runs.{AreStartsOf}
+use Rattle.desk_who.specs.Starts.{AreStarts, IsSteadyLine}
 
 -- ---- numbers that are not among others
 not_here : (n x : ℕ) (xs : List ℕ) → is_among n (x ∷ xs) ≡ false → x ≢ n
@@ -171,7 +173,7 @@ module _ (address next : ℕ) where
       (ap (weight_of row) e ∙ steady.0 address (subst (λ n. n < 2 ^ 32) e fits) (sym (ap (λ n. is_among n starts) e) ∙ none), all_same starts rows e fits none steady.1)
 
 -- between such addresses the verdict stays
-pub verdict_steady : (content : Content) (path : List (List ℕ)) (fs : ℕ) (starts : List ℕ) → fs_of content.table path ≡ Some fs → AreStarts (rows_of content fs) starts → AreVerdictStarts content path starts
+pub verdict_steady : (content : Content) (path : List (List ℕ)) (fs : ℕ) (starts : List ℕ) → fs_of content.table path ≡ Some fs → AreStarts (rows_of content fs) starts → AreStartsOf (λ address. verdict_of content address path) starts
 unfolding verdict_of
 verdict_steady content path fs starts home are = record {
   ascend = are.ascend;
@@ -184,7 +186,7 @@ verdict_steady content path fs starts home are = record {
 }
 
 -- a path of no file system has one verdict
-pub verdict_nowhere : (content : Content) (path : List (List ℕ)) → fs_of content.table path ≡ None → AreVerdictStarts content path []
+pub verdict_nowhere : (content : Content) (path : List (List ℕ)) → fs_of content.table path ≡ None → AreStartsOf (λ address. verdict_of content address path) []
 unfolding verdict_of
 verdict_nowhere content path home = record {
   ascend = λ k lt. absurd (omega arith);

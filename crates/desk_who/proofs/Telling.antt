@@ -1,10 +1,11 @@
 -- Whether two verdicts say something else, or come to something else, as tests; and what lists of such ranges tell.
-use Rattle.std.proofs.Common.{◌≡◌, ◌≢◌, ℕ, ◌^◌, ◌||◌, Bool, true, false, cond, List, [], ◌∷◌, sym, ◌∙◌, ap, subst, refl, inl, inr}
+use Rattle.std.proofs.Common.{◌≡◌, ◌≢◌, ℕ, ◌||◌, not, Bool, true, false, cond, List, [], ◌∷◌, map, sym, ◌∙◌, ap, subst, refl, inl, inr}
 use Rattle.std.specs.Prelude.{Option, Some, None, Result, Ok, Err, filter, find}
 use Rattle.std.specs.Bool.{Decides}
 use Rattle.std.specs.List.{AllByRecursion, list_any}
 use Rattle.std.specs.Option.{option_map}
 use Rattle.std.proofs.lemmas.Bool.{and_parts, cases_Bool, cases_eq, leb-true, true≢false, false_from_ne_true}
+use Rattle.std.proofs.lemmas.List.Elements.{filter_agree}
 use Rattle.desk_exports.specs.declared.entry.Terms.{Terms}
 use Rattle.desk_policy.specs.Policy.{Content}
 use Rattle.desk_policy.specs.Verdict.{Grant}
@@ -12,7 +13,7 @@ use Rattle.desk_policy.specs.declared.verdict.Denial.{Denial}
 use Rattle.desk_policy.specs.declared.verdict.Denial.TheVariants.{NoFileSystem, NoLine, NotListed}
 use Rattle.desk_who.specs.Impact.{Grants, HasNoFileSystem, HasNoLine, ImpactsAreUnique, ImpactsTellChanges, ImpactsTellEffects, IsNotListed, Matters, SayOtherwise, Saying, TwoVerdicts, effect, saying}
 use Rattle.desk_who.specs.Runs.{HasValue, Run, holds}
-use Rattle.desk_who.proofs.Chain.{chain_of_runs, one_chain}
+use Rattle.desk_who.proofs.Chain.{unique_runs}
 use Rattle.desk_who.proofs.Discrete.{IsSameOrNot, two_lists, two_terms}
 
 -- ---- tests
@@ -30,6 +31,18 @@ two_effects None None = inl refl
 two_effects None (Some y) = inr (λ e. cc)
 two_effects (Some x) None = inr (λ e. cc)
 two_effects (Some x) (Some y) = elim (two_terms x y) as (λ _. IsSameOrNot (Some x) (Some y)) [ inl is ↦ inl (ap Some is) | inr apart ↦ inr (λ e. apart (cc)) ]
+
+same_test : {P : Type 0} (a b : Bool) → Decides a P → Decides b P → a ≡ b
+same_test a b d e =
+    elim (cases_Bool a) as (λ _. a ≡ b) [
+      | inl is ↦ is ∙ sym (e.1 (d.0 is))
+      | inr not ↦ not ∙ sym (false_from_ne_true b (λ is. true≢false (sym (d.1 (e.0 is)) ∙ not)))
+    ]
+
+-- a test that fails where another passes
+opposite : {P : Type 0} (b : Bool) → Decides b P → Decides (not b) (P → ⊥)
+opposite true d = (λ e. absurd (true≢false (sym e)), λ apart. absurd (apart (d.0 refl)))
+opposite false d = (λ e p. true≢false (sym (d.1 p)), λ apart. refl)
 
 -- a range at which the mount changes
 pub matters : Run TwoVerdicts → Bool
@@ -87,6 +100,13 @@ unfolding says_otherwise
 says_otherwise_decides before after run =
     apart_decides (saying after run.value.after) (saying before run.value.before) (two_sayings (saying after run.value.after) (saying before run.value.before))
 
+-- a test whether verdicts come to the same, or say the same, tells so
+pub matters_is : (run : Run TwoVerdicts) (b : Bool) → Decides b (effect run.value.after ≡ effect run.value.before) → not b ≡ matters run
+matters_is run b d = same_test (not b) (matters run) (opposite b d) (matters_decides run)
+
+pub says_otherwise_is : (before after : Content) (run : Run TwoVerdicts) (b : Bool) → Decides b (saying after run.value.after ≡ saying before run.value.before) → not b ≡ says_otherwise before after run
+says_otherwise_is before after run b d = same_test (not b) (says_otherwise before after run) (opposite b d) (says_otherwise_decides before after run)
+
 -- ---- verdicts that say the same come to the same
 said_effect : Saying → Option Terms
 said_effect (Grants line terms) = Some terms
@@ -106,10 +126,6 @@ otherwise_if_it_matters before after verdicts m same =
     m (sym (effect_said after verdicts.after) ∙ ap said_effect same ∙ effect_said before verdicts.before)
 
 -- ---- lists of ranges that pass a test
-filter_same : {X : Type 0} (p q : X → Bool) → ((x : X) → p x ≡ q x) → (xs : List X) → filter p xs ≡ filter q xs
-filter_same p q same [] = refl
-filter_same p q same (x ∷ xs) = ap (λ b. cond b (x ∷ filter p xs) (filter p xs)) (same x) ∙ ap (λ ys. cond (q x) (x ∷ ys) ys) (filter_same p q same xs)
-
 -- of what passes a weaker test, what passes a stronger one
 filter_twice : {X : Type 0} (p q : X → Bool) → ((x : X) → q x ≡ true → p x ≡ true) → (xs : List X) → filter q (filter p xs) ≡ filter q xs
 filter_twice p q weaker [] = refl
@@ -122,39 +138,42 @@ filter_twice p q weaker (x ∷ xs) =
           ap (λ b. filter q (cond b (x ∷ filter p xs) (filter p xs))) not ∙ rest ∙ ap (λ b. cond b (x ∷ filter q xs) (filter q xs)) (sym fails)
     ]
 
-same_test : {P : Type 0} (a b : Bool) → Decides a P → Decides b P → a ≡ b
-same_test a b d e =
-    elim (cases_Bool a) as (λ _. a ≡ b) [
-      | inl is ↦ is ∙ sym (e.1 (d.0 is))
-      | inr not ↦ not ∙ sym (false_from_ne_true b (λ is. true≢false (sym (d.1 (e.0 is)) ∙ not)))
+-- what is kept of lent values is what is kept of them by value
+pub map-filter : {X Y : Type 0} (f : X → Y) (test : Y → Bool) (xs : List X) → map f (filter (λ x. test (f x)) xs) ≡ filter test (map f xs)
+map-filter f test [] = refl
+map-filter f test (x ∷ xs) =
+    let rest = map-filter f test xs in
+    elim (cases_Bool (test (f x))) as (λ _. map f (filter (λ y. test (f y)) (x ∷ xs)) ≡ filter test (map f (x ∷ xs))) [
+      | inl is ↦ rw is (ap (λ ys. f x ∷ ys) rest)
+      | inr not ↦ rw not rest
     ]
 
-module _ (P : TwoVerdicts → Type 0) (value_at : ℕ → TwoVerdicts) (test : Run TwoVerdicts → Bool) (decides : (run : Run TwoVerdicts) → Decides (test run) (P run.value)) (address : ℕ) where
-  own_value : (run : Run TwoVerdicts) → HasValue value_at run → holds address run ≡ true → value_at address ≡ run.value
+module _ {A : Type 0} (P : A → Type 0) (value_at : ℕ → A) (test : Run A → Bool) (decides : (run : Run A) → Decides (test run) (P run.value)) (address : ℕ) where
+  own_value : (run : Run A) → HasValue value_at run → holds address run ≡ true → value_at address ≡ run.value
   own_value run value here = (let p = and_parts _ _ here in value.values address (leb-true run.first address p.0) (leb-true address run.last p.1))
 
-  is_told : (runs : List (Run TwoVerdicts)) → AllByRecursion (HasValue value_at) runs → list_any (holds address) runs ≡ true → P (value_at address)
-      → option_map (λ (run : Run TwoVerdicts). run.value) (find (holds address) (filter test runs)) ≡ Some (value_at address)
+  pub is_told : (runs : List (Run A)) → AllByRecursion (HasValue value_at) runs → list_any (holds address) runs ≡ true → P (value_at address)
+      → option_map (λ (run : Run A). run.value) (find (holds address) (filter test runs)) ≡ Some (value_at address)
   is_told [] values held m = absurd (true≢false (sym held))
   is_told (run ∷ runs) values held m =
-      let Told : List (Run TwoVerdicts) → Type 0 = λ rs. option_map (λ (r : Run TwoVerdicts). r.value) (find (holds address) rs) ≡ Some (value_at address) in
+      let Told : List (Run A) → Type 0 = λ rs. option_map (λ (r : Run A). r.value) (find (holds address) rs) ≡ Some (value_at address) in
       elim (cases_Bool (holds address run)) as (λ _. Told (filter test (run ∷ runs))) [
         | inl here ↦
             let is = own_value run values.0 here in
             let passes : test run ≡ true = (decides run).1 (subst P is m) in
             subst (λ b. Told (cond b (run ∷ filter test runs) (filter test runs))) (sym passes)
-            (subst (λ b. option_map (λ (r : Run TwoVerdicts). r.value) (cond b (Some run) (find (holds address) (filter test runs))) ≡ Some (value_at address)) (sym here) (ap Some (sym is)))
+            (subst (λ b. option_map (λ (r : Run A). r.value) (cond b (Some run) (find (holds address) (filter test runs))) ≡ Some (value_at address)) (sym here) (ap Some (sym is)))
         | inr not ↦
             let rest = is_told runs values.1 (sym (ap (λ b. b || list_any (holds address) runs) not) ∙ held) m in
             elim (cases_Bool (test run)) as (λ _. Told (filter test (run ∷ runs))) [
               | inl passes ↦
                   subst (λ b. Told (cond b (run ∷ filter test runs) (filter test runs))) (sym passes)
-                  (subst (λ b. option_map (λ (r : Run TwoVerdicts). r.value) (cond b (Some run) (find (holds address) (filter test runs))) ≡ Some (value_at address)) (sym not) rest)
+                  (subst (λ b. option_map (λ (r : Run A). r.value) (cond b (Some run) (find (holds address) (filter test runs))) ≡ Some (value_at address)) (sym not) rest)
               | inr fails ↦ subst (λ b. Told (cond b (run ∷ filter test runs) (filter test runs))) (sym fails) rest
             ]
       ]
 
-  is_silent : (runs : List (Run TwoVerdicts)) → AllByRecursion (HasValue value_at) runs → (P (value_at address) → ⊥) → find (holds address) (filter test runs) ≡ None
+  pub is_silent : (runs : List (Run A)) → AllByRecursion (HasValue value_at) runs → (P (value_at address) → ⊥) → find (holds address) (filter test runs) ≡ None
   is_silent [] values none = refl
   is_silent (run ∷ runs) values none =
       let rest = is_silent runs values.1 none in
@@ -190,7 +209,6 @@ impacts_tell_effects before after verdicts changes mattering impact those addres
 
 pub impacts_are_unique : ImpactsAreUnique
 impacts_are_unique before after verdicts changes other impact impact' =
-    let one : impact'.whole ≡ impact.whole = one_chain verdicts 0 impact.whole impact'.whole (2 ^ 32) (chain_of_runs verdicts impact.whole impact.runs) (chain_of_runs verdicts impact'.whole impact'.runs) in
-    impact'.chosen.are ∙ ap (filter impact'.chosen.test) one
-    ∙ filter_same impact'.chosen.test impact.chosen.test (λ run. same_test (impact'.chosen.test run) (impact.chosen.test run) (impact'.chosen.decides run) (impact.chosen.decides run)) impact.whole
+    impact'.chosen.are ∙ ap (filter impact'.chosen.test) (unique_runs verdicts impact.whole impact'.whole impact.runs impact'.runs)
+    ∙ filter_agree impact'.chosen.test impact.chosen.test (λ run. same_test (impact'.chosen.test run) (impact.chosen.test run) (impact'.chosen.decides run) (impact.chosen.decides run)) impact.whole
     ∙ sym impact.chosen.are

@@ -2,14 +2,14 @@
 use Rattle.std.specs.Prelude.{◌≡◌, ◌≢◌, ℕ, ◌<◌, ◌^◌, Bool, filter, find, slice_get, List, [], Option, Some, None, Result, Ok, Err}
 use Rattle.std.specs.Bool.{Decides}
 use Rattle.std.specs.Option.{option_map}
-use Rattle.desk_text.specs.Address.{number_of}
 use Rattle.desk_exports.specs.declared.entry.Terms.{Terms}
 use Rattle.desk_policy.specs.Policy.{Content}
 use Rattle.desk_policy.specs.Verdict.{Grant, verdict_of, verdict_result}
 use Rattle.desk_policy.specs.declared.verdict.Denial.{Denial}
 use Rattle.desk_policy.specs.declared.verdict.Denial.TheVariants.{NoFileSystem, NoLine, NotListed}
-use Rattle.desk_who.specs.Runs.{AreRuns, Run, holds}
-use Rattle.desk_who.specs.declared.changes.Change.{Change}
+use Rattle.desk_who.specs.Runs.{AreRuns, Run, holds, run_value}
+use Rattle.desk_who.specs.declared.changes.TwoVerdicts.{TwoVerdicts as KeptVerdicts}
+use Rattle.desk_who.specs.declared.runs.Run.{Run as KeptRun}
 
 -- the verdicts of two policies
 pub record TwoVerdicts : Type 0 where
@@ -68,13 +68,13 @@ pub record IsImpact (before after : Content) (verdicts : ℕ → TwoVerdicts) (c
 abbrev pub ThoseThatMatter : List (Run TwoVerdicts) → List (Run TwoVerdicts) → Type 0
 ThoseThatMatter changes chosen = AreThoseThat (λ run. Matters run.value) changes chosen
 
+-- two verdicts by value
+abbrev pub two_verdicts : KeptVerdicts → TwoVerdicts
+two_verdicts verdicts = record { before = verdict_result verdicts.before; after = verdict_result verdicts.after }
+
 -- a change by value
-abbrev pub change_value : Change → Run TwoVerdicts
-change_value change = record {
-  first = number_of change.first;
-  last = number_of change.last;
-  value = record { before = verdict_result change.before; after = verdict_result change.after };
-}
+abbrev pub change_value : KeptRun KeptVerdicts → Run TwoVerdicts
+change_value change = run_value two_verdicts change
 
 -- an address of whose two verdicts this holds is held by a range, with these verdicts; any other by none
 pub record TellsWhere (P : TwoVerdicts → Type 0) (verdicts : ℕ → TwoVerdicts) (changes : List (Run TwoVerdicts)) (address : ℕ) : Type 0 where

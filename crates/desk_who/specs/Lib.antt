@@ -1,7 +1,8 @@
 pub mod Runs
+pub mod Starts
+pub mod PrivateStarts
 pub mod Who
-pub mod PrivateWho
 pub mod WhoPrints
 pub mod Impact
-pub mod PrivateImpact
 pub mod ImpactPrints
+pub mod Breaking

@@ -1,7 +1,12 @@
 -- A function of addresses as the list of its runs: the longest ranges of addresses at which it has one value. (this
 -- project's own)
-use Rattle.std.specs.Prelude.{◌≡◌, ◌≢◌, ℕ, ◌<◌, ◌≤◌, ◌^◌, ◌&&◌, nat_le, Bool, true, List, [], ◌∷◌}
+use Rattle.std.specs.Prelude.{◌≡◌, ◌≢◌, ℕ, ◌+◌, ◌<◌, ◌≤◌, ◌^◌, ◌&&◌, nat_le, Bool, true, false, List, [], ◌∷◌, map}
 use Rattle.std.specs.List.{AllByRecursion, list_any}
+use Rattle.std.specs.List.Sorted.{IsStrictlyIncreasing}
+use Rattle.desk_text.specs.Address.{number_of}
+use Rattle.desk_text.specs.AddrSet.{is_among}
+use Rattle.desk_text.specs.declared.address.Addr.{Addr}
+use Rattle.desk_who.specs.declared.runs.Run.{Run as KeptRun}
 
 -- the addresses from the first to the last, and the value at each of them
 pub record Run (A : Type 0) : Type 0 where
@@ -37,3 +42,28 @@ pub record AreRuns {A : Type 0} (value_at : ℕ → A) (runs : List (Run A)) : T
   pub complete : (address : ℕ) → address < 2 ^ 32 → list_any (holds address) runs ≡ true
   pub ascend : Ascend runs
   pub apart : AreApart runs
+
+-- ascending addresses, at which alone a function of addresses changes: at any other it has the value of the address before. The
+-- first address of all is not among them
+pub record AreStartsOf {A : Type 0} (value_at : ℕ → A) (starts : List ℕ) : Type 0 where
+  pub ascend : IsStrictlyIncreasing starts
+  pub behind : is_among 0 starts ≡ false
+  pub steady : (address : ℕ) → address + 1 < 2 ^ 32 → is_among (address + 1) starts ≡ false → value_at (address + 1) ≡ value_at address
+
+-- a run as it is kept, by value, with what its value means
+abbrev pub run_value : {T A : Type 0} → (T → A) → KeptRun T → Run A
+run_value meaning run = record { first = number_of run.first; last = number_of run.last; value = meaning run.value }
+
+-- what is found for each address means what a function of addresses says
+abbrev pub Finds : {T A : Type 0} → (T → A) → (Addr → T → Type 0) → (ℕ → A) → Type 0
+Finds {T} meaning found value_at = (address : Addr) (value : T) → found address value → meaning value ≡ value_at (number_of address)
+
+-- The runs of what is found, given where it may change: whatever function of addresses says what it means, and changes at these
+-- addresses alone, has these runs.
+abbrev pub AreRunsFound : {T A : Type 0} → (T → A) → (Addr → T → Type 0) → List ℕ → List (KeptRun T) → Type 0
+AreRunsFound {T} {A} meaning found starts runs =
+    (value_at : ℕ → A) → Finds meaning found value_at → AreStartsOf value_at starts → AreRuns value_at (map (run_value meaning) runs)
+
+-- A function of addresses with values of this kind has at most one list of runs.
+abbrev pub RunsAreUnique : Type 0 → Type 0
+RunsAreUnique A = (value_at : ℕ → A) (runs other : List (Run A)) → AreRuns value_at runs → AreRuns value_at other → other ≡ runs

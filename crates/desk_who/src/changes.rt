@@ -1,27 +1,40 @@
 //! What another policy would change for the clients of a directory.
 
-ghost use Rattle.std.specs.Prelude.{◌≡◌, ◌++◌, ◌∷◌, [], IfOk, OnOk, map};
+ghost use Rattle.std.specs.Prelude.{◌≡◌, IfOk, map};
 ghost use Rattle.std.specs.Bool.{Decides};
-ghost use Rattle.desk_text.specs.Address.{number_of};
 ghost use Rattle.desk_policy.specs.Verdict.{verdict_result};
-ghost use Rattle.desk_who.specs.Impact.{IsImpact, Matters, SayOtherwise, ThoseThatMatter, change_value, effect, verdicts_at};
-ghost use Rattle.desk_who.specs.PrivateImpact.{AddsIf, two};
-ghost use Rattle.desk_who.specs.PrivateWho.{AreChangeStarts};
+ghost use Rattle.desk_who.specs.Impact as spec;
+ghost use Rattle.desk_who.specs.Impact.{IsImpact, ThoseThatMatter, change_value, effect, two_verdicts, verdicts_at};
+ghost use Rattle.desk_who.specs.Runs.{AreStartsOf};
 
-use crate::ranges::{is_same, starts_under};
+use crate::runs::{Alike, Run, longest_runs};
 use crate::sayings::say_the_same;
+use crate::starts::{joined, starts_under};
 use desk_policy::{Policy, PolicyView, Verdict, same_terms};
 use desk_text::laws::sorted_sets_are_unique;
-use desk_text::{Addr, AddrSet, Path};
+use desk_text::{AddrSet, Path};
 use std::alloc::{AllocError, Global};
 
-/// Neighbouring addresses whose verdict would change in one way: the verdicts under the two policies.
+/// The verdicts of two policies on one mount.
 #[derive(Clone, Copy)]
-pub struct Change<'a> {
-    pub first: Addr,
-    pub last: Addr,
+pub struct TwoVerdicts<'a> {
     pub before: Verdict<'a>,
     pub after: Verdict<'a>,
+}
+
+/// Neighbouring addresses whose verdict would change in one way.
+pub type Change<'a> = Run<TwoVerdicts<'a>>;
+
+impl<'a> Alike for TwoVerdicts<'a> {
+    ghost Meaning = { spec.TwoVerdicts };
+
+    ghost meaning = { two_verdicts };
+
+    fn is_alike(&self, other: &TwoVerdicts<'a>) -> bool
+        ensures { Decides result (two_verdicts self.now ≡ two_verdicts other.now) }
+    {
+        self.before.is_alike(&other.before) && self.after.is_alike(&other.after)
+    }
 }
 
 /// Lists for whom the verdict on a path would say something else if another policy were in force: the longest ranges of
@@ -40,49 +53,16 @@ pub fn impact<'a, V: PolicyView>(
     let old = before.policy();
     let new = after.policy();
     let starts = starts_of_both(alloc, old, new, path)?;
-    let mut changes = Vec::new(alloc);
-    let mut first = Addr::from_number(0);
-    let mut was = before.decide(first, path);
-    let mut will = after.decide(first, path);
-    for start in starts.as_slice() {
-        let number = start.number();
-        let next_was = before.decide(*start, path);
-        let next_will = after.decide(*start, path);
-        if !are_same(&was, &will, &next_was, &next_will) {
-            let last = Addr::from_number(number - 1);
-            push_change(&mut changes, old, new, change_of(first, last, was, will))?;
-            first = *start;
-            was = next_was;
-            will = next_will;
-        }
-    }
-    let last = Addr::from_number(u32::MAX);
-    push_change(&mut changes, old, new, change_of(first, last, was, will))?;
+    let mut changes = longest_runs(
+        alloc,
+        &starts,
+        |address| TwoVerdicts {
+            before: before.decide(address, path),
+            after: after.decide(address, path),
+        },
+    )?;
+    changes.retain(|change| !say_the_same(old, new, &change.value.before, &change.value.after));
     Ok(changes)
-}
-
-fn change_of<'a>(first: Addr, last: Addr, before: Verdict<'a>, after: Verdict<'a>) -> Change<'a>
-    ensures { change_value result
-        ≡ record { first = number_of first; last = number_of last; value = two before.entry after.entry } }
-{
-    Change {
-        first,
-        last,
-        before,
-        after,
-    }
-}
-
-/// Tests whether two verdicts are the same as two others.
-fn are_same(
-    before: &Verdict<'_>,
-    after: &Verdict<'_>,
-    next_before: &Verdict<'_>,
-    next_after: &Verdict<'_>,
-) -> bool
-    ensures { Decides result (two before.now after.now ≡ two next_before.now next_after.now) }
-{
-    is_same(before, next_before) && is_same(after, next_after)
 }
 
 /// Gathers the addresses at which the verdict of one of two policies on a path may change.
@@ -92,33 +72,12 @@ fn starts_of_both(
     after: &Policy,
     path: &Path,
 ) -> Result<AddrSet, AllocError>
-    ensures { IfOk result (AreChangeStarts before.now after.now path.now) }
+    ensures { IfOk result (AreStartsOf (verdicts_at before.now after.now path.now)) }
 {
     sorted_sets_are_unique();
     let old = starts_under(alloc, before, path)?;
     let new = starts_under(alloc, after, path)?;
-    let mut all = old.into_vec();
-    for start in new.as_slice() {
-        all.push(*start)?;
-    }
-    Ok(AddrSet::from_vec(all))
-}
-
-/// Adds a change, if its verdicts say something else.
-fn push_change<'a>(
-    changes: &mut Vec<Change<'a>>,
-    before: &Policy,
-    after: &Policy,
-    change: Change<'a>,
-) -> Result<(), AllocError>
-    ensures { OnOk result
-        (AddsIf (SayOtherwise before.now after.now) (map change_value changes.old.items) (map change_value changes.new.items) (change_value change.entry)) }
-{
-    if say_the_same(before, after, &change.before, &change.after) {
-        return Ok(());
-    }
-    changes.push(change)?;
-    Ok(())
+    joined(old, &new)
 }
 
 /// Gathers the changes that matter to a client: the mount is granted by one of the policies alone, or on other terms. That
@@ -130,24 +89,9 @@ pub fn those_that_matter<'a>(
     ensures { IfOk result (λ chosen. ThoseThatMatter (map change_value changes.now) (map change_value chosen.items)) }
 {
     let mut chosen = Vec::new(alloc);
-    for change in changes {
-        push_if_it_matters(&mut chosen, change)?;
-    }
+    chosen.extend_from_slice(changes)?;
+    chosen.retain(|change| !has_same_effect(&change.value.before, &change.value.after));
     Ok(chosen)
-}
-
-/// Adds a change, if it matters.
-fn push_if_it_matters<'a>(
-    chosen: &mut Vec<Change<'a>>,
-    change: &Change<'a>,
-) -> Result<(), AllocError>
-    ensures { OnOk result (AddsIf Matters (map change_value chosen.old.items) (map change_value chosen.new.items) (change_value change.now)) }
-{
-    if has_same_effect(&change.before, &change.after) {
-        return Ok(());
-    }
-    chosen.push(*change)?;
-    Ok(())
 }
 
 /// Tests whether two verdicts come to the same for a client: both deny the mount, or grant it on the same terms.

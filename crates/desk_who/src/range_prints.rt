@@ -32,7 +32,7 @@ pub(crate) fn push_range(
     ensures { OnOk result (string_bytes text.new ≡ string_bytes text.old ++ spec.range_line policy.now (range_value range.now)) }
 {
     let span = span_text(alloc, range.first, range.last)?;
-    let verdict = verdict_text(alloc, policy, &range.verdict, &None)?;
+    let verdict = verdict_text(alloc, policy, &range.value, &None)?;
     text.push_str(span.as_str())?;
     text.push_str(" ")?;
     text.push_str(verdict.as_str())?;

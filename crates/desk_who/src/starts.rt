@@ -1,16 +1,20 @@
-//! The addresses at which the lines that match may change.
+//! The addresses at which something may change.
 
 ghost use Rattle.std.specs.Prelude.{◌≡◌, ◌++◌, ◌+◌, ◌∷◌, ◌≤◌, ◌^◌, [], IfOk, OnOk, map};
 ghost use Rattle.std.specs.List.{flat_map};
 ghost use Rattle.desk_text.specs.Address.{number_of};
+ghost use Rattle.desk_text.specs.AddrSet.{sorted_set};
 ghost use Rattle.desk_text.specs.Network.{IsBlock, last_of};
 ghost use Rattle.desk_policy.specs.Keys.{HasBlock};
-ghost use Rattle.desk_who.specs.PrivateWho.{AreStarts, around, kept, starts_of};
+ghost use Rattle.desk_policy.specs.Verdict.{verdict_of};
+ghost use Rattle.desk_who.specs.PrivateStarts.{around, kept, starts_of};
+ghost use Rattle.desk_who.specs.Runs.{AreStartsOf};
+ghost use Rattle.desk_who.specs.Starts.{AreStarts};
 
 use desk_exports::Clients;
-use desk_policy::{Row, RowAddrs};
+use desk_policy::{Policy, Row, RowAddrs};
 use desk_text::laws::{covers_between_first_and_last, sorted_sets_are_unique};
-use desk_text::{Addr, AddrSet, Net};
+use desk_text::{Addr, AddrSet, Net, Path};
 use std::alloc::{AllocError, Global};
 
 /// Gathers the addresses at which one of these lines begins or ceases to match, but for the first address of all.
@@ -24,6 +28,30 @@ pub fn starts_among(alloc: Global, rows: &[Row]) -> Result<AddrSet, AllocError>
         push_row(&mut starts, row)?;
     }
     Ok(AddrSet::from_vec(starts))
+}
+
+/// Gathers the addresses at which the verdict on a path may change: those at which the lines of its file system begin or cease
+/// to match.
+pub(crate) fn starts_under(
+    alloc: Global,
+    policy: &Policy,
+    path: &Path,
+) -> Result<AddrSet, AllocError>
+    ensures { IfOk result (AreStartsOf (λ address. verdict_of policy.now address path.now)) }
+{
+    match policy.filesystems().of(path) {
+        Some(fs) => starts_among(alloc, policy.rows(fs)),
+        None => Ok(AddrSet::new(alloc)),
+    }
+}
+
+/// Joins two sets of addresses.
+pub(crate) fn joined(starts: AddrSet, others: &AddrSet) -> Result<AddrSet, AllocError>
+    ensures { IfOk result (λ all. all ≡ sorted_set (starts ++ others.now)) }
+{
+    let mut all = starts.into_vec();
+    all.extend_from_slice(others.as_slice())?;
+    Ok(AddrSet::from_vec(all))
 }
 
 /// Adds those of a line.

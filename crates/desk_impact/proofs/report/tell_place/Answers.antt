@@ -2,7 +2,8 @@ use Rattle.std.proofs.Common.{◌≡◌, ◌++◌, ◌∙◌, List, ap, arith, c
 use Rattle.std.specs.String.{string_bytes}
 use Rattle.std.proofs.lemmas.List.{length-map}
 use Rattle.desk_who.specs.Impact.{ThoseThatMatter, change_value}
-use Rattle.desk_who.specs.declared.changes.Change.{Change}
+use Rattle.desk_who.specs.declared.changes.TwoVerdicts.{TwoVerdicts}
+use Rattle.desk_who.specs.declared.runs.Run.{Run}
 use Rattle.desk_impact.specs.Places.{place_of}
 use Rattle.desk_impact.proofs.Reporting.{fewer, section_is}
 use Rattle.desk_impact.proofs.report.tell_place.Goals as goal
@@ -12,7 +13,7 @@ overflow_sub-result g c =
     let changes = c.in_ok-changes.changes.items in
     let mattering = c.in_ok-mattering.mattering.items in
     let those : ThoseThatMatter (map change_value changes) (map change_value mattering) =
-    subst (λ (all : List Change). ThoseThatMatter (map change_value all) (map change_value mattering)) c.as_slice.ensures.value c.in_ok-mattering.ensures in
+    subst (λ (all : List (Run TwoVerdicts)). ThoseThatMatter (map change_value all) (map change_value mattering)) c.as_slice.ensures.value c.in_ok-mattering.ensures in
     let few = fewer changes mattering those in
     omega arith
 
@@ -23,10 +24,10 @@ returns g c =
     let old = g.V.PolicyView.in_force c.args.before.now in
     let new = g.V.PolicyView.in_force c.args.after.now in
     let those : ThoseThatMatter (map change_value changes) (map change_value mattering) =
-    subst (λ (all : List Change). ThoseThatMatter (map change_value all) (map change_value mattering)) c.as_slice.ensures.value c.in_ok-mattering.ensures in
+    subst (λ (all : List (Run TwoVerdicts)). ThoseThatMatter (map change_value all) (map change_value mattering)) c.as_slice.ensures.value c.in_ok-mattering.ensures in
     let shown : c.listed.result.now ≡ cond c.args.all changes mattering =
-    c.listed.ensures ∙ ap (λ (all : List Change). cond c.args.all all c.as_slice-3.result.now) c.as_slice-2.ensures.value
-    ∙ ap (λ (some : List Change). cond c.args.all changes some) c.as_slice-3.ensures.value in
+    c.listed.ensures ∙ ap (λ (all : List (Run TwoVerdicts)). cond c.args.all all c.as_slice-3.result.now) c.as_slice-2.ensures.value
+    ∙ ap (λ (some : List (Run TwoVerdicts)). cond c.args.all changes some) c.as_slice-3.ensures.value in
     let count = length-map changes change_value in
     let count' = length-map mattering change_value in
     record {

@@ -23,7 +23,7 @@ pub returns : goal.returns
 returns c =
     let text = string_bytes c.args.text.now in
     let span = string_bytes c.in_ok-span.span in
-    let value = verdict_result c.args.range.now.verdict in
+    let value = verdict_result c.args.range.now.value in
     let verdict = verdict_line c.args.policy.now value in
     let spanned = string_bytes c.push_str.new.self in
     let behind = string_bytes c.push_str-2.new.self in

@@ -4,7 +4,7 @@ use Rattle.std.proofs.lemmas.List.{take_all, take_more}
 use Rattle.desk_text.specs.Address.{number_of}
 use Rattle.desk_policy.specs.declared.row.Row.{Row}
 use Rattle.desk_policy.specs.Keys.{HasBlock}
-use Rattle.desk_who.specs.PrivateWho.{starts_of}
+use Rattle.desk_who.specs.PrivateStarts.{starts_of}
 use Rattle.desk_who.proofs.Gathered.{writes}
 use Rattle.desk_who.proofs.Steady.{are_starts}
 use Rattle.desk_who.proofs.starts.starts_among.Goals as goal

@@ -4,7 +4,7 @@ use Rattle.std.specs.List.{AllByRecursion, flat_map}
 use Rattle.desk_text.specs.Address.{number_of}
 use Rattle.desk_policy.specs.declared.row.Row.{Row}
 use Rattle.desk_policy.specs.Keys.{HasBlock}
-use Rattle.desk_who.specs.PrivateWho.{starts_of}
+use Rattle.desk_who.specs.PrivateStarts.{starts_of}
 use Rattle.desk_who.proofs.starts.starts_among.Given as goal
 
 abbrev pub invariant-loop-row : goal.invariant-loop-row

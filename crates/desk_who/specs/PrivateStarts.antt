@@ -1,0 +1,29 @@
+-- What the private contracts of starts cite.
+use Rattle.std.specs.Prelude.{ℕ, ◌+◌, ◌^◌, ◌&&◌, Bool, nat_lt, List, [], ◌∷◌, filter}
+use Rattle.std.specs.List.{flat_map}
+use Rattle.desk_text.specs.Network.{last_of}
+use Rattle.desk_exports.specs.declared.entry.Clients.{Clients}
+use Rattle.desk_exports.specs.declared.entry.Clients.TheVariants.{Hosts, Net, Net6, World}
+use Rattle.desk_policy.specs.declared.row.Row.{Row}
+
+-- an address that has one before it
+abbrev pub has_one_before : ℕ → Bool
+has_one_before number = nat_lt 0 number && nat_lt number (2 ^ 32)
+
+-- those of the numbers that are addresses with one before them
+abbrev pub kept : List ℕ → List ℕ
+kept numbers = filter has_one_before numbers
+
+-- an address, and the one behind it
+abbrev pub around : ℕ → List ℕ
+around address = kept (address ∷ (address + 1) ∷ [])
+
+-- the first address of each range that a line for these clients matches, and the one behind each
+abbrev pub starts_by : Clients → List ℕ → List ℕ
+starts_by (Hosts names) addresses = flat_map around addresses
+starts_by (Net net noted) addresses = kept (net.first ∷ (last_of net + 1) ∷ [])
+starts_by (Net6 value) addresses = []
+starts_by World addresses = []
+
+abbrev pub starts_of : Row → List ℕ
+starts_of row = starts_by row.entry.clients row.addrs
