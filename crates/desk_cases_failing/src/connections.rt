@@ -6,12 +6,13 @@ ghost use Rattle.std.specs.Prelude.{◌≡◌, ℕ, ◌<◌, List, length, None,
 use crate::desks::tell;
 use crate::sample::{FILESYSTEMS, site};
 use crate::stories::PLAIN;
+use desk_cases_store::Fresh;
 use desk_http::serve;
 use desk_index::Index;
 use desk_messages::{Bytes, End, Failed, Served, Source, StreamFault};
-use desk_policy::Site;
+use desk_policy::{PolicyView, Site};
 use desk_store::Desk;
-use sqlite::{Connection, MemStore};
+use sqlite::{Alter, MemStore};
 use std::alloc::{AllocError, Global};
 
 /// An edit, its repeat, and one with a base that is stale by then: 114, 114 and 110 bytes.
@@ -275,15 +276,15 @@ struct Wanted {
 
 /// What connections are tried at: a site, its desk if one stands as it was made, and what was wrong so far.
 #[derive(Drop)]
-struct Subject {
+struct Subject<S: Fresh, V: PolicyView + Drop> {
     site: Site,
-    unused: Option<Desk<MemStore, Index>>,
+    unused: Option<Desk<S, V>>,
     wrong: String,
 }
 
-/// Tries all connections of a trial. Returns what is wrong. (The subject is lent, since each `?` would drop its desk.)
+/// Tries all connections of a trial. Returns what is wrong.
 pub fn try_all(alloc: Global, trial: &Trial) -> Result<String, AllocError> {
-    let mut subject = Subject {
+    let mut subject: Subject<MemStore, Index> = Subject {
         site: site(alloc, FILESYSTEMS)?,
         unused: None,
         wrong: String::new(alloc),
@@ -297,7 +298,11 @@ pub fn try_all(alloc: Global, trial: &Trial) -> Result<String, AllocError> {
 }
 
 /// Tries all connections of one kind. Adds what is wrong.
-fn try_kind(alloc: Global, subject: &mut Subject, kind: Kind) -> Result<(), AllocError> {
+fn try_kind<S: Fresh, V: PolicyView + Drop>(
+    alloc: Global,
+    subject: &mut Subject<S, V>,
+    kind: Kind,
+) -> Result<(), AllocError> {
     match kind {
         Kind::Reader(requests, pace, reads) => {
             try_reader(alloc, subject, &requests.stream(), pace, reads)
@@ -312,9 +317,9 @@ fn try_kind(alloc: Global, subject: &mut Subject, kind: Kind) -> Result<(), Allo
 }
 
 /// Serves the requests to a reader of which each read fails in turn, and to one that does not fail. Adds what is wrong.
-fn try_reader(
+fn try_reader<S: Fresh, V: PolicyView + Drop>(
     alloc: Global,
-    subject: &mut Subject,
+    subject: &mut Subject<S, V>,
     stream: &Stream,
     pace: Pace,
     reads: u64,
@@ -335,9 +340,9 @@ fn try_reader(
 }
 
 /// Serves the requests cut after each of their bytes. Adds what is wrong.
-fn try_input(
+fn try_input<S: Fresh, V: PolicyView + Drop>(
     alloc: Global,
-    subject: &mut Subject,
+    subject: &mut Subject<S, V>,
     stream: &Stream,
     pace: Pace,
 ) -> Result<(), AllocError> {
@@ -371,9 +376,9 @@ fn try_input(
 }
 
 /// Serves the requests to a writer of which each write fails in turn, and to one that does not fail. Adds what is wrong.
-fn try_writer(
+fn try_writer<S: Fresh, V: PolicyView + Drop>(
     alloc: Global,
-    subject: &mut Subject,
+    subject: &mut Subject<S, V>,
     stream: &Stream,
     pace: Pace,
     ends: [u64; 3],
@@ -473,14 +478,14 @@ fn last_before(stream: &Stream, ends: [u64; 3], call: u64) -> (u64, u64, usize) 
 }
 
 /// Makes a desk of the site, in memory, unless one stands as it was made. If it is refused, that is wrong.
-fn take_desk(
+fn take_desk<S: Fresh, V: PolicyView + Drop>(
     alloc: Global,
-    subject: &mut Subject,
-) -> Result<Option<Desk<MemStore, Index>>, AllocError> {
+    subject: &mut Subject<S, V>,
+) -> Result<Option<Desk<S, V>>, AllocError> {
     if let Some(desk) = subject.unused.take() {
         return Ok(Some(desk));
     }
-    match Desk::create(alloc, Connection::open_in_memory(alloc)?, &subject.site) {
+    match Desk::create(alloc, S::open(alloc)?, &subject.site) {
         Ok(desk) => Ok(Some(desk)),
         Err(_) => {
             subject.wrong.push_str("no desk is made\n")?;
@@ -489,10 +494,10 @@ fn take_desk(
     }
 }
 
-/// Serves bytes of a stream to a desk as it was made, while this read or this write fails. Adds what is not as it is wanted.
-fn serve_once(
+/// Serves bytes of a stream to a desk as it was made, and keeps the desk if it still stands so. Adds what is not as it is wanted.
+fn serve_once<S: Fresh, V: PolicyView + Drop>(
     alloc: Global,
-    subject: &mut Subject,
+    subject: &mut Subject<S, V>,
     stream: &Stream,
     bytes: &[u8],
     pace: Pace,
@@ -502,17 +507,53 @@ fn serve_once(
     let Some(mut desk) = take_desk(alloc, subject)? else {
         return Ok(());
     };
+    let wrong = &mut subject.wrong;
+    let tried = serve_bytes(
+        alloc, &mut desk, wrong, stream, bytes, pace, fails_at, wanted,
+    );
+    keep_desk(subject, desk, tried)
+}
+
+/// Serves bytes of a stream to a desk, while this read or this write fails. Adds what is not as it is wanted. Tells whether the desk
+/// stands as it was made.
+fn serve_bytes<S: Alter + Drop, V: PolicyView + Drop>(
+    alloc: Global,
+    desk: &mut Desk<S, V>,
+    wrong: &mut String,
+    stream: &Stream,
+    bytes: &[u8],
+    pace: Pace,
+    fails_at: (Option<u64>, Option<u64>),
+    wanted: &Wanted,
+) -> Result<bool, AllocError> {
     let mut reader = Bytes::new(bytes.to_vec(alloc)?, pace.bytes(), fails_at.0);
     let mut writer = Bytes::new(Vec::new(alloc), pace.bytes(), fails_at.1);
-    let served = serve(alloc, &mut desk, &mut reader, &mut writer);
-    check_written(subject, stream, served, writer.as_slice(), wanted)?;
-    check_desk(alloc, subject, desk, wanted.steps)
+    let served = serve(alloc, desk, &mut reader, &mut writer);
+    check_written(wrong, stream, served, writer.as_slice(), wanted)?;
+    check_desk(alloc, desk, wrong, wanted.steps)
+}
+
+/// Keeps a desk, if it stands as it was made.
+fn keep_desk<S: Fresh, V: PolicyView + Drop>(
+    subject: &mut Subject<S, V>,
+    desk: Desk<S, V>,
+    tried: Result<bool, AllocError>,
+) -> Result<(), AllocError> {
+    match tried {
+        Ok(is_as_made) => {
+            if is_as_made {
+                subject.unused = Some(desk);
+            }
+            Ok(())
+        }
+        Err(error) => Err(error),
+    }
 }
 
 /// Compares what a connection came to and wrote with what is wanted: replies up to some byte, and then the last text. Adds what
 /// differs.
 fn check_written(
-    subject: &mut Subject,
+    wrong: &mut String,
     stream: &Stream,
     served: Served,
     written: &[u8],
@@ -524,13 +565,13 @@ fn check_written(
         all.replies = all.replies.saturating_add(1);
         all.written = all.written.saturating_add(wanted.last.len() as u128);
     }
-    check_served(served, all, &mut subject.wrong)?;
+    check_served(served, all, wrong)?;
     let front = written.get(..length);
     if front.is_none() || front != stream.replies.get(..length) {
-        subject.wrong.push_str("other replies are written\n")?;
+        wrong.push_str("other replies are written\n")?;
     }
     if written.get(length..) != Some(wanted.last) {
-        subject.wrong.push_str("another text is written at last\n")?;
+        wrong.push_str("another text is written at last\n")?;
     }
     Ok(())
 }
@@ -561,27 +602,29 @@ fn end_name(end: End) -> &'static str {
     }
 }
 
-/// Looks whether a desk holds the history of so many steps. Adds what is wrong. If it stands as it was made, it is kept.
-fn check_desk(
+/// Looks whether a desk holds the history of so many steps. Adds what is wrong. Tells whether it stands as it was made.
+fn check_desk<S: Alter + Drop, V: PolicyView + Drop>(
     alloc: Global,
-    subject: &mut Subject,
-    mut desk: Desk<MemStore, Index>,
+    desk: &mut Desk<S, V>,
+    wrong: &mut String,
     steps: usize,
-) -> Result<(), AllocError> {
+) -> Result<bool, AllocError> {
     let mut found = String::new(alloc);
-    tell(alloc, &mut desk, &PLAIN, &mut found)?;
+    tell(alloc, desk, &PLAIN, &mut found)?;
     let found = found.as_str();
     let wanted = PLAIN.history_after(alloc, steps.saturating_sub(1))?;
-    if found != wanted.as_str() {
-        write!(subject.wrong, "the desk holds {found:?}\n")?;
-    } else if steps == 1 {
-        subject.unused = Some(desk);
+    if found == wanted.as_str() {
+        return Ok(steps == 1);
     }
-    Ok(())
+    write!(wrong, "the desk holds {found:?}\n")?;
+    Ok(false)
 }
 
 /// Serves requests without end, a byte a read: the bound of 1,000,000 reads ends it. Adds what is wrong.
-fn try_requests(alloc: Global, subject: &mut Subject) -> Result<(), AllocError> {
+fn try_requests<S: Fresh, V: PolicyView + Drop>(
+    alloc: Global,
+    subject: &mut Subject<S, V>,
+) -> Result<(), AllocError> {
     let reader = Endless {
         bytes: REQUEST,
         at: 0,
@@ -597,9 +640,9 @@ fn try_requests(alloc: Global, subject: &mut Subject) -> Result<(), AllocError> 
 }
 
 /// Serves a head without end: so many reads reach the bound of a head. Adds what is wrong.
-fn try_head(
+fn try_head<S: Fresh, V: PolicyView + Drop>(
     alloc: Global,
-    subject: &mut Subject,
+    subject: &mut Subject<S, V>,
     pace: Pace,
     reads: u64,
 ) -> Result<(), AllocError> {
@@ -617,11 +660,10 @@ fn try_head(
     serve_endless(alloc, subject, reader, reads, wanted, BAD_HEAD)
 }
 
-/// Serves what has no end to a new desk. Adds what is wrong: there are to be so many reads, what the connection comes to, and
-/// this reply again and again.
-fn serve_endless(
+/// Serves what has no end to a desk as it was made, and keeps the desk if it still stands so. Adds what is wrong.
+fn serve_endless<S: Fresh, V: PolicyView + Drop>(
     alloc: Global,
-    subject: &mut Subject,
+    subject: &mut Subject<S, V>,
     mut reader: Endless,
     reads: u64,
     wanted: Served,
@@ -632,17 +674,35 @@ fn serve_endless(
     let Some(mut desk) = take_desk(alloc, subject)? else {
         return Ok(());
     };
+    let wrong = &mut subject.wrong;
+    let tried = serve_reader(alloc, &mut desk, wrong, &mut reader, reads, wanted, reply);
+    keep_desk(subject, desk, tried)
+}
+
+/// Serves what has no end to a desk. Adds what is wrong: there are to be so many reads, what the connection comes to, and this
+/// reply again and again. Tells whether the desk stands as it was made.
+fn serve_reader<S: Alter + Drop, V: PolicyView + Drop>(
+    alloc: Global,
+    desk: &mut Desk<S, V>,
+    wrong: &mut String,
+    reader: &mut Endless,
+    reads: u64,
+    wanted: Served,
+    reply: &[u8],
+) -> Result<bool, AllocError>
+    requires { reader.old.reads ≡ 0 }
+{
     let mut writer = Bytes::new(Vec::new(alloc), 65_536, None);
-    let served = serve(alloc, &mut desk, &mut reader, &mut writer);
-    check_served(served, wanted, &mut subject.wrong)?;
+    let served = serve(alloc, desk, reader, &mut writer);
+    check_served(served, wanted, wrong)?;
     if reader.reads != reads {
         let found = reader.reads;
-        write!(subject.wrong, "{found} reads\n")?;
+        write!(wrong, "{found} reads\n")?;
     }
     if writer.as_slice().len() as u128 != wanted.written || !repeats(writer.as_slice(), reply) {
-        subject.wrong.push_str("other bytes are written\n")?;
+        wrong.push_str("other bytes are written\n")?;
     }
-    check_desk(alloc, subject, desk, 1)
+    check_desk(alloc, desk, wrong, 1)
 }
 
 /// Tests whether bytes are these again and again, and no others.

@@ -1,4 +1,5 @@
-//! A desk on files: making it, editing it, and what its tables hold.
+//! A desk on files: making it, editing it, and what its tables hold. What opens and closes the files names their store; all else is
+//! over any store and any view.
 
 ghost use Rattle.std.specs.Prelude.{◌≡◌, false, IfErr, IfOk};
 ghost use Rattle.sqlite.specs.Held.{state};
@@ -7,7 +8,7 @@ use crate::sample::names;
 use crate::stories::{Start, Story};
 use desk_core::{Edit, Head, Proposal};
 use desk_index::Index;
-use desk_policy::Site;
+use desk_policy::{PolicyView, Site};
 use desk_store::{CreateError, Desk, DeskError, Done, Signature};
 use desk_text::Text;
 use sqlite::{Alter, Connection, Error, FileStore, Files, Options, Row};
@@ -58,7 +59,7 @@ pub fn run<D: Disk + Drop>(
     answers: &mut Answers,
 ) -> Files<D> {
     match opened(alloc, files, options, answers) {
-        Ok(conn) => files_of(edited(alloc, conn, story, site, answers)),
+        Ok(conn) => files_of(edited::<FileStore<D>, Index>(alloc, conn, story, site, answers)),
         Err(files) => files,
     }
 }
@@ -116,16 +117,17 @@ pub fn files_of<D: Disk + Drop>(conn: Connection<FileStore<D>>) -> Files<D> {
 }
 
 /// Makes or opens a desk, and puts the edits.
-fn edited<D: Disk + Drop>(
+fn edited<S: Alter + Drop, V: PolicyView + Drop>(
     alloc: Global,
-    conn: Connection<FileStore<D>>,
+    conn: Connection<S>,
     story: &Story,
     site: &Site,
     answers: &mut Answers,
-) -> Connection<FileStore<D>>
+) -> Connection<S>
     requires { conn.in_transaction ≡ false }
 {
-    match started(alloc, conn, story.start, site, answers) {
+    let started: Result<Desk<S, V>, _> = started(alloc, conn, story.start, site, answers);
+    match started {
         Ok(mut desk) => {
             answers.done = put_all(alloc, &mut desk, story, answers).saturating_add(1);
             desk.into_connection()
@@ -135,13 +137,13 @@ fn edited<D: Disk + Drop>(
 }
 
 /// Makes or opens a desk, at the second time if need be.
-fn started<D: Disk + Drop>(
+fn started<S: Alter + Drop, V: PolicyView + Drop>(
     alloc: Global,
-    conn: Connection<FileStore<D>>,
+    conn: Connection<S>,
     start: Start,
     site: &Site,
     answers: &mut Answers,
-) -> Result<Desk<FileStore<D>, Index>, Connection<FileStore<D>>>
+) -> Result<Desk<S, V>, Connection<S>>
     requires { conn.in_transaction ≡ false }
 {
     match start_once(alloc, conn, start, site, answers) {
@@ -151,13 +153,13 @@ fn started<D: Disk + Drop>(
 }
 
 /// Makes or opens a desk. If it is refused, the connection is given back.
-fn start_once<D: Disk + Drop>(
+fn start_once<S: Alter + Drop, V: PolicyView + Drop>(
     alloc: Global,
-    conn: Connection<FileStore<D>>,
+    conn: Connection<S>,
     start: Start,
     site: &Site,
     answers: &mut Answers,
-) -> Result<Desk<FileStore<D>, Index>, Connection<FileStore<D>>>
+) -> Result<Desk<S, V>, Connection<S>>
     requires { conn.in_transaction ≡ false }
     ensures { IfErr result (λ conn. conn.in_transaction ≡ false) }
 {
@@ -168,11 +170,11 @@ fn start_once<D: Disk + Drop>(
 }
 
 /// Opens a desk. If it is refused, the connection is given back.
-fn open_desk_once<D: Disk + Drop>(
+fn open_desk_once<S: Alter + Drop, V: PolicyView + Drop>(
     alloc: Global,
-    conn: Connection<FileStore<D>>,
+    conn: Connection<S>,
     answers: &mut Answers,
-) -> Result<Desk<FileStore<D>, Index>, Connection<FileStore<D>>>
+) -> Result<Desk<S, V>, Connection<S>>
     requires { conn.in_transaction ≡ false }
     ensures { IfErr result (λ conn. conn.in_transaction ≡ false) }
 {
@@ -190,12 +192,12 @@ fn open_desk_once<D: Disk + Drop>(
 }
 
 /// Makes a desk. If it is refused, the connection is given back.
-fn create_once<D: Disk + Drop>(
+fn create_once<S: Alter + Drop, V: PolicyView + Drop>(
     alloc: Global,
-    conn: Connection<FileStore<D>>,
+    conn: Connection<S>,
     site: &Site,
     answers: &mut Answers,
-) -> Result<Desk<FileStore<D>, Index>, Connection<FileStore<D>>>
+) -> Result<Desk<S, V>, Connection<S>>
     requires { conn.in_transaction ≡ false }
     ensures { IfErr result (λ conn. conn.in_transaction ≡ false) }
 {
@@ -214,9 +216,9 @@ fn create_once<D: Disk + Drop>(
 
 /// Puts the edits of a story, each at the second time if need be, until one is refused twice. Returns how many were answered as
 /// done.
-pub fn put_all<D: Disk + Drop>(
+pub fn put_all<S: Alter + Drop, V: PolicyView + Drop>(
     alloc: Global,
-    desk: &mut Desk<FileStore<D>, Index>,
+    desk: &mut Desk<S, V>,
     story: &Story,
     answers: &mut Answers,
 ) -> usize {
@@ -229,9 +231,9 @@ pub fn put_all<D: Disk + Drop>(
 }
 
 /// Puts an edit, and tells whether it was answered as done. If not, the desk still stands at the revision before it.
-fn put<D: Disk + Drop>(
+fn put<S: Alter + Drop, V: PolicyView + Drop>(
     alloc: Global,
-    desk: &mut Desk<FileStore<D>, Index>,
+    desk: &mut Desk<S, V>,
     edit: &Edit<'_>,
     answers: &mut Answers,
 ) -> bool {
@@ -258,7 +260,7 @@ fn newest_after(edit: &Edit<'_>, done: Done) -> u32 {
 }
 
 /// Returns the number of a file's newest revision, by the desk.
-fn newest_number<D: Disk + Drop>(desk: &Desk<FileStore<D>, Index>, file: &str) -> u32 {
+fn newest_number<S: Alter + Drop, V: PolicyView + Drop>(desk: &Desk<S, V>, file: &str) -> u32 {
     match desk.newest(file) {
         Some(head) => head.rev,
         None => 0,
@@ -288,16 +290,16 @@ pub fn look<D: Disk + Drop>(
     };
     let mut answers = Answers::new();
     match opened(alloc, files, options(1000), &mut answers) {
-        Ok(conn) => go_on(alloc, conn, story, site, &mut found)?,
+        Ok(conn) => go_on::<FileStore<D>, Index>(alloc, conn, story, site, &mut found)?,
         Err(_) => found.tables.push_str("no database")?,
     }
     Ok(found)
 }
 
 /// Tells the tables, and what a desk holds; goes on, and tells what it holds then.
-fn go_on<D: Disk + Drop>(
+fn go_on<S: Alter + Drop, V: PolicyView + Drop>(
     alloc: Global,
-    mut conn: Connection<FileStore<D>>,
+    mut conn: Connection<S>,
     story: &Story,
     site: &Site,
     found: &mut Found,
@@ -309,16 +311,16 @@ fn go_on<D: Disk + Drop>(
         drop(conn);
         return told;
     }
-    match reopened(alloc, conn, story, site, &mut found.first) {
+    match reopened::<S, V>(alloc, conn, story, site, &mut found.first) {
         Some(desk) => tell_last(alloc, desk, story, &mut found.last),
         None => Ok(()),
     }
 }
 
 /// Puts the edits, and tells what the desk holds then.
-fn tell_last<D: Disk + Drop>(
+fn tell_last<S: Alter + Drop, V: PolicyView + Drop>(
     alloc: Global,
-    mut desk: Desk<FileStore<D>, Index>,
+    mut desk: Desk<S, V>,
     story: &Story,
     last: &mut String,
 ) -> Result<(), AllocError> {
@@ -328,8 +330,8 @@ fn tell_last<D: Disk + Drop>(
 }
 
 /// Tells the version of a database and the names of its tables, `version 2 approval file_rev meta proposal`, or `no tables`.
-fn tell_tables<D: Disk + Drop>(
-    conn: &mut Connection<FileStore<D>>,
+fn tell_tables<S: Alter + Drop>(
+    conn: &mut Connection<S>,
     out: &mut String,
 ) -> Result<(), AllocError> {
     match conn.query_all("SELECT version FROM meta", &[]) {
@@ -365,13 +367,13 @@ fn add_bytes(out: &mut String, bytes: &[u8]) -> Result<(), AllocError> {
 }
 
 /// Opens a desk and tells what it holds; makes it if there are no tables.
-fn reopened<D: Disk + Drop>(
+fn reopened<S: Alter + Drop, V: PolicyView + Drop>(
     alloc: Global,
-    conn: Connection<FileStore<D>>,
+    conn: Connection<S>,
     story: &Story,
     site: &Site,
     first: &mut String,
-) -> Option<Desk<FileStore<D>, Index>>
+) -> Option<Desk<S, V>>
     requires { conn.in_transaction ≡ false }
 {
     match Desk::open(alloc, conn) {
@@ -389,9 +391,9 @@ fn reopened<D: Disk + Drop>(
 
 /// Tells the revisions of each file of the site: its name, the number, the author, who approved it, the profile, and in the next
 /// lines the text; and its proposal. Of a file that the story does not edit only the newest revision is told.
-pub fn tell<S: Alter + Drop>(
+pub fn tell<S: Alter + Drop, V: PolicyView + Drop>(
     alloc: Global,
-    desk: &mut Desk<S, Index>,
+    desk: &mut Desk<S, V>,
     story: &Story,
     out: &mut String,
 ) -> Result<(), AllocError> {
@@ -432,9 +434,9 @@ fn tell_proposal(
 }
 
 /// Tells all revisions of a file.
-fn tell_revisions<S: Alter + Drop>(
+fn tell_revisions<S: Alter + Drop, V: PolicyView + Drop>(
     alloc: Global,
-    desk: &mut Desk<S, Index>,
+    desk: &mut Desk<S, V>,
     name: &str,
     out: &mut String,
 ) -> Result<(), AllocError> {
@@ -468,9 +470,9 @@ fn tell_approver(approver: &Option<Text>, out: &mut String) -> Result<(), AllocE
 }
 
 /// Tells the text of a revision.
-fn tell_body<S: Alter + Drop>(
+fn tell_body<S: Alter + Drop, V: PolicyView + Drop>(
     alloc: Global,
-    desk: &mut Desk<S, Index>,
+    desk: &mut Desk<S, V>,
     name: &str,
     rev: u32,
     out: &mut String,

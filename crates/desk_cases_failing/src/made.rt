@@ -6,8 +6,9 @@ use crate::desks::{Answers, files_of, opened, options};
 use crate::sample::{EXPORTS, FILESYSTEMS, TABLES, site};
 use crate::trials::file_of;
 use desk_index::Index;
+use desk_policy::PolicyView;
 use desk_store::Desk;
-use sqlite::{Connection, Error, FileStore, Files, params};
+use sqlite::{Alter, Connection, Error, FileStore, Files, params};
 use sqlite_disk::Memory;
 use std::alloc::{AllocError, Global};
 use std::io;
@@ -37,7 +38,10 @@ impl Made {
     pub fn of_site(alloc: Global, wrong: &mut String) -> Result<Made, AllocError> {
         let mut answers = Answers::new();
         match opened(alloc, empty_files(alloc), options(1000), &mut answers) {
-            Ok(conn) => Made::of_files(alloc, &files_of(created(alloc, conn, wrong)?)),
+            Ok(conn) => {
+                let conn = created::<FileStore<Memory>, Index>(alloc, conn, wrong)?;
+                Made::of_files(alloc, &files_of(conn))
+            }
             Err(files) => Made::of_files(alloc, &files),
         }
     }
@@ -46,10 +50,8 @@ impl Made {
     pub fn of_version_one(alloc: Global, wrong: &mut String) -> Result<Made, AllocError> {
         let mut answers = Answers::new();
         match opened(alloc, empty_files(alloc), options(1000), &mut answers) {
-            Ok(mut conn) => {
-                if fill(alloc, &mut conn)?.is_err() {
-                    wrong.push_str("no database of version 1 is made\n")?;
-                }
+            Ok(conn) => {
+                let conn = filled(alloc, conn, wrong)?;
                 Made::of_files(alloc, &files_of(conn))
             }
             Err(files) => Made::of_files(alloc, &files),
@@ -81,18 +83,14 @@ fn empty_files(alloc: Global) -> Files<Memory> {
 }
 
 /// Makes a desk of the sample site. If it is refused, that is wrong.
-fn created(
+fn created<S: Alter + Drop, V: PolicyView + Drop>(
     alloc: Global,
-    conn: Connection<FileStore<Memory>>,
+    conn: Connection<S>,
     wrong: &mut String,
-) -> Result<Connection<FileStore<Memory>>, AllocError>
+) -> Result<Connection<S>, AllocError>
     requires { conn.in_transaction ≡ false }
 {
-    let made: Result<Desk<FileStore<Memory>, Index>, _> = Desk::create(
-        alloc,
-        conn,
-        &site(alloc, FILESYSTEMS)?,
-    );
+    let made: Result<Desk<S, V>, _> = Desk::create(alloc, conn, &site(alloc, FILESYSTEMS)?);
     match made {
         Ok(desk) => Ok(desk.into_connection()),
         Err((_, conn)) => {
@@ -102,10 +100,22 @@ fn created(
     }
 }
 
-/// Makes the tables of version 1, with the files of the sample site. Returns what SQLite refuses.
-fn fill(
+/// Makes a database of version 1. If a statement is refused, that is wrong.
+fn filled<S: Alter + Drop>(
     alloc: Global,
-    conn: &mut Connection<FileStore<Memory>>,
+    mut conn: Connection<S>,
+    wrong: &mut String,
+) -> Result<Connection<S>, AllocError> {
+    if fill(alloc, &mut conn)?.is_err() {
+        wrong.push_str("no database of version 1 is made\n")?;
+    }
+    Ok(conn)
+}
+
+/// Makes the tables of version 1, with the files of the sample site. Returns what SQLite refuses.
+fn fill<S: Alter + Drop>(
+    alloc: Global,
+    conn: &mut Connection<S>,
 ) -> Result<Result<(), Error>, AllocError> {
     if let Err(error) = conn.execute_batch(VERSION_ONE) {
         return Ok(Err(error));
@@ -121,9 +131,9 @@ fn fill(
     fill_exports(alloc, conn)
 }
 
-fn fill_exports(
+fn fill_exports<S: Alter + Drop>(
     alloc: Global,
-    conn: &mut Connection<FileStore<Memory>>,
+    conn: &mut Connection<S>,
 ) -> Result<Result<(), Error>, AllocError> {
     for (mount, text) in EXPORTS {
         let name = format!(in alloc; "exports:{mount}")?;
@@ -135,7 +145,7 @@ fn fill_exports(
 }
 
 /// Inserts the first revision of a file, which is read by profile 1.
-fn insert(conn: &mut Connection<FileStore<Memory>>, file: &str, text: &str) -> Result<(), Error> {
+fn insert<S: Alter + Drop>(conn: &mut Connection<S>, file: &str, text: &str) -> Result<(), Error> {
     let values = params![file, text.as_bytes()];
     conn.execute("INSERT INTO file_rev VALUES(?1, 1, 'site', 1, ?2)", values)?;
     Ok(())

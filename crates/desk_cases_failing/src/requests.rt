@@ -7,13 +7,14 @@ use crate::connections::check_served;
 use crate::desks::{Answers, files_of, opened, options, tell};
 use crate::made::Made;
 use crate::stories::PLAIN;
-use crate::trials::{MOST_PASSES, Trial, failing_files, have_failed, written_files};
+use crate::trials::{File, MOST_PASSES, Trial, failing_files, have_failed, written_files};
 use desk_http::serve;
 use desk_index::Index;
 use desk_messages::{Bytes, End, Served};
+use desk_policy::PolicyView;
 use desk_store::Desk;
-use sqlite::{Connection, FileStore, Files};
-use sqlite_disk::{Disk, Memory};
+use sqlite::{Alter, Connection, FileStore, Files};
+use sqlite_disk::Memory;
 use std::alloc::{AllocError, Global};
 use std::io;
 
@@ -106,7 +107,12 @@ fn try_once(
     let files = failing_files(trial, made.files(alloc)?, passes);
     let mut answered = None;
     let mut files = match opened(alloc, files, trial.options(), &mut answers) {
-        Ok(conn) => files_of(serve_over(alloc, conn, &mut answered, wrong)?),
+        Ok(conn) => files_of(serve_over::<FileStore<File>, Index>(
+            alloc,
+            conn,
+            &mut answered,
+            wrong,
+        )?),
         Err(files) => files,
     };
     if let Some(is_stored) = answered {
@@ -118,29 +124,44 @@ fn try_once(
 
 /// Opens a desk, if that is not refused, and serves the requests. Tells whether the edit is answered as stored, and adds what is
 /// wrong. Gives the connection back.
-fn serve_over<D: Disk + Drop>(
+fn serve_over<S: Alter + Drop, V: PolicyView + Drop>(
     alloc: Global,
-    conn: Connection<FileStore<D>>,
+    conn: Connection<S>,
     answered: &mut Option<bool>,
     wrong: &mut String,
-) -> Result<Connection<FileStore<D>>, AllocError>
+) -> Result<Connection<S>, AllocError>
     requires { conn.in_transaction ≡ false }
 {
-    let opened: Result<Desk<FileStore<D>, Index>, _> = Desk::open(alloc, conn);
+    let opened: Result<Desk<S, V>, _> = Desk::open(alloc, conn);
     match opened {
         Ok(mut desk) => {
-            let written = served(alloc, &mut desk, wrong)?;
-            *answered = answered_in(written.as_slice(), wrong)?;
-            Ok(desk.into_connection())
+            let tried = serve_all(alloc, &mut desk, answered, wrong);
+            let conn = desk.into_connection();
+            match tried {
+                Ok(()) => Ok(conn),
+                Err(error) => Err(error),
+            }
         }
         Err((_, conn)) => Ok(conn),
     }
 }
 
-/// Serves the requests on one connection. Returns what is written, and adds what is wrong: there are to be five replies.
-fn served<D: Disk + Drop>(
+/// Serves the requests, and tells whether the edit is answered as stored. Adds what is wrong.
+fn serve_all<S: Alter + Drop, V: PolicyView + Drop>(
     alloc: Global,
-    desk: &mut Desk<FileStore<D>, Index>,
+    desk: &mut Desk<S, V>,
+    answered: &mut Option<bool>,
+    wrong: &mut String,
+) -> Result<(), AllocError> {
+    let written = served(alloc, desk, wrong)?;
+    *answered = answered_in(written.as_slice(), wrong)?;
+    Ok(())
+}
+
+/// Serves the requests on one connection. Returns what is written, and adds what is wrong: there are to be five replies.
+fn served<S: Alter + Drop, V: PolicyView + Drop>(
+    alloc: Global,
+    desk: &mut Desk<S, V>,
     wrong: &mut String,
 ) -> Result<Vec<u8>, AllocError> {
     let mut reader = Bytes::new(REQUESTS.to_vec(alloc)?, 65_536, None);
@@ -203,44 +224,54 @@ fn check_again(
 ) -> Result<(), AllocError> {
     let mut answers = Answers::new();
     match opened(alloc, files, options(1000), &mut answers) {
-        Ok(conn) => check_reopened(alloc, conn, answered, wrong),
+        Ok(conn) => check_reopened::<FileStore<Memory>, Index>(alloc, conn, answered, wrong),
         Err(_) => wrong.push_str("no database is opened again\n"),
     }
 }
 
-/// Looks whether the tables are as before, or have the revision of the edit: if it was answered as stored, they have it. Then serves
-/// the requests, none of which is refused. Adds what is wrong.
-fn check_reopened(
+/// Opens a desk on what was left, and checks it. Adds what is wrong.
+fn check_reopened<S: Alter + Drop, V: PolicyView + Drop>(
     alloc: Global,
-    conn: Connection<FileStore<Memory>>,
+    conn: Connection<S>,
     answered: bool,
     wrong: &mut String,
 ) -> Result<(), AllocError>
     requires { conn.in_transaction ≡ false }
 {
-    let opened: Result<Desk<FileStore<Memory>, Index>, _> = Desk::open(alloc, conn);
-    let Ok(mut desk) = opened else {
-        return wrong.push_str("no desk is opened again\n");
-    };
-    let is_stored = holds(alloc, &mut desk, 2)?;
-    if !is_stored && (answered || !holds(alloc, &mut desk, 1)?) {
+    let opened: Result<Desk<S, V>, _> = Desk::open(alloc, conn);
+    match opened {
+        Ok(mut desk) => check_opened(alloc, &mut desk, answered, wrong),
+        Err(_) => wrong.push_str("no desk is opened again\n"),
+    }
+}
+
+/// Looks whether the tables are as before, or have the revision of the edit: if it was answered as stored, they have it. Then serves
+/// the requests, none of which is refused. Adds what is wrong.
+fn check_opened<S: Alter + Drop, V: PolicyView + Drop>(
+    alloc: Global,
+    desk: &mut Desk<S, V>,
+    answered: bool,
+    wrong: &mut String,
+) -> Result<(), AllocError> {
+    let is_stored = holds(alloc, desk, 2)?;
+    if !is_stored && (answered || !holds(alloc, desk, 1)?) {
         wrong.push_str("the tables are other ones\n")?;
     }
     let edit = if is_stored { STORED_BEFORE } else { STORED };
-    let written = served(alloc, &mut desk, wrong)?;
+    let written = served(alloc, desk, wrong)?;
     if written.as_slice() != replies(alloc, edit)?.as_slice() {
         wrong.push_str("other replies are written once the files work\n")?;
     }
-    if !holds(alloc, &mut desk, 2)? {
+    if !holds(alloc, desk, 2)? {
         wrong.push_str("the tables are other ones at last\n")?;
     }
     Ok(())
 }
 
 /// Tests whether a desk holds the history of so many steps.
-fn holds(
+fn holds<S: Alter + Drop, V: PolicyView + Drop>(
     alloc: Global,
-    desk: &mut Desk<FileStore<Memory>, Index>,
+    desk: &mut Desk<S, V>,
     steps: usize,
 ) -> Result<bool, AllocError> {
     let mut found = String::new(alloc);

@@ -1,13 +1,17 @@
 //! The desks at which cases are tried, each in memory.
 
-use desk_cases_store::Subject;
+use desk_cases_store::{ByKeys, Fresh, Subject};
 use desk_cases_texts::answers::{Asked, split};
 use desk_cases_texts::escapes;
 use std::alloc::{AllocError, Global};
 use std::str;
 
 /// Keeps the texts of a site, each of a line `FILE TEXT`; the text may have escapes. Tells whether each line is one.
-pub fn read_site(alloc: Global, subject: &mut Subject, site: &str) -> Asked {
+pub fn read_site<S: Fresh, V: ByKeys>(
+    alloc: Global,
+    subject: &mut Subject<S, V>,
+    site: &str,
+) -> Asked {
     let mut text = Vec::new(alloc);
     for line in site.lines() {
         text.clear();
@@ -25,7 +29,7 @@ pub fn read_site(alloc: Global, subject: &mut Subject, site: &str) -> Asked {
 }
 
 /// Opens a new desk, with the site as its first revisions. Tells whether it can be made.
-pub fn make_desk(alloc: Global, subject: &mut Subject) -> Asked {
+pub fn make_desk<S: Fresh, V: ByKeys>(alloc: Global, subject: &mut Subject<S, V>) -> Asked {
     Ok(
         is_answered(alloc, subject, "database", "", "new")?
             && is_answered(alloc, subject, "create", "", "made")?,
@@ -33,9 +37,9 @@ pub fn make_desk(alloc: Global, subject: &mut Subject) -> Asked {
 }
 
 /// Tests whether a question has this answer.
-fn is_answered(
+fn is_answered<S: Fresh, V: ByKeys>(
     alloc: Global,
-    subject: &mut Subject,
+    subject: &mut Subject<S, V>,
     question: &str,
     text: &str,
     wanted: &str,
@@ -48,9 +52,9 @@ fn is_answered(
 }
 
 /// Asks the desk these questions. The answers have a line end behind each.
-pub fn ask(
+pub fn ask<S: Fresh, V: ByKeys>(
     alloc: Global,
-    subject: &mut Subject,
+    subject: &mut Subject<S, V>,
     questions: &[String],
 ) -> Result<String, AllocError> {
     let mut answers = String::new(alloc);
@@ -63,7 +67,11 @@ pub fn ask(
 }
 
 /// Asks the desk a question. Each has a text of its own: a list puts `; ` before an item if the text is not empty.
-fn answer_to(alloc: Global, subject: &mut Subject, question: &str) -> Result<String, AllocError> {
+fn answer_to<S: Fresh, V: ByKeys>(
+    alloc: Global,
+    subject: &mut Subject<S, V>,
+    question: &str,
+) -> Result<String, AllocError> {
     let mut found = String::new(alloc);
     let (question, text) = split(question);
     if !desk_cases_store::answer(alloc, subject, &mut found, question, text)? {
@@ -73,7 +81,7 @@ fn answer_to(alloc: Global, subject: &mut Subject, question: &str) -> Result<Str
 }
 
 /// Tests whether each file of the desk stands at its first revision.
-pub fn is_as_made(alloc: Global, subject: &mut Subject) -> Asked {
+pub fn is_as_made<S: Fresh, V: ByKeys>(alloc: Global, subject: &mut Subject<S, V>) -> Asked {
     let mut found = String::new(alloc);
     if !desk_cases_store::answer(alloc, subject, &mut found, "heads", "")? {
         return Ok(false);

@@ -4,7 +4,9 @@ use crate::cases::Case;
 use crate::desks::{ask, is_as_made, make_desk, read_site};
 use crate::report::Report;
 use crate::ways::{Session, Way, end_text, serve_so};
-use desk_cases_store::Subject;
+use desk_cases_store::{ByKeys, Fresh, Subject};
+use desk_index::Index;
+use sqlite::MemStore;
 use std::alloc::{AllocError, Global};
 use std::str;
 
@@ -24,15 +26,15 @@ pub fn try_text(
     site: &str,
     text: &str,
 ) -> Result<(), AllocError> {
-    let mut subject = Subject::new(alloc);
+    let mut subject: Subject<MemStore, Index> = Subject::new(alloc);
     try_at_site(alloc, report, &mut subject, site, text)
 }
 
-/// Makes the desk of a site, and tries the cases of a text at it. (The subject is lent, since each `?` would drop all that it has.)
-fn try_at_site(
+/// Makes the desk of a site, and tries the cases of a text at it.
+fn try_at_site<S: Fresh, V: ByKeys>(
     alloc: Global,
     report: &mut Report,
-    subject: &mut Subject,
+    subject: &mut Subject<S, V>,
     site: &str,
     text: &str,
 ) -> Result<(), AllocError> {
@@ -42,10 +44,10 @@ fn try_at_site(
     try_lines(alloc, report, subject, text)
 }
 
-fn try_lines(
+fn try_lines<S: Fresh, V: ByKeys>(
     alloc: Global,
     report: &mut Report,
-    subject: &mut Subject,
+    subject: &mut Subject<S, V>,
     text: &str,
 ) -> Result<(), AllocError> {
     let mut case = None;
@@ -58,10 +60,10 @@ fn try_lines(
 }
 
 /// Takes a line. If a case begins with it, the one before is tried.
-fn try_line(
+fn try_line<S: Fresh, V: ByKeys>(
     alloc: Global,
     report: &mut Report,
-    subject: &mut Subject,
+    subject: &mut Subject<S, V>,
     case: &mut Option<Case>,
     line: &str,
     index: usize,
@@ -78,10 +80,10 @@ fn try_line(
     }
 }
 
-fn try_if_some(
+fn try_if_some<S: Fresh, V: ByKeys>(
     alloc: Global,
     report: &mut Report,
-    subject: &mut Subject,
+    subject: &mut Subject<S, V>,
     case: &Option<Case>,
 ) -> Result<(), AllocError> {
     match case {
@@ -91,10 +93,10 @@ fn try_if_some(
 }
 
 /// Tries a case in each way, up to the first that differs.
-fn try_case(
+fn try_case<S: Fresh, V: ByKeys>(
     alloc: Global,
     report: &mut Report,
-    subject: &mut Subject,
+    subject: &mut Subject<S, V>,
     case: &Case,
 ) -> Result<(), AllocError> {
     report.count();
@@ -106,7 +108,11 @@ fn try_case(
 }
 
 /// Tells what is wrong with a case: nothing if the text is empty.
-fn wrong_of(alloc: Global, subject: &mut Subject, case: &Case) -> Result<String, AllocError> {
+fn wrong_of<S: Fresh, V: ByKeys>(
+    alloc: Global,
+    subject: &mut Subject<S, V>,
+    case: &Case,
+) -> Result<String, AllocError> {
     let mut wrong = case.wrong.clone()?;
     if !wrong.is_empty() {
         return Ok(wrong);
@@ -118,9 +124,9 @@ fn wrong_of(alloc: Global, subject: &mut Subject, case: &Case) -> Result<String,
 }
 
 /// Tries a case in two pieces, cut in each place.
-fn try_cuts(
+fn try_cuts<S: Fresh, V: ByKeys>(
     alloc: Global,
-    subject: &mut Subject,
+    subject: &mut Subject<S, V>,
     wrong: &mut String,
     case: &Case,
 ) -> Result<(), AllocError> {
@@ -144,9 +150,9 @@ fn is_cut(case: &Case, count: usize) -> bool {
 }
 
 /// Tries a case in this way, if nothing is wrong yet, and makes a new desk if this one may have changed.
-fn try_way(
+fn try_way<S: Fresh, V: ByKeys>(
     alloc: Global,
-    subject: &mut Subject,
+    subject: &mut Subject<S, V>,
     wrong: &mut String,
     case: &Case,
     way: Way,
@@ -185,9 +191,9 @@ fn compare(
 }
 
 /// Tells how the desk differs, if it does. Leaves a desk at which each file stands at its first revision.
-fn compare_desk(
+fn compare_desk<S: Fresh, V: ByKeys>(
     alloc: Global,
-    subject: &mut Subject,
+    subject: &mut Subject<S, V>,
     wrong: &mut String,
     case: &Case,
 ) -> Result<(), AllocError> {

@@ -3,10 +3,10 @@
 ghost use Rattle.std.specs.Prelude.{◌<◌};
 
 use desk_http::serve;
-use desk_index::Index;
 use desk_messages::{Bytes, End, Of, Served, StreamFault};
+use desk_policy::PolicyView;
 use desk_store::Desk;
-use sqlite::MemStore;
+use sqlite::Alter;
 use std::alloc::{AllocError, Global};
 use std::fmt;
 use std::io::Read;
@@ -38,9 +38,9 @@ pub struct Session {
 }
 
 /// Serves a stream that comes so. Where it comes byte by byte the writer takes a byte a call, and where it is cut, 7.
-pub fn serve_so(
+pub fn serve_so<S: Alter + Drop, V: PolicyView + Drop>(
     alloc: Global,
-    desk: &mut Desk<MemStore, Index>,
+    desk: &mut Desk<S, V>,
     stream: &[u8],
     way: Way,
 ) -> Result<Session, AllocError> {
@@ -55,9 +55,9 @@ pub fn serve_so(
 }
 
 /// Serves a stream of two pieces.
-fn serve_in_pieces(
+fn serve_in_pieces<S: Alter + Drop, V: PolicyView + Drop>(
     alloc: Global,
-    desk: &mut Desk<MemStore, Index>,
+    desk: &mut Desk<S, V>,
     first: &[u8],
     second: &[u8],
     step: usize,
@@ -71,9 +71,9 @@ fn serve_in_pieces(
 }
 
 /// Serves a stream that comes byte by byte.
-fn serve_by_bytes(
+fn serve_by_bytes<S: Alter + Drop, V: PolicyView + Drop>(
     alloc: Global,
-    desk: &mut Desk<MemStore, Index>,
+    desk: &mut Desk<S, V>,
     stream: &[u8],
 ) -> Result<Session, AllocError> {
     let mut reader = Bytes::new(stream.to_vec(alloc)?, 1, None);

@@ -1,11 +1,10 @@
 //! The desk that is served: its site, and what it holds.
 
 use desk_exports::Profile;
-use desk_index::Index;
-use desk_policy::{ExportsText, Site};
+use desk_policy::{ExportsText, PolicyView, Site};
 use desk_store::Desk;
 use desk_text::Text;
-use sqlite::{Connection, MemStore};
+use sqlite::Alter;
 use std::alloc::{AllocError, Global};
 use std::collections::BTreeMap;
 
@@ -34,17 +33,8 @@ pub const EDITED: &str =
     1 site: 131.104.48.17 grumpy\n\
     2 site: 127.0.0.1 localhost\n";
 
-/// Makes a desk in memory; none if it is refused.
-pub fn make_desk(alloc: Global) -> Result<Option<Desk<MemStore, Index>>, AllocError> {
-    let site = site(alloc)?;
-    match Desk::create(alloc, Connection::open_in_memory(alloc)?, &site) {
-        Ok(desk) => Ok(Some(desk)),
-        Err(_) => Ok(None),
-    }
-}
-
 /// Returns the texts of the site.
-fn site(alloc: Global) -> Result<Site, AllocError> {
+pub fn site(alloc: Global) -> Result<Site, AllocError> {
     let mut exports = BTreeMap::new(alloc);
     exports.insert(
         String::from_str(alloc, "/usr")?,
@@ -67,7 +57,10 @@ fn site(alloc: Global) -> Result<Site, AllocError> {
 
 /// Tells the number of the newest revision of each file, and then each revision of the hosts file: its number, its author and its
 /// text.
-pub fn tell(alloc: Global, desk: &mut Desk<MemStore, Index>) -> Result<String, AllocError> {
+pub fn tell<S: Alter + Drop, V: PolicyView + Drop>(
+    alloc: Global,
+    desk: &mut Desk<S, V>,
+) -> Result<String, AllocError> {
     let mut found = String::new(alloc);
     for name in NAMES {
         let rev = newest_number(desk, name);
@@ -78,7 +71,7 @@ pub fn tell(alloc: Global, desk: &mut Desk<MemStore, Index>) -> Result<String, A
 }
 
 /// Returns the number of a file's newest revision, or 0.
-fn newest_number(desk: &Desk<MemStore, Index>, name: &str) -> u32 {
+fn newest_number<S: Alter + Drop, V: PolicyView + Drop>(desk: &Desk<S, V>, name: &str) -> u32 {
     match desk.newest(name) {
         Some(head) => head.rev,
         None => 0,
@@ -86,9 +79,9 @@ fn newest_number(desk: &Desk<MemStore, Index>, name: &str) -> u32 {
 }
 
 /// Tells each revision of the hosts file.
-fn tell_hosts(
+fn tell_hosts<S: Alter + Drop, V: PolicyView + Drop>(
     alloc: Global,
-    desk: &mut Desk<MemStore, Index>,
+    desk: &mut Desk<S, V>,
     found: &mut String,
 ) -> Result<(), AllocError> {
     let Ok(revisions) = desk.revisions(alloc, "hosts") else {
@@ -103,9 +96,9 @@ fn tell_hosts(
 }
 
 /// Tells the text of a revision of the hosts file.
-fn tell_text(
+fn tell_text<S: Alter + Drop, V: PolicyView + Drop>(
     alloc: Global,
-    desk: &mut Desk<MemStore, Index>,
+    desk: &mut Desk<S, V>,
     rev: u32,
     found: &mut String,
 ) -> Result<(), AllocError> {

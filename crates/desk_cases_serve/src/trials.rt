@@ -1,11 +1,13 @@
 //! The trials: what peers write, how many connections are served, and what comes of it.
 
-use crate::desks::{AS_MADE, EDITED, make_desk, tell};
+use crate::desks::{AS_MADE, EDITED, site, tell};
 use crate::peers::{Peer, Receives, Then, check_peer, connect};
 use cli_serve::serve_on;
+use desk_cases_store::Fresh;
 use desk_index::Index;
+use desk_policy::{PolicyView, Site};
 use desk_store::Desk;
-use sqlite::MemStore;
+use sqlite::{Alter, MemStore};
 use std::io;
 use std::net::{Ipv4Addr, SocketAddr, TcpListener, TcpStream};
 use std::time::Duration;
@@ -265,18 +267,30 @@ pub const TRIALS: [Trial; 9] = [
 /// Serves the peers of a trial from a new desk, at a port that is free. Returns what is wrong.
 pub fn try_one(rt: &HostRuntime, trial: &Trial) -> io::Result<String> {
     let mut wrong = String::new(rt.alloc());
-    match make_desk(rt.alloc())? {
-        Some(mut desk) => try_peers(rt, trial, &mut desk, &mut wrong)?,
-        None => wrong.push_str("no desk is made")?,
-    }
+    let site = site(rt.alloc())?;
+    try_desk::<MemStore, Index>(rt, trial, &site, &mut wrong)?;
     Ok(wrong)
 }
 
-/// Serves the peers of a trial. Adds what is wrong. The listener is closed before they read.
-fn try_peers(
+/// Makes a desk of the site, and serves the peers of a trial from it. Adds what is wrong.
+fn try_desk<S: Fresh, V: PolicyView + Drop>(
     rt: &HostRuntime,
     trial: &Trial,
-    desk: &mut Desk<MemStore, Index>,
+    site: &Site,
+    wrong: &mut String,
+) -> io::Result<()> {
+    let made: Result<Desk<S, V>, _> = Desk::create(rt.alloc(), S::open(rt.alloc())?, site);
+    match made {
+        Ok(mut desk) => try_peers(rt, trial, &mut desk, wrong),
+        Err(_) => Ok(wrong.push_str("no desk is made")?),
+    }
+}
+
+/// Serves the peers of a trial. Adds what is wrong. The listener is closed before they read.
+fn try_peers<S: Alter + Drop, V: PolicyView + Drop>(
+    rt: &HostRuntime,
+    trial: &Trial,
+    desk: &mut Desk<S, V>,
     wrong: &mut String,
 ) -> io::Result<()> {
     let mut streams = served(rt, trial, desk)?;
@@ -294,10 +308,10 @@ fn try_peers(
 }
 
 /// Has the peers of a trial connect and write, and serves so many connections. Returns the connections that the peers keep.
-fn served(
+fn served<S: Alter + Drop, V: PolicyView + Drop>(
     rt: &HostRuntime,
     trial: &Trial,
-    desk: &mut Desk<MemStore, Index>,
+    desk: &mut Desk<S, V>,
 ) -> io::Result<Vec<Option<TcpStream>>> {
     let listener = TcpListener::bind(rt, SocketAddr::from((Ipv4Addr::LOCALHOST, 0)))?;
     listener.set_nonblocking(!trial.waits)?;

@@ -1,23 +1,24 @@
-//! Questions on a database in memory, in plain SQL. They are asked of its connection, so not while a desk is open on it.
+//! Questions on a database, in plain SQL. They are asked of its connection, so not while a desk is open on it.
 
+use crate::stores::Fresh;
 use desk_cases_texts::answers::{Asked, number, say, say_whether, split};
-use desk_index::Index;
+use desk_policy::PolicyView;
 use desk_store::{Desk, declares_approval, declares_file_rev, declares_meta, declares_proposal};
-use sqlite::{Connection, Error, ErrorCode, MemStore, Row, params};
+use sqlite::{Alter, Connection, Error, ErrorCode, Row, params};
 use sqlite_value::value::ValueRef;
 use std::alloc::{AllocError, Global};
 use std::str;
 
-/// A database in memory: the connection to it, or the desk that is open on it.
+/// A database: the connection to it, or the desk that is open on it.
 #[derive(Drop)]
-pub struct Database {
-    pub conn: Option<Connection<MemStore>>,
-    pub desk: Option<Desk<MemStore, Index>>,
+pub struct Database<S: Alter + Drop, V: PolicyView + Drop> {
+    pub conn: Option<Connection<S>>,
+    pub desk: Option<Desk<S, V>>,
 }
 
-impl Database {
+impl<S: Alter + Drop, V: PolicyView + Drop> Database<S, V> {
     /// No database.
-    pub fn new() -> Database {
+    pub fn new() -> Database<S, V> {
         Database {
             conn: None,
             desk: None,
@@ -26,9 +27,9 @@ impl Database {
 }
 
 /// Answers a question on a database.
-pub fn answer(
+pub fn answer<S: Fresh, V: PolicyView + Drop>(
     alloc: Global,
-    database: &mut Database,
+    database: &mut Database<S, V>,
     out: &mut String,
     question: &str,
     text: &str,
@@ -43,15 +44,19 @@ pub fn answer(
 }
 
 /// `database`: `new`. Makes a database without tables, and forgets the one before.
-fn new(alloc: Global, database: &mut Database, out: &mut String) -> Asked {
+fn new<S: Fresh, V: PolicyView + Drop>(
+    alloc: Global,
+    database: &mut Database<S, V>,
+    out: &mut String,
+) -> Asked {
     database.desk = None;
-    database.conn = Some(Connection::open_in_memory(alloc)?);
+    database.conn = Some(S::open(alloc)?);
     say(out, "new")
 }
 
 /// Answers a question on the database of a connection.
-fn of_connection(
-    conn: &mut Connection<MemStore>,
+fn of_connection<S: Alter + Drop>(
+    conn: &mut Connection<S>,
     out: &mut String,
     question: &str,
     text: &str,
@@ -68,7 +73,7 @@ fn of_connection(
 }
 
 /// `sql STATEMENTS`: `done`, or what SQLite says of the first that is refused.
-fn sql(conn: &mut Connection<MemStore>, out: &mut String, text: &str) -> Asked {
+fn sql<S: Alter + Drop>(conn: &mut Connection<S>, out: &mut String, text: &str) -> Asked {
     match conn.execute_batch(text) {
         Ok(()) => say(out, "done"),
         Err(error) => say_error(out, error),
@@ -76,7 +81,7 @@ fn sql(conn: &mut Connection<MemStore>, out: &mut String, text: &str) -> Asked {
 }
 
 /// `insert FILE REV AUTHOR PROFILE TEXT`: `done`, or what SQLite says. Adds a row to `file_rev`.
-fn insert(conn: &mut Connection<MemStore>, out: &mut String, text: &str) -> Asked {
+fn insert<S: Alter + Drop>(conn: &mut Connection<S>, out: &mut String, text: &str) -> Asked {
     let (file, rest) = split(text);
     let (rev, rest) = split(rest);
     let (author, rest) = split(rest);
@@ -87,8 +92,8 @@ fn insert(conn: &mut Connection<MemStore>, out: &mut String, text: &str) -> Aske
     }
 }
 
-fn insert_row(
-    conn: &mut Connection<MemStore>,
+fn insert_row<S: Alter + Drop>(
+    conn: &mut Connection<S>,
     out: &mut String,
     file: &str,
     rev: u32,
@@ -110,7 +115,11 @@ fn insert_row(
 }
 
 /// `insert_proposal FILE BASE AUTHOR TEXT`: `done`, or what SQLite says. Adds a row to `proposal`.
-fn insert_proposal(conn: &mut Connection<MemStore>, out: &mut String, text: &str) -> Asked {
+fn insert_proposal<S: Alter + Drop>(
+    conn: &mut Connection<S>,
+    out: &mut String,
+    text: &str,
+) -> Asked {
     let (file, rest) = split(text);
     let (base, rest) = split(rest);
     let (author, body) = split(rest);
@@ -120,8 +129,8 @@ fn insert_proposal(conn: &mut Connection<MemStore>, out: &mut String, text: &str
     }
 }
 
-fn insert_proposed(
-    conn: &mut Connection<MemStore>,
+fn insert_proposed<S: Alter + Drop>(
+    conn: &mut Connection<S>,
     out: &mut String,
     file: &str,
     base: u32,
@@ -137,7 +146,7 @@ fn insert_proposed(
 
 /// `query SELECT`: the rows that it gives, with `; ` between them, and blanks between the values of each; a blob is given
 /// as a text. Or what SQLite says.
-fn query(conn: &mut Connection<MemStore>, out: &mut String, text: &str) -> Asked {
+fn query<S: Alter + Drop>(conn: &mut Connection<S>, out: &mut String, text: &str) -> Asked {
     match conn.query_all(text, &[]) {
         Ok(rows) => say_rows(out, rows.as_slice()),
         Err(error) => say_error(out, error),
@@ -186,7 +195,7 @@ fn add_bytes(out: &mut String, bytes: &[u8]) -> Asked {
 }
 
 /// `declares TABLE`: whether the schema declares `meta`, `file_rev`, `approval` or `proposal` as that of a desk, `yes` or `no`.
-fn declares(conn: &Connection<MemStore>, out: &mut String, table: &str) -> Asked {
+fn declares<S: Alter + Drop>(conn: &Connection<S>, out: &mut String, table: &str) -> Asked {
     match table {
         "meta" => say_whether(out, declares_meta(conn.schema())),
         "file_rev" => say_whether(out, declares_file_rev(conn.schema())),
@@ -197,7 +206,7 @@ fn declares(conn: &Connection<MemStore>, out: &mut String, table: &str) -> Asked
 }
 
 /// `limit STEPS`: `set`. Each later statement may take so many steps. Without a number it may take any.
-fn limit(conn: &mut Connection<MemStore>, out: &mut String, text: &str) -> Asked {
+fn limit<S: Alter + Drop>(conn: &mut Connection<S>, out: &mut String, text: &str) -> Asked {
     if text.is_empty() {
         conn.set_step_limit(None);
         return say(out, "set");

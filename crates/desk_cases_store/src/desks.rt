@@ -5,15 +5,15 @@ use crate::edits::{
     add_head, edit_of, in_force, keep_head, say_answer, say_approver, say_newest, say_profile,
     say_proposal,
 };
+use crate::stores::Fresh;
 use crate::subject::Subject;
+use crate::views::ByKeys;
 use desk_cases_texts::answers::{Asked, number, say, split};
-use desk_cases_texts::indexes;
 use desk_cases_texts::site::no_texts;
-use desk_index::Index;
 use desk_policy::PolicyView;
 use desk_store::{CreateError, Desk, DeskError, Done, Revision, Signature, StoreFault, Task};
 use desk_text::Text;
-use sqlite::{Connection, MemStore};
+use sqlite::Alter;
 use std::alloc::{AllocError, Global};
 
 /// The files of each site, but for the exports files.
@@ -28,9 +28,9 @@ const SEVEN: [&str; 7] = [
 ];
 
 /// Answers a question on a desk.
-pub fn answer(
+pub fn answer<S: Fresh, V: ByKeys>(
     alloc: Global,
-    subject: &mut Subject,
+    subject: &mut Subject<S, V>,
     out: &mut String,
     question: &str,
     text: &str,
@@ -48,9 +48,9 @@ pub fn answer(
 }
 
 /// Answers a question on a desk that is open.
-fn of_desk(
+fn of_desk<S: Alter + Drop, V: PolicyView + Drop>(
     alloc: Global,
-    desk: &mut Desk<MemStore, Index>,
+    desk: &mut Desk<S, V>,
     out: &mut String,
     question: &str,
     text: &str,
@@ -73,9 +73,9 @@ fn of_desk(
 
 /// `create`: `made`, or the refusal. Makes the tables of a desk in the database, with the texts of the site, and opens the
 /// desk.
-fn create(
+fn create<S: Alter + Drop, V: PolicyView + Drop>(
     alloc: Global,
-    database: &mut Database,
+    database: &mut Database<S, V>,
     out: &mut String,
     texts: &desk_policy::Site,
 ) -> Asked {
@@ -96,7 +96,11 @@ fn create(
 }
 
 /// `open`: `opened`, or the refusal.
-fn open(alloc: Global, database: &mut Database, out: &mut String) -> Asked {
+fn open<S: Alter + Drop, V: PolicyView + Drop>(
+    alloc: Global,
+    database: &mut Database<S, V>,
+    out: &mut String,
+) -> Asked {
     let Some(conn) = database.conn.take() else {
         return Ok(false);
     };
@@ -113,9 +117,9 @@ fn open(alloc: Global, database: &mut Database, out: &mut String) -> Asked {
     }
 }
 
-fn keep_desk(
-    database: &mut Database,
-    desk: Desk<MemStore, Index>,
+fn keep_desk<S: Alter + Drop, V: PolicyView + Drop>(
+    database: &mut Database<S, V>,
+    desk: Desk<S, V>,
     out: &mut String,
     said: &str,
 ) -> Asked {
@@ -124,7 +128,10 @@ fn keep_desk(
 }
 
 /// `close`: `closed`. The connection can then be asked, and another desk opened on it.
-fn close(database: &mut Database, out: &mut String) -> Asked {
+fn close<S: Alter + Drop, V: PolicyView + Drop>(
+    database: &mut Database<S, V>,
+    out: &mut String,
+) -> Asked {
     let Some(desk) = database.desk.take() else {
         return Ok(false);
     };
@@ -134,7 +141,12 @@ fn close(database: &mut Database, out: &mut String) -> Asked {
 
 /// `edit FILE BASE CALLER KEY TEXT`: `stored 2`, and the edit is in force; `proposed 2`; `already 2`, or `already proposed 2`;
 /// or the refusal.
-fn edit(alloc: Global, desk: &mut Desk<MemStore, Index>, out: &mut String, text: &str) -> Asked {
+fn edit<S: Alter + Drop, V: PolicyView + Drop>(
+    alloc: Global,
+    desk: &mut Desk<S, V>,
+    out: &mut String,
+    text: &str,
+) -> Asked {
     let Some(edit) = edit_of(text) else {
         return Ok(false);
     };
@@ -150,14 +162,22 @@ fn say_done(out: &mut String, done: Done) -> Asked {
 
 /// `heads`: the newest revision of each file, its file, its number and its author, with `; ` between them: those of the seven
 /// files, and those of the exports files of the file systems that are listed, by mount point.
-fn heads(alloc: Global, desk: &Desk<MemStore, Index>, out: &mut String) -> Asked {
+fn heads<S: Alter + Drop, V: PolicyView + Drop>(
+    alloc: Global,
+    desk: &Desk<S, V>,
+    out: &mut String,
+) -> Asked {
     for file in SEVEN {
         add_newest(desk, out, file)?;
     }
     exports_heads(alloc, desk, out)
 }
 
-fn exports_heads(alloc: Global, desk: &Desk<MemStore, Index>, out: &mut String) -> Asked {
+fn exports_heads<S: Alter + Drop, V: PolicyView + Drop>(
+    alloc: Global,
+    desk: &Desk<S, V>,
+    out: &mut String,
+) -> Asked {
     for mount in desk.view().policy().filesystems().as_slice() {
         let mount = mount.path.text();
         let file = format!(in alloc; "exports:{mount}")?;
@@ -166,8 +186,8 @@ fn exports_heads(alloc: Global, desk: &Desk<MemStore, Index>, out: &mut String) 
     Ok(true)
 }
 
-fn add_newest(
-    desk: &Desk<MemStore, Index>,
+fn add_newest<S: Alter + Drop, V: PolicyView + Drop>(
+    desk: &Desk<S, V>,
     out: &mut String,
     file: &str,
 ) -> Result<(), AllocError> {
@@ -181,13 +201,19 @@ fn add_newest(
 }
 
 /// `keys_in_force`: what `keys` answers, of the view of the desk and its newest texts.
-fn keys_in_force(alloc: Global, subject: &mut Subject, out: &mut String) -> Asked {
+fn keys_in_force<S: Fresh, V: ByKeys>(
+    alloc: Global,
+    subject: &mut Subject<S, V>,
+    out: &mut String,
+) -> Asked {
     let Some(desk) = &subject.database.desk else {
         return Ok(false);
     };
     let mut texts = no_texts(alloc);
     let asked = match keep_all(alloc, desk, &mut texts) {
-        Ok(()) => indexes::compare_keys(alloc, &mut subject.keys, desk.view(), &texts, out),
+        Ok(()) => desk
+            .view()
+            .compare_keys(alloc, &mut subject.keys, &texts, out),
         Err(error) => Err(error),
     };
     drop(texts);
@@ -195,9 +221,9 @@ fn keys_in_force(alloc: Global, subject: &mut Subject, out: &mut String) -> Aske
 }
 
 /// Sets the newest text of each of the seven files, and of each exports file of the file systems that are listed.
-fn keep_all(
+fn keep_all<S: Alter + Drop, V: PolicyView + Drop>(
     alloc: Global,
-    desk: &Desk<MemStore, Index>,
+    desk: &Desk<S, V>,
     texts: &mut desk_policy::Site,
 ) -> Result<(), AllocError> {
     for file in SEVEN {
@@ -211,9 +237,9 @@ fn keep_all(
     Ok(())
 }
 
-fn keep_newest(
+fn keep_newest<S: Alter + Drop, V: PolicyView + Drop>(
     alloc: Global,
-    desk: &Desk<MemStore, Index>,
+    desk: &Desk<S, V>,
     texts: &mut desk_policy::Site,
     file: &str,
 ) -> Result<(), AllocError> {
@@ -224,9 +250,9 @@ fn keep_newest(
 }
 
 /// `revisions FILE`: the number and the author of each, with `; ` between them, or `none`.
-fn revisions(
+fn revisions<S: Alter + Drop, V: PolicyView + Drop>(
     alloc: Global,
-    desk: &mut Desk<MemStore, Index>,
+    desk: &mut Desk<S, V>,
     out: &mut String,
     file: &str,
 ) -> Asked {
@@ -249,9 +275,9 @@ fn say_revisions(out: &mut String, revisions: &[(u32, Text)]) -> Asked {
 
 /// `signatures FILE`: the number and the author of each revision, ` approved by ` and its approver if it has one, and ` profile `
 /// and the number of its profile, with `; ` between them, or `none`.
-fn signatures(
+fn signatures<S: Alter + Drop, V: PolicyView + Drop>(
     alloc: Global,
-    desk: &mut Desk<MemStore, Index>,
+    desk: &mut Desk<S, V>,
     out: &mut String,
     file: &str,
 ) -> Asked {
@@ -290,9 +316,9 @@ fn add_approver(out: &mut String, approver: &Option<Text>) -> Result<(), AllocEr
 }
 
 /// `revision FILE REV`: its author and its text, or `none`.
-fn revision(
+fn revision<S: Alter + Drop, V: PolicyView + Drop>(
     alloc: Global,
-    desk: &mut Desk<MemStore, Index>,
+    desk: &mut Desk<S, V>,
     out: &mut String,
     text: &str,
 ) -> Asked {
@@ -316,7 +342,12 @@ fn say_revision(out: &mut String, found: &Option<Revision>) -> Asked {
 
 /// `signed FILE REV`: the author of a revision, ` approved by ` and its approver if it has one, and ` profile ` and the number of
 /// its profile, or `none`.
-fn signed(alloc: Global, desk: &mut Desk<MemStore, Index>, out: &mut String, text: &str) -> Asked {
+fn signed<S: Alter + Drop, V: PolicyView + Drop>(
+    alloc: Global,
+    desk: &mut Desk<S, V>,
+    out: &mut String,
+    text: &str,
+) -> Asked {
     let (file, rev) = split(text);
     let Some(rev) = number(rev) else {
         return Ok(false);

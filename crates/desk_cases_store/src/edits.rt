@@ -1,14 +1,14 @@
 //! Questions on edits of a site's files, asked of a state in memory. While a desk is open they are asked of it (`desks`).
 
+use crate::stores::Fresh;
 use crate::subject::Subject;
+use crate::views::ByKeys;
 use desk_cases_texts::answers::{Asked, number, say, split};
-use desk_cases_texts::indexes;
 use desk_cases_texts::policies::say_verdict;
 use desk_cases_texts::site::no_texts;
 use desk_cases_texts::sites::{keep, say_fault};
 use desk_core::{Edit, Entry, Head, Judged, Proposal, Refusal, State, can_be_kept, can_be_pending};
 use desk_exports::Profile;
-use desk_index::Index;
 use desk_policy::{PolicyView, SiteFault};
 use desk_text::{Addr, Path, ReadError, Text};
 use std::alloc::{AllocError, Global};
@@ -16,15 +16,15 @@ use std::mem;
 
 /// The heads and the proposals of the state to come, and the state that was made last.
 #[derive(Drop)]
-pub struct Edits {
+pub struct Edits<V: PolicyView + Drop> {
     heads: Vec<Head>,
     proposals: Vec<Proposal>,
-    state: Option<State<Index>>,
+    state: Option<State<V>>,
 }
 
-impl Edits {
+impl<V: PolicyView + Drop> Edits<V> {
     /// No heads, no proposals, and no state.
-    pub fn new(alloc: Global) -> Edits {
+    pub fn new(alloc: Global) -> Edits<V> {
         Edits {
             heads: Vec::new(alloc),
             proposals: Vec::new(alloc),
@@ -34,9 +34,9 @@ impl Edits {
 }
 
 /// Answers a question on edits.
-pub fn answer(
+pub fn answer<S: Fresh, V: ByKeys>(
     alloc: Global,
-    subject: &mut Subject,
+    subject: &mut Subject<S, V>,
     out: &mut String,
     question: &str,
     text: &str,
@@ -54,9 +54,9 @@ pub fn answer(
 }
 
 /// Answers a question on a state.
-fn of_state(
+fn of_state<V: PolicyView + Drop>(
     alloc: Global,
-    state: &mut State<Index>,
+    state: &mut State<V>,
     out: &mut String,
     question: &str,
     text: &str,
@@ -75,7 +75,13 @@ fn of_state(
 
 /// `head FILE REV AUTHOR TEXT`: `kept`. Adds the newest revision of a file to the state to come, which nobody approved, and
 /// which is read by the profile that was set last.
-fn head(alloc: Global, profile: Profile, edits: &mut Edits, out: &mut String, text: &str) -> Asked {
+fn head<V: PolicyView + Drop>(
+    alloc: Global,
+    profile: Profile,
+    edits: &mut Edits<V>,
+    out: &mut String,
+    text: &str,
+) -> Asked {
     let (file, rest) = split(text);
     let (rev, rest) = split(rest);
     match number(rev) {
@@ -110,7 +116,12 @@ fn head_of(
 }
 
 /// `pending FILE BASE AUTHOR TEXT`: `kept`. Adds the proposal of a file to the state to come.
-fn pending(alloc: Global, edits: &mut Edits, out: &mut String, text: &str) -> Asked {
+fn pending<V: PolicyView + Drop>(
+    alloc: Global,
+    edits: &mut Edits<V>,
+    out: &mut String,
+    text: &str,
+) -> Asked {
     let (file, rest) = split(text);
     let (base, rest) = split(rest);
     match number(base) {
@@ -136,7 +147,7 @@ fn proposal_of(alloc: Global, file: &str, base: u32, text: &str) -> Result<Propo
 }
 
 /// `state`: `in force`, or the fault. Makes the state of the heads and the proposals, which are then forgotten.
-fn start(alloc: Global, edits: &mut Edits, out: &mut String) -> Asked {
+fn start<V: PolicyView + Drop>(alloc: Global, edits: &mut Edits<V>, out: &mut String) -> Asked {
     let heads = mem::replace(&mut edits.heads, Vec::new(alloc));
     let proposals = mem::replace(&mut edits.proposals, Vec::new(alloc));
     if !can_be_kept(heads.as_slice()) || !can_be_pending(proposals.as_slice()) {
@@ -147,10 +158,10 @@ fn start(alloc: Global, edits: &mut Edits, out: &mut String) -> Asked {
     set_state(edits, out, State::from_heads(alloc, heads, proposals))
 }
 
-fn set_state(
-    edits: &mut Edits,
+fn set_state<V: PolicyView + Drop>(
+    edits: &mut Edits<V>,
     out: &mut String,
-    state: Result<State<Index>, ReadError<SiteFault>>,
+    state: Result<State<V>, ReadError<SiteFault>>,
 ) -> Asked {
     match state {
         Ok(state) => {
@@ -163,7 +174,12 @@ fn set_state(
 
 /// `edit FILE BASE CALLER KEY TEXT`: `stored 2`, and the edit is in force; `proposed 2`; `already 2`, or `already proposed 2`;
 /// or the refusal, as it is printed.
-fn edit(alloc: Global, state: &mut State<Index>, out: &mut String, text: &str) -> Asked {
+fn edit<V: PolicyView + Drop>(
+    alloc: Global,
+    state: &mut State<V>,
+    out: &mut String,
+    text: &str,
+) -> Asked {
     let Some(edit) = edit_of(text) else {
         return Ok(false);
     };
@@ -182,9 +198,9 @@ struct Answered {
 }
 
 /// Puts an edit in force, or keeps its proposal.
-fn put(
+fn put<V: PolicyView + Drop>(
     alloc: Global,
-    state: &mut State<Index>,
+    state: &mut State<V>,
     edit: &Edit<'_>,
 ) -> Result<Answered, ReadError<Refusal>> {
     match state.judge(alloc, edit)? {
@@ -304,7 +320,7 @@ fn say_refused(out: &mut String, error: ReadError<Refusal>) -> Asked {
 
 /// `heads`: the newest revision of each file, as the state has them: its file, its number and its author, with `; `
 /// between them.
-fn heads(state: &State<Index>, out: &mut String) -> Asked {
+fn heads<V: PolicyView + Drop>(state: &State<V>, out: &mut String) -> Asked {
     for (place, head) in state.heads().iter().enumerate() {
         if place > 0 {
             out.push_str("; ")?;
@@ -322,7 +338,12 @@ pub fn add_head(out: &mut String, head: &Head) -> Result<(), AllocError> {
 }
 
 /// `in_force CLIENT PATH`: the verdict by the view of the state, or of the desk, as it is printed.
-pub fn in_force(alloc: Global, view: &Index, out: &mut String, text: &str) -> Asked {
+pub fn in_force<V: PolicyView + Drop>(
+    alloc: Global,
+    view: &V,
+    out: &mut String,
+    text: &str,
+) -> Asked {
     let (client, path) = split(text);
     let Ok(client) = Addr::read(client) else {
         return Ok(false);
@@ -334,13 +355,19 @@ pub fn in_force(alloc: Global, view: &Index, out: &mut String, text: &str) -> As
 }
 
 /// `keys_in_force`: what `keys` answers, of the view of the state, or of the desk, and its newest texts.
-fn keys_in_force(alloc: Global, subject: &mut Subject, out: &mut String) -> Asked {
+fn keys_in_force<S: Fresh, V: ByKeys>(
+    alloc: Global,
+    subject: &mut Subject<S, V>,
+    out: &mut String,
+) -> Asked {
     let Some(state) = &subject.edits.state else {
         return Ok(false);
     };
     let mut texts = no_texts(alloc);
     let asked = match keep_heads(alloc, &mut texts, state.heads()) {
-        Ok(()) => indexes::compare_keys(alloc, &mut subject.keys, state.view(), &texts, out),
+        Ok(()) => state
+            .view()
+            .compare_keys(alloc, &mut subject.keys, &texts, out),
         Err(error) => Err(error),
     };
     drop(texts);

@@ -1,8 +1,9 @@
-//! Answers to the questions of worked cases on the revisions of a site's files: edits, databases and desks. `desk_cases` asks
-//! them, and hands those on texts and tables on to `desk_cases_texts`. (It is a library of its own so that it is proved beside the
-//! commands.)
+//! Answers to the questions of worked cases on the revisions of a site's files: edits, databases and desks. Those on texts and
+//! tables are handed on to `desk_cases_texts`. They are asked of any store in which a new database can be opened, and of any view
+//! by keys.
 //!
 //! ```text
+//! let mut subject: Subject<MemStore, Index> = Subject::new(alloc);
 //! let is_known = desk_cases_store::answer(alloc, &mut subject, &mut out, "database", "")?;
 //! ```
 #![tactic(auto)]
@@ -11,7 +12,11 @@ mod databases;
 mod desks;
 mod edits;
 mod questions;
+mod stores;
 mod subject;
+mod views;
 
 pub use questions::answer;
+pub use stores::Fresh;
 pub use subject::Subject;
+pub use views::ByKeys;

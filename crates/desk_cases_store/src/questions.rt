@@ -1,14 +1,16 @@
 //! The questions. What each asks stands at the function that answers it.
 
+use crate::stores::Fresh;
 use crate::subject::Subject;
+use crate::views::ByKeys;
 use crate::{databases, desks, edits};
 use desk_cases_texts::answers::Asked;
 use std::alloc::Global;
 
 /// Answers a question.
-pub fn answer(
+pub fn answer<S: Fresh, V: ByKeys>(
     alloc: Global,
-    subject: &mut Subject,
+    subject: &mut Subject<S, V>,
     out: &mut String,
     question: &str,
     text: &str,
@@ -20,9 +22,9 @@ pub fn answer(
 }
 
 /// Answers a question on the revisions of a site's files.
-fn of_history(
+fn of_history<S: Fresh, V: ByKeys>(
     alloc: Global,
-    subject: &mut Subject,
+    subject: &mut Subject<S, V>,
     out: &mut String,
     question: &str,
     text: &str,

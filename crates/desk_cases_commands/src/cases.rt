@@ -3,9 +3,11 @@
 //! lines and those that begin with `#` are skipped.
 
 use crate::report::Report;
-use desk_cases_store::Subject;
+use desk_cases_store::{ByKeys, Fresh, Subject};
 use desk_cases_texts::answers::split;
 use desk_cases_texts::escapes;
+use desk_index::Index;
+use sqlite::MemStore;
 use std::alloc::{AllocError, Global};
 use std::str;
 
@@ -26,7 +28,7 @@ pub fn report_of(alloc: Global, text: &str) -> Result<Report, AllocError> {
 
 /// Tries the cases of a text, about nothing at first.
 fn try_lines(alloc: Global, report: &mut Report, text: &str) -> Result<(), AllocError> {
-    let mut subject = Subject::new(alloc);
+    let mut subject: Subject<MemStore, Index> = Subject::new(alloc);
     let mut trial = Trial {
         text: Vec::new(alloc),
         wanted: Vec::new(alloc),
@@ -36,9 +38,9 @@ fn try_lines(alloc: Global, report: &mut Report, text: &str) -> Result<(), Alloc
 }
 
 /// Tries the cases of a text. The lines that are skipped are no cases.
-fn try_cases(
+fn try_cases<S: Fresh, V: ByKeys>(
     alloc: Global,
-    subject: &mut Subject,
+    subject: &mut Subject<S, V>,
     trial: &mut Trial,
     report: &mut Report,
     text: &str,
@@ -53,9 +55,9 @@ fn try_cases(
 }
 
 /// Tries a case. Adds to the report if it cannot be asked, or has another answer.
-fn try_case(
+fn try_case<S: Fresh, V: ByKeys>(
     alloc: Global,
-    subject: &mut Subject,
+    subject: &mut Subject<S, V>,
     trial: &mut Trial,
     report: &mut Report,
     case: &str,
@@ -67,9 +69,9 @@ fn try_case(
 }
 
 /// Asks a case. Returns why it cannot be asked, if it cannot.
-fn ask(
+fn ask<S: Fresh, V: ByKeys>(
     alloc: Global,
-    subject: &mut Subject,
+    subject: &mut Subject<S, V>,
     trial: &mut Trial,
     case: &str,
 ) -> Result<Option<&'static str>, AllocError> {

@@ -1,4 +1,4 @@
-//! Tries the worked cases of the service over HTTP. Each file of `data/` whose name ends in `.cases` holds cases; `site` holds the
+//! Tries the worked cases of the service over HTTP. Each file of a folder whose name ends in `.cases` holds cases; `site` holds the
 //! texts of the site at which they are tried.
 //!
 //! Each case is tried in three ways: the stream comes in one piece, it comes byte by byte, and it comes in two pieces, cut after each
@@ -14,35 +14,36 @@ mod ways;
 
 use crate::report::Report;
 use std::alloc::{AllocError, Global};
-use std::process::ExitCode;
 use std::{fs, io};
 
-/// Prints for each file of cases how many there are and each that differs. The exit status is 0 if every case of every
-/// file has its replies, and no file is without cases.
-fn main(rt: HostRuntime) -> io::Result<ExitCode> {
-    let site = fs::read_to_string(&rt, "site")?;
-    let names = file_names(&rt)?;
+/// Prints for each file of cases in a folder how many there are and each that differs. Tells whether every case of every file has its
+/// replies, and no file is without cases.
+pub fn try_folder(rt: &HostRuntime, folder: &str) -> io::Result<bool> {
+    let site = read_file(rt, folder, "site")?;
+    let names = file_names(rt, folder)?;
     let mut is_right = !names.is_empty();
     if names.is_empty() {
-        println!(rt; "no files of cases")?;
+        println!(rt; "no files of cases in {folder}")?;
     }
     for name in &names {
-        let text = fs::read_to_string(&rt, name.as_str())?;
+        let text = read_file(rt, folder, name.as_str())?;
         let report = report_of(rt.alloc(), site.as_str(), text.as_str())?;
         is_right = is_right && report.is_right();
-        println!(rt; "{name}: {report}")?;
+        println!(rt; "{folder}/{name}: {report}")?;
     }
-    Ok(if is_right {
-        ExitCode::SUCCESS
-    } else {
-        ExitCode::FAILURE
-    })
+    Ok(is_right)
 }
 
-/// Returns the names of the files of cases where the program runs, in byte order.
-fn file_names(rt: &HostRuntime) -> io::Result<Vec<String>> {
+/// Returns the text of a file in a folder.
+fn read_file(rt: &HostRuntime, folder: &str, name: &str) -> io::Result<String> {
+    let path = format!(in rt.alloc(); "{folder}/{name}")?;
+    fs::read_to_string(rt, path.as_str())
+}
+
+/// Returns the names of the files of cases in a folder, in byte order.
+fn file_names(rt: &HostRuntime, folder: &str) -> io::Result<Vec<String>> {
     let mut names = Vec::new(rt.alloc());
-    for entry in fs::read_dir(rt, ".")? {
+    for entry in fs::read_dir(rt, folder)? {
         add_name(rt.alloc(), &mut names, entry?.file_name())?;
     }
     names.sort_unstable();
