@@ -52,8 +52,8 @@ def write_site(folder, files):
 
 
 def proved():
-    """Proves and builds the program, unless that is done, and returns where it is."""
-    done = subprocess.run([TOP / "prove"], check=True, stdout=subprocess.PIPE, text=True)
+    """Where the program of these sources is: the one that ./prove made, or else the shipped one."""
+    done = subprocess.run([TOP / "ship", "--path"], check=True, stdout=subprocess.PIPE, text=True)
     return done.stdout.strip()
 
 
