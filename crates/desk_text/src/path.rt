@@ -4,6 +4,7 @@ ghost use Rattle.std.specs.Prelude.{◌≡◌, ℕ, ◌++◌, ◌∷◌, [], ◌
 ghost use Rattle.std.specs.List.{list_any, slice_split};
 ghost use Rattle.std.specs.String.{string_bytes};
 ghost use Rattle.std.specs.Bool.{◌==◌};
+ghost use Rattle.std.specs.Fmt.{decimal};
 ghost use Rattle.desk_text.specs.Path.{IsPath, components, is_absolute, is_dot_component, is_under, path_fault_number, path_text, read_path, same_path};
 ghost use Rattle.desk_text.specs.Reading.{Reads};
 ghost use Rattle.desk_text.specs.PrivatePath.{ends_before, goes_below, is_empty, kept_text};
@@ -161,6 +162,14 @@ impl Path {
         Path {
             text: String::new(alloc),
         }
+    }
+
+    /// Makes the path right below this one whose name is this number. It may be longer than a path that can be read.
+    pub fn child(&self, alloc: Global, number: usize) -> Result<Path, AllocError>
+        ensures { IfOk result (λ path. path ≡ self.now ++ decimal number ∷ []) }
+    {
+        let text = format!(in alloc; "{}/{number}", self.text)?;
+        Ok(Path { text })
     }
 
     /// Tests whether the path is the other one or lies below it: `/a/b` is under `/a`, and `/ab` is not.
