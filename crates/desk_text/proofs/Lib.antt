@@ -15,6 +15,7 @@ pub mod WordMarks
 pub mod WordList
 pub mod PartPlaces
 pub mod Slashes
+pub mod NumberedPaths
 pub mod GroupsAreUnique
 pub mod WordValue
 pub mod Below

@@ -56,12 +56,12 @@ slashes c [] = append-nil (47 ∷ c)
 slashes c (d ∷ path) = ap (λ t. 47 ∷ (c ++ t)) (slashes d path)
 
 -- a path as it is kept has just its components
+pub kept_reads_back : (path : List (List ℕ)) → AllByRecursion IsComponent path → components (kept_text path) ≡ path
+kept_reads_back [] h = refl
+kept_reads_back (c ∷ path) h = ap components (slashes c path) ∙ joined_components (c ∷ path) h
+
 pub components-kept_text : (text : List ℕ) → components (kept_text (components text)) ≡ components text
-components-kept_text text = kept_components_of (components text) (are_components text)
-  where
-    kept_components_of : (path : List (List ℕ)) → AllByRecursion IsComponent path → components (kept_text path) ≡ path
-    kept_components_of [] h = refl
-    kept_components_of (c ∷ path) h = ap components (slashes c path) ∙ joined_components (c ∷ path) h
+components-kept_text text = kept_reads_back (components text) (are_components text)
 
 -- what is kept of a path tells how it is printed
 pub kept_some : (path : List (List ℕ)) → 0 < length (kept_text path) → kept_text path ≡ path_text path
