@@ -1,7 +1,7 @@
 -- What the private contracts of the lines cite.
 use Rattle.std.specs.Prelude.{◌≡◌, ℕ, ◌+◌, ◌<◌, ◌≤◌, ◌==◌, ◌^◌, List, [], ◌∷◌, Option, None, Some, length, map}
 use Rattle.std.specs.List.{slice_split}
-use Rattle.desk_text.specs.Lines.{ArePlaced, LogicalLine, PhysicalLine, groups, is_continued, kept, numbered, physical_lines_from}
+use Rattle.desk_text.specs.Lines.{ArePlaced, LogicalLine, PhysicalLine, groups, is_continued, kept, longest_text, numbered, physical_lines_from}
 use Rattle.desk_text.specs.declared.lines.Group.{Group}
 use Rattle.desk_text.specs.declared.lines.Group.TheVariants.{One, Many}
 use Rattle.desk_text.specs.declared.lines.Part.{Part}
@@ -29,7 +29,7 @@ lines_left number left = kept (numbered number (groups (parts_left left)))
 
 -- the places of what is left are below 2^32
 abbrev pub HasPlaces : PhysicalLines → Type 0
-HasPlaces left = left.start + length left.rest.now ≤ 4294967294
+HasPlaces left = left.start + length left.rest.now ≤ longest_text
 
 -- there is a number for each line that is left: a line takes at least one byte
 pub record CanBeCounted (number : ℕ) (left : PhysicalLines) : Type 0 where

@@ -21,7 +21,7 @@ pub mod word;
 pub use addr_set::AddrSet;
 pub use address::{Addr, AddrFault, is_dotted};
 pub use bytes::{first_non_blank, has_leading_zero, is_blank, is_digits, is_ipv6, read_decimal};
-pub use lines::{Line, LogicalLines, Part, logical_lines};
+pub use lines::{LONGEST_TEXT, Line, LogicalLines, Part, is_readable, logical_lines};
 pub use network::{Net, NetText, Prefix};
 pub use path::{Path, PathFault};
 pub use place::Place;

@@ -1,7 +1,6 @@
-use Rattle.std.proofs.Common.{◌≡◌, ◌++◌, ◌∷◌, [], sym, ap, ◌∙◌}
+use Rattle.std.proofs.Common.{◌++◌, ◌∷◌, [], ap, ◌∙◌}
 use Rattle.std.specs.Fmt.{decimal}
 use Rattle.std.specs.String.{string_bytes}
-use Rattle.desk_text.specs.Path.{components}
 use Rattle.desk_text.proofs.NumberedPaths.{child_components, child_kept}
 use Rattle.desk_text.proofs.path.Path.child.Goals as goal
 
