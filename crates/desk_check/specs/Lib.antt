@@ -8,6 +8,7 @@ pub mod Finding
 pub mod FindingJson
 pub mod FindingPrints
 pub mod Hints
+pub mod PrivateCheckOdd
 pub mod PrivateFindingJson
 pub mod ShownText
 pub mod SplitText

@@ -1,26 +1,41 @@
 //! What `check` finds in texts without a fault: lines that contradict an earlier one, and words that are odd.
 
-ghost use Rattle.std.specs.Prelude.{◌≡◌, ℕ, ◌++◌, ◌≤◌, All, IfOk, List, OnOk, length, map};
+ghost use Rattle.std.specs.Prelude.{◌≡◌, ℕ, ◌++◌, ◌≤◌, All, IfOk, IfSome, List, OnOk, length, map};
+ghost use Rattle.std.specs.List.{IsAmong};
 ghost use Rattle.std.specs.List.Sorted.{IsNonDecreasingBy, IsPermutation};
-ghost use Rattle.desk_text.specs.Lines.{logical_lines};
+ghost use Rattle.desk_text.specs.Lines.{LogicalLine, logical_lines};
 ghost use Rattle.desk_policy.specs.Policy.{AreAscending};
 ghost use Rattle.desk_check.specs.CheckFaults.{Adds};
-ghost use Rattle.desk_check.specs.CheckOdd.{AreContradictionsIn, IsSpot, TellInOrder, TellOdds, odd_at, odd_of_contradiction, odd_of_spot, odd_of_warning, tell_spot};
+ghost use Rattle.desk_check.specs.CheckOdd.{AreContradictionsIn, IsOn, IsSpot, TellInOrder, TellOdds, odd_at, odd_of_contradiction, odd_of_spot, odd_of_warning, tell_spot};
+ghost use Rattle.desk_check.specs.PrivateCheckOdd.{AreWordsIn};
 ghost use Rattle.desk_check.specs.Told.{told};
 
 use crate::check_faults::{Front, Source, finding_behind, lines_of};
 use crate::finding::{Finding, Matter};
-use crate::word_places::{Mention, Slice, Writing, line_numbered, mentions, place_of_slice};
-use desk_policy::{Contradiction, Row, Warning, WarningKind, contradictions};
-use desk_text::{Line, Place, Sequence, logical_lines};
+use desk_exports::client_places;
+use desk_netgroup::member_places;
+use desk_policy::{Contradiction, Row, Warning, contradictions};
+use desk_text::{Line, Place, ReadError, Sequence, Word, logical_lines, words};
 use std::alloc::{AllocError, Global};
 
-/// What is odd about the line of this number: all of it, or a word.
+/// What an odd word of a line is counted among.
+#[derive(Clone, Copy, PartialEq, Eq)]
+pub enum Among {
+    /// All words, as exports files and the text of the file systems have them.
+    Words,
+    /// The clients that an exports line writes: its names, or its network.
+    Clients,
+    /// The members of a netgroup line.
+    Members,
+}
+
+/// What is odd about the line of this number, and the word that it is told at: the one of this index, from 0.
 #[derive(Clone, Copy)]
-pub struct Odd<'w> {
+pub struct Odd {
     pub line: u32,
     pub matter: Matter,
-    pub word: Option<&'w str>,
+    pub among: Among,
+    pub index: usize,
 }
 
 /// What is odd about the line of this number, at its place.
@@ -31,19 +46,19 @@ pub struct Spot {
     pub matter: Matter,
 }
 
-/// The words of the line of this number that may be told, and the first of them that is not told yet.
+/// Where the words of the line of this number stand that the last odd one is among.
 #[derive(Drop)]
-struct Rest<'t> {
+struct PlacedWords {
     line: u32,
-    words: Vec<Mention<'t>>,
-    next: usize,
+    among: Among,
+    places: Vec<Place>,
 }
 
-/// Adds these contradictions and warnings of a text, in the order of their lines.
+/// Adds these contradictions and warnings of a text, in the order of their lines. The warnings count their words among these.
 pub fn push_odds<'a>(
     alloc: Global,
     source: Source<'a>,
-    writing: Writing,
+    among: Among,
     contradictions: &[Contradiction],
     warnings: &[Warning],
     found: &mut Sequence<Finding<'a>>,
@@ -51,8 +66,8 @@ pub fn push_odds<'a>(
     requires { length source.text.now ≤ 4294967294 }
     ensures { OnOk result (Adds (TellOdds source.entry contradictions.now warnings.now) found.old found.new) }
 {
-    let odds = odds_of(alloc, contradictions, warnings)?;
-    push_in_order(alloc, source, writing, odds, found)?;
+    let odds = odds_of(alloc, among, contradictions, warnings)?;
+    push_in_order(alloc, source, odds, found)?;
     Ok(())
 }
 
@@ -60,15 +75,14 @@ pub fn push_odds<'a>(
 pub fn push_in_order<'a>(
     alloc: Global,
     source: Source<'a>,
-    writing: Writing,
-    odds: Vec<Odd<'_>>,
+    odds: Vec<Odd>,
     found: &mut Sequence<Finding<'a>>,
 ) -> Result<(), AllocError>
     requires { length source.text.now ≤ 4294967294 }
     ensures { OnOk result (Adds (TellInOrder source.entry (map odd_at odds.entry.items)) found.old found.new) }
 {
     let odds = by_line(odds)?;
-    let spots = spots_of(alloc, source.text, writing, odds.as_slice())?;
+    let spots = spots_of(alloc, source.text, odds.as_slice())?;
     push_spots(alloc, source, spots.as_slice(), found)?;
     Ok(())
 }
@@ -102,12 +116,13 @@ fn push_contradictions(
     Ok(())
 }
 
-/// Lists what contradictions and warnings say.
-fn odds_of<'w>(
+/// Lists what contradictions and warnings say. The warnings count their words among these.
+fn odds_of(
     alloc: Global,
+    among: Among,
     contradictions: &[Contradiction],
-    warnings: &'w [Warning],
-) -> Result<Vec<Odd<'w>>, AllocError>
+    warnings: &[Warning],
+) -> Result<Vec<Odd>, AllocError>
     ensures { IfOk result (λ odds. map odd_at odds.items ≡ map odd_of_contradiction contradictions.now ++ map odd_of_warning warnings.now) }
 {
     let mut odds = odds_of_contradictions(alloc, contradictions)?;
@@ -115,17 +130,18 @@ fn odds_of<'w>(
         odds.push(Odd {
             line: warning.line,
             matter: Matter::Warning(warning.kind),
-            word: Some(warning.word.as_str()),
+            among,
+            index: warning.index,
         })?;
     }
     Ok(odds)
 }
 
-/// Lists what contradictions say.
-fn odds_of_contradictions<'w>(
+/// Lists what contradictions say, each at the first word of its line.
+fn odds_of_contradictions(
     alloc: Global,
     contradictions: &[Contradiction],
-) -> Result<Vec<Odd<'w>>, AllocError>
+) -> Result<Vec<Odd>, AllocError>
     ensures { IfOk result (λ odds. map odd_at odds.items ≡ map odd_of_contradiction contradictions.now) }
 {
     let mut odds = Vec::new(alloc);
@@ -133,14 +149,15 @@ fn odds_of_contradictions<'w>(
         odds.push(Odd {
             line: one.line,
             matter: Matter::Contradiction(one.other, one.address),
-            word: None,
+            among: Among::Words,
+            index: 0,
         })?;
     }
     Ok(odds)
 }
 
 /// Puts what is odd into the order of its lines.
-fn by_line<'w>(mut odds: Vec<Odd<'w>>) -> Result<Vec<Odd<'w>>, AllocError>
+fn by_line(mut odds: Vec<Odd>) -> Result<Vec<Odd>, AllocError>
     ensures same { IfOk result (λ sorted. IsPermutation odds.entry.items sorted.items) }
     ensures order { IfOk result (λ sorted. IsNonDecreasingBy (λ (odd : Odd). odd.line) sorted.items) }
 {
@@ -149,70 +166,124 @@ fn by_line<'w>(mut odds: Vec<Odd<'w>>) -> Result<Vec<Odd<'w>>, AllocError>
 }
 
 /// Finds the place of each remark about a text, in the order of their lines.
-fn spots_of(
-    alloc: Global,
-    text: &str,
-    writing: Writing,
-    odds: &[Odd<'_>],
-) -> Result<Vec<Spot>, AllocError>
+fn spots_of(alloc: Global, text: &str, odds: &[Odd]) -> Result<Vec<Spot>, AllocError>
     requires { length text.now ≤ 4294967294 }
     ensures same { IfOk result (λ spots. map odd_of_spot spots.items ≡ map odd_at odds.now) }
     ensures places { IfOk result (λ spots. All (IsSpot text.now) spots.items) }
 {
     let lines = logical_lines(alloc, text)?;
     let mut spots = Vec::new(alloc);
-    let mut rest = Rest {
+    let mut last = PlacedWords {
         line: 0,
-        words: Vec::new(alloc),
-        next: 0,
+        among: Among::Words,
+        places: Vec::new(alloc),
     };
     for odd in odds {
-        spots.push(spot_of(alloc, lines.as_slice(), writing, *odd, &mut rest)?)?;
+        spots.push(spot_of(alloc, lines.as_slice(), *odd, &mut last)?)?;
     }
-    drop(rest);
+    drop(last);
     drop(lines);
     Ok(spots)
 }
 
-/// Finds the place of what is odd in these lines. If it is on the line that was looked at last, its words are not cut again.
-fn spot_of<'t>(
+/// Finds the place of what is odd in these lines.
+fn spot_of(
     alloc: Global,
-    lines: &[Line<'t>],
-    writing: Writing,
-    odd: Odd<'_>,
-    rest: &mut Rest<'t>,
+    lines: &[Line],
+    odd: Odd,
+    last: &mut PlacedWords,
 ) -> Result<Spot, AllocError>
+    requires { AreWordsIn lines.now last.old }
     ensures same { IfOk result (λ spot. odd_of_spot spot ≡ odd_at odd.entry) }
     ensures place { IfOk result (λ spot. (text : List ℕ) → lines.now ≡ logical_lines text → IsSpot text spot) }
+    ensures last { OnOk result (AreWordsIn lines.now last.new) }
 {
     let Some(line) = line_numbered(lines, odd.line) else {
         return Ok(spot_at(odd, None));
     };
-    if rest.line != odd.line {
-        rest.words = mentions(alloc, line, writing)?;
-        rest.line = odd.line;
-        rest.next = 0;
+    place_words(alloc, line, odd.among, last)?;
+    match last.places.get(odd.index) {
+        Some(place) => Ok(spot_at(odd, Some(*place))),
+        None => Ok(spot_at(odd, Some(Place::of_first_line(line)))),
     }
-    let slice = slice_among(odd, rest);
-    Ok(spot_at(odd, Some(place_of_slice(line, slice))))
 }
 
-/// Finds the slice of what is odd among the words of its line: the first one, or the word that it is about.
-fn slice_among(odd: Odd<'_>, rest: &mut Rest) -> Option<Slice> {
-    let Some(word) = odd.word else {
-        return rest.words.first().map(|mention| mention.slice);
+/// Finds where these words of a line stand, unless they were placed last.
+fn place_words(
+    alloc: Global,
+    line: &Line,
+    among: Among,
+    last: &mut PlacedWords,
+) -> Result<(), AllocError>
+    ensures line { OnOk result (last.new.line ≡ line.now.number) }
+    ensures places { OnOk result ((lines : List LogicalLine) → IsAmong lines line.now → AreWordsIn lines last.old → AreWordsIn lines last.new) }
+{
+    if last.line == line.number() && last.among == among {
+        return Ok(());
+    }
+    let places = word_places(alloc, line, among)?;
+    *last = PlacedWords {
+        line: line.number(),
+        among,
+        places,
     };
-    let is_member = matches!(odd.matter, Matter::Warning(WarningKind::UnknownMember));
-    let others = rest.words.as_slice().get(rest.next..)?;
-    let count = others.iter().position(|mention| mention.is_member == is_member
-        && mention.text.as_str() == word)?;
-    let slice = others.get(count)?.slice;
-    rest.next = rest.next.saturating_add(count).saturating_add(1);
-    Some(slice)
+    Ok(())
+}
+
+/// Finds the line of this number.
+fn line_numbered<'a, 't>(lines: &'a [Line<'t>], number: u32) -> Option<&'a Line<'t>>
+    ensures number { IfSome result (λ line. line.now.number ≡ number) }
+    ensures member { IfSome result (λ line. IsAmong lines.now line.now) }
+{
+    let at = lines.partition_point(|line| line.number() < number);
+    match lines.get(at) {
+        Some(line) => {
+            if line.number() == number {
+                Some(line)
+            } else {
+                None
+            }
+        }
+        None => None,
+    }
+}
+
+/// Lists the places of these words of a line.
+fn word_places(alloc: Global, line: &Line, among: Among) -> Result<Vec<Place>, AllocError>
+    ensures { IfOk result (λ places. (text : List ℕ) → IsAmong (logical_lines text) line.now → All (IsOn text line.now) places.items) }
+{
+    match among {
+        Among::Words => all_places(alloc, line),
+        Among::Clients => client_places(alloc, line),
+        Among::Members => member_places(alloc, line),
+    }
+}
+
+/// Lists the places of all words of a line. There are none if a quote does not close.
+fn all_places(alloc: Global, line: &Line) -> Result<Vec<Place>, AllocError>
+    ensures { IfOk result (λ places. (text : List ℕ) → IsAmong (logical_lines text) line.now → All (IsOn text line.now) places.items) }
+{
+    let Ok(words) = ReadError::split(words(alloc, line))? else {
+        return Ok(Vec::new(alloc));
+    };
+    let places = places_of(alloc, line, words.as_slice());
+    drop(words);
+    places
+}
+
+/// Lists the places of words of a line.
+fn places_of(alloc: Global, line: &Line, words: &[Word]) -> Result<Vec<Place>, AllocError>
+    ensures { IfOk result (λ places. (text : List ℕ) → IsAmong (logical_lines text) line.now → All (IsOn text line.now) places.items) }
+{
+    let mut places = Vec::new(alloc);
+    for word in words {
+        places.push(Place::of_word(line, word))?;
+    }
+    Ok(places)
 }
 
 /// Makes the spot of what is odd at this place.
-fn spot_at(odd: Odd<'_>, place: Option<Place>) -> Spot
+fn spot_at(odd: Odd, place: Option<Place>) -> Spot
     ensures { result ≡ record { line = odd.entry.line; place = place; matter = odd.entry.matter } }
 {
     Spot {

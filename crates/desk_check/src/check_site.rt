@@ -1,6 +1,6 @@
 //! What `check` finds in the folder of a site's files.
 
-ghost use Rattle.std.specs.Prelude.{◌≡◌, ◌≤◌, IfOk, OnOk, filter, is_some, length, map};
+ghost use Rattle.std.specs.Prelude.{◌≡◌, ◌≤◌, IfOk, OnOk, filter, if◌then◌else◌, is_some, length, map};
 ghost use Rattle.desk_policy.specs.Unlisted.{has_unlisted};
 ghost use Rattle.desk_check.specs.CheckFaults.{Adds, AreReadable};
 ghost use Rattle.desk_check.specs.CheckOdd.{odd_at};
@@ -8,10 +8,9 @@ ghost use Rattle.desk_check.specs.CheckSite.{GathersHeads, GathersListed, Gather
 ghost use Rattle.desk_check.specs.Finding.{HaveSlices};
 
 use crate::check_faults::{Source, push_table_faults, push_tables};
-use crate::check_odd::{Odd, push_in_order};
+use crate::check_odd::{Among, Odd, push_in_order};
 use crate::check_text::{Gathered, WholeSources, gather};
 use crate::finding::{Finding, Matter};
-use crate::word_places::Writing;
 use desk_policy::{SiteRule, unlisted_line};
 use desk_tables::{Custodians, FileSystems, Mount, TableRule};
 use desk_text::{ReadError, Sequence};
@@ -164,25 +163,26 @@ fn push_unlisted<'a>(
     ensures { OnOk result (Adds (TellUnlisted source.entry custodians.now mounts.now) found.old found.new) }
 {
     let odds = unlisted(alloc, custodians, mounts)?;
-    push_in_order(alloc, source, Writing::FileSystems, odds, found)?;
+    push_in_order(alloc, source, odds, found)?;
     Ok(())
 }
 
 /// Lists the lines of file systems that name a custodian who is not listed, each with the first such name.
-fn unlisted<'w>(
+fn unlisted(
     alloc: Global,
     custodians: &Custodians,
-    mounts: &'w [Mount],
-) -> Result<Vec<Odd<'w>>, AllocError>
+    mounts: &[Mount],
+) -> Result<Vec<Odd>, AllocError>
     ensures { IfOk result (λ odds. map odd_at odds.items ≡ map odd_of_unlisted (filter (has_unlisted custodians.now) mounts.now)) }
 {
     let mut odds = Vec::new(alloc);
     for mount in mounts {
-        if let Some(name) = unlisted_name(custodians, mount) {
+        if let Some(place) = unlisted_place(custodians, mount) {
             odds.push(Odd {
                 line: mount.line,
                 matter: Matter::Fault(SiteRule::Table(TableRule::Custodian), None),
-                word: Some(name),
+                among: Among::Words,
+                index: first_custodian(mount).saturating_add(place),
             })?;
         }
     }
@@ -190,13 +190,21 @@ fn unlisted<'w>(
 }
 
 /// Finds the first custodian of a mount point who is not listed.
-fn unlisted_name<'w>(custodians: &Custodians, mount: &'w Mount) -> Option<&'w str>
+fn unlisted_place(custodians: &Custodians, mount: &Mount) -> Option<usize>
     ensures { is_some result ≡ has_unlisted custodians.now mount.now }
 {
-    for name in mount.custodians.as_slice() {
+    for (place, name) in mount.custodians.as_slice().iter().enumerate() {
         if custodians.digest_of(name.as_str()).is_none() {
-            return Some(name.as_str());
+            return Some(place);
         }
     }
     None
+}
+
+/// Returns the index of a line's first custodian among its words: they stand behind the mount point, and behind the mark of a
+/// guarded one.
+fn first_custodian(mount: &Mount) -> usize
+    ensures { result ≡ (if mount.now.guarded then 2 else 1) }
+{
+    if mount.guarded { 2 } else { 1 }
 }

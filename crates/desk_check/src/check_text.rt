@@ -13,9 +13,8 @@ ghost use Rattle.desk_check.specs.CheckText.{Gathers, GathersExports, GathersFau
 ghost use Rattle.desk_check.specs.Finding.{HaveSlices};
 
 use crate::check_faults::{Source, TableSources, push_line_faults, push_tables};
-use crate::check_odd::{contradictions_in, push_odds};
+use crate::check_odd::{Among, contradictions_in, push_odds};
 use crate::finding::Finding;
-use crate::word_places::Writing;
 use desk_exports::{Boxed, Entry, Profile, Rule, Scope, Tables, find_faults, read_whole};
 use desk_policy::{
     PerTable, Policy, SiteFault, SiteTables, Warning, ascending_entries_ascend_in_each_file,
@@ -267,7 +266,7 @@ fn push_netgroup_warnings<'a>(
     push_odds(
         alloc,
         source,
-        Writing::Netgroup,
+        Among::Members,
         &[],
         warnings.as_slice(),
         findings,
@@ -291,7 +290,7 @@ fn push_inconsistencies<'a>(
     push_odds(
         alloc,
         source,
-        Writing::Exports,
+        Among::Clients,
         clashes.as_slice(),
         warnings,
         findings,

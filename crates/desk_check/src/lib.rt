@@ -29,7 +29,6 @@ pub mod split_text;
 mod told_fault;
 mod told_site;
 pub mod try_text;
-mod word_places;
 
 pub use check_faults::{Source, TableSources};
 pub use check_report::{CheckForm, Checked, report_found};

@@ -13,13 +13,12 @@ ghost use Rattle.desk_check.specs.Finding.{HasSlice, HaveSlices};
 ghost use Rattle.desk_check.specs.ToldFault.{TellOne, TellOneOf, TellOneWith, TellSplit, TellsOf, TellsOfSplit, is_about, is_same, odd_of_fault, told_text};
 
 use crate::check_faults::{Source, push_line_faults};
-use crate::check_odd::{Odd, push_in_order};
+use crate::check_odd::{Among, Odd, push_in_order};
 use crate::check_site::push_filesystems;
 use crate::check_text::{WholeSources, gather, tables_for_new};
 use crate::finding::{Finding, Matter};
 use crate::finding_prints::finding_text;
 use crate::split_text::SplitFault;
-use crate::word_places::Writing;
 use desk_exports::{PlacedFault, Rule, Scope, Tables, find_faults};
 use desk_policy::{SiteFault, SiteRule, SiteTables};
 use desk_tables::FileSystems;
@@ -192,9 +191,10 @@ fn push_on_line<'a>(
     odds.push(Odd {
         line: fault.line,
         matter: Matter::Fault(SiteRule::Line(fault.rule), None),
-        word: None,
+        among: Among::Words,
+        index: 0,
     })?;
-    push_in_order(alloc, source, Writing::Exports, odds, found)
+    push_in_order(alloc, source, odds, found)
 }
 
 /// Finds the first of these faults that is this one.

@@ -10,12 +10,11 @@ ghost use Rattle.desk_check.specs.ToldFault.{TellsFirst};
 ghost use Rattle.desk_check.specs.ToldSite as spec;
 
 use crate::check_faults::Source;
-use crate::check_odd::{Odd, push_in_order};
+use crate::check_odd::{Among, Odd, push_in_order};
 use crate::check_site::{SiteSources, gather_site};
 use crate::check_text::{read_sources, tables_with};
 use crate::finding::{Finding, Matter};
 use crate::told_fault::{push_one_with, told_first};
-use crate::word_places::Writing;
 use desk_exports::{Profile, Rule, Scope};
 use desk_policy::{LONGEST_TEXT, SiteFault, SiteRule, SiteTables, mount_of};
 use desk_tables::{FileSystems, FsId};
@@ -109,7 +108,8 @@ fn told_of_contradiction(
             Odd {
                 line: fault.line,
                 matter: Matter::Contradiction(other, address),
-                word: None,
+                among: Among::Words,
+                index: 0,
             },
         ),
         _ => Ok(String::new(alloc)),
@@ -117,14 +117,14 @@ fn told_of_contradiction(
 }
 
 /// Prints the finding of what is odd about a line.
-fn told_of_odd(alloc: Global, source: Source<'_>, odd: Odd<'_>) -> Result<String, AllocError>
+fn told_of_odd(alloc: Global, source: Source<'_>, odd: Odd) -> Result<String, AllocError>
     requires { length source.text.now ≤ 4294967294 }
     ensures { IfOk result (λ text. TellsFirst (TellInOrder source.entry (odd_at odd.entry ∷ [])) (string_bytes text)) }
 {
     let mut odds = Vec::new(alloc);
     odds.push(odd)?;
     let mut findings = Sequence::new(alloc);
-    push_in_order(alloc, source, Writing::Exports, odds, &mut findings)?;
+    push_in_order(alloc, source, odds, &mut findings)?;
     let told = told_first(alloc, findings.as_slice())?;
     drop(findings);
     Ok(told)

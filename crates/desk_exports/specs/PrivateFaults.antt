@@ -1,24 +1,18 @@
 -- What the private contracts of finding faults cite.
 use Rattle.std.specs.Prelude.{◌≡◌, ℕ, ◌++◌, List, [], Option, Ok, map}
-use Rattle.std.specs.List.{All, IsAmong, cons_option}
-use Rattle.desk_text.specs.Lines.{LogicalLine, logical_lines}
-use Rattle.desk_text.specs.Place.{IsOfLine, LiesIn}
+use Rattle.std.specs.List.{All, cons_option}
+use Rattle.desk_text.specs.Lines.{LogicalLine}
 use Rattle.desk_text.specs.Reading.{AnsweredLine, fault_at, fault_of}
-use Rattle.desk_text.specs.declared.place.Place.{Place}
 use Rattle.desk_text.specs.declared.reading.LineFault.{LineFault}
 use Rattle.desk_tables.specs.declared.filesystems.FsId.{FsId}
 use Rattle.desk_exports.specs.Files.{words_say}
+use Rattle.desk_exports.specs.Places.{IsOnLine}
 use Rattle.desk_exports.specs.Tables.{TableRows}
 use Rattle.desk_exports.specs.declared.entry.Entry.{Entry}
 use Rattle.desk_exports.specs.declared.faults.PlacedFault.{PlacedFault}
 use Rattle.desk_exports.specs.declared.files.Scope.{Scope}
 use Rattle.desk_exports.specs.declared.grammar.GrammarLine.{GrammarLine}
 use Rattle.desk_exports.specs.declared.rules.Rule.{Rule}
-
--- the place lies in each text that has the line, on a physical line of it
-pub record IsOnLine (line : LogicalLine) (place : Place) : Type 0 where
-  pub lies : (text : List ℕ) → IsAmong (logical_lines text) line → LiesIn text place
-  pub own : (text : List ℕ) → IsAmong (logical_lines text) line → IsOfLine line place
 
 -- the fault is that of a line with this number, at a place on it
 pub record IsFaultOn (line : LogicalLine) (placed : PlacedFault) : Type 0 where

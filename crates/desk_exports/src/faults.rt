@@ -6,7 +6,8 @@ ghost use Rattle.std.specs.Option.{option_map};
 ghost use Rattle.desk_text.specs.Reading.{fault_of};
 ghost use Rattle.desk_exports.specs.Faults.{IsPlaced};
 ghost use Rattle.desk_exports.specs.Files as spec;
-ghost use Rattle.desk_exports.specs.PrivateFaults.{AddsFault, IsFaultOn, IsOnLine, words_fault};
+ghost use Rattle.desk_exports.specs.Places.{IsOnLine};
+ghost use Rattle.desk_exports.specs.PrivateFaults.{AddsFault, IsFaultOn, words_fault};
 ghost use Rattle.desk_exports.specs.Tables.{table_rows};
 
 use crate::files::{Scope, home_of};

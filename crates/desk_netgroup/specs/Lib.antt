@@ -7,3 +7,4 @@ pub mod Walk
 pub mod Laws
 pub mod PrivateIndex
 pub mod PrivateWalk
+pub mod Slices

@@ -26,4 +26,5 @@ mod walk;
 pub use faults::{GroupFault, GroupRule, PlacedFault};
 pub use group_line::{GroupLine, Member};
 pub use netgroups::Netgroups;
+pub use slices::member_places;
 pub use token::{Token, tokens};

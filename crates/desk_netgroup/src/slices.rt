@@ -1,10 +1,11 @@
-//! Where a faulty line of a netgroup file breaks its rule.
+//! Where the words of a netgroup line stand: the one at which it breaks its rule, or its members.
 
-ghost use Rattle.std.specs.Prelude.{◌≡◌, ◌<◌, IfOk, List, ℕ, length};
-ghost use Rattle.std.specs.List.{IsAmong};
+ghost use Rattle.std.specs.Prelude.{◌≡◌, ◌<◌, IfOk, List, OnOk, ℕ, length};
+ghost use Rattle.std.specs.List.{All, IsAmong};
 ghost use Rattle.std.specs.Str.{IsCharBoundary};
 ghost use Rattle.desk_text.specs.Lines.{logical_lines};
 ghost use Rattle.desk_text.specs.Place.{IsOfLine, LiesIn};
+ghost use Rattle.desk_netgroup.specs.Slices.{IsOnLine};
 
 use crate::faults::{GroupFault, GroupRule, PlacedFault};
 use crate::line::LONGEST_WORD;
@@ -46,10 +47,66 @@ pub fn with_place(alloc: Global, line: &Line, fault: GroupFault) -> Result<Place
     Ok(PlacedFault { fault, place })
 }
 
+/// Lists the places of the members of a line, in order. A line that breaks a rule has those before the token where its form
+/// ends.
+pub fn member_places(alloc: Global, line: &Line) -> Result<Vec<Place>, AllocError>
+    ensures { IfOk result (λ places. All (IsOnLine line.now) places.items) }
+{
+    let tokens = line_tokens(alloc, line)?;
+    let places = places_of_members(alloc, line, tokens.as_slice());
+    drop(tokens);
+    places
+}
+
+/// Lists the places of the members among the tokens of a line.
+fn places_of_members(
+    alloc: Global,
+    line: &Line,
+    tokens: &[Slice],
+) -> Result<Vec<Place>, AllocError>
+    ensures { IfOk result (λ places. All (IsOnLine line.now) places.items) }
+{
+    let mut places = Vec::new(alloc);
+    let mut expected = Expected::Name;
+    for token in tokens {
+        push_if_member(line, expected, token, &mut places)?;
+        match after_token(expected, first_byte(token)) {
+            Some(next) => expected = next,
+            None => return Ok(places),
+        }
+    }
+    Ok(places)
+}
+
+/// Adds the place of a token, if it is a member where this may stand.
+fn push_if_member(
+    line: &Line,
+    expected: Expected,
+    token: &Slice,
+    places: &mut Vec<Place>,
+) -> Result<(), AllocError>
+    requires { All (IsOnLine line.now) places.old.items }
+    ensures { OnOk result (All (IsOnLine line.now) places.new.items) }
+{
+    if is_member(expected, token) {
+        places.push(place_of(line, Some(*token)))?;
+    }
+    Ok(())
+}
+
+/// Tests whether a token is a member, if this is what may stand there: a host that is `-` is none.
+fn is_member(expected: Expected, token: &Slice) -> bool {
+    let is_word = is_of_word(first_byte(token));
+    match expected {
+        Expected::Member => is_word,
+        Expected::Host => is_word && token.text != "-",
+        _ => false,
+    }
+}
+
 /// Makes the place of a slice, or of the first physical line of a logical line if there is none.
 fn place_of(line: &Line, slice: Option<Slice>) -> Place
-    ensures lies { (text : List ℕ) → IsAmong (logical_lines text) line.now → LiesIn text result }
-    ensures own { (text : List ℕ) → IsAmong (logical_lines text) line.now → IsOfLine line.now result }
+    ensures { IsOnLine line.now result }
 {
     match slice {
         Some(slice) => Place::in_line(

@@ -1,7 +1,7 @@
 -- By profile 2 no network is warned of because its class counts.
 use Rattle.std.proofs.Common.{◌≡◌, ◌≢◌, ℕ, ◌+◌, ◌==◌, Bool, true, false, List, [], ◌∷◌, Option, Some, None, Result, Ok, if◌then◌else◌, is_some, arith, filter, length, map, refl, ap, subst}
 use Rattle.std.specs.Prelude.{codes}
-use Rattle.std.specs.List.{AllByRecursion, flat_map}
+use Rattle.std.specs.List.{AllByRecursion, enumerate_from, flat_map}
 use Rattle.std.proofs.lemmas.List.Elements.{All-from_recursion}
 use Rattle.desk_text.specs.Address.{is_address, is_dotted}
 use Rattle.desk_text.specs.Bytes.{is_ipv6}
@@ -30,7 +30,7 @@ use Rattle.desk_policy.specs.Parsing.{content_with, ExportsFile, in_file, read_a
 use Rattle.desk_policy.specs.Policy.{Content, content_of, with_warnings}
 use Rattle.desk_policy.specs.Site.{SiteTexts}
 use Rattle.desk_policy.specs.SiteFault.{exports_name, line_fault}
-use Rattle.desk_policy.specs.Warning.{clients_warnings, entry_warnings, group_warnings, host_kind, kind_number, member_kind, member_word, name_kind, netgroup_warnings, warning_if, whole_warnings}
+use Rattle.desk_policy.specs.Warning.{clients_warnings, entry_warnings, group_warnings, host_kind, kind_number, member_kind, member_word, name_kind, netgroup_warnings, warning_if, whole_warnings, word_warnings}
 use Rattle.desk_policy.specs.declared.parsing.SiteTables.{SiteTables}
 use Rattle.desk_policy.specs.declared.site.ExportsText.{ExportsText}
 use Rattle.desk_policy.specs.declared.site_fault.SiteFault.{SiteFault}
@@ -63,9 +63,12 @@ host_is_other e = let n : kind_number UnknownHost ≡ kind_number ClassMask = ap
 member_is_other : UnknownMember ≢ ClassMask
 member_is_other e = let n : kind_number UnknownMember ≡ kind_number ClassMask = ap kind_number e in omega (arith, n)
 
-of_kind : (file : List ℕ) (line : ℕ) (word : List ℕ) (kind : Option WarningKind) → IsOtherKind kind → AllByRecursion IsOther (warning_if file line word kind)
-of_kind file line word None other = tt
-of_kind file line word (Some kind) other = (other, tt)
+of_kind : (file : List ℕ) (line index : ℕ) (word : List ℕ) (kind : Option WarningKind) → IsOtherKind kind → AllByRecursion IsOther (warning_if file line index word kind)
+of_kind file line index word None other = tt
+of_kind file line index word (Some kind) other = (other, tt)
+
+of_words : {X : Type 0} (file : List ℕ) (line : ℕ) (word : X → List ℕ) (kind : X → Option WarningKind) → ((x : X) → IsOtherKind (kind x)) → (xs : List X) → AllByRecursion IsOther (word_warnings file line word kind xs)
+of_words {X} file line word kind other xs = of_each IsOther (λ (one : ℕ × X). warning_if file line one.0 (word one.1) (kind one.1)) (λ one. of_kind file line one.0 (word one.1) (kind one.1) (other one.1)) (enumerate_from 0 xs)
 
 of_tests : (v6 dotted address unknown : Bool) → IsOtherKind (if v6 then Some Ipv6 else if dotted then (if address then None else Some UnknownHost) else if unknown then Some UnknownHost else None)
 of_tests true dotted address unknown = ipv6_is_other
@@ -95,8 +98,7 @@ module _ (netgroups : List GroupLine) (hosts : List HostRow) where
   of_member (Host name) = of_host name
 
   of_group : (line : GroupLine) → AllByRecursion IsOther (group_warnings netgroups hosts line)
-  of_group line = of_each IsOther (λ (member : Member). warning_if (codes "netgroup") line.line (member_word member) (member_kind netgroups hosts member))
-      (λ member. of_kind (codes "netgroup") line.line (member_word member) (member_kind netgroups hosts member) (of_member member)) line.members
+  of_group line = of_words (codes "netgroup") line.line member_word (member_kind netgroups hosts) of_member line.members
 
   of_netgroups : AllByRecursion IsOther (netgroup_warnings netgroups hosts)
   of_netgroups = of_each IsOther (group_warnings netgroups hosts) of_group netgroups
@@ -104,7 +106,7 @@ module _ (netgroups : List GroupLine) (hosts : List HostRow) where
   -- ---- entries
 
   of_clients : (file : List ℕ) (line : ℕ) (c : Clients) → are_by_class c ≡ false → AllByRecursion IsOther (clients_warnings netgroups hosts file line c)
-  of_clients file line (clients.Hosts names) other = of_each IsOther (λ (name : List ℕ). warning_if file line name (name_kind netgroups hosts name)) (λ name. of_kind file line name (name_kind netgroups hosts name) (of_name name)) names
+  of_clients file line (clients.Hosts names) other = of_words file line (λ name. name) (name_kind netgroups hosts) of_name names
   of_clients file line (clients.Net net None) other = tt
   of_clients file line (clients.Net net (Some value)) other = absurd (cc)
   of_clients file line (clients.Net6 value) other = (ipv6_is_other, tt)

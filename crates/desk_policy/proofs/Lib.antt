@@ -24,6 +24,7 @@ pub mod SiteLaws
 pub mod Replaced
 pub mod OwnDirectories
 pub mod ClassWarnings
+pub mod OneMoreWord
 pub mod Compiling
 pub mod ContentsRead
 pub mod SiteLengths

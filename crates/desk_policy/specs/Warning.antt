@@ -1,6 +1,6 @@
 -- What the texts of a site are warned of: words that are accepted, but odd. (this project's own)
 use Rattle.std.specs.Prelude.{ℕ, ◌==◌, List, [], ◌∷◌, Option, Some, None, codes, is_some, length, if◌then◌else◌}
-use Rattle.std.specs.List.{flat_map}
+use Rattle.std.specs.List.{enumerate_from, flat_map}
 use Rattle.desk_text.specs.Address.{is_address, is_dotted}
 use Rattle.desk_text.specs.Bytes.{is_ipv6}
 use Rattle.desk_tables.specs.Hosts.{addresses_of_host}
@@ -65,15 +65,19 @@ abbrev pub member_word : Member → List ℕ
 member_word (Group name) = name
 member_word (Host name) = name
 
--- the warning of a word in a line, if there is one
-abbrev pub warning_if : List ℕ → ℕ → List ℕ → Option WarningKind → List Warning
-warning_if file line word None = []
-warning_if file line word (Some kind) = record { file = file; line = line; kind = kind; word = word } ∷ []
+-- the warning of the word with this index in a line, if there is one
+abbrev pub warning_if : List ℕ → ℕ → ℕ → List ℕ → Option WarningKind → List Warning
+warning_if file line index word None = []
+warning_if file line index word (Some kind) = record { file = file; line = line; kind = kind; index = index; word = word } ∷ []
+
+-- the warnings of the words of a line, in order: each has its index, from 0
+abbrev pub word_warnings : {X : Type 0} → List ℕ → ℕ → (X → List ℕ) → (X → Option WarningKind) → List X → List Warning
+word_warnings file line word kind xs = flat_map (λ one. warning_if file line one.0 (word one.1) (kind one.1)) (enumerate_from 0 xs)
 
 -- of a netgroup line: by its members, in order
 abbrev pub group_warnings : List GroupLine → List HostRow → GroupLine → List Warning
 group_warnings netgroups hosts line =
-    flat_map (λ member. warning_if (codes "netgroup") line.line (member_word member) (member_kind netgroups hosts member)) line.members
+    word_warnings (codes "netgroup") line.line member_word (member_kind netgroups hosts) line.members
 
 -- of the netgroup file
 abbrev pub netgroup_warnings : List GroupLine → List HostRow → List Warning
@@ -81,10 +85,10 @@ netgroup_warnings netgroups hosts = flat_map (group_warnings netgroups hosts) ne
 
 -- of the clients of a line: its names, in order; or its network, if its class counts or it is of IPv6
 abbrev pub clients_warnings : List GroupLine → List HostRow → List ℕ → ℕ → Clients → List Warning
-clients_warnings netgroups hosts file line (clients.Hosts names) = flat_map (λ name. warning_if file line name (name_kind netgroups hosts name)) names
+clients_warnings netgroups hosts file line (clients.Hosts names) = word_warnings file line (λ name. name) (name_kind netgroups hosts) names
 clients_warnings netgroups hosts file line (clients.Net net None) = []
-clients_warnings netgroups hosts file line (clients.Net net (Some value)) = warning_if file line value (Some ClassMask)
-clients_warnings netgroups hosts file line (clients.Net6 value) = warning_if file line value (Some Ipv6)
+clients_warnings netgroups hosts file line (clients.Net net (Some value)) = warning_if file line 0 value (Some ClassMask)
+clients_warnings netgroups hosts file line (clients.Net6 value) = warning_if file line 0 value (Some Ipv6)
 clients_warnings netgroups hosts file line clients.World = []
 
 -- of the line of an entry

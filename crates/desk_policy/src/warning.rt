@@ -1,7 +1,6 @@
 //! What the texts of a site are warned of: words that are accepted, but odd.
 
 ghost use Rattle.std.specs.Prelude.{◌≡◌, [], ◌++◌, IfOk, None, OnOk, Some, codes, if◌then◌else◌};
-ghost use Rattle.std.specs.List.{flat_map};
 ghost use Rattle.desk_policy.specs.Warning as spec;
 ghost use Rattle.desk_policy.specs.declared.warning.WarningKind.TheVariants.{UnknownHost};
 
@@ -63,12 +62,15 @@ impl WarningKind {
 }
 
 /// A word of a line of a file that is accepted, but odd. Exports files are named `exports:` and their mount point, and a
-/// whole exports text `exports`.
+/// whole exports text `exports`. The word is a member of a netgroup line, or one of the clients that an exports line writes:
+/// a name or the network. Its index counts these from 0, as `member_places` of desk_netgroup and `client_places` of
+/// desk_exports list them.
 #[derive(Drop)]
 pub struct Warning {
     pub file: Text,
     pub line: u32,
     pub kind: WarningKind,
+    pub index: usize,
     pub word: Text,
 }
 
@@ -110,13 +112,14 @@ fn push_group(
 ) -> Result<(), AllocError>
     ensures { OnOk result (warnings.new ≡ warnings.old ++ spec.group_warnings netgroups.now hosts.now line.now) }
 {
-    for member in line.members.as_slice() {
+    for (index, member) in line.members.as_slice().iter().enumerate() {
         let kind = member_kind(alloc, netgroups, hosts, member)?;
         push_if(
             alloc,
             warnings,
             "netgroup",
             line.line,
+            index,
             member_word(member),
             kind,
         )?;
@@ -173,6 +176,7 @@ pub(crate) fn push_entry(
             warnings,
             file,
             entry.line,
+            0,
             value.as_str(),
             Some(WarningKind::ClassMask),
         ),
@@ -181,6 +185,7 @@ pub(crate) fn push_entry(
             warnings,
             file,
             entry.line,
+            0,
             value.as_str(),
             Some(WarningKind::Ipv6),
         ),
@@ -215,12 +220,12 @@ fn push_names(
     warnings: &mut Sequence<Warning>,
 ) -> Result<(), AllocError>
     ensures { OnOk result (warnings.new
-        ≡ warnings.old ++ flat_map (λ name. spec.warning_if file.now line name (spec.name_kind netgroups.now hosts.now name)) names.now) }
+        ≡ warnings.old ++ spec.word_warnings file.now line (λ name. name) (spec.name_kind netgroups.now hosts.now) names.now) }
 {
     for index in 0..names.len() {
         let name = names.get(index);
         let kind = name_kind(alloc, netgroups, hosts, name)?;
-        push_if(alloc, warnings, file, line, name, kind)?;
+        push_if(alloc, warnings, file, line, index, name, kind)?;
     }
     Ok(())
 }
@@ -270,16 +275,18 @@ fn push_if(
     warnings: &mut Sequence<Warning>,
     file: &str,
     line: u32,
+    index: usize,
     word: &str,
     kind: Option<WarningKind>,
 ) -> Result<(), AllocError>
-    ensures { OnOk result (warnings.new ≡ warnings.old ++ spec.warning_if file.now line word.now kind) }
+    ensures { OnOk result (warnings.new ≡ warnings.old ++ spec.warning_if file.now line index word.now kind) }
 {
     if let Some(kind) = kind {
         warnings.push(Warning {
             file: Text::copy(alloc, file)?,
             line,
             kind,
+            index,
             word: Text::copy(alloc, word)?,
         })?;
     }
