@@ -7,7 +7,9 @@ use Rattle.desk_text.specs.declared.address.AddrFault.{AddrFault}
 use Rattle.desk_tables.specs.declared.rules.TableRule.TheVariants as listed
 use Rattle.desk_exports.specs.Clients.{prefix_text}
 use Rattle.desk_exports.specs.Grammar.{after_dash, option_name}
-use Rattle.desk_exports.specs.Options.{is_name_among}
+use Rattle.desk_exports.specs.Options.{is_name_among, keyword_of, takes_no_value}
+use Rattle.desk_exports.specs.declared.options.Keyword.{Keyword}
+use Rattle.desk_exports.specs.declared.options.Keyword.TheVariants.{LeftOut, Mask, Network, Unknown}
 use Rattle.desk_exports.specs.declared.rules.Rule.TheVariants as broken
 use Rattle.desk_policy.specs.declared.site_fault.SiteRule.{SiteRule}
 use Rattle.desk_policy.specs.declared.site_fault.SiteRule.TheVariants as rule
@@ -44,7 +46,7 @@ value_hint name =
     if is_name_among (codes "ro" ∷ codes "o" ∷ []) name then Some (codes "write -ro without a value, and each client that the value names as a host behind the options")
     else if bytes_eq name (codes "root") then Some (codes "write -maproot=root, and each client that the value names as a host, on a line of its own: a line without hosts is for everybody")
     else if is_name_among (codes "rw" ∷ codes "access" ∷ []) name then Some (codes "write each client that the value names as a host behind the options")
-    else if is_name_among (codes "alldirs" ∷ codes "quiet" ∷ []) name then Some (codes "write it without a value")
+    else if takes_no_value (keyword_of name) then Some (codes "write it without a value")
     else name_hint name
 
 -- an option between the commas is empty
@@ -71,14 +73,24 @@ bare_name_hint name =
     else if is_name_among names_without_counterpart name then Some (codes "leave it out, but keep or name a host: FreeBSD has no such option, and a line without hosts is for everybody")
     else None
 
+-- for the name of an option of another system that has no dash
+abbrev pub bare_other_hint : List ℕ → Option (List ℕ)
+bare_other_hint name =
+    if bytes_eq name (codes "rw") then Some (codes "leave it out, but keep or name a host: a line without -ro is read-write, and one without hosts is for everybody")
+    else bare_name_hint name
+
+-- for an option that has no dash; a letter by itself is rather a host
+abbrev pub bare_keyword_hint : List ℕ → Keyword → Option (List ℕ)
+bare_keyword_hint name Network = Some (codes "write a dash before it")
+bare_keyword_hint name Mask = Some (codes "write a dash before it")
+bare_keyword_hint name LeftOut = bare_other_hint name
+bare_keyword_hint name Unknown = bare_other_hint name
+bare_keyword_hint name keyword =
+    if length name == 1 then None else Some (codes "write a dash before it, and name the hosts: a line without hosts is for everybody")
+
 -- for the name of an option that has no dash
 abbrev pub bare_hint : List ℕ → Option (List ℕ)
-bare_hint name =
-    if is_name_among (codes "network" ∷ codes "mask" ∷ []) name then Some (codes "write a dash before it")
-    else if is_name_among (codes "ro" ∷ codes "alldirs" ∷ codes "quiet" ∷ codes "maproot" ∷ codes "mapall" ∷ codes "sec" ∷ []) name
-    then Some (codes "write a dash before it, and name the hosts: a line without hosts is for everybody")
-    else if bytes_eq name (codes "rw") then Some (codes "leave it out, but keep or name a host: a line without -ro is read-write, and one without hosts is for everybody")
-    else bare_name_hint name
+bare_hint name = bare_keyword_hint name (keyword_of name)
 
 -- for the name of an option that has a value, but no dash
 abbrev pub bare_value_hint : List ℕ → Option (List ℕ)

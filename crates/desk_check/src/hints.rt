@@ -10,7 +10,7 @@ ghost use Rattle.desk_exports.specs.Options.{is_name_among};
 ghost use Rattle.desk_check.specs.Hints as spec;
 
 use crate::finding::Matter;
-use desk_exports::Rule;
+use desk_exports::{Keyword, Rule};
 use desk_policy::{SiteRule, WarningKind};
 use desk_tables::TableRule;
 use desk_text::Addr;
@@ -79,7 +79,7 @@ fn value_hint(name: &str) -> Option<&'static str>
         "rw" | "access" => {
             Some("write each client that the value names as a host behind the options")
         }
-        "alldirs" | "quiet" => Some("write it without a value"),
+        _ if Keyword::of(name).takes_no_value() => Some("write it without a value"),
         _ => name_hint(name),
     }
 }
@@ -174,15 +174,27 @@ fn bare_value_hint(name: &str) -> Option<&'static str>
 fn bare_hint(name: &str) -> Option<&'static str>
     ensures { option_map (λ hint. hint.now) result ≡ spec.bare_hint name.now }
 {
-    match name {
-        "network" | "mask" => Some("write a dash before it"),
-        "ro" | "alldirs" | "quiet" | "maproot" | "mapall" | "sec" => Some(
+    match Keyword::of(name) {
+        Keyword::Network | Keyword::Mask => Some("write a dash before it"),
+        Keyword::LeftOut | Keyword::Unknown => bare_other_hint(name),
+        // A letter by itself is rather a host.
+        _ if name.len() == 1 => None,
+        _ => Some(
             "write a dash before it, and name the hosts: a line without hosts is for everybody",
         ),
-        "rw" => Some(
+    }
+}
+
+/// Returns the hint for the name of an option of another system that has no dash.
+fn bare_other_hint(name: &str) -> Option<&'static str>
+    ensures { option_map (λ hint. hint.now) result ≡ spec.bare_other_hint name.now }
+{
+    if name == "rw" {
+        Some(
             "leave it out, but keep or name a host: a line without -ro is read-write, and one without hosts is for everybody",
-        ),
-        _ => bare_name_hint(name),
+        )
+    } else {
+        bare_name_hint(name)
     }
 }
 

@@ -7,7 +7,7 @@ use Rattle.desk_tables.specs.CredentialText.{cred_faults, unless_cred_fault}
 use Rattle.desk_tables.specs.declared.credentials.Cred.{Cred}
 use Rattle.desk_tables.specs.declared.credential_text.CredFault.{CredFault}
 use Rattle.desk_tables.specs.declared.credential_text.CredFault.TheVariants.{UnknownUser, UnknownGroup, TooManyGroups, EmptyElement, Range}
-use Rattle.desk_exports.proofs.RulesBesideValues.{neither}
+use Rattle.desk_exports.proofs.RulesAsked.{neither}
 
 none_passes : {X : Type 0} (p : X → Bool) (xs : List X) → find p xs ≡ None → list_any p xs ≡ false
 none_passes p [] e = refl

@@ -7,7 +7,7 @@ ghost use Rattle.desk_tables.specs.CredentialText.{cred_breaks, elements};
 ghost use Rattle.desk_tables.specs.declared.credential_text.CredFault.{CredFault};
 ghost use Rattle.desk_exports.specs.Flavours.{has_bad_flavour};
 ghost use Rattle.desk_exports.specs.Tables.{table_rows};
-ghost use Rattle.desk_exports.specs.Options.{of_value, takes_value};
+ghost use Rattle.desk_exports.specs.Options.{has_valued, of_value};
 ghost use Rattle.desk_exports.specs.Rules as spec;
 ghost use Rattle.desk_exports.specs.declared.options.Keyword.TheVariants as keyword;
 
@@ -32,7 +32,7 @@ pub(crate) fn is_unknown(setting: &Setting) -> bool
 
 /// Tests whether an option takes a value.
 pub(crate) fn has_valued_option(settings: &[Setting]) -> bool
-    ensures { result ≡ list_any (λ s. takes_value s.keyword) settings.now }
+    ensures { result ≡ has_valued settings.now }
 {
     settings.iter().any(|setting| setting.keyword.takes_value())
 }

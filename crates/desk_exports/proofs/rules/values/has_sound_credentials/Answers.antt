@@ -1,4 +1,4 @@
-use Rattle.desk_exports.proofs.RulesBesideValues.{neither}
+use Rattle.desk_exports.proofs.RulesAsked.{neither}
 use Rattle.desk_exports.proofs.rules.values.has_sound_credentials.Goals as goal
 
 pub returns-then-is_sound_credential : goal.returns-then-is_sound_credential
