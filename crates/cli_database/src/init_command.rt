@@ -5,6 +5,7 @@ ghost use Rattle.std.specs.BTreeMap.{get_by_text};
 ghost use Rattle.std.specs.List.{flat_map};
 ghost use Rattle.std.specs.Str.{bytes_eq};
 ghost use Rattle.sqlite.specs.Held.{state};
+ghost use Rattle.desk_text.specs.Lines.{IsReadable};
 ghost use Rattle.desk_tables.specs.FileSystemsText.{read_filesystems};
 ghost use Rattle.desk_policy.specs.Site.{no_exports, texts_of};
 ghost use Rattle.cli_output.specs.SiteFolder.{AreShortFiles, site_list};
@@ -78,8 +79,8 @@ fn not_split(
     sources: SiteSources<'_>,
     fault: LineFault<Rule>,
 ) -> Result<Output, Failure>
-    requires filesystems { length sources.filesystems.text.now ≤ 4294967294 }
-    requires exports { length sources.whole.exports.text.now ≤ 4294967294 }
+    requires filesystems { IsReadable sources.filesystems.text.now }
+    requires exports { IsReadable sources.whole.exports.text.now }
     ensures { IsRefusedAs (refused.Split fault) result }
 {
     let told = tell_split_fault(

@@ -1,6 +1,7 @@
 //! The command `clients`: who may mount a directory, by an exports text.
 
-ghost use Rattle.std.specs.Prelude.{◌≤◌, IfOk, Ok, length};
+ghost use Rattle.std.specs.Prelude.{IfOk, Ok};
+ghost use Rattle.desk_text.specs.Lines.{IsReadable};
 ghost use Rattle.desk_check.specs.CheckFaults.{AreReadable};
 ghost use Rattle.desk_exports.specs.declared.profile.Profile.TheVariants.{Two};
 ghost use Rattle.desk_policy.specs.Parsing.{read_whole_with};
@@ -90,7 +91,7 @@ fn answer_texts(
     sources: WholeSources<'_>,
 ) -> Result<Output, Failure>
     requires tables { AreReadable sources.tables }
-    requires exports { length sources.exports.text.now ≤ 4294967294 }
+    requires exports { IsReadable sources.exports.text.now }
     ensures answers { TellsWith (tables_in sources.entry) sources.entry.exports.text.now filesystems path.now result }
     ensures told { IfOk result (IsTold sources.entry filesystems) }
 {
@@ -114,7 +115,7 @@ fn answer_with(
     sources: WholeSources<'_>,
 ) -> Result<Output, Failure>
     requires tables { AreReadable sources.tables }
-    requires exports { length sources.exports.text.now ≤ 4294967294 }
+    requires exports { IsReadable sources.exports.text.now }
     ensures answers { TellsWith (Ok tables.now) sources.entry.exports.text.now filesystems path.now result }
     ensures told { IfOk result (IsTold sources.entry filesystems) }
 {
@@ -135,7 +136,7 @@ fn clients_text(
     filesystems: FileSystems,
     path: &Path,
 ) -> Result<String, ReadError<SiteFault>>
-    requires { length text.now ≤ 4294967294 }
+    requires { IsReadable text.now }
     ensures { ListsClients (read_whole_with Two tables.now filesystems text.now) path.now result }
 {
     let view: View = view_of(alloc, text, tables, filesystems)?;

@@ -1,7 +1,8 @@
 //! The command `compare`: what changes from one exports text to another, of every directory and for every client.
 
-ghost use Rattle.std.specs.Prelude.{◌≡◌, ◌∷◌, ◌≤◌, [], Ok, length, map};
+ghost use Rattle.std.specs.Prelude.{◌≡◌, ◌∷◌, [], Ok, map};
 ghost use Rattle.std.specs.String.{string_bytes};
+ghost use Rattle.desk_text.specs.Lines.{IsReadable};
 ghost use Rattle.desk_check.specs.CheckFaults.{AreReadable};
 ghost use Rattle.desk_exports.specs.declared.profile.Profile.TheVariants.{Two};
 ghost use Rattle.desk_policy.specs.Parsing.{read_whole_with};
@@ -121,9 +122,9 @@ fn answer_texts(
     new_sources: WholeSources<'_>,
 ) -> Result<Output, Failure>
     requires old_tables { AreReadable old_sources.tables }
-    requires old_exports { length old_sources.exports.text.now ≤ 4294967294 }
+    requires old_exports { IsReadable old_sources.exports.text.now }
     requires new_tables { AreReadable new_sources.tables }
-    requires new_exports { length new_sources.exports.text.now ≤ 4294967294 }
+    requires new_exports { IsReadable new_sources.exports.text.now }
     ensures { ComparesTexts filesystems all old_sources.entry new_sources.entry result }
 {
     match read_tables(alloc, old_sources.tables) {
@@ -146,9 +147,9 @@ fn answer_with(
     new_sources: WholeSources<'_>,
 ) -> Result<Output, Failure>
     requires old_tables { AreReadable old_sources.tables }
-    requires old_exports { length old_sources.exports.text.now ≤ 4294967294 }
+    requires old_exports { IsReadable old_sources.exports.text.now }
     requires new_tables { AreReadable new_sources.tables }
-    requires new_exports { length new_sources.exports.text.now ≤ 4294967294 }
+    requires new_exports { IsReadable new_sources.exports.text.now }
     ensures { ComparesWith (Ok tables.now) filesystems all old_sources.entry new_sources.entry result }
 {
     let own = filesystems.copy()?;
@@ -172,7 +173,7 @@ fn answer_after(
     sources: WholeSources<'_>,
 ) -> Result<Output, Failure>
     requires tables { AreReadable sources.tables }
-    requires exports { length sources.exports.text.now ≤ 4294967294 }
+    requires exports { IsReadable sources.exports.text.now }
     ensures { ComparesAfter before.now (read_whole_with Two tables.now filesystems sources.entry.exports.text.now) filesystems all sources.entry result }
 {
     let own = filesystems.copy()?;

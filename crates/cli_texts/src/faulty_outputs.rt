@@ -1,6 +1,7 @@
 //! A fault of the texts of a command with what standard error tells beside it: the finding that `check` prints of it.
 
-ghost use Rattle.std.specs.Prelude.{◌≡◌, ◌≤◌, MatchResult, length};
+ghost use Rattle.std.specs.Prelude.{◌≡◌, MatchResult};
+ghost use Rattle.desk_text.specs.Lines.{IsReadable};
 ghost use Rattle.desk_check.specs.CheckFaults.{AreReadable};
 ghost use Rattle.cli_files.specs.declared.failure.Failure.TheVariants.{Memory};
 ghost use Rattle.cli_texts.specs.FaultyOutputs.{IsToldFaulty, IsToldNotSplit};
@@ -22,7 +23,7 @@ pub fn faulty(
     fault: SiteFault,
 ) -> Result<Output, Failure>
     requires tables { AreReadable sources.tables }
-    requires exports { length sources.exports.text.now ≤ 4294967294 }
+    requires exports { IsReadable sources.exports.text.now }
     ensures { MatchResult result (IsToldFaulty sources.entry filesystems fault) (λ failure. failure ≡ Memory) }
 {
     let told = tell_fault(alloc, sources, filesystems, &fault)?;
@@ -36,8 +37,8 @@ pub fn not_split(
     filesystems: Source<'_>,
     fault: SplitFault,
 ) -> Result<Output, Failure>
-    requires file { length file.text.now ≤ 4294967294 }
-    requires filesystems { length filesystems.text.now ≤ 4294967294 }
+    requires file { IsReadable file.text.now }
+    requires filesystems { IsReadable filesystems.text.now }
     ensures { MatchResult result (IsToldNotSplit file.entry filesystems.entry fault) (λ failure. failure ≡ Memory) }
 {
     let told = tell_split_fault(alloc, file, filesystems, fault)?;

@@ -1,6 +1,7 @@
 //! The command `split`: an exports text split among the file systems that another text lists.
 
-ghost use Rattle.std.specs.Prelude.{◌≡◌, ◌≤◌, MatchResult, false, length};
+ghost use Rattle.std.specs.Prelude.{◌≡◌, MatchResult, false};
+ghost use Rattle.desk_text.specs.Lines.{IsReadable};
 ghost use Rattle.cli_words.specs.Words.{given_split};
 ghost use Rattle.cli_files.specs.declared.failure.Failure.TheVariants.{Memory};
 ghost use Rattle.cli_texts.specs.SplitCommand.{AnswersSplit, AnswersSplitFiles, TellsSplit, names_input_twice};
@@ -54,8 +55,8 @@ fn split_files<I: BufRead>(
 
 /// Answers by the two texts.
 fn split_texts(alloc: Global, file: Source<'_>, filesystems: Source<'_>) -> Result<Output, Failure>
-    requires file { length file.text.now ≤ 4294967294 }
-    requires filesystems { length filesystems.text.now ≤ 4294967294 }
+    requires file { IsReadable file.text.now }
+    requires filesystems { IsReadable filesystems.text.now }
     ensures { MatchResult result (TellsSplit file.entry filesystems.entry) (λ failure. failure ≡ Memory) }
 {
     match split_text(alloc, file.text, filesystems.text) {

@@ -1,7 +1,8 @@
 //! The command `try`: one verdict over one exports text.
 
-ghost use Rattle.std.specs.Prelude.{◌≤◌, IfOk, Ok, length};
+ghost use Rattle.std.specs.Prelude.{IfOk, Ok};
 ghost use Rattle.std.specs.Option.{option_map};
+ghost use Rattle.desk_text.specs.Lines.{IsReadable};
 ghost use Rattle.desk_check.specs.CheckFaults.{AreReadable};
 ghost use Rattle.cli_files.specs.Files.{name_input_twice};
 ghost use Rattle.cli_words.specs.Words.{given_try};
@@ -72,7 +73,7 @@ fn answer_texts(
     sources: WholeSources<'_>,
 ) -> Result<Output, Failure>
     requires tables { AreReadable sources.tables }
-    requires exports { length sources.exports.text.now ≤ 4294967294 }
+    requires exports { IsReadable sources.exports.text.now }
     ensures answers { AnswersTexts (option_map (λ word. word.now) word.entry) request (Ok (texts_in sources.entry)) result }
     ensures told { IfOk result (IsTold sources.entry request.filesystems) }
 {
@@ -95,7 +96,7 @@ fn answer_as(
     sources: WholeSources<'_>,
 ) -> Result<Output, Failure>
     requires tables { AreReadable sources.tables }
-    requires exports { length sources.exports.text.now ≤ 4294967294 }
+    requires exports { IsReadable sources.exports.text.now }
     ensures answers { TellsWith (tables_in sources.entry) sources.entry.exports.text.now own.now request result }
     ensures told { IfOk result (IsTold sources.entry request.filesystems) }
 {
@@ -126,7 +127,7 @@ fn answer_with(
     sources: WholeSources<'_>,
 ) -> Result<Output, Failure>
     requires tables { AreReadable sources.tables }
-    requires exports { length sources.exports.text.now ≤ 4294967294 }
+    requires exports { IsReadable sources.exports.text.now }
     ensures answers { TellsWith (Ok tables.now) sources.entry.exports.text.now own.now request result }
     ensures told { IfOk result (IsTold sources.entry request.filesystems) }
 {

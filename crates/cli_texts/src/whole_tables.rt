@@ -1,6 +1,6 @@
 //! The tables with which an exports text is read, and the view of the policy that it writes with them.
 
-ghost use Rattle.std.specs.Prelude.{◌≤◌, length};
+ghost use Rattle.desk_text.specs.Lines.{IsReadable};
 ghost use Rattle.desk_text.specs.Reading.{Reads};
 ghost use Rattle.desk_check.specs.CheckFaults.{AreReadable};
 ghost use Rattle.desk_exports.specs.declared.profile.Profile.TheVariants.{Two};
@@ -44,7 +44,7 @@ pub fn view_of<V: PolicyView>(
     tables: &SiteTables,
     filesystems: FileSystems,
 ) -> Result<V, ReadError<SiteFault>>
-    requires { length text.now ≤ 4294967294 }
+    requires { IsReadable text.now }
     ensures { Views V.in_force (read_whole_with Two tables.now filesystems text.now) result }
 {
     let policy = parse_whole_without_warnings(alloc, Profile::Two, text, filesystems, tables)?;

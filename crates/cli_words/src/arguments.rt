@@ -1,8 +1,9 @@
 //! Parses the words of a command that are more than texts: HOST, DIR, MOUNT, CRED, and numbers.
 
-ghost use Rattle.std.specs.Prelude.{◌≡◌, ◌≤◌, MatchResult, None, Ok, Some, length, map};
+ghost use Rattle.std.specs.Prelude.{◌≡◌, MatchResult, None, Ok, Some, map};
 ghost use Rattle.std.specs.Option.{option_map};
 ghost use Rattle.desk_text.specs.Address.{number_of, read_addr};
+ghost use Rattle.desk_text.specs.Lines.{IsReadable};
 ghost use Rattle.desk_text.specs.Path.{read_path};
 ghost use Rattle.desk_tables.specs.CredentialText.{read_credential as read_cred};
 ghost use Rattle.desk_tables.specs.FileSystems.{IsTableOf};
@@ -153,8 +154,8 @@ pub fn read_credential(
     passwd: &str,
     group: &str,
 ) -> Result<Option<Cred>, Failure>
-    requires passwd { length passwd.now ≤ 4294967294 }
-    requires group { length group.now ≤ 4294967294 }
+    requires passwd { IsReadable passwd.now }
+    requires group { IsReadable group.now }
     ensures { let given = option_map (λ word. word.now) word.entry in
         AnswersOwn given (own_answer given (read_users passwd.now) (read_groups group.now)) result }
 {
@@ -174,7 +175,7 @@ fn read_with_users(
     users: &Users,
     group: &str,
 ) -> Result<Option<Cred>, Failure>
-    requires { length group.now ≤ 4294967294 }
+    requires { IsReadable group.now }
     ensures { AnswersOwn (Some word.now) (own_answer (Some word.now) (Ok users.now) (read_groups group.now)) result }
 {
     match ReadError::split(Groups::read(alloc, group))? {

@@ -1,6 +1,6 @@
 //! Questions on users, groups and credentials.
 
-ghost use Rattle.std.specs.Prelude.{◌≤◌, length};
+ghost use Rattle.desk_text.specs.Lines.{IsReadable};
 
 use crate::answers::{Asked, add_texts, end_list, number, numbers, say_each, say_whether, split};
 use crate::site::{Site, set};
@@ -9,7 +9,7 @@ use std::alloc::Global;
 
 /// Answers a question on users, groups or credentials. `users TEXT` and `groups TEXT`: `read`, or the fault.
 pub fn answer(alloc: Global, site: &mut Site, out: &mut String, question: &str, text: &str) -> Asked
-    requires { length text.now ≤ 4294967294 }
+    requires { IsReadable text.now }
 {
     match question {
         "users" => set(&mut site.users, out, Users::read(alloc, text)),

@@ -1,6 +1,6 @@
 //! Questions on the custodians file.
 
-ghost use Rattle.std.specs.Prelude.{◌≤◌, length};
+ghost use Rattle.desk_text.specs.Lines.{IsReadable};
 
 use crate::answers::{Asked, end_list, say, say_found};
 use crate::site::{Site, set_some};
@@ -10,7 +10,7 @@ use std::alloc::Global;
 
 /// Answers a question on the custodians file. `custodians TEXT`: `read`, or the fault.
 pub fn answer(alloc: Global, site: &mut Site, out: &mut String, question: &str, text: &str) -> Asked
-    requires { length text.now ≤ 4294967294 }
+    requires { IsReadable text.now }
 {
     match (question, &site.custodians) {
         ("custodians", _) => set_some(&mut site.custodians, out, Custodians::read(alloc, text)),

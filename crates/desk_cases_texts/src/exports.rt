@@ -1,21 +1,20 @@
 //! Questions on the lines of exports files. They are read with the tables that the file read last, and need a table of
 //! file systems.
 
-ghost use Rattle.std.specs.Prelude.{◌≤◌, length};
+ghost use Rattle.desk_text.specs.Lines.{IsReadable};
 
 use crate::answers::{Asked, end_list, say, split};
 use crate::entries::add_entry;
 use crate::filesystems::fs_id;
 use crate::site::Site;
 use desk_exports::{Boxed, Entry, Rule, Tables, fault_text, read_file, read_whole};
-use desk_policy::LONGEST_TEXT;
 use desk_tables::{FileSystems, FsId};
-use desk_text::{LineFault, ReadError};
+use desk_text::{LineFault, ReadError, is_readable};
 use std::alloc::{AllocError, Global};
 
 /// Answers a question on the lines of a text.
 pub fn answer(alloc: Global, site: &Site, out: &mut String, question: &str, text: &str) -> Asked
-    requires { length text.now ≤ 4294967294 }
+    requires { IsReadable text.now }
 {
     let Some(filesystems) = &site.filesystems else {
         return Ok(false);
@@ -43,7 +42,7 @@ pub fn tables<'a>(site: &'a Site, filesystems: &'a FileSystems) -> Tables<'a> {
 /// `entries TEXT`: each entry of a text for all file systems, on a line: the number of its file system, the number of its
 /// line, its directories, `alldirs`, its terms, and whom it is for. Or `none`, or the fault.
 fn entries(alloc: Global, tables: &Tables, out: &mut String, text: &str) -> Asked
-    requires { length text.now ≤ 4294967294 }
+    requires { IsReadable text.now }
 {
     match read_whole(alloc, text, tables) {
         Ok(entries) => say_whole(out, entries.as_slice()),
@@ -77,7 +76,7 @@ pub fn say_fault(alloc: Global, out: &mut String, error: ReadError<LineFault<Rul
 
 /// `rule TEXT`: the number and the name of the rule that the first line breaks, or `none`.
 fn rule(alloc: Global, tables: &Tables, out: &mut String, text: &str) -> Asked
-    requires { length text.now ≤ 4294967294 }
+    requires { IsReadable text.now }
 {
     match read_whole(alloc, text, tables) {
         Ok(entries) => {
@@ -102,13 +101,13 @@ fn say_rule(alloc: Global, out: &mut String, error: ReadError<LineFault<Rule>>) 
 /// `entries_in NUMBER TEXT`: the same as `entries` of the exports file of the file system with this number, of which the
 /// entries are without that number.
 fn entries_in(alloc: Global, tables: &Tables, out: &mut String, text: &str) -> Asked
-    requires { length text.now ≤ 4294967294 }
+    requires { IsReadable text.now }
 {
     let (number, lines) = split(text);
     let Some(own_fs) = fs_id(number) else {
         return Ok(false);
     };
-    if lines.len() > LONGEST_TEXT {
+    if !is_readable(lines) {
         return Ok(false);
     }
     entries_of_file(alloc, tables, out, own_fs, lines)
@@ -121,7 +120,7 @@ fn entries_of_file(
     own_fs: FsId,
     text: &str,
 ) -> Asked
-    requires { length text.now ≤ 4294967294 }
+    requires { IsReadable text.now }
 {
     match read_file(alloc, text, tables, own_fs) {
         Ok(entries) => say_entries(out, entries.as_slice()),

@@ -3,7 +3,7 @@
 //! character of the slice at fault, the slice, and the number and the name of the rule. For a name that is defined twice the
 //! earlier line stands behind it: `line 1`. In place of line, columns and slice a fault of a table as a whole has `whole`.
 
-ghost use Rattle.std.specs.Prelude.{◌≤◌, length};
+ghost use Rattle.desk_text.specs.Lines.{IsReadable};
 
 use crate::answers::{Asked, end_list, split};
 use crate::exports::tables;
@@ -11,9 +11,9 @@ use crate::filesystems::fs_id;
 use crate::site::Site;
 use desk_exports::{Scope, find_faults};
 use desk_netgroup::Netgroups;
-use desk_policy::{Contradiction, LONGEST_TEXT, contradictions};
+use desk_policy::{Contradiction, contradictions};
 use desk_tables::{Custodians, FileSystems, FsId, Groups, Hosts, Networks, Users};
-use desk_text::Place;
+use desk_text::{Place, is_readable};
 use std::alloc::{AllocError, Global};
 
 /// A fault as it is told.
@@ -66,7 +66,7 @@ impl Fault for desk_exports::PlacedFault {
 /// Answers a question on faults or contradictions. `hosts_faults TEXT`, `networks_faults TEXT`, `users_faults TEXT`,
 /// `groups_faults TEXT`, `filesystems_faults TEXT`, `custodians_faults TEXT` and `netgroups_faults TEXT`: those of a table.
 pub fn answer(alloc: Global, site: &Site, out: &mut String, question: &str, text: &str) -> Asked
-    requires { length text.now ≤ 4294967294 }
+    requires { IsReadable text.now }
 {
     match question {
         "hosts_faults" => tell(out, text, Hosts::faults(alloc, text)?.as_slice()),
@@ -127,7 +127,7 @@ fn add_place(out: &mut String, line: &str, place: Place) -> Result<(), AllocErro
 
 /// `exports_faults TEXT`: those of a text for all file systems. It is read with the tables that the file read last.
 fn of_exports(alloc: Global, site: &Site, out: &mut String, scope: Scope, text: &str) -> Asked
-    requires { length text.now ≤ 4294967294 }
+    requires { IsReadable text.now }
 {
     match &site.filesystems {
         Some(known) => tell(
@@ -143,13 +143,7 @@ fn of_exports(alloc: Global, site: &Site, out: &mut String, scope: Scope, text: 
 fn of_file(alloc: Global, site: &Site, out: &mut String, text: &str) -> Asked {
     let (number, text) = split(text);
     match fs_id(number) {
-        Some(fs) if text.len() <= LONGEST_TEXT => of_exports(
-            alloc,
-            site,
-            out,
-            Scope::File(fs),
-            text,
-        ),
+        Some(fs) if is_readable(text) => of_exports(alloc, site, out, Scope::File(fs), text),
         _ => Ok(false),
     }
 }

@@ -1,6 +1,6 @@
 //! Questions on file systems.
 
-ghost use Rattle.std.specs.Prelude.{◌≤◌, length};
+ghost use Rattle.desk_text.specs.Lines.{IsReadable};
 
 use crate::answers::{Asked, number, say, say_found, say_whether, split};
 use crate::site::{Site, set_some};
@@ -10,7 +10,7 @@ use std::alloc::{AllocError, Global};
 
 /// Answers a question on the file systems. `filesystems TEXT`: `read`, or the fault.
 pub fn answer(alloc: Global, site: &mut Site, out: &mut String, question: &str, text: &str) -> Asked
-    requires { length text.now ≤ 4294967294 }
+    requires { IsReadable text.now }
 {
     match (question, &site.filesystems) {
         ("filesystems", _) => set_some(&mut site.filesystems, out, FileSystems::read(alloc, text)),

@@ -1,6 +1,6 @@
 //! Questions on the hosts file.
 
-ghost use Rattle.std.specs.Prelude.{◌≤◌, length};
+ghost use Rattle.desk_text.specs.Lines.{IsReadable};
 
 use crate::answers::{Asked, say_each};
 use crate::site::{Site, set};
@@ -9,7 +9,7 @@ use std::alloc::Global;
 
 /// Answers a question on the hosts file. `hosts TEXT`: `read`, or the fault.
 pub fn answer(alloc: Global, site: &mut Site, out: &mut String, question: &str, text: &str) -> Asked
-    requires { length text.now ≤ 4294967294 }
+    requires { IsReadable text.now }
 {
     match question {
         "hosts" => set(&mut site.hosts, out, Hosts::read(alloc, text)),

@@ -1,6 +1,6 @@
 //! Questions on logical lines and their words.
 
-ghost use Rattle.std.specs.Prelude.{◌≤◌, length};
+ghost use Rattle.desk_text.specs.Lines.{IsReadable};
 
 use crate::answers::{Asked, add_texts, end_list, say, say_found};
 use desk_text::{
@@ -10,7 +10,7 @@ use std::alloc::{AllocError, Global};
 
 /// Answers a question on lines and words.
 pub fn answer(alloc: Global, out: &mut String, question: &str, text: &str) -> Asked
-    requires { length text.now ≤ 4294967294 }
+    requires { IsReadable text.now }
 {
     match question {
         "lines" | "physical_lines" | "words" | "values" => of_lines(alloc, out, question, text),
@@ -22,7 +22,7 @@ pub fn answer(alloc: Global, out: &mut String, question: &str, text: &str) -> As
 
 /// Answers a question on each logical line of a text; or `fault OpenQuote`.
 fn of_lines(alloc: Global, out: &mut String, question: &str, text: &str) -> Asked
-    requires { length text.now ≤ 4294967294 }
+    requires { IsReadable text.now }
 {
     match of_each_line(alloc, out, question, logical_lines(alloc, text)?.as_slice()) {
         Ok(()) => end_list(out),

@@ -1,6 +1,6 @@
 //! Questions on listings, and on texts that are split among file systems. A listing is asked of the index too.
 
-ghost use Rattle.std.specs.Prelude.{◌≤◌, length};
+ghost use Rattle.desk_text.specs.Lines.{IsReadable};
 
 use crate::answers::Asked;
 use crate::exports::say_fault;
@@ -14,7 +14,7 @@ use std::alloc::{AllocError, Global};
 
 /// Answers a question on listings.
 pub fn answer(alloc: Global, site: &Site, out: &mut String, question: &str, text: &str) -> Asked
-    requires { length text.now ≤ 4294967294 }
+    requires { IsReadable text.now }
 {
     match (question, &site.filesystems, &site.policy) {
         ("split", Some(table), _) => split_texts(alloc, table, out, text),
@@ -26,7 +26,7 @@ pub fn answer(alloc: Global, site: &Site, out: &mut String, question: &str, text
 
 /// `split TEXT`: the text of each file system behind its number and a colon, with `|` for each line feed; or the fault.
 fn split_texts(alloc: Global, table: &FileSystems, out: &mut String, text: &str) -> Asked
-    requires { length text.now ≤ 4294967294 }
+    requires { IsReadable text.now }
 {
     match split(alloc, text, table) {
         Ok(texts) => say_texts(out, texts.as_slice()),

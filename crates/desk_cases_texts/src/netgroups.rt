@@ -1,6 +1,6 @@
 //! Questions on the netgroup file.
 
-ghost use Rattle.std.specs.Prelude.{◌≤◌, length};
+ghost use Rattle.desk_text.specs.Lines.{IsReadable};
 
 use crate::answers::{Asked, end_list, say, say_each};
 use crate::site::Site;
@@ -12,7 +12,7 @@ use std::alloc::{AllocError, Global};
 
 /// Answers a question on the netgroup file. `tokens TEXT`: its tokens.
 pub fn answer(alloc: Global, site: &mut Site, out: &mut String, question: &str, text: &str) -> Asked
-    requires { length text.now ≤ 4294967294 }
+    requires { IsReadable text.now }
 {
     match question {
         "netgroups" => read(alloc, site, out, text),
@@ -26,7 +26,7 @@ pub fn answer(alloc: Global, site: &mut Site, out: &mut String, question: &str, 
 
 /// `netgroups TEXT`: `read`, or the fault with the earlier line of a name that is listed twice.
 fn read(alloc: Global, site: &mut Site, out: &mut String, text: &str) -> Asked
-    requires { length text.now ≤ 4294967294 }
+    requires { IsReadable text.now }
 {
     match Netgroups::read(alloc, text) {
         Ok(netgroups) => {

@@ -10,11 +10,11 @@ use crate::sites::say_fault;
 use desk_exports::{BoxedMapping, Flavour, Profile, Terms};
 use desk_index::Index;
 use desk_policy::{
-    Denial, ExportsText, LONGEST_TEXT, PerTable, PolicyView, Row, SiteFault, SiteTables, Verdict,
-    are_ascending, read_lines,
+    Denial, ExportsText, PerTable, PolicyView, Row, SiteFault, SiteTables, Verdict, are_ascending,
+    read_lines,
 };
 use desk_tables::FsId;
-use desk_text::{Addr, Path, ReadError, Sequence, Text};
+use desk_text::{Addr, Path, ReadError, Sequence, Text, is_readable};
 use std::alloc::{AllocError, Global};
 
 /// Answers a question that sets lines.
@@ -138,7 +138,7 @@ fn set_part<V: PolicyView>(
     text: &str,
 ) -> Asked {
     let filesystems = view.policy().filesystems();
-    if text.len() > LONGEST_TEXT || fs.0 as usize >= filesystems.len() {
+    if !is_readable(text) || fs.0 as usize >= filesystems.len() {
         return Ok(false);
     }
     match read_lines(alloc, profile, text, filesystems, tables, fs) {

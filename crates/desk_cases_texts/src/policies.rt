@@ -1,7 +1,7 @@
 //! Questions on policies and verdicts. A verdict is that by the lines of the policy. If no two of them contradict each other,
 //! it is asked of the index too; where that gives another one, both are told (`add_by_keys`).
 
-ghost use Rattle.std.specs.Prelude.{◌≤◌, length};
+ghost use Rattle.desk_text.specs.Lines.{IsReadable};
 ghost use Rattle.desk_exports.specs.Files.{EntriesAscend};
 
 use crate::answers::{Asked, end_list, numbers, say, say_whether, split};
@@ -11,14 +11,14 @@ use crate::indexes::{add_by_keys, index_of};
 use crate::site::{InForce, Site};
 use desk_exports::{Boxed, Entry, Rule, Tables, read_whole};
 use desk_netgroup::Netgroups;
-use desk_policy::{Denial, LONGEST_TEXT, Policy, PolicyView, Row, Verdict, act_as, verdict_text};
+use desk_policy::{Denial, Policy, PolicyView, Row, Verdict, act_as, verdict_text};
 use desk_tables::{FileSystems, FsId, Hosts, credential};
-use desk_text::{Addr, LineFault, Path, ReadError, Sequence};
+use desk_text::{Addr, LineFault, Path, ReadError, Sequence, is_readable};
 use std::alloc::{AllocError, Global};
 
 /// Answers a question on the policy, or one that sets it.
 pub fn answer(alloc: Global, site: &mut Site, out: &mut String, question: &str, text: &str) -> Asked
-    requires { length text.now ≤ 4294967294 }
+    requires { IsReadable text.now }
 {
     match (question, &site.policy) {
         ("policy", _) => read(alloc, site, out, text),
@@ -40,7 +40,7 @@ pub fn answer(alloc: Global, site: &mut Site, out: &mut String, question: &str, 
 /// `policy TEXT`: `read`, or the fault. Sets the policy of a text for all file systems, which is read with the tables that
 /// the file read last.
 fn read(alloc: Global, site: &mut Site, out: &mut String, text: &str) -> Asked
-    requires { length text.now ≤ 4294967294 }
+    requires { IsReadable text.now }
 {
     let Some(filesystems) = &site.filesystems else {
         return Ok(false);
@@ -53,10 +53,10 @@ fn read(alloc: Global, site: &mut Site, out: &mut String, text: &str) -> Asked
 
 /// `policy_with MOUNTS\nTEXT`: the same, but in the policy the file systems have the mount points of the first line.
 fn read_with(alloc: Global, site: &mut Site, out: &mut String, text: &str) -> Asked
-    requires { length text.now ≤ 4294967294 }
+    requires { IsReadable text.now }
 {
     let (mounts, text) = text.split_once('\n').unwrap_or((text, ""));
-    if text.len() > LONGEST_TEXT {
+    if !is_readable(text) {
         return Ok(false);
     }
     match mounted(alloc, mounts) {
@@ -78,7 +78,7 @@ fn set(
     filesystems: &FileSystems,
     text: &str,
 ) -> Asked
-    requires { length text.now ≤ 4294967294 }
+    requires { IsReadable text.now }
 {
     let Some(known) = &site.filesystems else {
         return Ok(false);
@@ -117,7 +117,7 @@ fn policy_of(
     filesystems: &FileSystems,
     text: &str,
 ) -> Result<Policy, ReadError<LineFault<Rule>>>
-    requires { length text.now ≤ 4294967294 }
+    requires { IsReadable text.now }
 {
     let own = filesystems.copy()?;
     match read_whole(alloc, text, written) {

@@ -1,6 +1,6 @@
 //! The questions on texts, tables and policies. What each asks stands at the function that answers it.
 
-ghost use Rattle.std.specs.Prelude.{◌≤◌, length};
+ghost use Rattle.desk_text.specs.Lines.{IsReadable};
 
 use crate::answers::Asked;
 use crate::site::Site;
@@ -8,7 +8,7 @@ use crate::{
     addresses, credentials, custodians, exports, faults, filesystems, hosts, indexes, lines,
     listings, netgroups, nets, networks, parts, paths, policies, ranges, reports, sites,
 };
-use desk_policy::LONGEST_TEXT;
+use desk_text::is_readable;
 use std::alloc::Global;
 
 /// Answers a question.
@@ -19,7 +19,7 @@ pub fn answer(
     question: &str,
     text: &str,
 ) -> Asked {
-    if text.len() > LONGEST_TEXT {
+    if !is_readable(text) {
         return Ok(false);
     }
     Ok(of_text(alloc, out, question, text)? || of_site(alloc, site, out, question, text)?)
@@ -27,7 +27,7 @@ pub fn answer(
 
 /// Answers a question on a text alone.
 fn of_text(alloc: Global, out: &mut String, question: &str, text: &str) -> Asked
-    requires { length text.now ≤ 4294967294 }
+    requires { IsReadable text.now }
 {
     Ok(
         addresses::answer(out, question, text)?
@@ -39,7 +39,7 @@ fn of_text(alloc: Global, out: &mut String, question: &str, text: &str) -> Asked
 
 /// Answers a question on the tables or the policy, or one that reads them.
 fn of_site(alloc: Global, site: &mut Site, out: &mut String, question: &str, text: &str) -> Asked
-    requires { length text.now ≤ 4294967294 }
+    requires { IsReadable text.now }
 {
     Ok(
         hosts::answer(alloc, site, out, question, text)?

@@ -10,9 +10,9 @@ use crate::site::{Before, InForce, Site};
 use crate::sites::say_fault;
 use desk_exports::Profile;
 use desk_impact::{Report, impact_report, lines_report};
-use desk_policy::{LONGEST_TEXT, Policy, PolicyView, Row, SiteTables, are_ascending, read_lines};
+use desk_policy::{Policy, PolicyView, Row, SiteTables, are_ascending, read_lines};
 use desk_tables::FsId;
-use desk_text::Sequence;
+use desk_text::{Sequence, is_readable};
 use std::alloc::Global;
 
 /// Answers a question on what changes of every directory.
@@ -124,7 +124,7 @@ fn read_report<V: PolicyView + Drop>(
     all: bool,
 ) -> Asked {
     let filesystems = before.policy().filesystems();
-    if text.len() > LONGEST_TEXT || fs.0 as usize >= filesystems.len() {
+    if !is_readable(text) || fs.0 as usize >= filesystems.len() {
         return Ok(false);
     }
     match read_lines(alloc, profile, text, filesystems, tables, fs) {

@@ -2,7 +2,7 @@
 //! Whether they are consistent is asked twice: of the view that scans the lines, and of the index; if the index says
 //! otherwise, both are told (`add_by_keys`).
 
-ghost use Rattle.std.specs.Prelude.{◌≤◌, length};
+ghost use Rattle.desk_text.specs.Lines.{IsReadable};
 
 use crate::answers::{Asked, say, split};
 use crate::indexes::{add_by_keys, index_of};
@@ -19,7 +19,7 @@ use std::collections::BTreeSet;
 
 /// Answers a question on a site or a whole text, or on the warnings of either.
 pub fn answer(alloc: Global, site: &mut Site, out: &mut String, question: &str, text: &str) -> Asked
-    requires { length text.now ≤ 4294967294 }
+    requires { IsReadable text.now }
 {
     match question {
         "site" => new(alloc, site, out, text),
@@ -121,7 +121,7 @@ fn of_texts(alloc: Global, site: &mut Site, out: &mut String, question: &str) ->
 /// `whole TEXT`: `read`, and `build TEXT`: `consistent`; or the fault. Both set the policy, by a text for all file systems,
 /// with the file systems that the file read last.
 fn of_whole(alloc: Global, site: &mut Site, out: &mut String, question: &str, text: &str) -> Asked
-    requires { length text.now ≤ 4294967294 }
+    requires { IsReadable text.now }
 {
     let Some(filesystems) = &site.filesystems else {
         return Ok(false);
@@ -144,7 +144,7 @@ fn set_whole(
     filesystems: &FileSystems,
     text: &str,
 ) -> Asked
-    requires { length text.now ≤ 4294967294 }
+    requires { IsReadable text.now }
 {
     let profile = site.profile;
     set_policy(site, out, whole(alloc, profile, filesystems, text))?;
@@ -159,7 +159,7 @@ fn set_built(
     filesystems: &FileSystems,
     text: &str,
 ) -> Asked
-    requires { length text.now ≤ 4294967294 }
+    requires { IsReadable text.now }
 {
     let profile = site.profile;
     let policy = whole(alloc, profile, filesystems, text);
@@ -179,7 +179,7 @@ fn whole(
     filesystems: &FileSystems,
     text: &str,
 ) -> Result<Policy, ReadError<SiteFault>>
-    requires { length text.now ≤ 4294967294 }
+    requires { IsReadable text.now }
 {
     parse_whole(alloc, profile, text, filesystems.copy()?)
 }

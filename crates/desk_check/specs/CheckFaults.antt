@@ -1,6 +1,7 @@
 -- What `check` tells of the faults of texts: each of them, at its place. (this project's own)
-use Rattle.std.specs.Prelude.{◌≡◌, ◌≤◌, ◌++◌, List, None, Some, length, map}
+use Rattle.std.specs.Prelude.{◌≡◌, ◌++◌, List, None, Some, map}
 use Rattle.std.specs.List.{All}
+use Rattle.desk_text.specs.Lines.{IsReadable}
 use Rattle.desk_tables.specs.Faults.{IsPlaced as IsPlacedInTable}
 use Rattle.desk_tables.specs.Groups.{group_faults}
 use Rattle.desk_tables.specs.Hosts.{host_faults}
@@ -77,8 +78,8 @@ pub record Adds (TellAll : List Told → Type 0) (old new : List Finding) : Type
 
 -- no text of these tables is too long to be read
 pub record AreReadable (sources : TableSources) : Type 0 where
-  pub hosts : length sources.hosts.text.now ≤ 4294967294
-  pub networks : length sources.networks.text.now ≤ 4294967294
-  pub passwd : length sources.passwd.text.now ≤ 4294967294
-  pub group : length sources.group.text.now ≤ 4294967294
-  pub netgroup : length sources.netgroup.text.now ≤ 4294967294
+  pub hosts : IsReadable sources.hosts.text.now
+  pub networks : IsReadable sources.networks.text.now
+  pub passwd : IsReadable sources.passwd.text.now
+  pub group : IsReadable sources.group.text.now
+  pub netgroup : IsReadable sources.netgroup.text.now

@@ -1,6 +1,7 @@
 -- The finding that standard error tells beside the fault of a site: the one that `check` prints. (this project's own)
-use Rattle.std.specs.Prelude.{◌≡◌, ◌≤◌, ℕ, List, [], ◌∷◌, Option, Some, None, Result, Ok, Err, length, position, slice_get}
+use Rattle.std.specs.Prelude.{◌≡◌, ℕ, List, [], ◌∷◌, Option, Some, None, Result, Ok, Err, position, slice_get}
 use Rattle.std.specs.Str.{bytes_eq}
+use Rattle.desk_text.specs.Lines.{IsReadable}
 use Rattle.desk_text.specs.declared.address.Addr.{Addr}
 use Rattle.desk_text.specs.declared.reading.LineFault.{LineFault}
 use Rattle.desk_tables.specs.FileSystemsText.{read_filesystems}
@@ -29,10 +30,10 @@ use Rattle.desk_check.specs.declared.finding.Matter.TheVariants as matter
 
 -- no text of a site is too long to be read
 pub record AreReadableTexts (sources : SiteSources) : Type 0 where
-  pub custodians : length sources.custodians.text.now ≤ 4294967294
-  pub filesystems : length sources.filesystems.text.now ≤ 4294967294
+  pub custodians : IsReadable sources.custodians.text.now
+  pub filesystems : IsReadable sources.filesystems.text.now
   pub tables : AreReadable sources.whole.tables
-  pub exports : length sources.whole.exports.text.now ≤ 4294967294
+  pub exports : IsReadable sources.whole.exports.text.now
 
 -- The first finding of a site's files, as `check` prints it.
 pub record TellsOfTables (sources : SiteSources) (text : List ℕ) : Type 0 where

@@ -1,7 +1,8 @@
 //! The findings of the faults of texts: each faulty line with the first rule that it breaks, at its place.
 
-ghost use Rattle.std.specs.Prelude.{◌≡◌, ◌-◌, ◌++◌, ◌≤◌, ◌<◌, ◌^◌, [], IfOk, OnOk, length, map, slice_index_or, take};
+ghost use Rattle.std.specs.Prelude.{◌≡◌, ◌-◌, ◌++◌, ◌<◌, ◌^◌, [], IfOk, OnOk, map, slice_index_or, take};
 ghost use Rattle.std.specs.Str.Lines.{lines};
+ghost use Rattle.desk_text.specs.Lines.{IsReadable};
 ghost use Rattle.desk_check.specs.CheckFaults.{Adds, AreReadable, TellGroup, TellHosts, TellNetgroup, TellNetworks, TellPasswd, TellTables, tell_group, tell_line, tell_table};
 ghost use Rattle.desk_check.specs.Finding.{character_count};
 ghost use Rattle.desk_check.specs.Told.{IsFront, shown_line, tell_in, told};
@@ -65,7 +66,7 @@ fn push_hosts<'a>(
     source: Source<'a>,
     found: &mut Sequence<Finding<'a>>,
 ) -> Result<(), AllocError>
-    requires { length source.text.now ≤ 4294967294 }
+    requires { IsReadable source.text.now }
     ensures { OnOk result (Adds (TellHosts source.entry) found.old found.new) }
 {
     let faults = Hosts::faults(alloc, source.text)?;
@@ -78,7 +79,7 @@ fn push_networks<'a>(
     source: Source<'a>,
     found: &mut Sequence<Finding<'a>>,
 ) -> Result<(), AllocError>
-    requires { length source.text.now ≤ 4294967294 }
+    requires { IsReadable source.text.now }
     ensures { OnOk result (Adds (TellNetworks source.entry) found.old found.new) }
 {
     let faults = Networks::faults(alloc, source.text)?;
@@ -91,7 +92,7 @@ fn push_passwd<'a>(
     source: Source<'a>,
     found: &mut Sequence<Finding<'a>>,
 ) -> Result<(), AllocError>
-    requires { length source.text.now ≤ 4294967294 }
+    requires { IsReadable source.text.now }
     ensures { OnOk result (Adds (TellPasswd source.entry) found.old found.new) }
 {
     let faults = Users::faults(alloc, source.text)?;
@@ -104,7 +105,7 @@ fn push_group<'a>(
     source: Source<'a>,
     found: &mut Sequence<Finding<'a>>,
 ) -> Result<(), AllocError>
-    requires { length source.text.now ≤ 4294967294 }
+    requires { IsReadable source.text.now }
     ensures { OnOk result (Adds (TellGroup source.entry) found.old found.new) }
 {
     let faults = Groups::faults(alloc, source.text)?;
@@ -117,7 +118,7 @@ fn push_netgroup<'a>(
     source: Source<'a>,
     found: &mut Sequence<Finding<'a>>,
 ) -> Result<(), AllocError>
-    requires { length source.text.now ≤ 4294967294 }
+    requires { IsReadable source.text.now }
     ensures { OnOk result (Adds (TellNetgroup source.entry) found.old found.new) }
 {
     let faults = Netgroups::faults(alloc, source.text)?;

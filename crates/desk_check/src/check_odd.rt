@@ -1,9 +1,9 @@
 //! What `check` finds in texts without a fault: lines that contradict an earlier one, and words that are odd.
 
-ghost use Rattle.std.specs.Prelude.{◌≡◌, ℕ, ◌++◌, ◌≤◌, All, IfOk, IfSome, List, OnOk, length, map};
+ghost use Rattle.std.specs.Prelude.{◌≡◌, ℕ, ◌++◌, All, IfOk, IfSome, List, OnOk, map};
 ghost use Rattle.std.specs.List.{IsAmong};
 ghost use Rattle.std.specs.List.Sorted.{IsNonDecreasingBy, IsPermutation};
-ghost use Rattle.desk_text.specs.Lines.{LogicalLine, logical_lines};
+ghost use Rattle.desk_text.specs.Lines.{IsReadable, LogicalLine, logical_lines};
 ghost use Rattle.desk_policy.specs.Policy.{AreAscending};
 ghost use Rattle.desk_check.specs.CheckFaults.{Adds};
 ghost use Rattle.desk_check.specs.CheckOdd.{AreContradictionsIn, IsOn, IsSpot, TellInOrder, TellOdds, odd_at, odd_of_contradiction, odd_of_spot, odd_of_warning, tell_spot};
@@ -63,7 +63,7 @@ pub fn push_odds<'a>(
     warnings: &[Warning],
     found: &mut Sequence<Finding<'a>>,
 ) -> Result<(), AllocError>
-    requires { length source.text.now ≤ 4294967294 }
+    requires { IsReadable source.text.now }
     ensures { OnOk result (Adds (TellOdds source.entry contradictions.now warnings.now) found.old found.new) }
 {
     let odds = odds_of(alloc, among, contradictions, warnings)?;
@@ -78,7 +78,7 @@ pub fn push_in_order<'a>(
     odds: Vec<Odd>,
     found: &mut Sequence<Finding<'a>>,
 ) -> Result<(), AllocError>
-    requires { length source.text.now ≤ 4294967294 }
+    requires { IsReadable source.text.now }
     ensures { OnOk result (Adds (TellInOrder source.entry (map odd_at odds.entry.items)) found.old found.new) }
 {
     let odds = by_line(odds)?;
@@ -167,7 +167,7 @@ fn by_line(mut odds: Vec<Odd>) -> Result<Vec<Odd>, AllocError>
 
 /// Finds the place of each remark about a text, in the order of their lines.
 fn spots_of(alloc: Global, text: &str, odds: &[Odd]) -> Result<Vec<Spot>, AllocError>
-    requires { length text.now ≤ 4294967294 }
+    requires { IsReadable text.now }
     ensures same { IfOk result (λ spots. map odd_of_spot spots.items ≡ map odd_at odds.now) }
     ensures places { IfOk result (λ spots. All (IsSpot text.now) spots.items) }
 {

@@ -1,6 +1,7 @@
 //! What `check` finds in the folder of a site's files.
 
-ghost use Rattle.std.specs.Prelude.{◌≡◌, ◌≤◌, IfOk, OnOk, filter, if◌then◌else◌, is_some, length, map};
+ghost use Rattle.std.specs.Prelude.{◌≡◌, IfOk, OnOk, filter, if◌then◌else◌, is_some, map};
+ghost use Rattle.desk_text.specs.Lines.{IsReadable};
 ghost use Rattle.desk_policy.specs.Unlisted.{has_unlisted};
 ghost use Rattle.desk_check.specs.CheckFaults.{Adds, AreReadable};
 ghost use Rattle.desk_check.specs.CheckOdd.{odd_at};
@@ -27,10 +28,10 @@ pub struct SiteSources<'a> {
 /// Finds the faults of the custodians and of the file systems, and those of the tables after them; if there are none, what
 /// is found in the exports text. Each is at a slice of the line that it shows, or of a whole file.
 pub fn gather_site<'a>(alloc: Global, sources: SiteSources<'a>) -> Result<Gathered<'a>, AllocError>
-    requires custodians { length sources.custodians.text.now ≤ 4294967294 }
-    requires filesystems { length sources.filesystems.text.now ≤ 4294967294 }
+    requires custodians { IsReadable sources.custodians.text.now }
+    requires filesystems { IsReadable sources.filesystems.text.now }
     requires tables { AreReadable sources.whole.tables }
-    requires exports { length sources.whole.exports.text.now ≤ 4294967294 }
+    requires exports { IsReadable sources.whole.exports.text.now }
     ensures found { IfOk result (GathersSite sources.entry) }
     ensures slices { IfOk result (λ gathered. HaveSlices gathered.findings) }
 {
@@ -47,10 +48,10 @@ fn gather_with_custodians<'a>(
     sources: SiteSources<'a>,
     custodians: &Custodians,
 ) -> Result<Gathered<'a>, AllocError>
-    requires custodians { length sources.custodians.text.now ≤ 4294967294 }
-    requires filesystems { length sources.filesystems.text.now ≤ 4294967294 }
+    requires custodians { IsReadable sources.custodians.text.now }
+    requires filesystems { IsReadable sources.filesystems.text.now }
     requires tables { AreReadable sources.whole.tables }
-    requires exports { length sources.whole.exports.text.now ≤ 4294967294 }
+    requires exports { IsReadable sources.whole.exports.text.now }
     ensures { IfOk result (GathersWithCustodians sources.entry custodians.now) }
 {
     match FileSystems::read(alloc, sources.filesystems.text) {
@@ -67,9 +68,9 @@ fn gather_listed<'a>(
     custodians: &Custodians,
     filesystems: FileSystems,
 ) -> Result<Gathered<'a>, AllocError>
-    requires filesystems { length sources.filesystems.text.now ≤ 4294967294 }
+    requires filesystems { IsReadable sources.filesystems.text.now }
     requires tables { AreReadable sources.whole.tables }
-    requires exports { length sources.whole.exports.text.now ≤ 4294967294 }
+    requires exports { IsReadable sources.whole.exports.text.now }
     ensures { IfOk result (GathersListed sources.entry custodians.now filesystems) }
 {
     match unlisted_line(custodians, &filesystems) {
@@ -84,8 +85,8 @@ fn gather_listed<'a>(
 
 /// Finds the faults of the custodians, of the file systems and of the tables after them.
 fn gather_heads<'a>(alloc: Global, sources: SiteSources<'a>) -> Result<Gathered<'a>, AllocError>
-    requires custodians { length sources.custodians.text.now ≤ 4294967294 }
-    requires filesystems { length sources.filesystems.text.now ≤ 4294967294 }
+    requires custodians { IsReadable sources.custodians.text.now }
+    requires filesystems { IsReadable sources.filesystems.text.now }
     requires tables { AreReadable sources.whole.tables }
     ensures { IfOk result (GathersHeads sources.entry) }
 {
@@ -105,7 +106,7 @@ fn push_custodians<'a>(
     source: Source<'a>,
     found: &mut Sequence<Finding<'a>>,
 ) -> Result<(), AllocError>
-    requires { length source.text.now ≤ 4294967294 }
+    requires { IsReadable source.text.now }
     ensures { OnOk result (Adds (TellCustodians source.entry) found.old found.new) }
 {
     let faults = Custodians::faults(alloc, source.text)?;
@@ -118,7 +119,7 @@ pub fn push_filesystems<'a>(
     source: Source<'a>,
     found: &mut Sequence<Finding<'a>>,
 ) -> Result<(), AllocError>
-    requires { length source.text.now ≤ 4294967294 }
+    requires { IsReadable source.text.now }
     ensures { OnOk result (Adds (TellFileSystems source.entry) found.old found.new) }
 {
     let faults = FileSystems::faults(alloc, source.text)?;
@@ -132,7 +133,7 @@ fn gather_unlisted<'a>(
     custodians: &Custodians,
     mounts: &[Mount],
 ) -> Result<Gathered<'a>, AllocError>
-    requires filesystems { length sources.filesystems.text.now ≤ 4294967294 }
+    requires filesystems { IsReadable sources.filesystems.text.now }
     requires tables { AreReadable sources.whole.tables }
     ensures { IfOk result (GathersUnlisted sources.entry custodians.now mounts.now) }
 {
@@ -159,7 +160,7 @@ fn push_unlisted<'a>(
     mounts: &[Mount],
     found: &mut Sequence<Finding<'a>>,
 ) -> Result<(), AllocError>
-    requires { length source.text.now ≤ 4294967294 }
+    requires { IsReadable source.text.now }
     ensures { OnOk result (Adds (TellUnlisted source.entry custodians.now mounts.now) found.old found.new) }
 {
     let odds = unlisted(alloc, custodians, mounts)?;

@@ -1,6 +1,7 @@
 //! What `check` finds in an exports text and its tables.
 
-ghost use Rattle.std.specs.Prelude.{◌≡◌, ◌≤◌, IfOk, IsErr, OnOk, length};
+ghost use Rattle.std.specs.Prelude.{◌≡◌, IfOk, IsErr, OnOk};
+ghost use Rattle.desk_text.specs.Lines.{IsReadable};
 ghost use Rattle.desk_text.specs.Reading.{Reads};
 ghost use Rattle.desk_text.specs.declared.reading.ReadError.TheVariants.{Memory};
 ghost use Rattle.desk_exports.specs.Files.{EntriesAscend, whole_answer};
@@ -48,7 +49,7 @@ pub fn gather<'a>(
     filesystems: FileSystems,
 ) -> Result<Gathered<'a>, AllocError>
     requires tables { AreReadable sources.tables }
-    requires exports { length sources.exports.text.now ≤ 4294967294 }
+    requires exports { IsReadable sources.exports.text.now }
     ensures found { IfOk result (Gathers sources.entry filesystems) }
     ensures slices { IfOk result (λ gathered. HaveSlices gathered.findings) }
 {
@@ -119,7 +120,7 @@ fn gather_exports<'a>(
     site_tables: &SiteTables,
 ) -> Result<Gathered<'a>, AllocError>
     requires tables { AreReadable sources.tables }
-    requires exports { length sources.exports.text.now ≤ 4294967294 }
+    requires exports { IsReadable sources.exports.text.now }
     ensures { IfOk result (GathersExports sources.entry filesystems site_tables.now) }
 {
     match read_entries(alloc, sources.exports.text, &filesystems, site_tables) {
@@ -143,7 +144,7 @@ fn read_entries(
     filesystems: &FileSystems,
     site_tables: &SiteTables,
 ) -> Result<Sequence<(FsId, Boxed<Entry>)>, ReadError<LineFault<Rule>>>
-    requires { length text.now ≤ 4294967294 }
+    requires { IsReadable text.now }
     ensures read { Reads result (whole_answer (rows_with Two filesystems.now site_tables.now) text.now) }
     ensures ascending { IfOk result EntriesAscend }
 {
@@ -182,7 +183,7 @@ fn gather_line_faults<'a>(
     filesystems: &FileSystems,
     site_tables: &SiteTables,
 ) -> Result<Gathered<'a>, AllocError>
-    requires { length exports.text.now ≤ 4294967294 }
+    requires { IsReadable exports.text.now }
     ensures { IfOk result (GathersFaults exports.entry filesystems.now site_tables.now) }
 {
     let tables = tables_for_new(site_tables, filesystems);
@@ -204,7 +205,7 @@ fn gather_odd<'a>(
     entries: Sequence<(FsId, Boxed<Entry>)>,
 ) -> Result<Gathered<'a>, AllocError>
     requires tables { AreReadable sources.tables }
-    requires exports { length sources.exports.text.now ≤ 4294967294 }
+    requires exports { IsReadable sources.exports.text.now }
     requires ascending { EntriesAscend entries }
     ensures { IfOk result (GathersOdd sources.entry filesystems site_tables.now entries) }
 {
@@ -259,7 +260,7 @@ fn push_netgroup_warnings<'a>(
     site_tables: &SiteTables,
     findings: &mut Sequence<Finding<'a>>,
 ) -> Result<(), AllocError>
-    requires { length source.text.now ≤ 4294967294 }
+    requires { IsReadable source.text.now }
     ensures { OnOk result (Adds (TellNetgroupWarnings source.entry site_tables.now) findings.old findings.new) }
 {
     let warnings = netgroup_warnings(alloc, &site_tables.netgroups, &site_tables.hosts)?;
@@ -283,7 +284,7 @@ fn push_inconsistencies<'a>(
     warnings: &[Warning],
     findings: &mut Sequence<Finding<'a>>,
 ) -> Result<(), AllocError>
-    requires { length source.text.now ≤ 4294967294 }
+    requires { IsReadable source.text.now }
     ensures { OnOk result (Adds (TellInconsistencies source.entry policy.now.rows warnings.now) findings.old findings.new) }
 {
     let clashes = contradictions_in(alloc, policy.rows_by_filesystem())?;

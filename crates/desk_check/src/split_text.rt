@@ -1,8 +1,9 @@
 //! A whole exports text split among the file systems that another text lists, as `split` prints it.
 
-ghost use Rattle.std.specs.Prelude.{◌≡◌, ◌≤◌, ◌++◌, ◌∷◌, IfOk, OnOk, codes, length, map};
+ghost use Rattle.std.specs.Prelude.{◌≡◌, ◌++◌, ◌∷◌, IfOk, OnOk, codes, map};
 ghost use Rattle.std.specs.Fmt.{decimal};
 ghost use Rattle.std.specs.String.{string_bytes};
+ghost use Rattle.desk_text.specs.Lines.{IsReadable};
 ghost use Rattle.desk_text.specs.Reading.{Reads, ReadsAs};
 ghost use Rattle.desk_exports.specs.Splitting.{split_text};
 ghost use Rattle.desk_check.specs.SplitText as spec;
@@ -28,8 +29,8 @@ pub fn split_text(
     text: &str,
     filesystems: &str,
 ) -> Result<String, ReadError<SplitFault>>
-    requires text { length text.now ≤ 4294967294 }
-    requires filesystems { length filesystems.now ≤ 4294967294 }
+    requires text { IsReadable text.now }
+    requires filesystems { IsReadable filesystems.now }
     ensures { ReadsAs string_bytes result (spec.split_answer text.now filesystems.now) }
 {
     match ReadError::split(FileSystems::read(alloc, filesystems))? {
@@ -44,7 +45,7 @@ fn split_for(
     text: &str,
     table: &FileSystems,
 ) -> Result<String, ReadError<SplitFault>>
-    requires { length text.now ≤ 4294967294 }
+    requires { IsReadable text.now }
     ensures { ReadsAs string_bytes result (spec.printed_split table.now (split_text table.now text.now)) }
 {
     match split(alloc, text, table) {

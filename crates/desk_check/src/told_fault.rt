@@ -1,9 +1,10 @@
 //! What is told of a fault of `try` or `split` beside its fixed line: the finding that `check` prints of it.
 
-ghost use Rattle.std.specs.Prelude.{◌≡◌, ◌≤◌, ◌∷◌, [], All, IfOk, IfSome, OnOk, length, map, slice_get};
+ghost use Rattle.std.specs.Prelude.{◌≡◌, ◌∷◌, [], All, IfOk, IfSome, OnOk, map, slice_get};
 ghost use Rattle.std.specs.List.{find};
 ghost use Rattle.std.specs.Option.{option_copied};
 ghost use Rattle.std.specs.String.{string_bytes};
+ghost use Rattle.desk_text.specs.Lines.{IsReadable};
 ghost use Rattle.desk_exports.specs.Faults.{IsPlaced};
 ghost use Rattle.desk_exports.specs.Tables.{table_rows};
 ghost use Rattle.desk_tables.specs.FileSystemsText.{read_filesystems};
@@ -34,7 +35,7 @@ pub fn tell_fault(
     fault: &SiteFault,
 ) -> Result<String, AllocError>
     requires tables { AreReadable sources.tables }
-    requires exports { length sources.exports.text.now ≤ 4294967294 }
+    requires exports { IsReadable sources.exports.text.now }
     ensures { IfOk result (λ text. TellsOf sources.entry filesystems fault.now (string_bytes text)) }
 {
     let gathered = gather(alloc, sources, filesystems)?;
@@ -91,8 +92,8 @@ pub fn tell_split_fault(
     filesystems: Source<'_>,
     fault: SplitFault,
 ) -> Result<String, AllocError>
-    requires file { length file.text.now ≤ 4294967294 }
-    requires filesystems { length filesystems.text.now ≤ 4294967294 }
+    requires file { IsReadable file.text.now }
+    requires filesystems { IsReadable filesystems.text.now }
     ensures { IfOk result (λ text. TellsOfSplit file.entry filesystems.entry fault (string_bytes text)) }
 {
     let mut findings = Sequence::new(alloc);
@@ -110,8 +111,8 @@ fn push_split<'a>(
     fault: SplitFault,
     found: &mut Sequence<Finding<'a>>,
 ) -> Result<(), AllocError>
-    requires file { length file.text.now ≤ 4294967294 }
-    requires filesystems { length filesystems.text.now ≤ 4294967294 }
+    requires file { IsReadable file.text.now }
+    requires filesystems { IsReadable filesystems.text.now }
     ensures { OnOk result (Adds (TellSplit file.entry filesystems.entry fault) found.old found.new) }
 {
     match fault {
@@ -128,8 +129,8 @@ fn push_one<'a>(
     fault: LineFault<Rule>,
     found: &mut Sequence<Finding<'a>>,
 ) -> Result<(), AllocError>
-    requires source { length source.text.now ≤ 4294967294 }
-    requires filesystems { length filesystems.now ≤ 4294967294 }
+    requires source { IsReadable source.text.now }
+    requires filesystems { IsReadable filesystems.now }
     ensures { OnOk result (Adds (TellOne source.entry fault (read_filesystems filesystems.now)) found.old found.new) }
 {
     match ReadError::split(FileSystems::read(alloc, filesystems))? {
@@ -151,7 +152,7 @@ pub fn push_one_with<'a>(
     fault: LineFault<Rule>,
     found: &mut Sequence<Finding<'a>>,
 ) -> Result<(), AllocError>
-    requires { length source.text.now ≤ 4294967294 }
+    requires { IsReadable source.text.now }
     ensures { OnOk result (Adds (TellOneWith source.entry fault scope (table_rows tables.now)) found.old found.new) }
 {
     let faults = find_faults(alloc, source.text, tables, scope)?;
@@ -167,7 +168,7 @@ fn push_one_of<'a>(
     fault: LineFault<Rule>,
     found: &mut Sequence<Finding<'a>>,
 ) -> Result<(), AllocError>
-    requires text { length source.text.now ≤ 4294967294 }
+    requires text { IsReadable source.text.now }
     requires placed { All (IsPlaced source.text.now) faults.now }
     ensures { OnOk result (Adds (TellOneOf source.entry fault (map (λ one. one.fault) faults.now)) found.old found.new) }
 {
@@ -184,7 +185,7 @@ fn push_on_line<'a>(
     fault: LineFault<Rule>,
     found: &mut Sequence<Finding<'a>>,
 ) -> Result<(), AllocError>
-    requires { length source.text.now ≤ 4294967294 }
+    requires { IsReadable source.text.now }
     ensures { OnOk result (Adds (TellInOrder source.entry (odd_of_fault fault ∷ [])) found.old found.new) }
 {
     let mut odds = Vec::new(alloc);

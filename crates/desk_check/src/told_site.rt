@@ -1,8 +1,9 @@
 //! What standard error tells beside the fault of a site: the finding that `check` prints of it.
 
-ghost use Rattle.std.specs.Prelude.{◌≡◌, ◌≤◌, ◌∷◌, [], Decides, IfOk, OnOk, length};
+ghost use Rattle.std.specs.Prelude.{◌≡◌, ◌∷◌, [], Decides, IfOk, OnOk};
 ghost use Rattle.std.specs.Option.{option_map};
 ghost use Rattle.std.specs.String.{string_bytes};
+ghost use Rattle.desk_text.specs.Lines.{IsReadable};
 ghost use Rattle.desk_tables.specs.FileSystemsText.{read_filesystems};
 ghost use Rattle.desk_check.specs.CheckFaults.{Adds};
 ghost use Rattle.desk_check.specs.CheckOdd.{TellInOrder, odd_at};
@@ -16,9 +17,9 @@ use crate::check_text::{read_sources, tables_with};
 use crate::finding::{Finding, Matter};
 use crate::told_fault::{push_one_with, told_first};
 use desk_exports::{Profile, Rule, Scope};
-use desk_policy::{LONGEST_TEXT, SiteFault, SiteRule, SiteTables, mount_of};
+use desk_policy::{SiteFault, SiteRule, SiteTables, mount_of};
 use desk_tables::{FileSystems, FsId};
-use desk_text::{LineFault, ReadError, Sequence};
+use desk_text::{LineFault, ReadError, Sequence, is_readable};
 use std::alloc::{AllocError, Global};
 
 /// Prints the finding that `check` makes of a fault of a site, with its line and carets; nothing if a text is too long to be
@@ -44,21 +45,14 @@ fn are_readable(sources: SiteSources<'_>) -> bool
     ensures { Decides result (spec.AreReadableTexts sources.entry) }
 {
     let tables = sources.whole.tables;
-    is_readable(sources.custodians)
-        && is_readable(sources.filesystems)
-        && is_readable(tables.hosts)
-        && is_readable(tables.networks)
-        && is_readable(tables.passwd)
-        && is_readable(tables.group)
-        && is_readable(tables.netgroup)
-        && is_readable(sources.whole.exports)
-}
-
-/// Tests whether a text can be read.
-fn is_readable(source: Source<'_>) -> bool
-    ensures { Decides result (length source.entry.text.now ≤ 4294967294) }
-{
-    source.text.len() <= LONGEST_TEXT
+    is_readable(sources.custodians.text)
+        && is_readable(sources.filesystems.text)
+        && is_readable(tables.hosts.text)
+        && is_readable(tables.networks.text)
+        && is_readable(tables.passwd.text)
+        && is_readable(tables.group.text)
+        && is_readable(tables.netgroup.text)
+        && is_readable(sources.whole.exports.text)
 }
 
 /// Prints the finding of a fault in texts that can be read.
@@ -98,7 +92,7 @@ fn told_of_contradiction(
     source: Source<'_>,
     fault: &SiteFault,
 ) -> Result<String, AllocError>
-    requires { length source.text.now ≤ 4294967294 }
+    requires { IsReadable source.text.now }
     ensures { IfOk result (λ text. spec.TellsOfClash source.entry fault.now.line fault.now.other fault.now.address (string_bytes text)) }
 {
     match (fault.other, fault.address) {
@@ -118,7 +112,7 @@ fn told_of_contradiction(
 
 /// Prints the finding of what is odd about a line.
 fn told_of_odd(alloc: Global, source: Source<'_>, odd: Odd) -> Result<String, AllocError>
-    requires { length source.text.now ≤ 4294967294 }
+    requires { IsReadable source.text.now }
     ensures { IfOk result (λ text. TellsFirst (TellInOrder source.entry (odd_at odd.entry ∷ [])) (string_bytes text)) }
 {
     let mut odds = Vec::new(alloc);
@@ -201,7 +195,7 @@ fn push_of_file<'a>(
     fault: LineFault<Rule>,
     found: &mut Sequence<Finding<'a>>,
 ) -> Result<(), AllocError>
-    requires { length source.text.now ≤ 4294967294 }
+    requires { IsReadable source.text.now }
     ensures { OnOk result (Adds (spec.TellLineWith profile source.entry fault filesystems.now site_tables.now) found.old found.new) }
 {
     let tables = tables_with(profile, site_tables, filesystems);

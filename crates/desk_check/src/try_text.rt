@@ -1,7 +1,8 @@
 //! The verdict on one mount over an exports text.
 
-ghost use Rattle.std.specs.Prelude.{◌≡◌, ◌≤◌, IfOk, Ok, length};
+ghost use Rattle.std.specs.Prelude.{◌≡◌, IfOk, Ok};
 ghost use Rattle.desk_text.specs.Address.{number_of};
+ghost use Rattle.desk_text.specs.Lines.{IsReadable};
 ghost use Rattle.desk_text.specs.Reading.{Reads};
 ghost use Rattle.desk_exports.specs.declared.profile.Profile.TheVariants.{Two};
 ghost use Rattle.desk_policy.specs.Parsing.{read_whole_with, without_warnings};
@@ -38,7 +39,7 @@ pub fn try_text(
     path: &Path,
     own: &Option<Cred>,
 ) -> Result<Tried, ReadError<SiteFault>>
-    requires { length text.now ≤ 4294967294 }
+    requires { IsReadable text.now }
     ensures { Tries (read_whole_with Two site_tables.now filesystems text.now) own.now (number_of address) path.now result }
 {
     let policy = parse_whole_without_warnings(alloc, Profile::Two, text, filesystems, site_tables)?;

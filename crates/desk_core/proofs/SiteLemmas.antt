@@ -8,13 +8,14 @@ use Rattle.std.specs.Str.{bytes_eq}
 use Rattle.std.proofs.Math.Path.{fun_ext}
 use Rattle.std.proofs.lemmas.List.{at_drop_more}
 use Rattle.std.proofs.lemmas.List.Elements.{recursion_from_All}
+use Rattle.desk_text.specs.Lines.{longest_text}
 use Rattle.desk_tables.specs.Custodians.{read_custodians}
 use Rattle.desk_tables.specs.Rules.{TableFault}
 use Rattle.desk_tables.specs.declared.custodians.Custodian.{Custodian}
 use Rattle.desk_policy.specs.Contradiction.{HasNoContradiction}
 use Rattle.desk_policy.specs.Parsing.{read_site}
 use Rattle.desk_policy.specs.Policy.{Content}
-use Rattle.desk_policy.specs.Site.{HaveReadableLengths, SiteTexts, longest_text, no_exports}
+use Rattle.desk_policy.specs.Site.{HaveReadableLengths, SiteTexts, no_exports}
 use Rattle.desk_policy.specs.declared.site.ExportsText.{ExportsText}
 use Rattle.desk_policy.specs.View.{HasFault, IsFaultOf}
 use Rattle.desk_policy.specs.declared.site_fault.SiteFault.{SiteFault}

@@ -1,9 +1,9 @@
 -- The newest revisions of files. (this project's own)
-use Rattle.std.specs.Prelude.{◌≢◌, ℕ, ◌<◌, ◌≤◌, List, Option, Some, find, length, if◌then◌else◌}
+use Rattle.std.specs.Prelude.{◌≢◌, ℕ, ◌<◌, ◌≤◌, List, Option, Some, find, if◌then◌else◌}
 use Rattle.std.specs.List.{AllPairs}
 use Rattle.std.specs.Option.{option_map_or}
 use Rattle.std.specs.Str.{bytes_eq}
-use Rattle.desk_policy.specs.Site.{longest_text}
+use Rattle.desk_text.specs.Lines.{IsReadable}
 use Rattle.desk_core.specs.declared.head.Head.{Head}
 
 -- a revision of a file: its number, who wrote it, who approved it if the file was guarded, the profile by which it is
@@ -43,4 +43,4 @@ longest_revision = 65536
 pub record CanBeKept (revision : Revision) : Type 0 where
   pub from : 0 < revision.rev
   pub to : revision.rev ≤ last_revision
-  pub short : length revision.body ≤ longest_text
+  pub short : IsReadable revision.body

@@ -8,8 +8,7 @@ ghost use Rattle.desk_core.specs.Head.{CanBeKept, StandOnce, newest_in, newest_n
 ghost use Rattle.desk_core.specs.PrivateHead.{is_within_limits};
 
 use desk_exports::Profile;
-use desk_policy::LONGEST_TEXT;
-use desk_text::Text;
+use desk_text::{LONGEST_TEXT, Text};
 
 /// The last number that a revision may have.
 pub const LAST_REVISION: u32 = 2_147_483_647;

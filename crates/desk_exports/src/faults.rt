@@ -1,8 +1,9 @@
 //! Every fault of a text: each faulty line with the first rule that it breaks, and the place of the slice at fault.
 
-ghost use Rattle.std.specs.Prelude.{◌≡◌, ◌≤◌, IfOk, IfSome, Ok, OnOk, length, map};
+ghost use Rattle.std.specs.Prelude.{◌≡◌, IfOk, IfSome, Ok, OnOk, map};
 ghost use Rattle.std.specs.List.{All};
 ghost use Rattle.std.specs.Option.{option_map};
+ghost use Rattle.desk_text.specs.Lines.{IsReadable};
 ghost use Rattle.desk_text.specs.Reading.{fault_of};
 ghost use Rattle.desk_exports.specs.Faults.{IsPlaced};
 ghost use Rattle.desk_exports.specs.Files as spec;
@@ -34,7 +35,7 @@ pub fn find_faults(
     tables: &Tables,
     scope: Scope,
 ) -> Result<Sequence<PlacedFault>, AllocError>
-    requires { length text.now ≤ 4294967294 }
+    requires { IsReadable text.now }
     ensures faults { IfOk result (λ found. map (λ one. one.fault) found ≡ spec.text_faults (table_rows tables.now) scope text.now) }
     ensures placed { IfOk result (All (IsPlaced text.now)) }
 {

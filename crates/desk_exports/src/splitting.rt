@@ -1,7 +1,8 @@
 //! A whole exports text, split into one text for each file system. Each logical line goes as it is written, with all its
 //! physical lines.
 
-ghost use Rattle.std.specs.Prelude.{◌≡◌, ◌≤◌, ◌++◌, IfOk, OnOk, [], length, map, replicate, string_bytes};
+ghost use Rattle.std.specs.Prelude.{◌≡◌, ◌++◌, IfOk, OnOk, [], length, map, replicate, string_bytes};
+ghost use Rattle.desk_text.specs.Lines.{IsReadable};
 ghost use Rattle.desk_text.specs.Reading.{Reads, ReadsAs};
 ghost use Rattle.desk_exports.specs.Splitting as spec;
 ghost use Rattle.desk_exports.specs.PrivateSplitting.{Sends, with_more};
@@ -22,7 +23,7 @@ pub fn split(
     text: &str,
     filesystems: &FileSystems,
 ) -> Result<Vec<String>, ReadError<LineFault<Rule>>>
-    requires { length text.now ≤ 4294967294 }
+    requires { IsReadable text.now }
     ensures split { ReadsAs (λ texts. map string_bytes texts.items) result (spec.split_text filesystems.now text.now) }
     ensures count { IfOk result (λ texts. length texts.items ≡ length filesystems.now) }
 {

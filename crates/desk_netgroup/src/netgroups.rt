@@ -1,8 +1,9 @@
 //! The groups of a netgroup file. (netgroup(5))
 
-ghost use Rattle.std.specs.Prelude.{◌≡◌, ◌≤◌, [], ◌∷◌, ◌++◌, IfOk, MatchOption, None, IfSome, IsSome, length, map, string_bytes};
+ghost use Rattle.std.specs.Prelude.{◌≡◌, [], ◌∷◌, ◌++◌, IfOk, MatchOption, None, IfSome, IsSome, map, string_bytes};
 ghost use Rattle.std.specs.List.{All};
 ghost use Rattle.std.specs.Option.{option_copied};
+ghost use Rattle.desk_text.specs.Lines.{IsReadable};
 ghost use Rattle.desk_text.specs.Reading.{Reads};
 ghost use Rattle.desk_netgroup.specs.Faults.{IsPlaced};
 ghost use Rattle.desk_netgroup.specs.GroupLine.{group_named};
@@ -54,7 +55,7 @@ impl Netgroups {
     /// `(host,user,domain)`. The first faulty line is refused with the first rule that it breaks. The
     /// text has at most 4,294,967,294 bytes. (netgroup(5))
     pub fn read(alloc: Global, text: &str) -> Result<Netgroups, ReadError<GroupFault>>
-        requires { length text.now ≤ 4294967294 }
+        requires { IsReadable text.now }
         ensures { Reads result (read_netgroups text.now) }
     {
         let lines = logical_lines(alloc, text)?;
@@ -69,7 +70,7 @@ impl Netgroups {
     /// Finds the faults of a netgroup file: all its faulty lines, in order, each with the first rule that it breaks after
     /// the groups that the earlier good lines define, and the place of the slice at fault. `read` reports the first of them.
     pub fn faults(alloc: Global, text: &str) -> Result<Sequence<PlacedFault>, AllocError>
-        requires { length text.now ≤ 4294967294 }
+        requires { IsReadable text.now }
         ensures faults { IfOk result (λ found. map (λ one. one.fault) found ≡ netgroup_faults text.now) }
         ensures placed { IfOk result (All (IsPlaced text.now)) }
     {

@@ -59,11 +59,7 @@ pub fn member_places(alloc: Global, line: &Line) -> Result<Vec<Place>, AllocErro
 }
 
 /// Lists the places of the members among the tokens of a line.
-fn places_of_members(
-    alloc: Global,
-    line: &Line,
-    tokens: &[Slice],
-) -> Result<Vec<Place>, AllocError>
+fn places_of_members(alloc: Global, line: &Line, tokens: &[Slice]) -> Result<Vec<Place>, AllocError>
     ensures { IfOk result (λ places. All (IsOnLine line.now) places.items) }
 {
     let mut places = Vec::new(alloc);

@@ -1,6 +1,7 @@
 -- The texts of a site. (this project's own)
 use Rattle.std.specs.Prelude.{ℕ, ◌≤◌, List, [], length, unwrap_or}
 use Rattle.std.specs.BTreeMap.{get_by_text}
+use Rattle.desk_text.specs.Lines.{longest_text}
 use Rattle.desk_exports.specs.declared.profile.Profile.TheVariants.{Two}
 use Rattle.desk_policy.specs.declared.site.ExportsText.{ExportsText}
 use Rattle.desk_policy.specs.declared.site.Site.{Site}
@@ -34,10 +35,6 @@ texts_of site = record {
   netgroup = site.netgroup;
   exports = λ mount. unwrap_or (get_by_text site.exports mount) no_exports;
 }
-
--- the most bytes that a text may have to be read: its lines have numbers of 32 bits
-abbrev pub longest_text : ℕ
-longest_text = 4294967294
 
 -- no text has more bytes than the limit
 pub record HaveLengthsWithin (limit : ℕ) (texts : SiteTexts) : Type 0 where

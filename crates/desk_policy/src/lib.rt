@@ -58,7 +58,7 @@ pub use policy::{Policy, are_ascending};
 pub use prints::{mount_text, verdict_text};
 pub use row::Row;
 pub use row_addrs::RowAddrs;
-pub use site::{ExportsText, LONGEST_TEXT, Site};
+pub use site::{ExportsText, Site};
 pub use site_fault::{FaultPlace, SiteFault, SiteRule};
 pub use site_file::{SiteFile, exports_file_name, mount_of};
 pub use terms::same_terms;

@@ -5,6 +5,7 @@
 
 ghost use Rattle.std.specs.Prelude.{◌≡◌, ◌<◌, ◌≤◌, [], ◌++◌, IfOk, None, Ok, OnOk, Result, codes, length, map};
 ghost use Rattle.std.specs.List.{flat_map};
+ghost use Rattle.desk_text.specs.Lines.{IsReadable};
 ghost use Rattle.desk_text.specs.Path.{path_text};
 ghost use Rattle.desk_text.specs.Reading.{Reads, ReadsAs};
 ghost use Rattle.desk_tables.specs.FileSystemsText as filesystems;
@@ -19,7 +20,7 @@ ghost use Rattle.desk_policy.specs.PrivateParsing.{PushesFile, PushesFiles, Read
 ghost use Rattle.desk_policy.specs.Row.{row_of};
 ghost use Rattle.desk_policy.specs.PerTable.{EachTable, map_tables};
 ghost use Rattle.desk_policy.specs.Policy.{IsContent};
-ghost use Rattle.desk_policy.specs.Site.{HaveReadableLengths, longest_text, texts_of};
+ghost use Rattle.desk_policy.specs.Site.{HaveReadableLengths, texts_of};
 ghost use Rattle.desk_policy.specs.SiteContents.{ReadsSite};
 ghost use Rattle.desk_policy.specs.SiteFault.{group_fault, line_fault, table_fault};
 ghost use Rattle.desk_policy.specs.SiteFile.{file_name};
@@ -68,7 +69,7 @@ impl SiteTables {
     /// Reads the tables that these texts write, or the fault of the first faulty one, in the order of the fields. Each text
     /// has at most 4,294,967,294 bytes.
     pub fn read(alloc: Global, texts: PerTable<&str>) -> Result<SiteTables, ReadError<SiteFault>>
-        requires { EachTable (λ text. length text.now ≤ longest_text) texts }
+        requires { EachTable (λ text. IsReadable text.now) texts }
         ensures { Reads result (spec.read_tables (map_tables (λ text. text.now) texts.entry)) }
     {
         let mut tables = SiteTables::new(alloc);
@@ -81,7 +82,7 @@ impl SiteTables {
     /// Puts the rows that these texts write in the place of those of the tables, which are lent, so that no table is owned
     /// where a text may be faulty.
     fn fill(&mut self, alloc: Global, texts: PerTable<&str>) -> Result<(), ReadError<SiteFault>>
-        requires { EachTable (λ text. length text.now ≤ longest_text) texts }
+        requires { EachTable (λ text. IsReadable text.now) texts }
         ensures { ReadsAs (λ done. self.new) result (spec.read_tables (map_tables (λ text. text.now) texts.entry)) }
     {
         let hosts = Hosts::read(alloc, texts.hosts);
@@ -160,7 +161,7 @@ fn read_filesystems(
     text: &str,
     custodians: &Custodians,
 ) -> Result<FileSystems, ReadError<TableFault>>
-    requires { length text.now ≤ longest_text }
+    requires { IsReadable text.now }
     ensures read { Reads result (spec.if_listed custodians.now (filesystems.read_filesystems text.now)) }
     ensures few { IfOk result (λ table. length table ≤ 256) }
 {
@@ -324,7 +325,7 @@ pub fn read_lines(
     site_tables: &SiteTables,
     fs: FsId,
 ) -> Result<Sequence<Row>, ReadError<SiteFault>>
-    requires length { length text.now ≤ longest_text }
+    requires length { IsReadable text.now }
     requires fs { fs.0 < length filesystems.now }
     ensures { ReadsLines result (record { profile = profile; body = text.now }) filesystems.now site_tables.now fs.0 }
 {
@@ -363,7 +364,7 @@ fn file_entries(
     site_tables: &SiteTables,
     fs: FsId,
 ) -> Result<Sequence<Boxed<Entry>>, ReadError<LineFault<Rule>>>
-    requires { length text.now ≤ longest_text }
+    requires { IsReadable text.now }
     ensures read { Reads result (spec.entries_in (record { profile = profile; body = text.now }) filesystems.now site_tables.now fs) }
     ensures ascending { IfOk result FileAscends }
 {
@@ -504,7 +505,7 @@ pub fn parse_whole(
     text: &str,
     filesystems: FileSystems,
 ) -> Result<Policy, ReadError<SiteFault>>
-    requires { length text.now ≤ longest_text }
+    requires { IsReadable text.now }
     ensures { Reads result (spec.read_whole_policy profile filesystems text.now) }
 {
     let site_tables = SiteTables::new(alloc);
@@ -520,7 +521,7 @@ pub fn parse_whole_with(
     filesystems: FileSystems,
     site_tables: &SiteTables,
 ) -> Result<Policy, ReadError<SiteFault>>
-    requires { length text.now ≤ longest_text }
+    requires { IsReadable text.now }
     ensures { Reads result (spec.read_whole_with profile site_tables.now filesystems text.now) }
 {
     let entries = whole_entries(alloc, profile, text, &filesystems, site_tables)?;
@@ -549,7 +550,7 @@ pub fn parse_whole_without_warnings(
     filesystems: FileSystems,
     site_tables: &SiteTables,
 ) -> Result<Policy, ReadError<SiteFault>>
-    requires { length text.now ≤ longest_text }
+    requires { IsReadable text.now }
     ensures { Reads result (spec.without_warnings (spec.read_whole_with profile site_tables.now filesystems text.now)) }
 {
     let entries = whole_entries(alloc, profile, text, &filesystems, site_tables)?;
@@ -571,7 +572,7 @@ fn whole_entries(
     filesystems: &FileSystems,
     site_tables: &SiteTables,
 ) -> Result<Sequence<(FsId, Boxed<Entry>)>, ReadError<SiteFault>>
-    requires { length text.now ≤ longest_text }
+    requires { IsReadable text.now }
     ensures read { Reads result (spec.in_file (line_fault (codes "exports")) (whole_answer (spec.rows_with profile filesystems.now site_tables.now) text.now)) }
     ensures ascending { IfOk result EntriesAscend }
 {

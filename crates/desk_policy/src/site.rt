@@ -9,11 +9,8 @@ ghost use Rattle.desk_policy.specs.PrivateSite.{are_files_within, has_body_withi
 
 use crate::site_file::SiteFile;
 use desk_exports::Profile;
-use desk_text::Text;
+use desk_text::{LONGEST_TEXT, Text};
 use std::collections::BTreeMap;
-
-/// The most bytes that a text may have to be read: its lines have numbers of 32 bits.
-pub const LONGEST_TEXT: usize = 4_294_967_294;
 
 /// The text of an exports file, and the profile by which it is read.
 #[derive(Drop)]

@@ -1,11 +1,12 @@
 //! The first revisions of a site's files, and the state that they put in force.
 
-ghost use Rattle.std.specs.Prelude.{◌≡◌, ◌≤◌, ◌∷◌, ◌++◌, [], All, length, IfErr, IfOk, None, false, true, OnOk, Some, map, unwrap_or};
+ghost use Rattle.std.specs.Prelude.{◌≡◌, ◌∷◌, ◌++◌, [], All, IfErr, IfOk, None, false, true, OnOk, Some, map, unwrap_or};
 ghost use Rattle.std.specs.Option.{option_copied};
 ghost use Rattle.std.specs.Result.{result_unwrap_or};
+ghost use Rattle.desk_text.specs.Lines.{IsReadable};
 ghost use Rattle.desk_text.specs.Path.{path_text};
 ghost use Rattle.desk_tables.specs.FileSystemsText.{read_filesystems};
-ghost use Rattle.desk_policy.specs.Site.{longest_text, texts_of};
+ghost use Rattle.desk_policy.specs.Site.{texts_of};
 ghost use Rattle.desk_policy.specs.SiteFault.{exports_name};
 ghost use Rattle.desk_policy.specs.declared.site_fault.SiteFault.{SiteFault};
 ghost use Rattle.desk_core.specs.Head.{CanBeKept, newest_in};
@@ -127,7 +128,7 @@ fn first_heads(alloc: Global, site: &Site, mounts: &[Mount]) -> Result<Vec<Head>
 
 /// Reads the file systems of a site; none if their text has a fault.
 fn read_table(alloc: Global, site: &Site) -> Result<Option<FileSystems>, CreateError>
-    requires { length (texts_of site.now).filesystems ≤ longest_text }
+    requires { IsReadable (texts_of site.now).filesystems }
     ensures table { IfOk result (λ table. unwrap_or table [] ≡ mounts_of (texts_of site.now)) }
     ensures errors { IfErr result (λ e. e ≡ refused.Memory) }
 {

@@ -1,10 +1,10 @@
 //! Custodians, and the digests of their keys. (this project's own)
 
-ghost use Rattle.std.specs.Prelude.{◌≡◌, ◌≤◌, ◌++◌, ◌∷◌, [], IfOk, List, None, Ok, OnOk, Some, length, map};
+ghost use Rattle.std.specs.Prelude.{◌≡◌, ◌++◌, ◌∷◌, [], IfOk, List, None, Ok, OnOk, Some, map};
 ghost use Rattle.std.specs.List.{All, list_all};
 ghost use Rattle.std.specs.Option.{option_copied};
 ghost use Rattle.desk_text.specs.Reading.{Reads, ReadsAs};
-ghost use Rattle.desk_text.specs.Lines.{logical_lines};
+ghost use Rattle.desk_text.specs.Lines.{IsReadable, logical_lines};
 ghost use Rattle.desk_tables.specs.Custodians as spec;
 ghost use Rattle.desk_tables.specs.Faults.{IsOnLineOrWhole};
 ghost use Rattle.desk_tables.specs.PrivateIndex.{HasDigests};
@@ -56,7 +56,7 @@ impl Custodians {
     /// hexadecimal digits of either case. A text that does not list `site` has a fault of line 0. The text has at most
     /// 4,294,967,294 bytes.
     pub fn read(alloc: Global, text: &str) -> Result<Custodians, ReadError<TableFault>>
-        requires { length text.now ≤ 4294967294 }
+        requires { IsReadable text.now }
         ensures { Reads result (spec.read_custodians text.now) }
     {
         let table = read_rows(alloc, text)?;
@@ -73,7 +73,7 @@ impl Custodians {
     /// after the custodians that the earlier good lines list, and the place of the slice at fault; if no line is faulty
     /// and `site` is not listed, the fault of line 0. `read` reports the first of them.
     pub fn faults(alloc: Global, text: &str) -> Result<Sequence<PlacedFault>, AllocError>
-        requires { length text.now ≤ 4294967294 }
+        requires { IsReadable text.now }
         ensures faults { IfOk result (λ found. map (λ one. one.fault) found ≡ spec.custodian_faults text.now) }
         ensures placed { IfOk result (All (IsOnLineOrWhole text.now)) }
     {
@@ -138,7 +138,7 @@ fn add_digest(
 
 /// Reads the custodian of each line, in order, or the first fault.
 fn read_rows(alloc: Global, text: &str) -> Result<Custodians, ReadError<TableFault>>
-    requires { length text.now ≤ 4294967294 }
+    requires { IsReadable text.now }
     ensures { Reads result (lines_table spec.line_answer (logical_lines text.now)) }
 {
     let lines = logical_lines(alloc, text)?;

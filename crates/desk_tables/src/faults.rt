@@ -1,7 +1,8 @@
 //! Every fault of a table: each faulty line with the first rule that it breaks, and the place of the slice at fault.
 
-ghost use Rattle.std.specs.Prelude.{◌≡◌, ◌≤◌, IfOk, List, Option, Result, ℕ, length, map};
+ghost use Rattle.std.specs.Prelude.{◌≡◌, IfOk, List, Option, Result, ℕ, map};
 ghost use Rattle.std.specs.List.{All};
+ghost use Rattle.desk_text.specs.Lines.{IsReadable};
 ghost use Rattle.desk_text.specs.Place.{LiesWithin};
 ghost use Rattle.desk_text.specs.Reading.{Reads};
 ghost use Rattle.desk_tables.specs.Faults.{IsPlaced};
@@ -38,7 +39,7 @@ pub(crate) fn find_faults<
 >(alloc: Global, text: &str, read: F, locate: L) -> Result<Sequence<PlacedFault>, AllocError>
     requires callable { F.IsAlwaysCallable read }
     requires locates { L.IsAlwaysCallable locate }
-    requires counted { length text.now ≤ 4294967294 }
+    requires counted { IsReadable text.now }
     ensures faults { (answer : List ℕ → Result (Option Row) TableRule) → ReadsEachLine (F.post read) answer
         → IfOk result (λ found. map (λ one. one.fault) found ≡ text_faults answer text.now) }
     ensures placed { IfOk result (All (IsPlaced text.now)) }

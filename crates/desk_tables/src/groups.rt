@@ -1,8 +1,9 @@
 //! The groups of a site. (group(5))
 
-ghost use Rattle.std.specs.Prelude.{◌≡◌, ◌≤◌, [], IfOk, OnOk, length, map};
+ghost use Rattle.std.specs.Prelude.{◌≡◌, [], IfOk, OnOk, map};
 ghost use Rattle.std.specs.List.{All};
 ghost use Rattle.std.specs.Option.{option_copied};
+ghost use Rattle.desk_text.specs.Lines.{IsReadable};
 ghost use Rattle.desk_text.specs.Reading.{Reads};
 ghost use Rattle.desk_tables.specs.Faults.{IsPlaced};
 ghost use Rattle.desk_tables.specs.Credentials.{at_most_16};
@@ -66,7 +67,7 @@ impl Groups {
     /// character that is not a blank is `#`, are skipped. A line may break Fields (not four), Number (the gid is not a
     /// decimal up to 4294967295) and Name (it is empty).
     pub fn read(alloc: Global, text: &str) -> Result<Groups, ReadError<TableFault>>
-        requires { length text.now ≤ 4294967294 }
+        requires { IsReadable text.now }
         ensures { Reads result (spec.read_groups text.now) }
     {
         let rows = read_rows(alloc, text, read_group)?;
@@ -82,7 +83,7 @@ impl Groups {
     /// Finds the faults of a text: all its faulty lines, in order, each with the first rule that it breaks and the place
     /// of the slice at fault. `read` reports the first of them.
     pub fn faults(alloc: Global, text: &str) -> Result<Sequence<PlacedFault>, AllocError>
-        requires { length text.now ≤ 4294967294 }
+        requires { IsReadable text.now }
         ensures faults { IfOk result (λ found. map (λ one. one.fault) found ≡ spec.group_faults text.now) }
         ensures placed { IfOk result (All (IsPlaced text.now)) }
     {

@@ -1,11 +1,12 @@
 //! The hosts file. (hosts(5))
 
-ghost use Rattle.std.specs.Prelude.{◌≡◌, ◌≤◌, ◌∷◌, [], IfOk, OnOk, Some, length, map, slice_get};
+ghost use Rattle.std.specs.Prelude.{◌≡◌, ◌∷◌, [], IfOk, OnOk, Some, map, slice_get};
 ghost use Rattle.std.specs.Cmp.Lexicographic.{slice_cmp};
 ghost use Rattle.std.specs.List.{All};
 ghost use Rattle.std.specs.Ordering.{is_lt, nat_cmp};
 ghost use Rattle.std.specs.Str.{str_to_ascii_lowercase};
 ghost use Rattle.desk_text.specs.Address.{number_of};
+ghost use Rattle.desk_text.specs.Lines.{IsReadable};
 ghost use Rattle.desk_text.specs.Reading.{Reads};
 ghost use Rattle.desk_tables.specs.Faults.{IsPlaced};
 ghost use Rattle.desk_tables.specs.Hosts as spec;
@@ -65,7 +66,7 @@ impl Hosts {
     /// without a word before its comment, and one whose address has a `:`, is skipped. A line may break Fields (no name),
     /// Number (the address cannot be read) and Name (a name is over 255 bytes). (hosts(5))
     pub fn read(alloc: Global, text: &str) -> Result<Hosts, ReadError<TableFault>>
-        requires { length text.now ≤ 4294967294 }
+        requires { IsReadable text.now }
         ensures { Reads result (spec.read_hosts text.now) }
     {
         let rows = read_rows(alloc, text, read_line)?;
@@ -76,7 +77,7 @@ impl Hosts {
     /// Finds the faults of a text: all its faulty lines, in order, each with the first rule that it breaks and the place
     /// of the slice at fault. `read` reports the first of them.
     pub fn faults(alloc: Global, text: &str) -> Result<Sequence<PlacedFault>, AllocError>
-        requires { length text.now ≤ 4294967294 }
+        requires { IsReadable text.now }
         ensures faults { IfOk result (λ found. map (λ one. one.fault) found ≡ spec.host_faults text.now) }
         ensures placed { IfOk result (All (IsPlaced text.now)) }
     {

@@ -1,9 +1,10 @@
 //! The networks file. (networks(5))
 
-ghost use Rattle.std.specs.Prelude.{◌≡◌, ◌≤◌, ◌∷◌, [], IfOk, OnOk, Some, length, map, slice_get};
+ghost use Rattle.std.specs.Prelude.{◌≡◌, ◌∷◌, [], IfOk, OnOk, Some, map, slice_get};
 ghost use Rattle.std.specs.Cmp.Lexicographic.{slice_cmp};
 ghost use Rattle.std.specs.List.{All};
 ghost use Rattle.std.specs.Ordering.{is_lt, nat_cmp};
+ghost use Rattle.desk_text.specs.Lines.{IsReadable};
 ghost use Rattle.desk_text.specs.Reading.{Reads};
 ghost use Rattle.desk_tables.specs.Faults.{IsPlaced};
 ghost use Rattle.desk_tables.specs.Networks as spec;
@@ -63,7 +64,7 @@ impl Networks {
     /// comment, and a line without a word before its comment is skipped. A line may break Fields (no number), Number (the
     /// number cannot be read) and Name (a name is over 255 bytes). (networks(5))
     pub fn read(alloc: Global, text: &str) -> Result<Networks, ReadError<TableFault>>
-        requires { length text.now ≤ 4294967294 }
+        requires { IsReadable text.now }
         ensures { Reads result (spec.read_networks text.now) }
     {
         let rows = read_rows(alloc, text, read_line)?;
@@ -74,7 +75,7 @@ impl Networks {
     /// Finds the faults of a text: all its faulty lines, in order, each with the first rule that it breaks and the place
     /// of the slice at fault. `read` reports the first of them.
     pub fn faults(alloc: Global, text: &str) -> Result<Sequence<PlacedFault>, AllocError>
-        requires { length text.now ≤ 4294967294 }
+        requires { IsReadable text.now }
         ensures faults { IfOk result (λ found. map (λ one. one.fault) found ≡ spec.network_faults text.now) }
         ensures placed { IfOk result (All (IsPlaced text.now)) }
     {

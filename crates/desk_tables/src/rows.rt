@@ -2,7 +2,8 @@
 //!
 //! A line gives a row, or nothing if it is skipped; the first faulty line ends the reading.
 
-ghost use Rattle.std.specs.Prelude.{◌≡◌, ◌≤◌, ℕ, List, Option, Result, length};
+ghost use Rattle.std.specs.Prelude.{◌≡◌, ℕ, List, Option, Result};
+ghost use Rattle.desk_text.specs.Lines.{IsReadable};
 ghost use Rattle.desk_text.specs.Reading.{Reads};
 ghost use Rattle.desk_tables.specs.PrivateRows.{PushesRow, ReadsEachLine};
 ghost use Rattle.desk_tables.specs.Rows.{text_table};
@@ -19,7 +20,7 @@ pub fn read_rows<Row: Drop, F: Fn(Global, &str) -> Result<Option<Row>, ReadError
     read: F,
 ) -> Result<Sequence<Row>, ReadError<TableFault>>
     requires callable { F.IsAlwaysCallable read }
-    requires counted { length text.now ≤ 4294967294 }
+    requires counted { IsReadable text.now }
     ensures { (answer : List ℕ → Result (Option Row) TableRule) → ReadsEachLine (F.post read) answer
         → Reads result (text_table answer text.now) }
 {
