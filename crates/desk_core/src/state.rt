@@ -33,11 +33,21 @@ use std::alloc::{AllocError, Global};
 use std::marker::Model;
 
 /// The newest revision of each file, the proposals, and the site that the revisions write, in force.
-#[derive(Drop)]
 pub struct State<V: PolicyView + Drop> {
     heads: Vec<Head>,
     proposals: Vec<Proposal>,
     site: SiteInForce<V>,
+}
+
+// It is written out, so that the crates above do not prove again how each part is dropped.
+impl<V: PolicyView + Drop> Drop for State<V> {
+    fn drop(self) {
+        let State {
+            heads: _,
+            proposals: _,
+            site: _,
+        } = self;
+    }
 }
 
 impl<V: PolicyView + Drop> Model for State<V> {

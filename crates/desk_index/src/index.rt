@@ -26,10 +26,19 @@ use std::alloc::{AllocError, Global};
 use std::marker::Model;
 
 /// A policy, with the lines of each file system by key.
-#[derive(Drop)]
 pub struct Index {
     policy: Policy,
     parts: Vec<Keyed>,
+}
+
+// It is written out, so that the crates above do not prove again how each part is dropped.
+impl Drop for Index {
+    fn drop(self) {
+        let Index {
+            policy: _,
+            parts: _,
+        } = self;
+    }
 }
 
 impl Model for Index {

@@ -22,10 +22,16 @@ use std::collections::BTreeMap;
 use std::marker::Model;
 
 /// The groups that the lines of a netgroup file define, in order, with the place of each by name.
-#[derive(Drop)]
 pub struct Netgroups {
     lines: Sequence<GroupLine>,
     index: BTreeMap<String, usize>,
+}
+
+// It is written out, so that the crates above do not prove again how each part is dropped.
+impl Drop for Netgroups {
+    fn drop(self) {
+        let Netgroups { lines: _, index: _ } = self;
+    }
 }
 
 impl Model for Netgroups {

@@ -43,13 +43,25 @@ use desk_text::{LineFault, Path, ReadError, Sequence, Text};
 use std::alloc::{AllocError, Global};
 
 /// The tables of a site that are read after its file systems: hosts(5), networks(5), passwd(5), group(5) and netgroup(5).
-#[derive(Drop)]
 pub struct SiteTables {
     pub hosts: Hosts,
     pub networks: Networks,
     pub users: Users,
     pub groups: Groups,
     pub netgroups: Netgroups,
+}
+
+// It is written out, so that the crates above do not prove again how each part is dropped.
+impl Drop for SiteTables {
+    fn drop(self) {
+        let SiteTables {
+            hosts: _,
+            networks: _,
+            users: _,
+            groups: _,
+            netgroups: _,
+        } = self;
+    }
 }
 
 impl SiteTables {

@@ -14,11 +14,21 @@ use std::alloc::{AllocError, Global};
 use std::marker::Model;
 
 /// The table of file systems, the lines of each, in the order of their entries, and the warnings of their texts.
-#[derive(Drop)]
 pub struct Policy {
     filesystems: FileSystems,
     rows: Vec<Sequence<Row>>,
     warnings: Sequence<Warning>,
+}
+
+// It is written out, so that the crates above do not prove again how each part is dropped.
+impl Drop for Policy {
+    fn drop(self) {
+        let Policy {
+            filesystems: _,
+            rows: _,
+            warnings: _,
+        } = self;
+    }
 }
 
 impl Model for Policy {
@@ -87,7 +97,7 @@ impl Policy {
         let Policy {
             filesystems,
             rows,
-            ..
+            warnings: _,
         } = self;
         Policy {
             filesystems,

@@ -40,10 +40,19 @@ use std::alloc::Global;
 use std::marker::Model;
 
 /// A desk over any store, with any view.
-#[derive(Drop)]
 pub struct Desk<S: Alter + Drop, V: PolicyView + Drop> {
     conn: Connection<S>,
     current: State<V>,
+}
+
+// It is written out, so that the crates above do not prove again how each part is dropped.
+impl<S: Alter + Drop, V: PolicyView + Drop> Drop for Desk<S, V> {
+    fn drop(self) {
+        let Desk {
+            conn: _,
+            current: _,
+        } = self;
+    }
 }
 
 impl<S: Alter + Drop, V: PolicyView + Drop> Model for Desk<S, V> {
@@ -294,7 +303,8 @@ impl<S: Alter + Drop, V: PolicyView + Drop> Desk<S, V> {
         ensures same { result ≡ self.conn }
         ensures mode { (state S.Store result).in_transaction ≡ false }
     {
-        self.conn
+        let Desk { conn, current: _ } = self;
+        conn
     }
 
     /// Makes the tables of a desk in the database of a connection, with revision 1 of each file of a site, by `site`, all in one

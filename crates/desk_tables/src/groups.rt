@@ -32,11 +32,21 @@ pub struct Group {
 
 /// The groups of a text, in its order, with the place of the first group of each name, and the gids of the groups that
 /// list each member.
-#[derive(Drop)]
 pub struct Groups {
     rows: Sequence<Group>,
     by_name: BTreeMap<String, usize>,
     by_member: BTreeMap<String, Vec<u32>>,
+}
+
+// It is written out, so that the crates above do not prove again how each part is dropped.
+impl Drop for Groups {
+    fn drop(self) {
+        let Groups {
+            rows: _,
+            by_name: _,
+            by_member: _,
+        } = self;
+    }
 }
 
 impl Model for Groups {

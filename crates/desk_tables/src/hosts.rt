@@ -33,10 +33,19 @@ pub struct HostRow {
 
 /// The rows of a hosts file, in the order of its lines, with a listing of each of their names: in byte order of the names
 /// in small letters, and those of one name in the order of the rows.
-#[derive(Drop)]
 pub struct Hosts {
     rows: Sequence<HostRow>,
     listings: Vec<Listing>,
+}
+
+// It is written out, so that the crates above do not prove again how each part is dropped.
+impl Drop for Hosts {
+    fn drop(self) {
+        let Hosts {
+            rows: _,
+            listings: _,
+        } = self;
+    }
 }
 
 impl Model for Hosts {

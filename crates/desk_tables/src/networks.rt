@@ -31,10 +31,19 @@ pub struct NetworkName {
 
 /// The rows of a networks file, in the order of its lines, with a listing of each of their names: in byte order of the
 /// names, and those of one name in the order of the rows.
-#[derive(Drop)]
 pub struct Networks {
     rows: Sequence<NetworkName>,
     listings: Vec<Listing>,
+}
+
+// It is written out, so that the crates above do not prove again how each part is dropped.
+impl Drop for Networks {
+    fn drop(self) {
+        let Networks {
+            rows: _,
+            listings: _,
+        } = self;
+    }
 }
 
 impl Model for Networks {

@@ -28,11 +28,21 @@ pub struct User {
 }
 
 /// The users of a text, in its order, with the places of the first user of each name and of each number.
-#[derive(Drop)]
 pub struct Users {
     rows: Sequence<User>,
     by_name: BTreeMap<String, usize>,
     by_uid: BTreeMap<u32, usize>,
+}
+
+// It is written out, so that the crates above do not prove again how each part is dropped.
+impl Drop for Users {
+    fn drop(self) {
+        let Users {
+            rows: _,
+            by_name: _,
+            by_uid: _,
+        } = self;
+    }
 }
 
 impl Model for Users {
