@@ -203,20 +203,16 @@ def changes_text(found):
     return text
 
 
-LONGEST_TOLD = 1000
-
-
 def places(before, after):
     """For each mount point of either site its heading and a path for each place: itself, the directories below it that a line of
-    either writes, and its other directories, for which one stands that no line writes; not below a very long mount point."""
+    either writes, and its other directories, for which one stands that no line writes."""
     mounts = in_order({*before.mounts, *after.mounts})
     lines = [line for site in (before, after) for lines in site.lines.values() for line in lines]
     written = in_order({path for line in lines for path in line.directories})
     for mount in mounts:
         yield printed(mount), mount
         yield from ((printed(path), path) for path in written if path != mount and fs_of(mounts, path) == mount)
-        if len(printed(mount).encode()) <= LONGEST_TOLD:
-            yield f"other directories of {printed(mount)}", unwritten({*written, *mounts}, mount)
+        yield f"other directories of {printed(mount)}", unwritten({*written, *mounts}, mount)
 
 
 def unwritten(taken, mount):

@@ -8,3 +8,6 @@ pub mod Elsewhere
 pub mod Covering
 pub mod Reporting
 pub mod OtherLines
+pub mod HavingOthers
+pub mod Breached
+pub mod Scoped

@@ -3,9 +3,9 @@ use Rattle.std.proofs.Common.{◌≡◌, ℕ, ◌+◌, ◌-◌, ◌<◌, ◌≤�
 use Rattle.std.specs.Prelude.{All, cond}
 use Rattle.std.specs.List.{AllByRecursion, flat_map, list_all}
 use Rattle.std.specs.String.{string_bytes}
-use Rattle.std.proofs.lemmas.Bool.{and_from, cases_Bool, cond-true, cond-false, or_parts, or_right, true≢false}
-use Rattle.std.proofs.lemmas.List.{flat_map_more, get_or-map, length-map, map-append, take_all, take_more}
-use Rattle.std.proofs.lemmas.List.Elements.{All-append, All-cons, All-get_or, All-map, All-nil, All-push}
+use Rattle.std.proofs.lemmas.Bool.{and_from, cases_Bool, or_parts, or_right, true≢false}
+use Rattle.std.proofs.lemmas.List.{flat_map_more, length-map, map-append, take_all, take_more}
+use Rattle.std.proofs.lemmas.List.Elements.{All-nil, All-push}
 use Rattle.std.proofs.lemmas.List.Folds.{list_any-append}
 use Rattle.std.proofs.lemmas.List.Sums.{count_by-le-length, length-filter, sum_by_push}
 use Rattle.desk_text.specs.Path.{is_under, same_path}
@@ -15,9 +15,9 @@ use Rattle.desk_who.specs.Impact.{IsImpact, ThoseThatMatter, TwoVerdicts, change
 use Rattle.desk_who.specs.Runs.{HasValue, Run}
 use Rattle.desk_who.specs.declared.changes.TwoVerdicts.{TwoVerdicts as KeptVerdicts}
 use Rattle.desk_who.specs.declared.runs.Run.{Run as KeptRun}
-use Rattle.desk_impact.specs.Places.{ArePlaces, Directory, Others, Place, dirs_of_both, has_room, is_home, mounts_of_both, others_of, place_of, place_verdicts, places_at}
+use Rattle.desk_impact.specs.Places.{ArePlaces, Others, Place, dirs_of_both, is_home, mounts_of_both, place_of, place_verdicts}
 use Rattle.desk_impact.specs.PrivatePlaces.{IsFree}
-use Rattle.desk_impact.specs.PrivateReport.{AreTold, HasRoomIfOthers, IsReportOf, IsTold, taken_by}
+use Rattle.desk_impact.specs.PrivateReport.{AreTold, IsReportOf, IsTold, taken_by}
 use Rattle.desk_impact.specs.Report.{AreChangesAt, IsReport, PlaceChanges, last_line, mattering_count, other_count, section, section_of}
 use Rattle.desk_impact.specs.declared.places.Place.{Place as LentPlace}
 use Rattle.desk_impact.specs.declared.report.Report.{Report}
@@ -41,7 +41,7 @@ same_impact before after f g changes same impact = record {
   chosen = impact.chosen;
 }
 
-free_above : (mount : Path) (name : List ℕ) (mounts : List Path) → is_directory_among (mount ++ name ∷ []) mounts ≡ false → list_all (is_above (mount ++ name ∷ []) mount) mounts ≡ true
+pub free_above : (mount : Path) (name : List ℕ) (mounts : List Path) → is_directory_among (mount ++ name ∷ []) mounts ≡ false → list_all (is_above (mount ++ name ∷ []) mount) mounts ≡ true
 free_above mount name [] free = refl
 free_above mount name (other ∷ mounts) free =
     let child = mount ++ name ∷ [] in
@@ -56,16 +56,20 @@ free_above mount name (other ∷ mounts) free =
     ])
     (free_above mount name mounts p.1)
 
-pub changes_of_others : (before after : Content) (mount path : Path) (changes : List (Run TwoVerdicts)) → IsFree mount (taken_by before after) path → IsImpact before after (verdicts_at before after path) changes
-    → IsImpact before after (place_verdicts before after (Others mount)) changes
-changes_of_others before after mount path changes free impact =
+-- a free path is decided on as all others are
+pub free_decided : (before after : Content) (mount path : Path) → IsFree mount (taken_by before after) path → (address : ℕ) → verdicts_at before after path address ≡ place_verdicts before after (Others mount) address
+free_decided before after mount path free address =
     let child = mount ++ free.name ∷ [] in
     let p = or_parts (is_directory_among child (mounts_of_both before after)) (is_directory_among child (dirs_of_both before after))
     (sym (list_any-append (λ dir. same_path dir child) (mounts_of_both before after) (dirs_of_both before after)) ∙ ap (λ q. is_directory_among q (taken_by before after)) (sym free.below) ∙ free.free) in
     let home : is_home (mounts_of_both before after) child mount ≡ true =
     and_from (is_under child mount) (list_all (is_above child mount) (mounts_of_both before after)) (child_under mount free.name) (free_above mount free.name (mounts_of_both before after) p.0) in
-    same_impact before after (verdicts_at before after path) (place_verdicts before after (Others mount)) changes
-    (λ address. ap (λ (q : Path). verdicts_at before after q address) free.below ∙ decided_as_others before after mount child home p.1 address) impact
+    ap (λ (q : Path). verdicts_at before after q address) free.below ∙ decided_as_others before after mount child home p.1 address
+
+pub changes_of_others : (before after : Content) (mount path : Path) (changes : List (Run TwoVerdicts)) → IsFree mount (taken_by before after) path → IsImpact before after (verdicts_at before after path) changes
+    → IsImpact before after (place_verdicts before after (Others mount)) changes
+changes_of_others before after mount path changes free impact =
+    same_impact before after (verdicts_at before after path) (place_verdicts before after (Others mount)) changes (free_decided before after mount path free) impact
 
 -- ---- a section
 pub fewer : (changes mattering : List (KeptRun KeptVerdicts)) → ThoseThatMatter (map change_value changes) (map change_value mattering) → length mattering ≤ length changes
@@ -85,27 +89,6 @@ section_is was will before after place false shown changes mattering old new are
     ∙ ap (λ (s : List (KeptRun KeptVerdicts)). section_of before after place (map change_value s)) are
 
 -- ---- all places
--- a place has room if it tells of others
-room_of_others : (mount : Path) → All HasRoomIfOthers (others_of mount)
-room_of_others mount =
-    elim (cases_Bool (has_room mount)) as (λ _. All HasRoomIfOthers (others_of mount)) [
-      | inl room ↦ subst (All HasRoomIfOthers) (sym (cond-true (has_room mount) (Others mount ∷ []) [] room)) (All-cons HasRoomIfOthers (Others mount) [] room (All-nil HasRoomIfOthers))
-      | inr long ↦ subst (All HasRoomIfOthers) (sym (cond-false (has_room mount) (Others mount ∷ []) [] long)) (All-nil HasRoomIfOthers)
-    ]
-
-room_of_dirs : (dirs : List Path) → All HasRoomIfOthers (map Directory dirs)
-room_of_dirs dirs = All-map HasRoomIfOthers Directory dirs (λ k d below. tt)
-
-room_at : (mounts dirs : List Path) (some : List Path) → All HasRoomIfOthers (flat_map (places_at mounts dirs) some)
-room_at mounts dirs [] = All-nil HasRoomIfOthers
-room_at mounts dirs (mount ∷ some) =
-    All-append HasRoomIfOthers (places_at mounts dirs mount) (flat_map (places_at mounts dirs) some)
-    (All-cons HasRoomIfOthers (Directory mount) _ tt (All-append HasRoomIfOthers _ (others_of mount) (room_of_dirs _) (room_of_others mount)))
-    (room_at mounts dirs some)
-
-pub have_room : (mounts dirs : List Path) (places : List Place) → places ≡ flat_map (places_at mounts dirs) mounts → All HasRoomIfOthers places
-have_room mounts dirs places are = subst (All HasRoomIfOthers) (sym are) (room_at mounts dirs mounts)
-
 pub told_first : (before after : Content) (all : Bool) (text : List ℕ) → text ≡ [] → AreTold before after all [] text 0 0
 told_first before after all text none = record { found = []; places_are = refl; changes = All-nil (AreChangesAt before after); written = none; mattering_is = refl; others_are = refl }
 
@@ -122,12 +105,6 @@ told_more before after all places text next mattering others place told so_far o
 }
 
 module _ (items : List LentPlace) (i : ℕ) (item : LentPlace) (below : i < length items) (is : item ≡ get_or items i item) where
-  pub room_of : All HasRoomIfOthers (map place_of items) → HasRoomIfOthers (place_of item)
-  room_of have =
-      let count = length-map items place_of in
-      subst HasRoomIfOthers (get_or-map place_of items i item (place_of item) below ∙ ap place_of (sym is))
-      (All-get_or HasRoomIfOthers (map place_of items) i (place_of item) (omega arith) have)
-
   pub told_next : (before after : Content) (all : Bool) (text next : List ℕ) (mattering others : ℕ) (told : Told)
       → AreTold before after all (map place_of (take i items)) text mattering others → IsTold before after (place_of item) all text next told
       → AreTold before after all (map place_of (take (i + 1) items)) next (mattering + told.mattering) (others + told.others)

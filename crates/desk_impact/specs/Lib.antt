@@ -2,3 +2,5 @@ pub mod Places
 pub mod PrivatePlaces
 pub mod Report
 pub mod PrivateReport
+pub mod Sections
+pub mod PrivateSections

@@ -1,8 +1,8 @@
 -- The places of which two policies may say something: each mount point, each written directory, and all others of a mount point.
 -- (this project's own)
-use Rattle.std.specs.Prelude.{◌≡◌, ℕ, ◌++◌, not, nat_le, ◌&&◌, ◌||◌, Bool, true, false, All, Contains, List, [], ◌∷◌, Option, Some, None, Result, Err, filter, is_ok, length, map, if◌then◌else◌}
+use Rattle.std.specs.Prelude.{◌≡◌, ℕ, ◌++◌, not, ◌&&◌, ◌||◌, Bool, true, false, All, Contains, List, [], ◌∷◌, Option, Some, None, Result, Err, filter, map}
 use Rattle.std.specs.List.{AllPairs, flat_map, list_all, list_any}
-use Rattle.desk_text.specs.Path.{is_under, path_text, read_path, same_path}
+use Rattle.desk_text.specs.Path.{IsPath, is_under, same_path}
 use Rattle.desk_tables.specs.FileSystems.{fs_of, is_before, mount_points}
 use Rattle.desk_policy.specs.Listings.{written}
 use Rattle.desk_policy.specs.Policy.{Content, rows_of}
@@ -64,21 +64,9 @@ is_home mounts path mount = is_under path mount && list_all (λ other. not (is_u
 abbrev pub dirs_below : List (List (List ℕ)) → List (List (List ℕ)) → List (List ℕ) → List (List (List ℕ))
 dirs_below mounts dirs mount = filter (λ dir. is_home mounts dir mount && not (same_path dir mount)) dirs
 
--- the most bytes that a printed mount point may have whose other directories are told
-abbrev pub longest_told : ℕ
-longest_told = 1000
-
--- A mount point can be read back, and is so short that a path below it can be read, whatever number its name is.
-abbrev pub has_room : List (List ℕ) → Bool
-has_room mount = nat_le (length (path_text mount)) longest_told && is_ok (read_path (path_text mount))
-
--- the other directories of a mount point, unless it is too long
-abbrev pub others_of : List (List ℕ) → List Place
-others_of mount = if has_room mount then Others mount ∷ [] else []
-
 -- the places of a mount point: itself, the written directories below it, and the others
 abbrev pub places_at : List (List (List ℕ)) → List (List (List ℕ)) → List (List ℕ) → List Place
-places_at mounts dirs mount = Directory mount ∷ map Directory (dirs_below mounts dirs mount) ++ others_of mount
+places_at mounts dirs mount = Directory mount ∷ map Directory (dirs_below mounts dirs mount) ++ Others mount ∷ []
 
 -- the places of two policies, by mount point
 pub record ArePlaces (before after : Content) (places : List Place) : Type 0 where
@@ -94,15 +82,11 @@ pub record HasPlace (before after : Content) (places : List Place) (path : List 
   pub listed : Contains places place
   pub same : (address : ℕ) → verdicts_at before after path address ≡ place_verdicts before after place address
 
--- a path of a mount point's file system is told of: it is the mount point, a line writes it, or the mount point is not too long
-abbrev pub is_told : Content → Content → List (List ℕ) → List (List ℕ) → Bool
-is_told before after mount path = same_path path mount || (is_directory_among path (dirs_of_both before after) || has_room mount)
-
--- Each path that is told of is decided on as one of the places is, at every address.
+-- Each path of a mount point's file system is decided on as one of the places is, at every address.
 abbrev pub PlacesTellAll : Type 0
 PlacesTellAll =
     (before after : Content) (places : List Place) → ArePlaces before after places
-    → (mount path : List (List ℕ)) → Contains (mounts_of_both before after) mount → is_home (mounts_of_both before after) path mount ≡ true → is_told before after mount path ≡ true
+    → (mount path : List (List ℕ)) → Contains (mounts_of_both before after) mount → is_home (mounts_of_both before after) path mount ≡ true
     → HasPlace before after places path
 
 -- a path is at home at one of these mount points
@@ -114,6 +98,18 @@ pub record HasHome (mounts : List (List (List ℕ))) (path : List (List ℕ)) : 
 -- Each path that is under one of these mount points is at home at one.
 abbrev pub PathsHaveHomes : Type 0
 PathsHaveHomes = (mounts : List (List (List ℕ))) (path : List (List ℕ)) → list_any (is_under path) mounts ≡ true → HasHome mounts path
+
+-- a directory at home at a mount point that is none of the mount points, and that no line writes
+pub record HasOther (mounts dirs : List (List (List ℕ))) (mount : List (List ℕ)) : Type 0 where
+  pub path : List (List ℕ)
+  pub spelled : IsPath mount → IsPath path
+  pub home : is_home mounts path mount ≡ true
+  pub apart : is_directory_among path mounts ≡ false
+  pub unwritten : is_directory_among path dirs ≡ false
+
+-- Each mount point has other directories, whatever is mounted and written: so that no place is made up.
+abbrev pub MountsHaveOthers : Type 0
+MountsHaveOthers = (mounts dirs : List (List (List ℕ))) (mount : List (List ℕ)) → HasOther mounts dirs mount
 
 -- A path that is under no mount point is in no file system by either policy.
 abbrev pub OtherPathsHaveNone : Type 0

@@ -1,8 +1,7 @@
 -- What the private contracts of places cite.
-use Rattle.std.specs.Prelude.{◌≡◌, ℕ, Bool, true, false, List, ◌∷◌, [], ◌++◌, codes, map, if◌then◌else◌}
+use Rattle.std.specs.Prelude.{◌≡◌, ℕ, Bool, true, false, List, ◌∷◌, [], ◌++◌, map}
 use Rattle.std.specs.Borrow.{Bor}
 use Rattle.std.specs.List.{AllPairs, flat_map}
-use Rattle.std.specs.Str.{bytes_eq}
 use Rattle.desk_tables.specs.FileSystems.{fs_of, is_before}
 use Rattle.desk_tables.specs.declared.filesystems.Mount.{Mount}
 use Rattle.desk_policy.specs.Listings.{written}
@@ -45,7 +44,3 @@ pub record IsFree (mount : List (List ℕ)) (taken : List (List (List ℕ))) (pa
   pub name : List ℕ
   pub below : path ≡ mount ++ name ∷ []
   pub free : is_directory_among path taken ≡ false
-
--- a printed path with one more component
-abbrev pub child_text : List ℕ → List ℕ → List ℕ
-child_text mount name = if bytes_eq mount (codes "/") then 47 ∷ name else mount ++ 47 ∷ name

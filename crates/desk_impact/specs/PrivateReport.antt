@@ -1,9 +1,9 @@
 -- What the private contracts of the report cite.
-use Rattle.std.specs.Prelude.{◌≡◌, ℕ, ◌++◌, ◌-◌, All, Bool, List, length, map, true}
+use Rattle.std.specs.Prelude.{◌≡◌, ℕ, ◌++◌, ◌-◌, All, Bool, List, length, map}
 use Rattle.std.specs.List.{flat_map}
 use Rattle.std.specs.String.{string_bytes}
 use Rattle.desk_policy.specs.Policy.{Content}
-use Rattle.desk_impact.specs.Places.{Directory, Others, Place, dirs_of_both, has_room, mounts_of_both}
+use Rattle.desk_impact.specs.Places.{Place, dirs_of_both, mounts_of_both}
 use Rattle.desk_impact.specs.Report.{AreChangesAt, PlaceChanges, mattering_count, other_count, report_text, section}
 use Rattle.desk_impact.specs.declared.report.Report.{Report}
 use Rattle.desk_impact.specs.declared.report.Told.{Told}
@@ -11,11 +11,6 @@ use Rattle.desk_impact.specs.declared.report.Told.{Told}
 -- the mount points of two policies, and the directories that their lines write
 abbrev pub taken_by : Content → Content → List (List (List ℕ))
 taken_by before after = mounts_of_both before after ++ dirs_of_both before after
-
--- a mount point whose other directories are told is not too long
-abbrev pub HasRoomIfOthers : Place → Type 0
-HasRoomIfOthers (Directory path) = Unit {0}
-HasRoomIfOthers (Others mount) = has_room mount ≡ true
 
 -- the section of a place was written, and these are the numbers of its changes
 pub record IsTold (before after : Content) (place : Place) (all : Bool) (old new : List ℕ) (told : Told) : Type 0 where

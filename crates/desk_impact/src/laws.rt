@@ -1,8 +1,11 @@
 //! What the definitions of this crate keep, each as a function that does nothing.
 
-ghost use Rattle.desk_impact.specs.Places.{OtherPathsHaveNone, PathsHaveHomes, PlacesTellAll};
+ghost use Rattle.desk_impact.specs.Places.{MountsHaveOthers, OtherPathsHaveNone, PathsHaveHomes, PlacesTellAll};
+ghost use Rattle.desk_impact.specs.Sections.{NoSectionIsAllKept, PlacesTellScope};
 
-/// Each path of a mount point's file system that is told of is decided on as one of the places is.
+use desk_who::no_breach_is_all_kept;
+
+/// Each path of a mount point's file system is decided on as one of the places is.
 pub fn places_tell_all()
     ensures { PlacesTellAll }
 {}
@@ -16,3 +19,20 @@ pub fn paths_have_homes()
 pub fn other_paths_have_none()
     ensures { OtherPathsHaveNone }
 {}
+
+/// Each mount point has a directory at home there that is none of the mount points and that no line writes.
+pub fn mounts_have_others()
+    ensures { MountsHaveOthers }
+{}
+
+/// Each path of a directory, or below it, is decided on as one of its places is, and each place as one of its paths.
+pub fn places_tell_scope()
+    ensures { PlacesTellScope }
+{}
+
+/// There is a section exactly if something is not kept.
+pub fn no_section_is_all_kept()
+    ensures { NoSectionIsAllKept }
+{
+    no_breach_is_all_kept();
+}

@@ -6,18 +6,14 @@ ghost use Rattle.desk_text.specs.Path.{same_path};
 ghost use Rattle.desk_tables.specs.FileSystems.{mount_points};
 ghost use Rattle.desk_policy.specs.Listings.{written};
 ghost use Rattle.desk_impact.specs.Places as spec;
-ghost use Rattle.desk_impact.specs.Places.{AreInOrder, ArePlaces, all_written, dirs_below, has_room, is_home, place_of, places_at};
+ghost use Rattle.desk_impact.specs.Places.{AreInOrder, ArePlaces, all_written, dirs_below, is_home, place_of, places_at};
 ghost use Rattle.desk_impact.specs.PrivatePlaces.{ArePlacesWith, dirs_with, is_place_in, paths_in};
 ghost use Rattle.desk_impact.specs.PrivateReport.{taken_by};
 
 use desk_policy::{Policy, Row};
 use desk_tables::{FileSystems, FsId, Mount};
-use desk_text::{Path, ReadError};
+use desk_text::Path;
 use std::alloc::{AllocError, Global};
-
-/// The most bytes that a printed mount point may have whose other directories are told: a path below a longer one is hardly
-/// short enough to be asked for.
-pub const LONGEST_TOLD: usize = 1000;
 
 /// Where policies say one thing.
 #[derive(Clone, Copy)]
@@ -57,7 +53,7 @@ pub(crate) fn places_with<'a>(
 }
 
 /// Lists the places of these mount points, of which these directories are written; both are in byte order.
-fn places_among<'a>(
+pub(crate) fn places_among<'a>(
     alloc: Global,
     mounts: &[&'a Path],
     dirs: &[&'a Path],
@@ -66,7 +62,7 @@ fn places_among<'a>(
 {
     let mut places = Vec::new(alloc);
     for mount in mounts {
-        push_places(alloc, &mut places, mounts, dirs, mount)?;
+        push_places(&mut places, mounts, dirs, mount)?;
     }
     Ok(places)
 }
@@ -174,7 +170,7 @@ fn dirs_with<'a>(
 }
 
 /// Puts paths in byte order, each once.
-fn in_order(mut paths: Vec<&Path>) -> Vec<&Path>
+pub(crate) fn in_order(mut paths: Vec<&Path>) -> Vec<&Path>
     ensures { AreInOrder (paths_in paths.entry.items) (paths_in result.items) }
 {
     paths.sort_unstable();
@@ -193,7 +189,10 @@ fn push_mounts<'a>(paths: &mut Vec<&'a Path>, mounts: &'a [Mount]) -> Result<(),
 }
 
 /// Adds the directories that lines of a policy write.
-fn push_all_written<'a>(paths: &mut Vec<&'a Path>, policy: &'a Policy) -> Result<(), AllocError>
+pub(crate) fn push_all_written<'a>(
+    paths: &mut Vec<&'a Path>,
+    policy: &'a Policy,
+) -> Result<(), AllocError>
     ensures { OnOk result (paths_in paths.new.items ≡ paths_in paths.old.items ++ all_written policy.now) }
 {
     for rows in policy.rows_by_filesystem() {
@@ -224,7 +223,6 @@ fn push_paths<'a>(paths: &mut Vec<&'a Path>, dirs: &'a [Path]) -> Result<(), All
 
 /// Adds the places of a mount point.
 fn push_places<'a>(
-    alloc: Global,
     places: &mut Vec<Place<'a>>,
     mounts: &[&'a Path],
     dirs: &[&'a Path],
@@ -237,9 +235,7 @@ fn push_places<'a>(
     for dir in dirs {
         push_if_below(places, mounts, dir, mount)?;
     }
-    if has_room(alloc, mount)? {
-        places.push(Place::Others(mount))?;
-    }
+    places.push(Place::Others(mount))?;
     Ok(())
 }
 
@@ -277,18 +273,4 @@ fn is_home(mounts: &[&Path], path: &Path, mount: &Path) -> bool
         && mounts
             .iter()
             .all(|other| !path.is_under(other) || mount.is_under(other))
-}
-
-/// Tests whether paths below a mount point can be read, if their names are short.
-fn has_room(alloc: Global, mount: &Path) -> Result<bool, AllocError>
-    ensures { IfOk result (λ room. room ≡ has_room mount.now) }
-{
-    if mount.text().len() > LONGEST_TOLD {
-        return Ok(false);
-    }
-    match Path::read(alloc, mount.text()) {
-        Ok(_) => Ok(true),
-        Err(ReadError::Fault(_)) => Ok(false),
-        Err(ReadError::Memory) => Err(AllocError),
-    }
 }

@@ -1,12 +1,12 @@
 //! What another policy would change, told place by place.
 
-ghost use Rattle.std.specs.Prelude.{◌≡◌, ◌<◌, ◌++◌, All, IfOk, OnOk, if◌then◌else◌, length, map};
+ghost use Rattle.std.specs.Prelude.{◌≡◌, ◌<◌, ◌++◌, IfOk, OnOk, if◌then◌else◌, length, map};
 ghost use Rattle.std.specs.String.{string_bytes};
 ghost use Rattle.desk_policy.specs.Policy.{with_lines_of};
 ghost use Rattle.desk_who.specs.Impact.{IsImpact, change_value};
 ghost use Rattle.desk_impact.specs.Places.{AreInOrder, place_of, place_verdicts};
 ghost use Rattle.desk_impact.specs.PrivatePlaces.{paths_in};
-ghost use Rattle.desk_impact.specs.PrivateReport.{HasRoomIfOthers, IsReportOf, IsTold, taken_by};
+ghost use Rattle.desk_impact.specs.PrivateReport.{IsReportOf, IsTold, taken_by};
 ghost use Rattle.desk_impact.specs.Report as spec;
 ghost use Rattle.desk_impact.specs.Report.{IsReport};
 
@@ -70,7 +70,6 @@ fn report_of<V: PolicyView>(
     places: &[Place<'_>],
     all: bool,
 ) -> Result<Report, AllocError>
-    requires { All HasRoomIfOthers (map place_of places.now) }
     ensures { IfOk result (IsReportOf (V.in_force before.now) (V.in_force after.now) (map place_of places.now) all) }
 {
     let taken = taken_paths(alloc, before.policy(), after.policy())?;
@@ -111,8 +110,7 @@ fn tell_place<'a, V: PolicyView>(
     all: bool,
     text: &mut String,
 ) -> Result<Told, AllocError>
-    requires room { HasRoomIfOthers (place_of place) }
-    requires taken { AreInOrder (taken_by (V.in_force before.now) (V.in_force after.now)) (paths_in taken.now) }
+    requires { AreInOrder (taken_by (V.in_force before.now) (V.in_force after.now)) (paths_in taken.now) }
     ensures { IfOk result (IsTold (V.in_force before.now) (V.in_force after.now) (place_of place.entry) all (string_bytes text.old) (string_bytes text.new)) }
 {
     let changes = changes_at(alloc, before, after, taken, place)?;
@@ -150,8 +148,7 @@ fn changes_at<'a, V: PolicyView>(
     taken: &[&Path],
     place: Place<'_>,
 ) -> Result<Vec<Change<'a>>, AllocError>
-    requires room { HasRoomIfOthers (place_of place) }
-    requires taken { AreInOrder (taken_by (V.in_force before.now) (V.in_force after.now)) (paths_in taken.now) }
+    requires { AreInOrder (taken_by (V.in_force before.now) (V.in_force after.now)) (paths_in taken.now) }
     ensures { IfOk result (λ changes. let old = V.in_force before.now in let new = V.in_force after.now in
         IsImpact old new (place_verdicts old new (place_of place.entry)) (map change_value changes.items)) }
 {
@@ -185,8 +182,8 @@ fn push_section(
     Ok(())
 }
 
-/// Writes the line above the changes of a place.
-fn push_heading(place: Place<'_>, text: &mut String) -> Result<(), AllocError>
+/// Writes the line above what is told of a place.
+pub fn push_heading(place: Place<'_>, text: &mut String) -> Result<(), AllocError>
     ensures { OnOk result (string_bytes text.new ≡ string_bytes text.old ++ spec.heading (place_of place.entry)) }
 {
     match place {

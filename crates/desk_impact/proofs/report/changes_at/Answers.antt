@@ -15,7 +15,7 @@ returns-in_ok-path-in-Others g c =
     let new = g.V.PolicyView.in_force c.args.after.now in
     let path = c.in_ok-path-in-Others.path in
     let mount = c.in-Others.mount.now in
-    let free = free_of_given (taken_by old new) (paths_in c.args.taken.now) mount path c.requires.taken.all c.in_ok-path-in-Others.ensures in
+    let free = free_of_given (taken_by old new) (paths_in c.args.taken.now) mount path c.requires.all c.in_ok-path-in-Others.ensures in
     subst (λ place. IfOk c.impact-in-Others.result (λ changes. IsImpact old new (place_verdicts old new (place_of place)) (map change_value changes.items))) (sym c.in-Others.is)
     (IfOk-weaker c.impact-in-Others.result (λ changes. IsImpact old new (verdicts_at old new path) (map change_value changes.items))
     (λ changes. IsImpact old new (place_verdicts old new (Others mount)) (map change_value changes.items))

@@ -1,15 +1,10 @@
-use Rattle.std.proofs.Common.{All, IfOk, map, subst, sym}
+use Rattle.std.proofs.Common.{IfOk, map, subst}
 use Rattle.std.proofs.lemmas.Result.{IfOk-weaker}
 use Rattle.desk_impact.specs.Places.{ArePlaces, place_of}
-use Rattle.desk_impact.specs.PrivateReport.{HasRoomIfOthers, IsReportOf}
+use Rattle.desk_impact.specs.PrivateReport.{IsReportOf}
 use Rattle.desk_impact.specs.Report.{IsReport}
-use Rattle.desk_impact.proofs.Reporting.{have_room, reported_whole}
+use Rattle.desk_impact.proofs.Reporting.{reported_whole}
 use Rattle.desk_impact.proofs.report.impact_report.Goals as goal
-
-pub report_of-requires : goal.report_of-requires
-report_of-requires g c =
-    let are = c.in_ok-places.ensures in
-    subst (λ items. All HasRoomIfOthers (map place_of items)) (sym c.as_slice.ensures.value) (have_room are.mounts are.dirs (map place_of c.in_ok-places.places.items) are.are)
 
 pub returns : goal.returns
 returns g c =

@@ -1,24 +1,13 @@
-use Rattle.std.proofs.Common.{◌≡◌, ◌<◌, ◌∙◌, All, ap, arith, length, map, subst, sym}
+use Rattle.std.proofs.Common.{◌≡◌, ◌<◌, ◌∙◌, ap, arith, length, map, subst}
 use Rattle.std.specs.Prelude.{IfOk, filter}
-use Rattle.std.proofs.lemmas.List.Elements.{All-filter}
 use Rattle.std.proofs.lemmas.Result.{IfOk-weaker}
 use Rattle.desk_policy.specs.Policy.{Content, rows_of, with_lines_of}
 use Rattle.desk_impact.specs.Places.{place_of}
 use Rattle.desk_impact.specs.PrivatePlaces.{ArePlacesWith, is_place_in}
-use Rattle.desk_impact.specs.PrivateReport.{HasRoomIfOthers, IsReportOf}
+use Rattle.desk_impact.specs.PrivateReport.{IsReportOf}
 use Rattle.desk_impact.specs.Report.{IsReport}
 use Rattle.desk_impact.proofs.OtherLines.{lines_reported}
-use Rattle.desk_impact.proofs.Reporting.{have_room}
 use Rattle.desk_impact.proofs.report.lines_report.Goals as goal
-
-pub report_of-requires : goal.report_of-requires
-report_of-requires g c =
-    let are = c.in_ok-places.ensures in
-    let whole = have_room are.mounts are.dirs (map place_of c.in_ok-places.places.items) are.are in
-    let test = is_place_in c.filesystems.result.now c.args.fs.0 in
-    let chosen = c.in_ok-own.ensures ∙ ap (λ items. filter test (map place_of items)) c.as_slice.ensures.value in
-    subst (λ items. All HasRoomIfOthers (map place_of items)) (sym c.as_slice-2.ensures.value)
-    (subst (All HasRoomIfOthers) (sym chosen) (All-filter test HasRoomIfOthers (map place_of c.in_ok-places.places.items) whole))
 
 pub returns : goal.returns
 returns g c =

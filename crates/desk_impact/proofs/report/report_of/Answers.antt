@@ -3,7 +3,7 @@ use Rattle.std.specs.String.{string_bytes}
 use Rattle.desk_impact.specs.Places.{AreInOrder}
 use Rattle.desk_impact.specs.PrivatePlaces.{paths_in}
 use Rattle.desk_impact.specs.PrivateReport.{taken_by}
-use Rattle.desk_impact.proofs.Reporting.{reported, room_of, told_first, told_next}
+use Rattle.desk_impact.proofs.Reporting.{reported, told_first, told_next}
 use Rattle.desk_impact.proofs.report.report_of.Goals as goal
 
 pub loop-place-init : goal.loop-place-init
@@ -14,12 +14,10 @@ loop-place-init g c = record {
 }
 
 pub tell_place-requires : goal.tell_place-requires
-tell_place-requires g c = record {
-  room = room_of c.args.places.now c.loop-place.place-index c.place-item.result c.loop-place-test.true c.place-item.is c.requires;
-  taken = subst (λ items. AreInOrder (taken_by (g.V.PolicyView.in_force c.args.before.now) (g.V.PolicyView.in_force c.args.after.now)) (paths_in items)) (sym c.as_slice.ensures.value)
-      (subst (λ content. AreInOrder (taken_by (g.V.PolicyView.in_force c.args.before.now) content) (paths_in c.in_ok-taken.taken.items)) c.policy-2.ensures
-      (subst (λ content. AreInOrder (taken_by content c.policy-2.result.now) (paths_in c.in_ok-taken.taken.items)) c.policy.ensures c.in_ok-taken.ensures));
-}
+tell_place-requires g c =
+    subst (λ items. AreInOrder (taken_by (g.V.PolicyView.in_force c.args.before.now) (g.V.PolicyView.in_force c.args.after.now)) (paths_in items)) (sym c.as_slice.ensures.value)
+    (subst (λ content. AreInOrder (taken_by (g.V.PolicyView.in_force c.args.before.now) content) (paths_in c.in_ok-taken.taken.items)) c.policy-2.ensures
+    (subst (λ content. AreInOrder (taken_by content c.policy-2.result.now) (paths_in c.in_ok-taken.taken.items)) c.policy.ensures c.in_ok-taken.ensures))
 
 pub overflow_add-mattering : goal.overflow_add-mattering
 overflow_add-mattering g c = omega arith
