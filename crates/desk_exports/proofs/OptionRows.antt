@@ -1,7 +1,9 @@
--- What is found among the rows of the code is found among those of the definition.
-use Rattle.std.proofs.Common.{◌≡◌, ◌⊎◌, inl, inr, Bool, true, false, cond, List, [], ◌∷◌, Option, Some, None, find, map, refl, ap, sym, ◌∙◌}
+-- What is found among the rows of the code is found among those of the definition; and which options take a value.
+use Rattle.std.proofs.Common.{◌≡◌, ◌⊎◌, inl, inr, Bool, true, false, List, [], ◌∷◌, Some, find, map, refl, ap, sym, ◌∙◌}
 use Rattle.std.specs.Option.{option_map}
 use Rattle.std.proofs.lemmas.Bool.{cases_Bool, cond-true, cond-false}
+use Rattle.desk_exports.specs.Options.{takes_kind, takes_value}
+use Rattle.desk_exports.specs.declared.options.Keyword.TheVariants as keyword
 
 -- the image of the first that passes is the first image that passes
 pub find_of_image : {X Y : Type 0} (view : X → Y) (p : Y → Bool) (xs : List X) → option_map view (find (λ x. p (view x)) xs) ≡ find p (map view xs)
@@ -15,3 +17,23 @@ find_of_image view p (x ∷ xs) =
           ∙ find_of_image view p xs
           ∙ sym (cond-false (p (view x)) (Some (view x)) (find p (map view xs)) fails)
     ]
+
+pub valued_root : takes_value keyword.MapRoot ≡ true
+unfolding takes_kind
+valued_root = refl
+
+pub valued_all : takes_value keyword.MapAll ≡ true
+unfolding takes_kind
+valued_all = refl
+
+pub valued_flavours : takes_value keyword.Sec ≡ true
+unfolding takes_kind
+valued_flavours = refl
+
+pub valued_network : takes_value keyword.Network ≡ true
+unfolding takes_kind
+valued_network = refl
+
+pub valued_mask : takes_value keyword.Mask ≡ true
+unfolding takes_kind
+valued_mask = refl

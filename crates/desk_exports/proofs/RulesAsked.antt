@@ -1,8 +1,8 @@
 -- The rules that need what a line does not have are not broken, and need not be asked.
 use denote.Enum.Bare.{sameb, same_true}
 use Rattle.std.proofs.Common.{◌≡◌, ◌⊎◌, inl, inr, ℕ, ◌+◌, ◌<◌, Bool, true, false, cond, not, ◌&&◌, ◌||◌, List, [], ◌∷◌, ◌++◌, Option, Some, None, drop, find, get_or, length, map, take, ◌==◌, option_and_then, refl, sym, ap, ◌∙◌}
-use Rattle.std.specs.Prelude.{count_by, if◌then◌else◌, is_some, nat_lt}
-use Rattle.std.specs.List.{filter, flat_map, fold, list_any}
+use Rattle.std.specs.Prelude.{count_by, is_some, nat_lt}
+use Rattle.std.specs.List.{filter, fold, list_any}
 use Rattle.std.specs.Option.{option_map_or, option_or}
 use Rattle.std.proofs.lemmas.Bool.{both_ways, cases_Bool, cond-true, cond-false, or_parts}
 use Rattle.std.proofs.lemmas.Grind.{flat_map-append}
@@ -26,6 +26,7 @@ use Rattle.desk_exports.specs.declared.rules.Needs.{Needs}
 use Rattle.desk_exports.specs.declared.rules.Needs.TheVariants.{Words, Options, Values, Credentials}
 use Rattle.desk_exports.specs.declared.rules.Rule.{Rule}
 use Rattle.desk_exports.specs.declared.rules.Rule.TheVariants as rule
+use Rattle.desk_exports.proofs.OptionRows.{valued_all, valued_flavours, valued_mask, valued_network, valued_root}
 
 pub neither : (a b : Bool) → a ≡ false → b ≡ false → (a || b) ≡ false
 neither a b ea eb = ap (λ x. x || b) ea ∙ eb
@@ -79,7 +80,7 @@ module _ (tables : TableRows) (own_fs : Option FsId) (line : GrammarLine) (none 
   once k takes = ap (λ n. nat_lt 1 n) (counts_none k line.settings (no k takes))
 
   no_fault : (test : List ℕ → Bool) → (of_value keyword.MapRoot test line.settings || of_value keyword.MapAll test line.settings) ≡ false
-  no_fault test = neither (of_value keyword.MapRoot test line.settings) (of_value keyword.MapAll test line.settings) (says_nothing keyword.MapRoot test refl) (says_nothing keyword.MapAll test refl)
+  no_fault test = neither (of_value keyword.MapRoot test line.settings) (of_value keyword.MapAll test line.settings) (says_nothing keyword.MapRoot test valued_root) (says_nothing keyword.MapAll test valued_all)
 
 -- what the first group needs of a rule that it has
 abbrev pub needs_of : Rule → Needs
@@ -122,21 +123,21 @@ module _ (tables : TableRows) (own_fs : Option FsId) (line : GrammarLine) where
   not_broken has most rule.OptionLeftOut e = ap (has_option keyword.LeftOut) (no_options has most e)
   not_broken has most rule.ValueMissing e = lacks_none line.settings (no_values has most e)
   not_broken has most rule.RepeatedOption e =
-      let a = once tables own_fs line (no_values has most e) keyword.MapRoot refl in
-      let b = once tables own_fs line (no_values has most e) keyword.MapAll refl in
-      let c = once tables own_fs line (no_values has most e) keyword.Sec refl in
-      let d = once tables own_fs line (no_values has most e) keyword.Network refl in
-      let f = once tables own_fs line (no_values has most e) keyword.Mask refl in
+      let a = once tables own_fs line (no_values has most e) keyword.MapRoot valued_root in
+      let b = once tables own_fs line (no_values has most e) keyword.MapAll valued_all in
+      let c = once tables own_fs line (no_values has most e) keyword.Sec valued_flavours in
+      let d = once tables own_fs line (no_values has most e) keyword.Network valued_network in
+      let f = once tables own_fs line (no_values has most e) keyword.Mask valued_mask in
       simp (a, b, c, d, f)
   not_broken has most rule.BadAddress e = never has e
-  not_broken has most rule.BadMask e = neither _ _ (says_nothing tables own_fs line (no_values has most e) keyword.Network _ refl) (not_second _ _ (says_nothing tables own_fs line (no_values has most e) keyword.Mask _ refl))
-  not_broken has most rule.MaskTwice e = not_first _ _ (no tables own_fs line (no_values has most e) keyword.Mask refl)
-  not_broken has most rule.MaskAlone e = not_first _ _ (no tables own_fs line (no_values has most e) keyword.Mask refl)
-  not_broken has most rule.NoClass e = not_second _ _ (not_second _ _ (says_nothing tables own_fs line (no_values has most e) keyword.Network _ refl))
-  not_broken has most rule.NoMask e = not_second _ _ (not_second _ _ (says_nothing tables own_fs line (no_values has most e) keyword.Network _ refl))
-  not_broken has most rule.NetAndHost e = not_first _ _ (no tables own_fs line (no_values has most e) keyword.Network refl)
-  not_broken has most rule.RootAndAll e = not_first _ _ (no tables own_fs line (no_values has most e) keyword.MapRoot refl)
-  not_broken has most rule.BadFlavour e = says_nothing tables own_fs line (no_values has most e) keyword.Sec _ refl
+  not_broken has most rule.BadMask e = neither _ _ (says_nothing tables own_fs line (no_values has most e) keyword.Network _ valued_network) (not_second _ _ (says_nothing tables own_fs line (no_values has most e) keyword.Mask _ valued_mask))
+  not_broken has most rule.MaskTwice e = not_first _ _ (no tables own_fs line (no_values has most e) keyword.Mask valued_mask)
+  not_broken has most rule.MaskAlone e = not_first _ _ (no tables own_fs line (no_values has most e) keyword.Mask valued_mask)
+  not_broken has most rule.NoClass e = not_second _ _ (not_second _ _ (says_nothing tables own_fs line (no_values has most e) keyword.Network _ valued_network))
+  not_broken has most rule.NoMask e = not_second _ _ (not_second _ _ (says_nothing tables own_fs line (no_values has most e) keyword.Network _ valued_network))
+  not_broken has most rule.NetAndHost e = not_first _ _ (no tables own_fs line (no_values has most e) keyword.Network valued_network)
+  not_broken has most rule.RootAndAll e = not_first _ _ (no tables own_fs line (no_values has most e) keyword.MapRoot valued_root)
+  not_broken has most rule.BadFlavour e = says_nothing tables own_fs line (no_values has most e) keyword.Sec _ valued_flavours
   not_broken has most rule.UnknownUser e = faultless has most e cred.UnknownUser
   not_broken has most rule.UnknownGroup e = faultless has most e cred.UnknownGroup
   not_broken has most rule.TooManyGroups e = faultless has most e cred.TooManyGroups

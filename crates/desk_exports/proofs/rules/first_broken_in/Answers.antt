@@ -1,5 +1,5 @@
-use Rattle.std.proofs.Common.{◌≡◌, ◌∙◌, None, ap, map, refl, sym, take}
-use Rattle.std.specs.Prelude.{find, is_none, is_some}
+use Rattle.std.proofs.Common.{◌∙◌, ap, map, refl, sym}
+use Rattle.std.specs.Prelude.{find}
 use Rattle.std.proofs.lemmas.List.{take_all}
 use Rattle.desk_exports.specs.PrivateRules.{asked, group_of}
 use Rattle.desk_exports.specs.Rules.{breaks}
