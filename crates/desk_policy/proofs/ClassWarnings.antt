@@ -37,7 +37,8 @@ use Rattle.desk_policy.specs.declared.site_fault.SiteFault.{SiteFault}
 use Rattle.desk_policy.specs.declared.warning.Warning.{Warning}
 use Rattle.desk_policy.specs.declared.warning.WarningKind.{WarningKind}
 use Rattle.desk_policy.specs.declared.warning.WarningKind.TheVariants.{ClassMask, Ipv6, UnknownHost, UnknownMember}
-use Rattle.desk_policy.proofs.OwnDirectories.{all_of_both, was_answered, was_in_file}
+use Rattle.desk_policy.proofs.OwnDirectories.{all_of_both}
+use Rattle.desk_policy.proofs.SaidOfLines.{was_answered, was_in_file}
 use Rattle.desk_policy.proofs.SiteLaws.{was_read}
 
 abbrev IsOther : Warning → Type 0

@@ -22,6 +22,8 @@ pub mod FirstDiffers
 pub mod LeastOfAll
 pub mod SiteLaws
 pub mod Replaced
+pub mod ExportsPlaces
+pub mod SaidOfLines
 pub mod OwnDirectories
 pub mod ClassWarnings
 pub mod OneMoreWord

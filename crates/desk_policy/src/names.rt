@@ -1,15 +1,15 @@
 //! The addresses for which written names stand. (exports(5), netgroup(5), hosts(5))
 
-ghost use Rattle.std.specs.Prelude.{◌≡◌, ◌∷◌, [], IfOk, IfSome, List, OnOk, map, string_bytes};
+ghost use Rattle.std.specs.Prelude.{◌≡◌, ◌==◌, ◌∷◌, [], IfOk, IfSome, List, OnOk, map, string_bytes};
 ghost use Rattle.std.specs.List.{list_any};
-ghost use Rattle.std.specs.Option.{option_map};
+ghost use Rattle.std.specs.Option.{option_copied, option_map};
 ghost use Rattle.std.specs.Result.{result_ok};
 ghost use Rattle.desk_text.specs.Address.{number_of, read_addr};
 ghost use Rattle.desk_text.specs.AddrSet.{is_among};
 ghost use Rattle.desk_tables.specs.Hosts.{addresses_of_host};
 ghost use Rattle.desk_tables.specs.declared.hosts.HostRow.{HostRow};
 ghost use Rattle.desk_netgroup.specs.declared.group_line.GroupLine.{GroupLine};
-ghost use Rattle.desk_policy.specs.Names.{addresses_of_names, host_stands_for, is_address_like, stands_for};
+ghost use Rattle.desk_policy.specs.Names.{addresses_of_names, first_name_for, host_stands_for, is_address_like, stands_for};
 ghost use Rattle.desk_policy.specs.PrivateNames.{Gains};
 
 use desk_exports::Names;
@@ -35,6 +35,47 @@ pub fn addresses_of(
     // Sets are equal that have the same addresses.
     sorted_sets_are_unique();
     Ok(AddrSet::from_vec(addresses).into_vec())
+}
+
+/// Finds the first of the names of a line that stands for an address, by the tables that its policy is read with.
+pub fn first_name_for<'a>(
+    alloc: Global,
+    netgroups: &Netgroups,
+    hosts: &Hosts,
+    names: &'a Names,
+    address: Addr,
+) -> Result<Option<&'a str>, AllocError>
+    ensures { IfOk result (λ found. option_copied found ≡ first_name_for netgroups.now hosts.now names.now (number_of address)) }
+{
+    for index in 0..names.len() {
+        let name = names.get(index);
+        if stands_for(alloc, netgroups, hosts, name, address)? {
+            return Ok(Some(name));
+        }
+    }
+    Ok(None)
+}
+
+/// Tests whether a written name stands for an address.
+fn stands_for(
+    alloc: Global,
+    netgroups: &Netgroups,
+    hosts: &Hosts,
+    name: &str,
+    address: Addr,
+) -> Result<bool, AllocError>
+    ensures { IfOk result (λ stands. stands ≡ stands_for netgroups.now hosts.now name.now (number_of address)) }
+{
+    let mut addresses = Vec::new(alloc);
+    push_name(alloc, netgroups, hosts, name, &mut addresses)?;
+    Ok(has_address(addresses.as_slice(), address))
+}
+
+/// Tests whether an address is one of these.
+fn has_address(addresses: &[Addr], address: Addr) -> bool
+    ensures { result ≡ list_any (λ other. number_of other == number_of address) addresses.now }
+{
+    addresses.iter().any(|other| *other == address)
 }
 
 /// Finds the addresses for which some of the names stands.

@@ -1,8 +1,10 @@
 //! The names of a site's files: the seven that are not of one file system, and the exports file of each mount point.
 
 ghost use Rattle.std.specs.Prelude.{◌≡◌, IfOk, MatchOption, string_bytes};
-ghost use Rattle.desk_policy.specs.SiteFile.{NamesNoMount, exports_file_name, file_name, file_of};
+ghost use Rattle.std.specs.Option.{option_map};
+ghost use Rattle.desk_policy.specs.SiteFile.{NamesNoMount, exports_file_name, exports_place, file_name, file_of, is_of_seven};
 
+use desk_tables::{FileSystems, FsId};
 use std::alloc::{AllocError, Global};
 
 /// One of the seven files of a site that are not of one file system.
@@ -59,6 +61,13 @@ impl SiteFile {
             _ => None,
         }
     }
+
+    /// Tests whether this is the name of one of the seven files.
+    pub fn is_name(name: &str) -> bool
+        ensures { result ≡ is_of_seven name.now }
+    {
+        SiteFile::of(name).is_some()
+    }
 }
 
 /// Writes the name of the exports file of a printed mount point: `exports:/usr`.
@@ -74,4 +83,14 @@ pub fn mount_of(name: &str) -> Option<&str>
     ensures { MatchOption result (NamesNoMount name.now) (λ mount. name.now ≡ exports_file_name mount.now) }
 {
     name.strip_prefix("exports:")
+}
+
+/// Finds the file system whose exports file has this name.
+pub fn exports_place(table: &FileSystems, name: &str) -> Option<FsId>
+    ensures { result ≡ option_map (λ place. record { 0 = place }) (exports_place table.now name.now) }
+{
+    match mount_of(name) {
+        Some(mount) => table.printed_as(mount),
+        None => None,
+    }
 }
