@@ -44,24 +44,21 @@ pub data Answer : Type 0 where
   Pending : ℕ → Answer
   Refused : Refusal → Answer
 
--- the number of a refusal; 6 is that of a repeat, which is not a refusal
+-- the number and the name of a refusal; 6 is the number of a repeat, which is not a refusal
+abbrev pub refusal_row : Refusal → ℕ × List ℕ
+refusal_row refusal.UnknownCaller = (1, codes "UnknownCaller")
+refusal_row refusal.BadKey = (2, codes "BadKey")
+refusal_row refusal.UnknownFile = (3, codes "UnknownFile")
+refusal_row refusal.NotCustodian = (4, codes "NotCustodian")
+refusal_row refusal.TooLarge = (5, codes "TooLarge")
+refusal_row (refusal.Stale newest) = (7, codes "Stale")
+refusal_row refusal.Full = (8, codes "Full")
+refusal_row (refusal.Fault fault) = (9, codes "Fault")
+
+-- the number of a refusal
 abbrev pub refusal_number : Refusal → ℕ
-refusal_number refusal.UnknownCaller = 1
-refusal_number refusal.BadKey = 2
-refusal_number refusal.UnknownFile = 3
-refusal_number refusal.NotCustodian = 4
-refusal_number refusal.TooLarge = 5
-refusal_number (refusal.Stale newest) = 7
-refusal_number refusal.Full = 8
-refusal_number (refusal.Fault fault) = 9
+refusal_number refused = (refusal_row refused).0
 
 -- the name of a refusal
 abbrev pub refusal_name : Refusal → List ℕ
-refusal_name refusal.UnknownCaller = codes "UnknownCaller"
-refusal_name refusal.BadKey = codes "BadKey"
-refusal_name refusal.UnknownFile = codes "UnknownFile"
-refusal_name refusal.NotCustodian = codes "NotCustodian"
-refusal_name refusal.TooLarge = codes "TooLarge"
-refusal_name (refusal.Stale newest) = codes "Stale"
-refusal_name refusal.Full = codes "Full"
-refusal_name (refusal.Fault fault) = codes "Fault"
+refusal_name refused = (refusal_row refused).1

@@ -3,13 +3,16 @@ use Rattle.std.specs.Prelude.{◌≡◌, ◌<◌, ℕ, List, [], None, Some, Res
 use Rattle.desk_text.specs.declared.reading.ReadError.{ReadError}
 use Rattle.desk_text.specs.declared.reading.ReadError.TheVariants.{Fault, Memory}
 use Rattle.desk_exports.specs.declared.profile.Profile.TheVariants.{Two}
+use Rattle.desk_policy.specs.Parsing.{read_site_tables}
 use Rattle.desk_policy.specs.Policy.{Content, content_of_lines, rows_of, with_lines_of}
+use Rattle.desk_policy.specs.Site.{SiteTexts}
 use Rattle.desk_policy.specs.View.{HasFault}
 use Rattle.desk_policy.specs.declared.site_fault.SiteFault.{SiteFault}
 use Rattle.desk_core.specs.Head.{Newest, Revision, newest_in, put}
 use Rattle.desk_core.specs.Judging.{exports_place}
 use Rattle.desk_core.specs.Site.{IsInForce, site_in}
 use Rattle.desk_core.specs.Views.{Kept}
+use Rattle.desk_core.specs.declared.foresight.ForeseenSite.{ForeseenSite}
 use Rattle.desk_core.specs.declared.foresight.Foresight.{Foresight}
 use Rattle.desk_core.specs.declared.foresight.Foresight.TheVariants.{Lines, Whole}
 
@@ -44,3 +47,18 @@ Foresees in_force state file text (Ok foresight) =
     × IsInForce (site_in (with_text (newest_in state.heads) file text)) (foreseen_content in_force (in_force state.view) foresight)
 Foresees in_force state file text (Err (Fault fault)) = HasFault (site_in (with_text (newest_in state.heads) file text)) fault
 Foresees in_force state file text (Err Memory) = Unit {0}
+
+-- a site in force: its policy, and the tables that its exports files are read with
+pub record IsForeseenSite {V : Type 0} (in_force : V → Content) (texts : SiteTexts) (site : ForeseenSite V) : Type 0 where
+  pub view : IsInForce texts (in_force site.view)
+  pub tables : read_site_tables texts ≡ Ok site.tables
+
+-- what is told of a site: it, in force; or its fault; out of memory says nothing
+abbrev pub TellsSite : {V : Type 0} → (V → Content) → SiteTexts → Result (ForeseenSite V) (ReadError SiteFault) → Type 0
+TellsSite in_force texts (Ok site) = IsForeseenSite in_force texts site
+TellsSite in_force texts (Err (Fault fault)) = HasFault texts fault
+TellsSite in_force texts (Err Memory) = Unit {0}
+
+-- What is foreseen of a whole site is the site with a file's text, in force, or its fault.
+abbrev pub ForeseesSite : {V : Type 0} → (V → Content) → Kept V → List ℕ → List ℕ → Result (ForeseenSite V) (ReadError SiteFault) → Type 0
+ForeseesSite in_force state file text = TellsSite in_force (site_in (with_text (newest_in state.heads) file text))

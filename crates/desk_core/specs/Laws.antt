@@ -2,13 +2,16 @@
 use Rattle.std.specs.Prelude.{◌≡◌, ◌≢◌, ◌↔◌, ◌⊎◌, ℕ, ◌+◌, ◌≤◌, true, false, List, [], ◌∷◌, ◌++◌, Some, None, Contains, length}
 use Rattle.sha2.specs.Sha256.{sha256}
 use Rattle.desk_tables.specs.Custodians.{digest_of}
+use Rattle.desk_tables.specs.declared.filesystems.Mount.{Mount}
 use Rattle.desk_policy.specs.Site.{SiteTexts}
+use Rattle.desk_policy.specs.SiteFault.{exports_name}
 use Rattle.desk_policy.specs.View.{HasFault}
 use Rattle.desk_policy.specs.declared.site_fault.SiteFault.{SiteFault}
 use Rattle.desk_core.specs.Edit.{Already, Answer, Edit, Pending, Proposed, Refused, Stored, approved_revision, proposal_of, revision_of}
+use Rattle.desk_core.specs.Foresight.{with_text}
 use Rattle.desk_core.specs.Head.{Newest, Revision, last_revision, longest_revision, newest_number, put}
 use Rattle.desk_core.specs.History.{Exchange, IsHistory, Run, added_by, history_through, pending_in, standing_of}
-use Rattle.desk_core.specs.Judging.{Answers, IsFileName, answer_in, first_case, is_guarded_file, is_known, keeps_file, table_in}
+use Rattle.desk_core.specs.Judging.{Answers, IsFileName, answer_in, first_case, is_guarded_file, is_known, is_of_seven, keeps_file, table_in}
 use Rattle.desk_core.specs.Site.{IsConsistent, custodians_of, policy_of, site_in}
 use Rattle.desk_core.specs.Standing.{Standing, with_entry}
 use Rattle.desk_core.specs.declared.edit.Refusal.{Refusal}
@@ -163,6 +166,25 @@ StandingOfALongerHistory = (history : List Entry) (stored : Entry) → standing_
 -- A file that the policy of a site knows has a name that a file may have.
 abbrev pub KnownFilesHaveNames : Type 0
 KnownFilesHaveNames = (texts : SiteTexts) (file : List ℕ) → is_known (policy_of texts).table file ≡ true → IsFileName file
+
+-- a file is the exports file of a listed mount point
+abbrev pub IsExportsOf : List Mount → Mount → List ℕ → Type 0
+IsExportsOf table mount file = Contains table mount × (file ≡ exports_name mount.path)
+
+-- A file is known exactly if it is one of the seven, or the exports file of a listed mount point.
+abbrev pub KnownFilesAreListed : Type 0
+KnownFilesAreListed = (table : List Mount) (file : List ℕ) → (is_known table file ≡ true) ↔ ((is_of_seven file ≡ true) ⊎ ((mount : Mount) × IsExportsOf table mount file))
+
+-- A guarded file is the exports file of a listed mount point that has the mark, and none of the seven.
+abbrev pub GuardedFilesAreMarked : Type 0
+GuardedFilesAreMarked =
+    (table : List Mount) (file : List ℕ) → is_guarded_file table file ≡ true
+    → (is_of_seven file ≡ false) × ((mount : Mount) × IsExportsOf table mount file × (mount.guarded ≡ true))
+
+-- The site that is foreseen of a file's text is the one by which an edit of that file with that text is judged, and which it puts
+-- in force: who asks, with which key and base, does not count.
+abbrev pub ForeseenSitesAreJudged : Type 0
+ForeseenSitesAreJudged = (newest : Newest) (e : Edit) → site_in (with_text newest e.file e.text) ≡ site_in (put newest (revision_of e))
 
 -- A consistent site has no fault.
 abbrev pub ConsistentSitesHaveNoFault : Type 0

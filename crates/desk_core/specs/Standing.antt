@@ -1,6 +1,7 @@
 -- What an edit is judged by, beside the site in force: of each file its newest revision and its proposal. (this project's
 -- own)
-use Rattle.std.specs.Prelude.{ℕ, ◌≤◌, List, Option, Some, None, find, if◌then◌else◌}
+use Rattle.std.specs.Prelude.{◌≢◌, ℕ, ◌≤◌, List, Option, Some, None, find, if◌then◌else◌}
+use Rattle.std.specs.List.{AllPairs}
 use Rattle.std.specs.Str.{bytes_eq}
 use Rattle.desk_core.specs.Head.{Newest, last_revision, newest_in, put}
 use Rattle.desk_core.specs.declared.entry.Entry.{Entry}
@@ -23,6 +24,10 @@ propose proposals proposal file = if bytes_eq proposal.file file then Some propo
 -- the proposals, if this file has none
 abbrev pub without : Proposals → List ℕ → Proposals
 without proposals gone file = if bytes_eq gone file then None else proposals file
+
+-- no two proposals are of one file
+abbrev pub PendOnce : List Proposal → Type 0
+PendOnce proposals = AllPairs (λ proposal later. proposal.file ≢ later.file) proposals
 
 -- a proposal that can be kept: it follows a number that a revision may have, or 0
 abbrev pub CanBePending : Proposal → Type 0

@@ -8,6 +8,7 @@ ghost use Rattle.desk_core.specs.Site.{site_in};
 ghost use Rattle.desk_core.specs.State.{changed};
 ghost use Rattle.desk_core.specs.Views.{shown};
 
+use crate::foresight::ForeseenSite;
 use crate::head::Head;
 use crate::site::{site_of, site_with};
 use desk_policy::{PolicyView, Site, SiteContents, SiteFault, SiteTables, read_contents};
@@ -38,6 +39,19 @@ pub(crate) fn view_of<V: Drop>(site: SiteInForce<V>) -> V
 {
     let SiteInForce { view, .. } = site;
     view
+}
+
+/// Takes the view and the tables of a site. The custodians are dropped.
+pub(crate) fn foreseen_in<V: Drop>(site: SiteInForce<V>) -> ForeseenSite<V>
+    ensures { result ≡ record { view = site.view; tables = site.tables } }
+{
+    let SiteInForce {
+        custodians,
+        tables,
+        view,
+    } = site;
+    drop(custodians);
+    ForeseenSite { view, tables }
 }
 
 /// Puts a change in force. It takes no memory.

@@ -1,7 +1,7 @@
 //! Edits, and why one is refused.
 
 ghost use Rattle.std.specs.Prelude.{◌≡◌};
-ghost use Rattle.desk_core.specs.Edit.{refusal_name, refusal_number};
+ghost use Rattle.desk_core.specs.Edit.{refusal_name, refusal_number, refusal_row};
 
 use desk_policy::SiteFault;
 
@@ -38,36 +38,51 @@ pub enum Refusal {
     Fault(SiteFault),
 }
 
+/// What a refusal is called: its number, and its name.
+#[derive(Clone, Copy)]
+pub struct RefusalRow {
+    pub number: u32,
+    pub name: &'static str,
+}
+
+impl RefusalRow {
+    /// Makes the row of a number and a name.
+    const fn new(number: u32, name: &'static str) -> RefusalRow
+        ensures number { result.number ≡ number }
+        ensures name { result.name.now ≡ name.now }
+    {
+        RefusalRow { number, name }
+    }
+}
+
 impl Refusal {
-    /// Returns the number of the refusal. (6 is that of a repeat, which is not a refusal.)
+    /// Returns the number and the name of the refusal. (6 is the number of a repeat, which is not a refusal.)
+    pub fn row(&self) -> RefusalRow
+        ensures { (result.number, result.name.now) ≡ refusal_row self.now }
+    {
+        match self {
+            Refusal::UnknownCaller => RefusalRow::new(1, "UnknownCaller"),
+            Refusal::BadKey => RefusalRow::new(2, "BadKey"),
+            Refusal::UnknownFile => RefusalRow::new(3, "UnknownFile"),
+            Refusal::NotCustodian => RefusalRow::new(4, "NotCustodian"),
+            Refusal::TooLarge => RefusalRow::new(5, "TooLarge"),
+            Refusal::Stale(_) => RefusalRow::new(7, "Stale"),
+            Refusal::Full => RefusalRow::new(8, "Full"),
+            Refusal::Fault(_) => RefusalRow::new(9, "Fault"),
+        }
+    }
+
+    /// Returns the number of the refusal.
     pub fn number(&self) -> u32
         ensures { result ≡ refusal_number self.now }
     {
-        match self {
-            Refusal::UnknownCaller => 1,
-            Refusal::BadKey => 2,
-            Refusal::UnknownFile => 3,
-            Refusal::NotCustodian => 4,
-            Refusal::TooLarge => 5,
-            Refusal::Stale(_) => 7,
-            Refusal::Full => 8,
-            Refusal::Fault(_) => 9,
-        }
+        self.row().number
     }
 
     /// Returns the name of the refusal.
     pub fn name(&self) -> &'static str
         ensures { result.now ≡ refusal_name self.now }
     {
-        match self {
-            Refusal::UnknownCaller => "UnknownCaller",
-            Refusal::BadKey => "BadKey",
-            Refusal::UnknownFile => "UnknownFile",
-            Refusal::NotCustodian => "NotCustodian",
-            Refusal::TooLarge => "TooLarge",
-            Refusal::Stale(_) => "Stale",
-            Refusal::Full => "Full",
-            Refusal::Fault(_) => "Fault",
-        }
+        self.row().name
     }
 }

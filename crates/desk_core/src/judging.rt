@@ -107,7 +107,7 @@ fn is_key(key: &str, listed: Option<&[u8; 32]>) -> bool
 }
 
 /// Tests whether a file is one of the seven, or the exports file of a listed mount point.
-fn is_known(table: &FileSystems, file: &str) -> bool
+pub fn is_known(table: &FileSystems, file: &str) -> bool
     ensures { result ≡ spec.is_known table.now file.now }
 {
     is_of_seven(file) || exports_place(table, file).is_some()
@@ -180,7 +180,7 @@ pub(crate) fn exports_place(table: &FileSystems, file: &str) -> Option<FsId>
 }
 
 /// Tests whether a file is guarded: it is the exports file of a mount point with the mark.
-fn is_guarded_file(table: &FileSystems, file: &str) -> bool
+pub fn is_guarded(table: &FileSystems, file: &str) -> bool
     ensures { result ≡ spec.is_guarded_file table.now file.now }
 {
     match exports_place(table, file) {
@@ -233,7 +233,7 @@ fn is_pending(table: &FileSystems, edit: &Edit<'_>, proposal: Option<&Proposal>)
 {
     match proposal {
         Some(proposal) => {
-            is_guarded_file(table, edit.file)
+            is_guarded(table, edit.file)
                 && (proposes(edit, proposal) && proposal.author.as_str() == edit.caller)
         }
         None => false,
@@ -280,7 +280,7 @@ pub(crate) fn entry_by(
     requires { edit.now.base < last_revision }
     ensures { IfOk result (λ stored. stored ≡ spec.entry_by table.now (asked edit.now) (option_copied proposal.entry)) }
 {
-    if is_guarded_file(table, edit.file) {
+    if is_guarded(table, edit.file) {
         guarded_entry(alloc, edit, approved(table, edit, proposal))
     } else {
         let head = revision_of(alloc, edit)?;

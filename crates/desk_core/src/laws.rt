@@ -1,6 +1,6 @@
 //! What the definitions of this crate come to, each as a function that does nothing.
 
-ghost use Rattle.desk_core.specs.Laws.{AnsweredEditsKeepTheNumbers, AnswersAreRight, ConsistentSitesHaveNoFault, EditsTakeEffect, GuardedFilesHaveTwoKeepers, HistoriesStayNumbered, KnownFilesHaveNames, StandingOfALongerHistory};
+ghost use Rattle.desk_core.specs.Laws.{AnsweredEditsKeepTheNumbers, AnswersAreRight, ConsistentSitesHaveNoFault, EditsTakeEffect, ForeseenSitesAreJudged, GuardedFilesAreMarked, GuardedFilesHaveTwoKeepers, HistoriesStayNumbered, KnownFilesAreListed, KnownFilesHaveNames, StandingOfALongerHistory};
 
 use desk_tables::laws::mount_points_read_back;
 
@@ -45,6 +45,22 @@ pub fn known_files_have_names()
 {
     mount_points_read_back()
 }
+
+/// A file that an edit may change is one of the seven, or the exports file of a listed mount point; and no other is.
+pub fn known_files_are_listed()
+    ensures { KnownFilesAreListed }
+{}
+
+/// A guarded file is the exports file of a listed mount point that has the mark, and none of the seven.
+pub fn guarded_files_are_marked()
+    ensures { GuardedFilesAreMarked }
+{}
+
+/// The site that is foreseen of a text is the one by which an edit with that text is judged, and which it puts in force: who asks,
+/// with which key and base, does not count.
+pub fn foreseen_sites_are_judged()
+    ensures { ForeseenSitesAreJudged }
+{}
 
 /// A consistent site has no fault: each fault that is named is that of a faulty file or of two lines that contradict.
 pub fn consistent_sites_have_no_fault()

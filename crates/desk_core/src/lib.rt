@@ -3,7 +3,7 @@
 //! Its promise: an edit takes effect exactly if its caller is listed with the key's digest and keeps the file, it names
 //! the file's newest revision, it is within the limits, the site with its text is consistent, and if the file is guarded,
 //! another custodian's proposal of that text is pending. Nothing else changes anything but a file's one proposal.
-//! [`State::foresee`] says what would be in force if a file had another text, and changes nothing.
+//! [`State::foresee`] and [`State::foresee_site`] say what would be in force if a file had another text, and change nothing.
 //!
 //! ```text
 //! let mut state: State<Plain> = State::from_heads(alloc, heads, proposals)?;
@@ -26,14 +26,15 @@ pub mod proposal;
 mod site;
 pub mod state;
 
-pub use edit::{Edit, Refusal};
+pub use edit::{Edit, Refusal, RefusalRow};
 pub use entry::Entry;
-pub use foresight::Foresight;
+pub use foresight::{ForeseenSite, Foresight};
 pub use head::{Head, LAST_REVISION, LONGEST_REVISION, can_be_kept};
-pub use judging::{Case, is_exports_name, is_file_name};
+pub use judging::{Case, is_exports_name, is_file_name, is_guarded, is_known};
 pub use laws::{
     answered_edits_keep_the_numbers, answers_are_right, consistent_sites_have_no_fault,
-    edits_take_effect, guarded_files_have_two_keepers, histories_stay_numbered,
+    edits_take_effect, foreseen_sites_are_judged, guarded_files_are_marked,
+    guarded_files_have_two_keepers, histories_stay_numbered, known_files_are_listed,
     known_files_have_names, standing_of_a_longer_history,
 };
 pub use proposal::{Proposal, can_be_pending};

@@ -1,6 +1,6 @@
 //! Refusals as they are printed.
 
-use crate::edit::Refusal;
+use crate::edit::{Refusal, RefusalRow};
 use std::fmt;
 
 /// The refusal by its number and name, as `refused 4 NotCustodian`, with the newest revision if the base is stale, as
@@ -13,8 +13,7 @@ impl fmt::Display for Refusal {
     ghost output = { λ refused. Some (refusal_line refused) };
 
     fn fmt<W: fmt::Write>(&self, f: &mut fmt::Formatter<W>) -> fmt::Result {
-        let number = self.number();
-        let name = self.name();
+        let RefusalRow { number, name } = self.row();
         match self {
             Refusal::Stale(newest) => write!(f, "refused {number} {name} {newest}"),
             Refusal::Fault(fault) => write!(f, "{fault}"),

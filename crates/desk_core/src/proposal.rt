@@ -4,7 +4,7 @@ ghost use Rattle.std.specs.Prelude.{◌≡◌, ◌<◌, ◌≤◌, ◌∷◌, []
 ghost use Rattle.std.specs.List.{list_all};
 ghost use Rattle.std.specs.Option.{option_copied};
 ghost use Rattle.desk_core.specs.PrivateHead.{is_within_reach};
-ghost use Rattle.desk_core.specs.Standing.{CanBePending, proposals_in, propose, without};
+ghost use Rattle.desk_core.specs.Standing.{CanBePending, PendOnce, proposals_in, propose, without};
 
 use crate::head::LAST_REVISION;
 use desk_text::Text;
@@ -48,6 +48,7 @@ pub(crate) fn proposal_for<'a>(proposals: &'a [Proposal], file: &str) -> Option<
 /// Takes the proposal of a file away, if it has one.
 pub(crate) fn withdraw(proposals: &mut Vec<Proposal>, file: &str)
     ensures gone { proposals_in proposals.new.items ≡ without (proposals_in proposals.old.items) file.now }
+    ensures once { PendOnce proposals.old.items → PendOnce proposals.new.items }
     ensures kept { All CanBePending proposals.old.items → All CanBePending proposals.new.items }
     ensures shorter { vec_len proposals.new ≤ vec_len proposals.old }
 {
@@ -59,6 +60,7 @@ pub(crate) fn put_proposal(proposals: &mut Vec<Proposal>, room: Vec<Proposal>, p
     requires empty { room.items ≡ [] }
     requires room { vec_len proposals.old < vec_capacity room }
     ensures proposed { proposals_in proposals.new.items ≡ propose (proposals_in proposals.old.items) proposal }
+    ensures once { PendOnce proposals.old.items → PendOnce proposals.new.items }
     ensures kept { CanBePending proposal → All CanBePending proposals.old.items → All CanBePending proposals.new.items }
 {
     withdraw(proposals, proposal.file.as_str());

@@ -1,31 +1,34 @@
 //! States: the newest revision of each file, the proposals, and the policy that is in force.
 
-ghost use Rattle.std.specs.Prelude.{◌≡◌, ◌<◌, ◌≤◌, [], All, IfOk, None, Some, length, vec_capacity, vec_len};
+ghost use Rattle.std.specs.Prelude.{◌≡◌, ◌<◌, ◌≤◌, [], All, IfOk, None, Ok, Some, length, vec_capacity, vec_len};
 ghost use Rattle.std.specs.Option.{option_copied};
+ghost use Rattle.desk_policy.specs.Parsing.{read_site_tables};
 ghost use Rattle.desk_policy.specs.Site.{HaveReadableLengths};
 ghost use Rattle.desk_core.specs.Edit as spec;
 ghost use Rattle.desk_core.specs.Edit.{asked};
-ghost use Rattle.desk_core.specs.Foresight.{Foresees};
+ghost use Rattle.desk_core.specs.Foresight.{Foresees, ForeseesSite};
 ghost use Rattle.desk_core.specs.Head.{CanBeKept, StandOnce, last_revision, longest_revision, newest_in, put};
 ghost use Rattle.desk_core.specs.Judging.{answer_in, entry_of, exports_place, first_case};
 ghost use Rattle.desk_core.specs.PrivateState.{Accepts, AnswersCase, MakesChange, PutsInForce, ReadsRows, ShowsLines, refusal_of};
 ghost use Rattle.desk_core.specs.Site.{IsInForce, site_in};
-ghost use Rattle.desk_core.specs.Standing.{CanBePending, proposals_in, with_entry, without};
+ghost use Rattle.desk_core.specs.Standing.{CanBePending, PendOnce, proposals_in, with_entry, without};
 ghost use Rattle.desk_core.specs.State.{IsJudged, Judges, PutsSite, Starts, standing};
 ghost use Rattle.desk_core.specs.Views.{shown};
 ghost use Rattle.desk_core.specs.declared.entry.Entry.TheVariants.{Revised};
 
 use crate::change::{
-    Change, SiteInForce, put_change, put_head_in_force, put_heads_in_force, view_of,
+    Change, SiteInForce, foreseen_in, put_change, put_head_in_force, put_heads_in_force, view_of,
 };
 use crate::edit::{Edit, Refusal};
 use crate::entry::Entry;
-use crate::foresight::Foresight;
+use crate::foresight::{ForeseenSite, Foresight};
 use crate::head::{Head, newest, newest_number, put_head};
 use crate::judging::{Case, entry_by, exports_place, first_case, revision_of};
 use crate::proposal::{Proposal, proposal_for, put_proposal, withdraw};
 use desk_exports::Profile;
-use desk_policy::{Policy, PolicyView, Row, SiteFault, one_file_is_replaced, read_lines};
+use desk_policy::{
+    Policy, PolicyView, Row, SiteFault, SiteTables, one_file_is_replaced, read_lines,
+};
 use desk_tables::FsId;
 use desk_tables::laws::tables_are_in_order;
 use desk_text::{ReadError, Sequence};
@@ -162,11 +165,28 @@ impl<V: PolicyView + Drop> State<V> {
         }
     }
 
+    /// Makes the whole site that would be in force if a file had this text, read by profile 2 as that of an edit is, or gives the
+    /// fault of that site. The state stays as it is.
+    pub fn foresee_site(
+        &self,
+        alloc: Global,
+        file: &str,
+        text: &str,
+    ) -> Result<ForeseenSite<V>, ReadError<SiteFault>>
+        requires { length text.now ≤ longest_revision }
+        ensures { ForeseesSite V.in_force self.now file.now text.now result }
+    {
+        let edit = edit_by_nobody(file, text);
+        let made = put_edit_in_force(alloc, self.heads.as_slice(), &edit)?;
+        Ok(foreseen_in(made))
+    }
+
     /// Puts an edit in force that this state accepted as it is, or keeps its proposal. It takes no memory.
     pub fn apply(&mut self, accepted: Accepted<V>)
         requires { IsJudged V.in_force self.old accepted }
         ensures standing { standing self.new ≡ with_entry (standing self.old) accepted.entry }
         ensures once { StandOnce self.old.heads → StandOnce self.new.heads }
+        ensures proposals_once { PendOnce self.old.proposals → PendOnce self.new.proposals }
         ensures view { IsInForce (site_in (newest_in self.new.heads)) (V.in_force self.new.view) }
     {
         let Accepted {
@@ -191,6 +211,7 @@ impl<V: PolicyView + Drop> State<V> {
         requires site { PutsSite V.in_force self.old (shown V.part_rows change) (site_in (put (newest_in self.old.heads) head)) }
         ensures standing { standing self.new ≡ with_entry (standing self.old) (Revised head) }
         ensures once { StandOnce self.old.heads → StandOnce self.new.heads }
+        ensures proposals_once { PendOnce self.old.proposals → PendOnce self.new.proposals }
         ensures view { IsInForce (site_in (newest_in self.new.heads)) (V.in_force self.new.view) }
     {
         put_revision(&mut self.heads, &mut self.proposals, room, head);
@@ -203,6 +224,13 @@ impl<V: PolicyView + Drop> State<V> {
         ensures in_force { IsInForce (site_in (newest_in self.now.heads)) (V.in_force result.now) }
     {
         &self.site.view
+    }
+
+    /// Lends the tables in force, which exports files are read with.
+    pub fn tables(&self) -> &SiteTables
+        ensures { read_site_tables (site_in (newest_in self.now.heads)) ≡ Ok result.now }
+    {
+        &self.site.tables
     }
 
     /// Lends the newest revision of each file, in no order.
@@ -399,6 +427,7 @@ fn put_revision(heads: &mut Vec<Head>, proposals: &mut Vec<Proposal>, room: Vec<
     ensures newest { newest_in heads.new.items ≡ put (newest_in heads.old.items) head }
     ensures gone { proposals_in proposals.new.items ≡ without (proposals_in proposals.old.items) head.file }
     ensures once { StandOnce heads.old.items → StandOnce heads.new.items }
+    ensures proposals_once { PendOnce proposals.old.items → PendOnce proposals.new.items }
     ensures kept { CanBeKept head → All CanBeKept heads.old.items → All CanBeKept heads.new.items }
     ensures pending { All CanBePending proposals.old.items → All CanBePending proposals.new.items }
 {

@@ -4,6 +4,7 @@ use Rattle.desk_policy.specs.Parsing.{read_site_tables}
 use Rattle.desk_core.specs.Head.{newest_in, put}
 use Rattle.desk_core.specs.PrivateState.{MayStand}
 use Rattle.desk_core.specs.Site.{site_in}
+use Rattle.desk_core.specs.Standing.{PendOnce}
 use Rattle.desk_core.specs.State.{changed}
 use Rattle.desk_core.specs.Views.{shown}
 use Rattle.desk_core.proofs.Changing.{may_stand, revised, view_revised}
@@ -38,3 +39,6 @@ returns-clause-view g c =
     let newest = c.put_revision.ensures.newest ∙ ap (λ s. put (newest_in s.heads) c.args.head) c.self.view_is in
     let view = c.put_change.ensures.view ∙ ap (λ s. changed F (F s.view) change) c.self.view_is in
     view_revised F state change c.args.head _ _ c.requires.site newest view
+
+pub returns-clause-proposals_once : goal.returns-clause-proposals_once
+returns-clause-proposals_once g c once = c.put_revision.ensures.proposals_once (subst (λ s. PendOnce s.proposals) (sym c.self.view_is) once)
