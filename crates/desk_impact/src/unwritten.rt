@@ -1,7 +1,6 @@
 //! A path below a mount point that no line writes.
 
-ghost use Rattle.std.specs.Prelude.{◌≡◌, ◌++◌, ◌∷◌, [], IfOk};
-ghost use Rattle.std.specs.Fmt.{decimal};
+ghost use Rattle.std.specs.Prelude.{◌≡◌, IfOk};
 ghost use Rattle.desk_policy.specs.Verdict.{is_directory_among};
 ghost use Rattle.desk_impact.specs.PrivatePlaces.{AreAscending, IsFree, paths_in};
 
@@ -15,13 +14,13 @@ pub fn free_path(alloc: Global, mount: &Path, taken: &[&Path]) -> Result<Path, A
     ensures { IfOk result (IsFree mount.now (paths_in taken.now)) }
 {
     for number in 0..taken.len() {
-        let path = numbered_child(alloc, mount, number)?;
+        let path = mount.child(alloc, number)?;
         if !is_among(&path, taken) {
             return Ok(path);
         }
         drop(path);
     }
-    let path = numbered_child(alloc, mount, taken.len())?;
+    let path = mount.child(alloc, taken.len())?;
     Ok(path)
 }
 
@@ -35,14 +34,4 @@ fn is_among(path: &Path, paths: &[&Path]) -> bool
         Some(other) => **other == *path,
         None => false,
     }
-}
-
-/// Makes the path right below a mount point whose name is this number.
-fn numbered_child(alloc: Global, mount: &Path, number: usize) -> Result<Path, AllocError>
-    ensures { IfOk result (λ path. path ≡ mount.now ++ decimal number ∷ []) }
-{
-    let _ = alloc;
-    let _ = mount;
-    let _ = number;
-    Err(AllocError)
 }
