@@ -1,11 +1,12 @@
 //! A desk: a connection to a database, and the state that its tables stand for.
 
-ghost use Rattle.std.specs.Prelude.{◌≡◌, ◌≢◌, ◌+◌, ◌≤◌, ℕ, List, [], false, Err, IfErr, IfOk, IsTrue, None, length, map, option_copied};
+ghost use Rattle.std.specs.Prelude.{◌≡◌, ◌≢◌, ◌+◌, ◌≤◌, ℕ, List, [], false, Err, IfErr, IfOk, IsTrue, None, Ok, length, map, option_copied};
 ghost use Rattle.sqlite.specs.Held.{state};
 ghost use Rattle.sqlite.specs.State.{HasCleanDisk, Survives};
+ghost use Rattle.desk_policy.specs.Parsing.{read_site_tables};
 ghost use Rattle.desk_policy.specs.Site.{texts_of};
 ghost use Rattle.desk_core.specs.Edit.{asked};
-ghost use Rattle.desk_core.specs.Foresight.{Foresees};
+ghost use Rattle.desk_core.specs.Foresight.{Foresees, ForeseesSite, TellsSite, with_text};
 ghost use Rattle.desk_core.specs.Head.{longest_revision, newest_in};
 ghost use Rattle.desk_core.specs.History.{newest_of, revisions_of, standing_of};
 ghost use Rattle.desk_core.specs.Judging.{entry_of, first_case};
@@ -30,10 +31,11 @@ use crate::signatures::list_signatures;
 use crate::storing::append_entry;
 use crate::tables::{read_approver, read_approvers, read_numbers, read_revision};
 use desk_core::{
-    Accepted, Edit, Entry, Foresight, Head, Judged, Proposal, State, standing_of_a_longer_history,
+    Accepted, Edit, Entry, ForeseenSite, Foresight, Head, Judged, Proposal, State,
+    standing_of_a_longer_history,
 };
 use desk_exports::Profile;
-use desk_policy::{PolicyView, Site, SiteFault};
+use desk_policy::{PolicyView, Site, SiteFault, SiteTables};
 use desk_text::{ReadError, Sequence, Text};
 use sqlite::{Alter, Connection};
 use std::alloc::Global;
@@ -143,6 +145,15 @@ impl<S: Alter + Drop, V: PolicyView + Drop> Desk<S, V> {
         self.current.view()
     }
 
+    /// Lends the tables in force, which exports files are read with. This takes no statement.
+    pub fn tables(&self) -> &SiteTables
+        ensures tables { read_site_tables (site_in (newest_in self.now.state.heads)) ≡ Ok result.now }
+        ensures stood_at { (history pending : History) → StandsAt S.Store self.now history pending
+            → read_site_tables (site_in (newest_of history)) ≡ Ok result.now }
+    {
+        self.current.tables()
+    }
+
     /// Finds the newest revision of a file. This takes no statement.
     pub fn newest(&self, file: &str) -> Option<&Head>
         ensures newest { option_copied result ≡ newest_in self.now.state.heads file.now }
@@ -191,6 +202,22 @@ impl<S: Alter + Drop, V: PolicyView + Drop> Desk<S, V> {
         ensures { Foresees V.in_force self.now.state file.now text.now result }
     {
         self.current.foresee(alloc, file, text)
+    }
+
+    /// Makes the whole site that would be in force if a file had this text, read by profile 2 as that of an edit is, or gives the
+    /// fault of that site. This takes no statement.
+    pub fn foresee_site(
+        &self,
+        alloc: Global,
+        file: &str,
+        text: &str,
+    ) -> Result<ForeseenSite<V>, ReadError<SiteFault>>
+        requires { length text.now ≤ longest_revision }
+        ensures foreseen { ForeseesSite V.in_force self.now.state file.now text.now result }
+        ensures stood_at { (history pending : History) → StandsAt S.Store self.now history pending
+            → TellsSite V.in_force (site_in (with_text (newest_of history) file.now text.now)) result }
+    {
+        self.current.foresee_site(alloc, file, text)
     }
 
     /// Judges an edit, stores its revision or its proposal in one commit, and puts a revision in force. The reply can be made
