@@ -9,4 +9,4 @@ pub loop-word-preserved : goal.loop-word-preserved
 loop-word-preserved c =
     λ text among. subst (All (IsOn text c.args.line.now)) (sym c.in_ok-push.ensures.items)
     (All-push (IsOn text c.args.line.now) c.loop-word.places.items c.of_word.result (c.loop-word.invariant text among)
-      (record { own = c.of_word.ensures.own text among; lies = c.of_word.ensures.lies text among }))
+    (record { own = c.of_word.ensures.own text among; lies = c.of_word.ensures.lies text among }))
