@@ -4,3 +4,4 @@ pub mod FoundSlices
 pub mod HintLemmas
 pub mod ShownTextLemmas
 pub mod ToldFindings
+pub mod PlacedWords

@@ -194,7 +194,7 @@ fn spot_of(
     last: &mut PlacedWords,
 ) -> Result<Spot, AllocError>
     requires { AreWordsIn lines.now last.old }
-    ensures same { IfOk result (λ spot. odd_of_spot spot ≡ odd_at odd.entry) }
+    ensures same { IfOk result (λ spot. odd_of_spot spot ≡ odd_at odd) }
     ensures place { IfOk result (λ spot. (text : List ℕ) → lines.now ≡ logical_lines text → IsSpot text spot) }
     ensures last { OnOk result (AreWordsIn lines.now last.new) }
 {
@@ -284,7 +284,7 @@ fn places_of(alloc: Global, line: &Line, words: &[Word]) -> Result<Vec<Place>, A
 
 /// Makes the spot of what is odd at this place.
 fn spot_at(odd: Odd, place: Option<Place>) -> Spot
-    ensures { result ≡ record { line = odd.entry.line; place = place; matter = odd.entry.matter } }
+    ensures { result ≡ record { line = odd.line; place = place; matter = odd.matter } }
 {
     Spot {
         line: odd.line,
