@@ -79,7 +79,7 @@ pub fn push_in_order<'a>(
     found: &mut Sequence<Finding<'a>>,
 ) -> Result<(), AllocError>
     requires { IsReadable source.text.now }
-    ensures { OnOk result (Adds (TellInOrder source.entry (map odd_at odds.entry.items)) found.old found.new) }
+    ensures { OnOk result (Adds (TellInOrder source.entry (map odd_at odds.items)) found.old found.new) }
 {
     let odds = by_line(odds)?;
     let spots = spots_of(alloc, source.text, odds.as_slice())?;
@@ -158,7 +158,7 @@ fn odds_of_contradictions(
 
 /// Puts what is odd into the order of its lines.
 fn by_line(mut odds: Vec<Odd>) -> Result<Vec<Odd>, AllocError>
-    ensures same { IfOk result (λ sorted. IsPermutation odds.entry.items sorted.items) }
+    ensures same { IfOk result (λ sorted. IsPermutation odds.items sorted.items) }
     ensures order { IfOk result (λ sorted. IsNonDecreasingBy (λ (odd : Odd). odd.line) sorted.items) }
 {
     odds.sort_by_key(|odd| odd.line)?;

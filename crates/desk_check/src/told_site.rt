@@ -113,7 +113,7 @@ fn told_of_contradiction(
 /// Prints the finding of what is odd about a line.
 fn told_of_odd(alloc: Global, source: Source<'_>, odd: Odd) -> Result<String, AllocError>
     requires { IsReadable source.text.now }
-    ensures { IfOk result (λ text. TellsFirst (TellInOrder source.entry (odd_at odd.entry ∷ [])) (string_bytes text)) }
+    ensures { IfOk result (λ text. TellsFirst (TellInOrder source.entry (odd_at odd ∷ [])) (string_bytes text)) }
 {
     let mut odds = Vec::new(alloc);
     odds.push(odd)?;
