@@ -17,11 +17,12 @@ module _ {X : Type 0} (file : List ℕ) (line : ℕ) (word : X → List ℕ) (ki
   warning_of one = warning_if file line one.0 (word one.1) (kind one.1)
 
   -- the warnings of the words before this one, and its own, are those of the words up to it
-  pub one_more : (xs : List X) (i : ℕ) (d x : X) (before : List Warning) → i < length xs → x ≡ get_or xs i d
+  pub one_more : (xs : List X) (i : ℕ) (x : X) (before : List Warning) → i < length xs → x ≡ get_or xs i x
       → (before ++ word_warnings file line word kind (take i xs)) ++ warning_if file line i (word x) (kind x) ≡ before ++ word_warnings file line word kind (take (i + 1) xs)
-  one_more xs i d x before below is =
-      let longer : take (i + 1) xs ≡ take i xs ++ x ∷ [] = take_more xs i d below ∙ ap (λ (y : X). take i xs ++ y ∷ []) (sym is) in
-      let len : 0 + length (take i xs) ≡ i = omega (arith, length-take-le i xs (omega (arith, below))) in
+  one_more xs i x before below is =
+      let longer : take (i + 1) xs ≡ take i xs ++ x ∷ [] = take_more xs i x below ∙ ap (λ (y : X). take i xs ++ y ∷ []) (sym is) in
+      let count : length (take i xs) ≡ i = length-take-le i xs (omega (arith, below)) in
+      let len : 0 + length (take i xs) ≡ i = omega (arith, count) in
       ap (λ n. (before ++ word_warnings file line word kind (take i xs)) ++ warning_if file line n (word x) (kind x)) (sym len)
       ∙ flat_map_more warning_of before (enumerate_from 0 (take i xs)) (0 + length (take i xs), x)
       ∙ ap (λ l. before ++ flat_map warning_of l) (sym (enumerated 0 (take i xs) x) ∙ ap (enumerate_from 0) (sym longer))
