@@ -15,9 +15,11 @@ use Rattle.desk_policy.specs.Weights.{selected}
 use Rattle.desk_policy.specs.declared.row.Row.{Row}
 use Rattle.desk_policy.specs.declared.verdict.Denial.TheVariants as denials
 use Rattle.desk_index.specs.Keys.{HasNoMatch, IsHeaviest, fs_of_key, key_weight, line_key, lines_under, lines_with, listed, numbers}
+use Rattle.desk_index.specs.PrivateMarks.{AreUnderOneKey}
 use Rattle.desk_index.specs.PrivateNumbered.{rows_numbered}
 use Rattle.desk_index.specs.declared.keys.Key.{Key}
 use Rattle.desk_index.specs.declared.keys.Key.TheVariants as keys
+use Rattle.desk_index.proofs.FirstFound.{same_search}
 use Rattle.desk_index.proofs.LinesByNumber.{numbered_selected}
 use Rattle.desk_index.proofs.Selecting.{same_id}
 
@@ -60,6 +62,31 @@ listed_again (x ∷ xs) lines e = ap listed (sym (listed_is (x ∷ xs) lines e))
 none_some : {A : Type 0} (o : Option A) → o ≡ None → is_some o ≡ false
 none_some o e = ap is_some e
 
+module _ (content : Content) (fs : FsId) (address : ℕ) where
+  -- a key that matches is one of this file system
+  of_fs : (key : Key) (w : ℕ) → key_weight fs.0 address key ≡ Some w → (fs_of_key key ≡ fs) × (lines.key_weight address (line_key key) ≡ Some w)
+  of_fs key w e =
+      elim (cases_Bool (eqb (fs_of_key key).0 fs.0)) [
+        | inl t ↦ (same_id (fs_of_key key) fs (eqb-true _ _ t), sym (cond-true (eqb (fs_of_key key).0 fs.0) (lines.key_weight address (line_key key)) None t) ∙ e)
+        | inr f ↦ absurd (let g : None ≡ Some w = sym (cond-false (eqb (fs_of_key key).0 fs.0) (lines.key_weight address (line_key key)) None f) ∙ e in cc)
+      ]
+
+  here : (key : Key) → fs_of_key key ≡ fs → lines_under content key ≡ listed (lines_with (rows_of content fs.0) (line_key key))
+  unfolding lines_under
+  here key e = ap (λ (f : FsId). listed (lines_with (rows_of content f.0) (line_key key))) e
+
+  module _ (found : List ℕ) (heaviest : IsHeaviest (lines_under content) fs.0 address found) where
+    pub lines_are : listed (lines_with (rows_of content fs.0) (line_key heaviest.key)) ≡ Some found
+    lines_are = sym (here heaviest.key (of_fs heaviest.key heaviest.weight heaviest.matches).0) ∙ heaviest.there
+
+    pub under_one_key : AreUnderOneKey (rows_of content fs.0) found
+    under_one_key = record { key = line_key heaviest.key; all = sym (listed_is (lines_with (rows_of content fs.0) (line_key heaviest.key)) found lines_are) }
+
+pub all_under_one_key : (content : Content) (fs : FsId) (address : ℕ) (found : Option (Bor (List ℕ))) → IfSome found (λ row. IsHeaviest (lines_under content) fs.0 address row.now)
+    → IfSome found (λ row. AreUnderOneKey (rows_of content fs.0) row.now)
+all_under_one_key content fs address None h = tt
+all_under_one_key content fs address (Some row) h = under_one_key content fs address row.now h
+
 module _ (content : Content) (fs : FsId) (address : ℕ) (select : KeysSelect (rows_of content fs.0) address) where
   rows : List Row
   rows = rows_of content fs.0
@@ -84,42 +111,27 @@ module _ (content : Content) (fs : FsId) (address : ℕ) (select : KeysSelect (r
   none_selected none = select.none (λ key ok matches.
       used key ∙ none_some (lines_under content (key_at fs key)) (none (key_at fs key) (is_key key ok) (subst (λ o. IsSome o) (sym (weight key)) matches)))
 
-  -- a key that matches is one of this file system
-  of_fs : (key : Key) (w : ℕ) → key_weight fs.0 address key ≡ Some w → (fs_of_key key ≡ fs) × (lines.key_weight address (line_key key) ≡ Some w)
-  of_fs key w e =
-      elim (cases_Bool (eqb (fs_of_key key).0 fs.0)) [
-        | inl t ↦ (same_id (fs_of_key key) fs (eqb-true _ _ t), sym (cond-true (eqb (fs_of_key key).0 fs.0) (lines.key_weight address (line_key key)) None t) ∙ e)
-        | inr f ↦ absurd (let g : None ≡ Some w = sym (cond-false (eqb (fs_of_key key).0 fs.0) (lines.key_weight address (line_key key)) None f) ∙ e in cc)
-      ]
-
-  here : (key : Key) → fs_of_key key ≡ fs → lines_under content key ≡ listed (lines_with (rows_of content fs.0) (line_key key))
-  unfolding lines_under
-  here key e = ap (λ (f : FsId). listed (lines_with (rows_of content f.0) (line_key key))) e
-
   module _ (found : List ℕ) (heaviest : IsHeaviest (lines_under content) fs.0 address found) where
     heaviest_key : IsHeaviestKey (rows_of content fs.0) address (line_key heaviest.key)
     heaviest_key =
-        let of = of_fs heaviest.key heaviest.weight heaviest.matches in
+        let of = of_fs content fs address heaviest.key heaviest.weight heaviest.matches in
         record {
           weight = heaviest.weight;
           is_key = heaviest.is_key;
-          used = used_listed (line_key heaviest.key) (rows_of content fs.0) ∙ ap is_some (sym (here heaviest.key of.0)) ∙ ap is_some heaviest.there;
+          used = used_listed (line_key heaviest.key) (rows_of content fs.0) ∙ ap is_some (sym (here content fs address heaviest.key of.0)) ∙ ap is_some heaviest.there;
           matches = of.1;
           most = λ other ok is. subst (λ o. IfSome o (λ w. w ≤ heaviest.weight)) (weight other) (heaviest.most (key_at fs other) (is_key other ok) (sym (used other) ∙ is));
         }
 
-    lines_are : listed (lines_with (rows_of content fs.0) (line_key heaviest.key)) ≡ Some found
-    lines_are = sym (here heaviest.key (of_fs heaviest.key heaviest.weight heaviest.matches).0) ∙ heaviest.there
-
     lines_selected : found ≡ numbers (selected (rows_of content fs.0) address)
-    lines_selected = sym (listed_is (lines_with (rows_of content fs.0) (line_key heaviest.key)) found lines_are) ∙ ap numbers (sym (select.some (line_key heaviest.key) heaviest_key))
+    lines_selected = sym (listed_is (lines_with (rows_of content fs.0) (line_key heaviest.key)) found (lines_are content fs address found heaviest)) ∙ ap numbers (sym (select.some (line_key heaviest.key) heaviest_key))
 
   -- what a search over the keys gives is the selected lines
   pub selected_lines : (found : Option (Bor (List ℕ))) → IfSome found (λ row. IsHeaviest (lines_under content) fs.0 address row.now) → IfNone found (HasNoMatch (lines_under content) fs.0 address)
       → option_copied found ≡ listed (numbers (selected (rows_of content fs.0) address))
   selected_lines None some none = sym (ap (λ chosen. listed (numbers chosen)) (none_selected none))
   selected_lines (Some row) some none =
-      sym (listed_again (lines_with (rows_of content fs.0) (line_key some.key)) row.now (lines_are row.now some)) ∙ ap listed (lines_selected row.now some)
+      sym (listed_again (lines_with (rows_of content fs.0) (line_key some.key)) row.now (lines_are content fs address row.now some)) ∙ ap listed (lines_selected row.now some)
 
 -- ---- verdicts
 
@@ -143,13 +155,9 @@ pub none_listed : (xs : List ℕ) → listed xs ≡ None → xs ≡ []
 none_listed [] e = refl
 none_listed (x ∷ xs) e = cc
 
-find_agree : {X : Type 0} (p q : X → Bool) → ((x : X) → p x ≡ q x) → (xs : List X) → find p xs ≡ find q xs
-find_agree p q h [] = refl
-find_agree p q h (x ∷ xs) = ap (λ b. cond b (Some x) (find p xs)) (h x) ∙ ap (cond (q x) (Some x)) (find_agree p q h xs)
-
 pub among_agree : (fs : FsId) (p q : Row → Bool) → ((x : Row) → p x ≡ q x) → (rows : List Row) → verdict_among fs p rows ≡ verdict_among fs q rows
 among_agree fs p q h [] = refl
-among_agree fs p q h (first ∷ others) = ap (granted_by fs first) (find_agree p q h (first ∷ others))
+among_agree fs p q h (first ∷ others) = ap (granted_by fs first) (same_search p q h (first ∷ others))
 
 -- on a path of this file system, a line lists what its directories or -alldirs list
 pub lists_same : (content : Content) (fs : ℕ) (path : List (List ℕ)) → fs_of content.table path ≡ Some fs → (row : Row) → lists_here path row ≡ lists content fs path row

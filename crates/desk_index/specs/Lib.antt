@@ -2,6 +2,7 @@ pub mod Keys
 pub mod Laws
 pub mod PrivateFilter
 pub mod PrivateSlot
+pub mod PrivateMarks
 pub mod PrivateKeyed
 pub mod PrivateIndex
 pub mod PrivateNumbered

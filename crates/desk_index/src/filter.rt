@@ -6,13 +6,13 @@ ghost use Rattle.desk_index.specs.PrivateFilter.{Passes, mark_of};
 use std::alloc::{AllocError, Global};
 
 /// How many keys share a word at most, on average.
-const KEYS_A_WORD: usize = 8;
+const KEYS_A_WORD: usize = 4;
 
 /// An odd number without a pattern, by which keys are spread: 2^64 divided by the golden ratio.
 const SPREADING: u64 = 11_400_714_819_323_198_485;
 
-/// Bits by which most keys that are not in a list are told without a search of it. Each key of the list has two bits in
-/// one word, and both are set.
+/// Bits by which most keys that are not in a list are told without a search of it. Each key of the list has three bits
+/// in one word, and all are set.
 #[derive(Drop)]
 pub struct Filter {
     words: Vec<u64>,
@@ -54,13 +54,13 @@ fn set_bits(words: &mut Vec<u64>, key: u32)
     }
 }
 
-/// Gives the place of a key's word among so many, a power of 2, and its two bits there. Keys are spread, so that those
-/// which differ little have other bits.
+/// Gives the place of a key's word among so many, a power of 2, and its three bits there. Keys are spread, so that
+/// those which differ little have other bits.
 #[tactic(auto, unfolding(crate::specs::PrivateFilter::mark_of))]
 fn mark_of(key: u32, count: usize) -> (usize, u64)
     ensures { result ≡ mark_of key count }
 {
     let spread = u64::from(key).wrapping_mul(SPREADING);
-    let bits = 1 << (spread >> 58) | 1 << (spread >> 52 & 63);
+    let bits = 1 << (spread >> 58) | 1 << (spread >> 52 & 63) | 1 << (spread >> 46 & 63);
     ((spread >> 32) as usize & count.wrapping_sub(1), bits)
 }

@@ -1,6 +1,6 @@
 //! A policy by keys.
 
-ghost use Rattle.std.specs.Prelude.{◌≡◌, ◌<◌, ◌≤◌, IfErr, IfOk, List, OnOk, length};
+ghost use Rattle.std.specs.Prelude.{◌≡◌, ◌<◌, ◌≤◌, IfErr, IfOk, IfSome, List, OnOk, find, length};
 ghost use Rattle.std.specs.Option.{option_copied};
 ghost use Rattle.desk_text.specs.Address.{number_of};
 ghost use Rattle.desk_policy.specs.Contradiction.{AreConsistent};
@@ -10,12 +10,13 @@ ghost use Rattle.desk_policy.specs.Weights.{selected};
 ghost use Rattle.desk_index.specs.Keys.{HasNoHostBits, lines_under, listed, numbers};
 ghost use Rattle.desk_index.specs.PrivateIndex.{Refuses};
 ghost use Rattle.desk_index.specs.PrivateKeyed.{AreKeyed};
+ghost use Rattle.desk_index.specs.PrivateMarks.{AreUnderOneKey};
+ghost use Rattle.desk_index.specs.PrivateNumbered.{rows_numbered};
 
 use crate::index_row::IndexRow;
 use crate::keyed::Keyed;
 use crate::keys::Key;
 use crate::laws::select_finds_the_selected_lines;
-use crate::numbered::first_listing;
 use crate::selection::{Rows, select};
 use desk_policy::{
     Denial, Policy, PolicyView, Row, SiteFault, Verdict, contradiction_of_rows, least_contradiction,
@@ -88,6 +89,14 @@ impl Index {
     pub fn selected(&self, fs: FsId, address: Addr) -> Option<&IndexRow>
         ensures { option_copied result ≡ listed (numbers (selected (rows_of self.now fs.0) (number_of address))) }
     {
+        self.under_heaviest_key(fs, address)
+    }
+
+    /// Finds the selected lines of a file system, which are those under one key.
+    fn under_heaviest_key(&self, fs: FsId, address: Addr) -> Option<&IndexRow>
+        ensures selected { option_copied result ≡ listed (numbers (selected (rows_of self.now fs.0) (number_of address))) }
+        ensures lines { IfSome result (λ row. AreUnderOneKey (rows_of self.now fs.0) row.now) }
+    {
         select_finds_the_selected_lines();
         let _number = address.number();
         let mut probes = Probes::new(self);
@@ -98,12 +107,11 @@ impl Index {
     fn decide_in(&self, fs: FsId, address: Addr, path: &Path) -> Verdict<'_>
         ensures { verdict_result result ≡ verdict_among fs (lists_here path.now) (selected (rows_of self.now fs.0) (number_of address)) }
     {
-        let Some(found) = self.selected(fs, address) else {
+        let _ = &self.policy;
+        let Some(found) = self.under_heaviest_key(fs, address) else {
             return Verdict::Denied(Denial::NoLine(fs));
         };
-        let rows = self.policy.rows(fs);
-        let numbers = self.numbers(fs);
-        if let Some(row) = first_listing(rows, numbers, found.lines(), path) {
+        if let Some(row) = self.first_listing(fs, found.lines(), path) {
             return Verdict::Granted {
                 fs,
                 line: row.entry.line,
@@ -116,14 +124,16 @@ impl Index {
         }
     }
 
-    /// Lends the numbers of the lines of a file system, none if there is no such file system.
-    fn numbers(&self, fs: FsId) -> &[u32]
-        ensures { result.now ≡ numbers (rows_of self.now fs.0) }
+    /// Finds the first of the lines under a key that lists a path of their file system.
+    fn first_listing(&self, fs: FsId, lines: &[u32], path: &Path) -> Option<&Row>
+        requires { AreUnderOneKey (rows_of self.now fs.0) lines.now }
+        ensures { option_copied result ≡ find (lists_here path.now) (rows_numbered (rows_of self.now fs.0) lines.now) }
     {
-        match self.parts.get(fs.0 as usize) {
-            Some(part) => part.numbers(),
-            None => &[],
+        let place = fs.0 as usize;
+        if place >= self.parts.len() {
+            return None;
         }
+        self.parts[place].first_listing(self.policy.rows(fs), lines, path)
     }
 }
 

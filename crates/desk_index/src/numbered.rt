@@ -23,7 +23,7 @@ pub fn numbered<'a>(rows: &'a [Row], known: &[u32], number: u32) -> Option<&'a R
 }
 
 /// Lends the line at a place.
-fn row_at(rows: &[Row], place: usize) -> Option<&Row>
+pub fn row_at(rows: &[Row], place: usize) -> Option<&Row>
     ensures { option_copied result ≡ slice_get rows.now place }
 {
     rows.get(place)
