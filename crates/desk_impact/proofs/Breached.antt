@@ -13,7 +13,7 @@ use Rattle.desk_who.specs.Runs.{HasValue, Run}
 use Rattle.desk_impact.specs.Places.{Others, Place, place_of, place_verdict}
 use Rattle.desk_impact.specs.PrivatePlaces.{IsFree}
 use Rattle.desk_impact.specs.PrivateReport.{taken_by}
-use Rattle.desk_impact.specs.PrivateSections.{AddsSection, AreBreachesOf}
+use Rattle.desk_impact.specs.PrivateSections.{AreBreachesOf}
 use Rattle.desk_impact.specs.Sections.{AreBreachesAt, AreBreachesIn, ArePlacesIn, PlaceBreaches, has_breach}
 use Rattle.desk_impact.specs.declared.places.Place.{Place as LentPlace}
 use Rattle.desk_impact.proofs.Reporting.{free_decided}
@@ -50,6 +50,13 @@ breaches_of_others breaks content root path ranges free are =
     (λ address. ap (λ (v : TwoVerdicts). v.before) (free_decided content content root path free address)) are
 
 -- ---- the sections
+-- the section of a place is added, if it has a breach
+pub record AddsSection (breaks : ℕ → Result Grant Denial → Bool) (content : Content) (place : Place) (old new : List PlaceBreaches) : Type 0 where
+  pub found : PlaceBreaches
+  pub place_is : found.place ≡ place
+  pub breaches : AreBreachesAt breaks content found
+  pub added : new ≡ old ++ filter has_breach (found ∷ [])
+
 module _ (breaks : ℕ → Verdict → Bool) (content : Content) where
   pub none_yet : (sections : List PlaceBreaches) → sections ≡ [] → AreBreachesOf breaks content [] sections
   none_yet sections empty = record { found = []; places_are = refl; breaches = All-nil (AreBreachesAt breaks content); are = empty }

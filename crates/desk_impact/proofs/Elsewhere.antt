@@ -73,7 +73,7 @@ same_above path mount here (one ∷ table) all =
     )
 
 -- ---- the verdict on a path that no line writes
-LacksPath : Path → Row → Type 0
+unfoldable pub LacksPath : Path → Row → Type 0
 LacksPath path row = is_directory_among path row.entry.dirs ≡ false
 
 lack : (path : Path) (rows : List Row) → is_directory_among path (written rows) ≡ false → AllByRecursion (LacksPath path) rows
@@ -118,7 +118,7 @@ module _ (content : Content) (fs : ℕ) (path : Path) (home : fs_of content.tabl
       ap (λ b. cond b (Some row) (find (lists content fs path) rows)) (by_alldirs row none.0)
       ∙ ap (λ o. cond row.entry.alldirs (Some row) o) (found rows none.1)
 
-  among : (rows : List Row) → AllByRecursion (LacksPath path) rows → verdict_among (record { 0 = fs }) (lists content fs path) rows ≡ verdict_among (record { 0 = fs }) (λ row. row.entry.alldirs) rows
+  pub among : (rows : List Row) → AllByRecursion (LacksPath path) rows → verdict_among (record { 0 = fs }) (lists content fs path) rows ≡ verdict_among (record { 0 = fs }) (λ row. row.entry.alldirs) rows
   among [] none = refl
   among (row ∷ rows) none = ap (granted_by (record { 0 = fs }) row) (found (row ∷ rows) none)
 
@@ -151,6 +151,14 @@ decided_as_others before after mount path home lacks address =
     (sym (list_any-append (λ dir. same_path dir path) (all_written before) (all_written after)) ∙ lacks) in
     ap (λ v. record { before = v; after = verdict_of after address path }) (decided before mount path p.0 above.0 dirs.0 address)
     ∙ ap (λ v. record { before = verdict_elsewhere before address (fs_of before.table mount); after = v }) (decided after mount path p.0 above.1 dirs.1 address)
+
+-- it is in the file systems of the mount point
+pub home_fs : (before after : Content) (mount path : Path) → is_home (mounts_of_both before after) path mount ≡ true → (fs_of before.table path ≡ fs_of before.table mount) × (fs_of after.table path ≡ fs_of after.table mount)
+home_fs before after mount path home =
+    let p = and_parts (is_under path mount) (list_all (is_above path mount) (mounts_of_both before after)) home in
+    let above = and_parts (list_all (is_above path mount) (mount_points before.table)) (list_all (is_above path mount) (mount_points after.table))
+    (sym (list_all-append (is_above path mount) (mount_points before.table) (mount_points after.table)) ∙ p.1) in
+    (same_fs path mount before.table (same_above path mount p.0 before.table above.0), same_fs path mount after.table (same_above path mount p.0 after.table above.1))
 
 -- ---- a path under no mount point
 no_tests : (path : Path) (table some : List Mount) → list_any (is_under path) (mount_points some) ≡ false → AllByRecursion (λ one. is_file_system table path one ≡ false) some

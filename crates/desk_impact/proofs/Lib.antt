@@ -11,3 +11,6 @@ pub mod OtherLines
 pub mod HavingOthers
 pub mod Breached
 pub mod Scoped
+pub mod Beside
+pub mod WrittenLines
+pub mod Learned

@@ -1,5 +1,5 @@
 -- Sorted paths, each kept once, are the given ones in order.
-use Rattle.std.proofs.Common.{◌≡◌, ℕ, Bool, true, List, [], ◌∷◌, refl, sym, ap, subst, nat_cmp, arith, Bor}
+use Rattle.std.proofs.Common.{◌≡◌, ℕ, Bool, true, List, [], ◌∷◌, sym, ap, subst, nat_cmp, arith, Bor}
 use Rattle.std.specs.Cmp.{IsEquivalence}
 use Rattle.std.specs.Cmp.Lexicographic.{on_texts, slice_cmp, texts_ties}
 use Rattle.std.specs.List.{All, AllPairs, Any, Contains, dedup}

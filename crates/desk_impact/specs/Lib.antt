@@ -4,3 +4,5 @@ pub mod Report
 pub mod PrivateReport
 pub mod Sections
 pub mod PrivateSections
+pub mod PrivateWritings
+pub mod PrivateKnown

@@ -1,5 +1,5 @@
 -- What the private contracts of sections cite.
-use Rattle.std.specs.Prelude.{◌≡◌, ℕ, ◌++◌, ◌∷◌, All, Bool, List, [], Result, filter, map}
+use Rattle.std.specs.Prelude.{◌≡◌, ℕ, All, Bool, List, Result, filter, map}
 use Rattle.desk_policy.specs.Policy.{Content}
 use Rattle.desk_policy.specs.Verdict.{Grant}
 use Rattle.desk_policy.specs.declared.verdict.Denial.{Denial}
@@ -12,10 +12,3 @@ pub record AreBreachesOf (breaks : ℕ → Result Grant Denial → Bool) (conten
   pub places_are : map (λ one. one.place) found ≡ places
   pub breaches : All (AreBreachesAt breaks content) found
   pub are : sections ≡ filter has_breach found
-
--- the section of a place is added, if it has a breach
-pub record AddsSection (breaks : ℕ → Result Grant Denial → Bool) (content : Content) (place : Place) (old new : List PlaceBreaches) : Type 0 where
-  pub found : PlaceBreaches
-  pub place_is : found.place ≡ place
-  pub breaches : AreBreachesAt breaks content found
-  pub added : new ≡ old ++ filter has_breach (found ∷ [])

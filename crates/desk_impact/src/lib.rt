@@ -14,11 +14,15 @@
 //! ```
 #![tactic(auto)]
 
+mod known;
 pub mod laws;
+mod place_breaches;
+mod place_changes;
 pub mod places;
 pub mod report;
 pub mod sections;
 mod unwritten;
+mod writings;
 
 pub use laws::{
     mounts_have_others, no_section_is_all_kept, other_paths_have_none, paths_have_homes,

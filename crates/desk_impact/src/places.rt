@@ -7,7 +7,7 @@ ghost use Rattle.desk_tables.specs.FileSystems.{mount_points};
 ghost use Rattle.desk_policy.specs.Listings.{written};
 ghost use Rattle.desk_impact.specs.Places as spec;
 ghost use Rattle.desk_impact.specs.Places.{AreInOrder, ArePlaces, all_written, dirs_below, is_home, place_of, places_at};
-ghost use Rattle.desk_impact.specs.PrivatePlaces.{ArePlacesWith, dirs_with, is_place_in, paths_in};
+ghost use Rattle.desk_impact.specs.PrivatePlaces.{ArePlacesWith, dirs_with, is_place_in, path_of, paths_in};
 ghost use Rattle.desk_impact.specs.PrivateReport.{taken_by};
 
 use desk_policy::{Policy, Row};
@@ -103,13 +103,19 @@ fn push_if_in<'a>(
 fn is_place_in(table: &FileSystems, fs: FsId, place: Place<'_>) -> bool
     ensures { result ≡ is_place_in table.now fs.0 (place_of place.entry) }
 {
-    let path = match place {
-        Place::Directory(path) => path,
-        Place::Others(mount) => mount,
-    };
-    match table.of(path) {
+    match table.of(path_of(place)) {
         Some(own) => own.0 == fs.0,
         None => false,
+    }
+}
+
+/// Lends the path of a place: the directory, or the mount point of others.
+pub(crate) fn path_of(place: Place<'_>) -> &Path
+    ensures { result.now ≡ path_of (place_of place.entry) }
+{
+    match place {
+        Place::Directory(path) => path,
+        Place::Others(mount) => mount,
     }
 }
 

@@ -4,18 +4,17 @@ ghost use Rattle.std.specs.Prelude.{◌≡◌, ◌<◌, ◌++◌, IfOk, OnOk, if
 ghost use Rattle.std.specs.String.{string_bytes};
 ghost use Rattle.desk_policy.specs.Policy.{with_lines_of};
 ghost use Rattle.desk_who.specs.Impact.{IsImpact, change_value};
-ghost use Rattle.desk_impact.specs.Places.{AreInOrder, place_of, place_verdicts};
-ghost use Rattle.desk_impact.specs.PrivatePlaces.{paths_in};
-ghost use Rattle.desk_impact.specs.PrivateReport.{IsReportOf, IsTold, taken_by};
+ghost use Rattle.desk_impact.specs.Places.{place_of, place_verdicts};
+ghost use Rattle.desk_impact.specs.PrivateReport.{IsReportOf, IsTold};
 ghost use Rattle.desk_impact.specs.Report as spec;
 ghost use Rattle.desk_impact.specs.Report.{IsReport};
 
+use crate::place_changes::changes_at;
 use crate::places::{Place, places_in, places_of_both, places_with, taken_paths};
-use crate::unwritten::free_path;
+use crate::writings::writings_of_both;
 use desk_policy::{Policy, PolicyView};
 use desk_tables::FsId;
-use desk_text::Path;
-use desk_who::{Change, impact, impact_text, same_sayings_are_no_change, those_that_matter};
+use desk_who::{Change, impact_text, same_sayings_are_no_change, those_that_matter};
 use std::alloc::{AllocError, Global};
 
 /// What another policy would change: the printed text, and how many of the changes matter to a client.
@@ -73,16 +72,27 @@ fn report_of<V: PolicyView>(
     ensures { IfOk result (IsReportOf (V.in_force before.now) (V.in_force after.now) (map place_of places.now) all) }
 {
     let taken = taken_paths(alloc, before.policy(), after.policy())?;
+    let writings = writings_of_both(alloc, before.policy(), after.policy())?;
+    let mut known = Vec::new(alloc);
     let mut text = String::new(alloc);
     let mut mattering: u128 = 0;
     let mut others: u128 = 0;
     for place in places {
-        let told = tell_place(
+        let changes = changes_at(
             alloc,
             before,
             after,
             taken.as_slice(),
+            writings.as_slice(),
             *place,
+            &mut known,
+        )?;
+        let told = tell_place(
+            alloc,
+            before,
+            after,
+            *place,
+            changes.as_slice(),
             all,
             &mut text,
         )?;
@@ -101,26 +111,26 @@ struct Told {
 }
 
 /// Tells the changes of a place.
-fn tell_place<'a, V: PolicyView>(
+fn tell_place<V: PolicyView>(
     alloc: Global,
-    before: &'a V,
-    after: &'a V,
-    taken: &[&Path],
+    before: &V,
+    after: &V,
     place: Place<'_>,
+    changes: &[Change<'_>],
     all: bool,
     text: &mut String,
 ) -> Result<Told, AllocError>
-    requires { AreInOrder (taken_by (V.in_force before.now) (V.in_force after.now)) (paths_in taken.now) }
+    requires { let old = V.in_force before.now in let new = V.in_force after.now in
+        IsImpact old new (place_verdicts old new (place_of place)) (map change_value changes.now) }
     ensures { IfOk result (IsTold (V.in_force before.now) (V.in_force after.now) (place_of place.entry) all (string_bytes text.old) (string_bytes text.new)) }
 {
-    let changes = changes_at(alloc, before, after, taken, place)?;
-    let mattering = those_that_matter(alloc, changes.as_slice())?;
+    let mattering = those_that_matter(alloc, changes)?;
     push_section(
         alloc,
         before.policy(),
         after.policy(),
         place,
-        listed(all, changes.as_slice(), mattering.as_slice()),
+        listed(all, &*changes, mattering.as_slice()),
         text,
     )?;
     Ok(Told {
@@ -138,27 +148,6 @@ fn listed<'a, 'b>(
     ensures { result.now ≡ (if all then changes.now else mattering.now) }
 {
     if all { changes } else { mattering }
-}
-
-/// Lists the changes of a place. For all paths of a mount point that no line writes one of them stands.
-fn changes_at<'a, V: PolicyView>(
-    alloc: Global,
-    before: &'a V,
-    after: &'a V,
-    taken: &[&Path],
-    place: Place<'_>,
-) -> Result<Vec<Change<'a>>, AllocError>
-    requires { AreInOrder (taken_by (V.in_force before.now) (V.in_force after.now)) (paths_in taken.now) }
-    ensures { IfOk result (λ changes. let old = V.in_force before.now in let new = V.in_force after.now in
-        IsImpact old new (place_verdicts old new (place_of place.entry)) (map change_value changes.items)) }
-{
-    match place {
-        Place::Directory(path) => impact(alloc, before, after, path),
-        Place::Others(mount) => {
-            let path = free_path(alloc, mount, taken)?;
-            impact(alloc, before, after, &path)
-        }
-    }
 }
 
 /// Writes changes of a place below its heading, if there are some.

@@ -1,18 +1,16 @@
 //! Where, and for whom, the verdicts on a directory and on all below it are not as expected.
 
-ghost use Rattle.std.specs.Prelude.{◌≡◌, ◌++◌, ◌∷◌, [], IfOk, OnOk, filter, map};
+ghost use Rattle.std.specs.Prelude.{◌≡◌, ◌++◌, ◌∷◌, [], IfOk, OnOk, false, filter, map, true};
 ghost use Rattle.desk_text.specs.Path.{is_under};
 ghost use Rattle.desk_tables.specs.FileSystems.{mount_points};
-ghost use Rattle.desk_who.specs.Breaking.{AreBreaches};
 ghost use Rattle.desk_who.specs.Who.{range_value};
-ghost use Rattle.desk_impact.specs.Places.{AreInOrder, all_written, place_of, place_verdict};
+ghost use Rattle.desk_impact.specs.Places.{all_written, place_of};
 ghost use Rattle.desk_impact.specs.PrivatePlaces.{paths_in};
-ghost use Rattle.desk_impact.specs.PrivateReport.{taken_by};
-ghost use Rattle.desk_impact.specs.PrivateSections.{AddsSection};
-ghost use Rattle.desk_impact.specs.Sections.{AreBreachesIn, ArePlacesBelow, ArePlacesIn, has_breach, roots_below, section_value};
+ghost use Rattle.desk_impact.specs.Sections.{AreBreachesIn, ArePlacesBelow, has_breach, roots_below, section_value};
 
+use crate::place_breaches::breaches_at;
 use crate::places::{Place, in_order, places_among, push_all_written, taken_paths};
-use crate::unwritten::free_path;
+use crate::writings::writings_of_both;
 use desk_policy::{Policy, PolicyView};
 use desk_tables::Mount;
 use desk_text::{Path, Sequence};
@@ -38,38 +36,58 @@ pub fn breaches_in<'a, V: PolicyView, E: Expected>(
     ensures { IfOk result (λ sections.
         AreBreachesIn (E.breaks expected.now) (V.in_force view.now) dir.now below (map section_value sections.items)) }
 {
-    let policy = view.policy();
-    let places = places_in_scope(alloc, policy, dir, below)?;
-    let taken = taken_paths(alloc, policy, policy)?;
-    let mut sections = Vec::new(alloc);
-    for place in places.as_slice() {
-        add_section(
-            alloc,
-            view,
-            taken.as_slice(),
-            *place,
-            expected,
-            &mut sections,
-        )?;
+    if below {
+        breaches_below(alloc, view, dir, expected)
+    } else {
+        breaches_of(alloc, view, dir, expected)
     }
+}
+
+/// Lists for whom the verdicts on a directory break what is expected, as the one section, if there is one.
+fn breaches_of<'a, V: PolicyView, E: Expected>(
+    alloc: Global,
+    view: &'a V,
+    dir: &'a Path,
+    expected: &E,
+) -> Result<Vec<Section<'a>>, AllocError>
+    ensures { IfOk result (λ sections.
+        AreBreachesIn (E.breaks expected.now) (V.in_force view.now) dir.now false (map section_value sections.items)) }
+{
+    let ranges = breaches(alloc, view, dir, expected)?;
+    let mut sections = Vec::new(alloc);
+    push_if_some(Place::Directory(dir), ranges, &mut sections)?;
     Ok(sections)
 }
 
-/// Lists the places of a directory, and if asked of all below it.
-fn places_in_scope<'a>(
+/// Lists where, and for whom, the verdicts on a directory and on all below it break what is expected.
+fn breaches_below<'a, V: PolicyView, E: Expected>(
     alloc: Global,
-    policy: &'a Policy,
+    view: &'a V,
     dir: &'a Path,
-    below: bool,
-) -> Result<Vec<Place<'a>>, AllocError>
-    ensures { IfOk result (λ places. ArePlacesIn policy.now dir.now below (map place_of places.items)) }
+    expected: &E,
+) -> Result<Vec<Section<'a>>, AllocError>
+    ensures { IfOk result (λ sections.
+        AreBreachesIn (E.breaks expected.now) (V.in_force view.now) dir.now true (map section_value sections.items)) }
 {
-    if below {
-        return places_below(alloc, policy, dir);
+    let policy = view.policy();
+    let places = places_below(alloc, policy, dir)?;
+    let taken = taken_paths(alloc, policy, policy)?;
+    let writings = writings_of_both(alloc, policy, policy)?;
+    let mut known = Vec::new(alloc);
+    let mut sections = Vec::new(alloc);
+    for place in places.as_slice() {
+        let ranges = breaches_at(
+            alloc,
+            view,
+            taken.as_slice(),
+            writings.as_slice(),
+            *place,
+            expected,
+            &mut known,
+        )?;
+        push_if_some(*place, ranges, &mut sections)?;
     }
-    let mut places = Vec::new(alloc);
-    places.push(Place::Directory(dir))?;
-    Ok(places)
+    Ok(sections)
 }
 
 /// Lists the places of a directory and of all below it, by root in byte order: the roots are the directory, and the mount
@@ -126,24 +144,6 @@ fn all_written<'a>(alloc: Global, policy: &'a Policy) -> Result<Vec<&'a Path>, A
     Ok(dirs)
 }
 
-/// Adds the section of a place, if it has a breach.
-fn add_section<'a, V: PolicyView, E: Expected>(
-    alloc: Global,
-    view: &'a V,
-    taken: &[&Path],
-    place: Place<'a>,
-    expected: &E,
-    sections: &mut Vec<Section<'a>>,
-) -> Result<(), AllocError>
-    requires { AreInOrder (taken_by (V.in_force view.now) (V.in_force view.now)) (paths_in taken.now) }
-    ensures { OnOk result (AddsSection (E.breaks expected.now) (V.in_force view.now) (place_of place.entry)
-        (map section_value sections.old.items) (map section_value sections.new.items)) }
-{
-    let ranges = breaches_at(alloc, view, taken, place, expected)?;
-    push_if_some(place, ranges, sections)?;
-    Ok(())
-}
-
 /// Adds a place with its breaches, if there are some.
 fn push_if_some<'a>(
     place: Place<'a>,
@@ -162,26 +162,4 @@ fn push_if_some<'a>(
         ranges: Sequence::from_vec(ranges),
     })?;
     Ok(())
-}
-
-/// Lists for whom the verdicts at a place break what is expected. For all paths of a root that no line writes one of them
-/// stands.
-fn breaches_at<'a, V: PolicyView, E: Expected>(
-    alloc: Global,
-    view: &'a V,
-    taken: &[&Path],
-    place: Place<'_>,
-    expected: &E,
-) -> Result<Vec<Range<'a>>, AllocError>
-    requires { AreInOrder (taken_by (V.in_force view.now) (V.in_force view.now)) (paths_in taken.now) }
-    ensures { IfOk result (λ ranges.
-        AreBreaches (E.breaks expected.now) (λ address. place_verdict (V.in_force view.now) (place_of place.entry) address) (map range_value ranges.items)) }
-{
-    match place {
-        Place::Directory(path) => breaches(alloc, view, path, expected),
-        Place::Others(root) => {
-            let path = free_path(alloc, root, taken)?;
-            breaches(alloc, view, &path, expected)
-        }
-    }
 }

@@ -9,3 +9,8 @@ pub mod WhoLaws
 pub mod Telling
 pub mod Unchanged
 pub mod Kept
+pub mod Partial
+pub mod ToldChanges
+pub mod Within
+pub mod Slices
+pub mod Held

@@ -20,20 +20,20 @@ use Rattle.desk_who.specs.Runs.{AreStartsOf}
 use Rattle.desk_who.specs.Starts.{AreStarts, IsSteadyLine}
 
 -- ---- numbers that are not among others
-not_here : (n x : ℕ) (xs : List ℕ) → is_among n (x ∷ xs) ≡ false → x ≢ n
+pub not_here : (n x : ℕ) (xs : List ℕ) → is_among n (x ∷ xs) ≡ false → x ≢ n
 not_here n x xs none is = true≢false (sym (or_left _ _ (eq-eqb x n is)) ∙ none)
 
-not_there : (n x : ℕ) (xs : List ℕ) → is_among n (x ∷ xs) ≡ false → is_among n xs ≡ false
+pub not_there : (n x : ℕ) (xs : List ℕ) → is_among n (x ∷ xs) ≡ false → is_among n xs ≡ false
 not_there n x xs none = false_from_ne_true _ (λ is. true≢false (sym (or_right _ _ is) ∙ none))
 
-absent : (n x : ℕ) (xs : List ℕ) → x ≢ n → is_among n xs ≡ false → is_among n (x ∷ xs) ≡ false
+pub absent : (n x : ℕ) (xs : List ℕ) → x ≢ n → is_among n xs ≡ false → is_among n (x ∷ xs) ≡ false
 absent n x xs apart none = ap (λ b. b || is_among n xs) (ne_eqb x n apart) ∙ none
 
 among_append : (n : ℕ) (xs ys : List ℕ) → is_among n (xs ++ ys) ≡ (is_among n xs || is_among n ys)
 among_append n xs ys = list_any-append _ xs ys
 
 -- a number that may be kept is among what is kept where it is among all
-not_among_all : (n : ℕ) (xs : List ℕ) → has_one_before n ≡ true → is_among n (kept xs) ≡ false → is_among n xs ≡ false
+pub not_among_all : (n : ℕ) (xs : List ℕ) → has_one_before n ≡ true → is_among n (kept xs) ≡ false → is_among n xs ≡ false
 not_among_all n [] passes none = refl
 not_among_all n (x ∷ xs) passes none =
     elim (cases_Bool (has_one_before x)) [
@@ -46,7 +46,7 @@ not_among_all n (x ∷ xs) passes none =
     ]
 
 -- what is kept is not 0
-zero_not_kept : (xs : List ℕ) → is_among 0 (kept xs) ≡ false
+pub zero_not_kept : (xs : List ℕ) → is_among 0 (kept xs) ≡ false
 zero_not_kept [] = refl
 zero_not_kept (x ∷ xs) =
     elim (cases_Bool (has_one_before x)) [
@@ -60,7 +60,7 @@ zero_not_around : (xs : List ℕ) → is_among 0 (flat_map around xs) ≡ false
 zero_not_around [] = refl
 zero_not_around (x ∷ xs) = among_append 0 (around x) (flat_map around xs) ∙ ap (λ b. b || is_among 0 (flat_map around xs)) (zero_not_kept (x ∷ (x + 1) ∷ [])) ∙ zero_not_around xs
 
-zero_not_by : (clients : Clients) (addresses : List ℕ) → is_among 0 (starts_by clients addresses) ≡ false
+pub zero_not_by : (clients : Clients) (addresses : List ℕ) → is_among 0 (starts_by clients addresses) ≡ false
 zero_not_by (Hosts names) addresses = zero_not_around addresses
 zero_not_by (Net net noted) addresses = zero_not_kept (net.first ∷ (last_of net + 1) ∷ [])
 zero_not_by (Net6 value) addresses = refl
@@ -73,11 +73,11 @@ zero_not_among (row ∷ rows) =
 
 -- ---- an address and the one before it
 module _ (address : ℕ) (fits : address + 1 < 2 ^ 32) where
-  passes : has_one_before (address + 1) ≡ true
+  pub passes : has_one_before (address + 1) ≡ true
   passes = and_from _ _ (lt-ltb 0 (address + 1) (omega arith)) (lt-ltb (address + 1) (2 ^ 32) fits)
 
   -- neither is one of the addresses
-  neither : (addresses : List ℕ) → is_among (address + 1) (flat_map around addresses) ≡ false → (is_among (address + 1) addresses ≡ false) × (is_among address addresses ≡ false)
+  pub neither : (addresses : List ℕ) → is_among (address + 1) (flat_map around addresses) ≡ false → (is_among (address + 1) addresses ≡ false) × (is_among address addresses ≡ false)
   neither [] none = (refl, refl)
   neither (x ∷ xs) none =
       let split : (is_among (address + 1) (around x) || is_among (address + 1) (flat_map around xs)) ≡ false = sym (among_append (address + 1) (around x) (flat_map around xs)) ∙ none in
@@ -112,7 +112,7 @@ module _ (address : ℕ) (fits : address + 1 < 2 ^ 32) where
   steady_by law World addresses block none = refl
 
 -- ---- all lines
-steady_among : CoversBetweenFirstAndLast → (starts : List ℕ) (rows : List Row) → AllByRecursion (λ (row : Row). HasBlock row.entry.clients) rows
+pub steady_among : CoversBetweenFirstAndLast → (starts : List ℕ) (rows : List Row) → AllByRecursion (λ (row : Row). HasBlock row.entry.clients) rows
     → ((n : ℕ) → is_among n starts ≡ false → is_among n (flat_map starts_of rows) ≡ false) → AllByRecursion (IsSteadyLine starts) rows
 steady_among law starts [] blocks has = tt
 steady_among law starts (row ∷ rows) blocks has =

@@ -32,7 +32,7 @@ two_effects None (Some y) = inr (λ e. cc)
 two_effects (Some x) None = inr (λ e. cc)
 two_effects (Some x) (Some y) = elim (two_terms x y) as (λ _. IsSameOrNot (Some x) (Some y)) [ inl is ↦ inl (ap Some is) | inr apart ↦ inr (λ e. apart (cc)) ]
 
-same_test : {P : Type 0} (a b : Bool) → Decides a P → Decides b P → a ≡ b
+pub same_test : {P : Type 0} (a b : Bool) → Decides a P → Decides b P → a ≡ b
 same_test a b d e =
     elim (cases_Bool a) as (λ _. a ≡ b) [
       | inl is ↦ is ∙ sym (e.1 (d.0 is))

@@ -10,7 +10,7 @@ use Rattle.desk_who.proofs.Discrete.{IsSameOrNot, by_part, two_verdicts}
 use Rattle.desk_who.proofs.Existence.{exist}
 use Rattle.desk_who.proofs.Telling.{matters, matters_decides, says_otherwise, says_otherwise_decides}
 
-two_pairs : (x y : TwoVerdicts) → IsSameOrNot x y
+pub two_pairs : (x y : TwoVerdicts) → IsSameOrNot x y
 two_pairs x y =
     by_part x y (λ v. v.before) (two_verdicts x.before y.before)
     (λ before. by_part x y (λ v. v.after) (two_verdicts x.after y.after)

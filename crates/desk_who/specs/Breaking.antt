@@ -2,13 +2,21 @@
 use Rattle.std.specs.Prelude.{◌≡◌, ◌↔◌, ℕ, ◌<◌, ◌^◌, Bool, false, List, [], Option, None, Some, Result, find, if◌then◌else◌}
 use Rattle.std.specs.List.{filter_map}
 use Rattle.std.specs.Option.{option_map}
-use Rattle.desk_policy.specs.Verdict.{Grant}
+use Rattle.desk_tables.specs.FileSystems.{fs_of}
+use Rattle.desk_policy.specs.Policy.{Content}
+use Rattle.desk_policy.specs.Verdict.{Grant, verdict_of}
 use Rattle.desk_policy.specs.declared.verdict.Denial.{Denial}
-use Rattle.desk_who.specs.Runs.{AreRuns, Ascend, Run, holds}
+use Rattle.desk_who.specs.Runs.{AreRuns, AreStartsOf, Ascend, Run, holds}
 
 -- the verdict of an address, if the address breaks what is expected by it
 abbrev pub broken_at : (ℕ → Result Grant Denial → Bool) → (ℕ → Result Grant Denial) → ℕ → Option (Result Grant Denial)
 broken_at breaks verdict_at address = if breaks address (verdict_at address) then Some (verdict_at address) else None
+
+-- ascending addresses, at which alone the verdict on a path changes, or whether it breaks what is expected; and that on each other
+-- path of its file system
+abbrev pub AreBrokenStarts : (ℕ → Result Grant Denial → Bool) → Content → List (List ℕ) → List ℕ → Type 0
+AreBrokenStarts breaks content path starts =
+    (other : List (List ℕ)) → fs_of content.table other ≡ fs_of content.table path → AreStartsOf (broken_at breaks (λ address. verdict_of content address other)) starts
 
 -- a run with a value, if it has one
 abbrev pub with_value : {A : Type 0} → Run (Option A) → Option (Run A)

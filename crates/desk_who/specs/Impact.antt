@@ -2,12 +2,13 @@
 use Rattle.std.specs.Prelude.{◌≡◌, ◌≢◌, ℕ, ◌<◌, ◌^◌, Bool, filter, find, slice_get, List, [], Option, Some, None, Result, Ok, Err}
 use Rattle.std.specs.Bool.{Decides}
 use Rattle.std.specs.Option.{option_map}
+use Rattle.desk_tables.specs.FileSystems.{fs_of}
 use Rattle.desk_exports.specs.declared.entry.Terms.{Terms}
 use Rattle.desk_policy.specs.Policy.{Content}
 use Rattle.desk_policy.specs.Verdict.{Grant, verdict_of, verdict_result}
 use Rattle.desk_policy.specs.declared.verdict.Denial.{Denial}
 use Rattle.desk_policy.specs.declared.verdict.Denial.TheVariants.{NoFileSystem, NoLine, NotListed}
-use Rattle.desk_who.specs.Runs.{AreRuns, Run, holds, run_value}
+use Rattle.desk_who.specs.Runs.{AreRuns, AreStartsOf, Run, holds, run_value}
 use Rattle.desk_who.specs.declared.changes.TwoVerdicts.{TwoVerdicts as KeptVerdicts}
 use Rattle.desk_who.specs.declared.runs.Run.{Run as KeptRun}
 
@@ -19,6 +20,11 @@ pub record TwoVerdicts : Type 0 where
 -- those on a mount of a path
 abbrev pub verdicts_at : Content → Content → List (List ℕ) → ℕ → TwoVerdicts
 verdicts_at before after path address = record { before = verdict_of before address path; after = verdict_of after address path }
+
+-- ascending addresses, at which alone the verdicts on a path change, and on each other path of its file systems
+abbrev pub AreStartsOfBoth : Content → Content → List (List ℕ) → List ℕ → Type 0
+AreStartsOfBoth before after path starts =
+    (other : List (List ℕ)) → fs_of before.table other ≡ fs_of before.table path → fs_of after.table other ≡ fs_of after.table path → AreStartsOf (verdicts_at before after other) starts
 
 -- what a verdict comes to for a client: the terms of the mount, or none where it is denied, whatever line it names
 abbrev pub effect : Result Grant Denial → Option Terms

@@ -6,3 +6,5 @@ pub mod WhoPrints
 pub mod Impact
 pub mod ImpactPrints
 pub mod Breaking
+pub mod Beside
+pub mod PrivateBeside

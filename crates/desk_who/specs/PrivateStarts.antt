@@ -1,5 +1,5 @@
 -- What the private contracts of starts cite.
-use Rattle.std.specs.Prelude.{ℕ, ◌+◌, ◌^◌, ◌&&◌, Bool, nat_lt, List, [], ◌∷◌, filter}
+use Rattle.std.specs.Prelude.{ℕ, ◌+◌, ◌^◌, ◌&&◌, Bool, nat_le, nat_lt, List, [], ◌∷◌, filter}
 use Rattle.std.specs.List.{flat_map}
 use Rattle.desk_text.specs.Network.{last_of}
 use Rattle.desk_exports.specs.declared.entry.Clients.{Clients}
@@ -27,3 +27,17 @@ starts_by World addresses = []
 
 abbrev pub starts_of : Row → List ℕ
 starts_of row = starts_by row.entry.clients row.addrs
+
+-- a number is one of those from the first to the last
+abbrev pub is_between : ℕ → ℕ → ℕ → Bool
+is_between first last number = nat_le first number && nat_le number last
+
+-- those of the starts at which a line for these clients matches, unless it names them
+abbrev pub within_by : Clients → List ℕ → List ℕ
+within_by (Hosts names) starts = []
+within_by (Net net noted) starts = filter (is_between net.first (last_of net)) starts
+within_by (Net6 value) starts = []
+within_by World starts = starts
+
+abbrev pub within : List ℕ → Row → List ℕ
+within starts row = within_by row.entry.clients starts

@@ -1,6 +1,6 @@
 -- A function of addresses as the list of its runs: the longest ranges of addresses at which it has one value. (this
 -- project's own)
-use Rattle.std.specs.Prelude.{◌≡◌, ◌≢◌, ℕ, ◌+◌, ◌<◌, ◌≤◌, ◌^◌, ◌&&◌, nat_le, Bool, true, false, List, [], ◌∷◌, map}
+use Rattle.std.specs.Prelude.{◌≡◌, ◌≢◌, ℕ, ◌+◌, ◌<◌, ◌≤◌, ◌^◌, ◌&&◌, ◌||◌, ◌==◌, nat_le, Bool, true, false, List, [], ◌∷◌, map}
 use Rattle.std.specs.List.{AllByRecursion, list_any}
 use Rattle.std.specs.List.Sorted.{IsStrictlyIncreasing}
 use Rattle.desk_text.specs.Address.{number_of}
@@ -54,15 +54,20 @@ pub record AreStartsOf {A : Type 0} (value_at : ℕ → A) (starts : List ℕ) :
 abbrev pub run_value : {T A : Type 0} → (T → A) → KeptRun T → Run A
 run_value meaning run = record { first = number_of run.first; last = number_of run.last; value = meaning run.value }
 
--- what is found for each address means what a function of addresses says
-abbrev pub Finds : {T A : Type 0} → (T → A) → (Addr → T → Type 0) → (ℕ → A) → Type 0
-Finds {T} meaning found value_at = (address : Addr) (value : T) → found address value → meaning value ≡ value_at (number_of address)
+-- the first address of all, or one of these
+abbrev pub is_asked : List ℕ → ℕ → Bool
+is_asked starts address = address == 0 || is_among address starts
+
+-- what is found for the first address of all, and for each of these, means what a function of addresses says
+abbrev pub Finds : {T A : Type 0} → (T → A) → (Addr → T → Type 0) → List ℕ → (ℕ → A) → Type 0
+Finds {T} meaning found starts value_at =
+    (address : Addr) (value : T) → is_asked starts (number_of address) ≡ true → found address value → meaning value ≡ value_at (number_of address)
 
 -- The runs of what is found, given where it may change: whatever function of addresses says what it means, and changes at these
 -- addresses alone, has these runs.
 abbrev pub AreRunsFound : {T A : Type 0} → (T → A) → (Addr → T → Type 0) → List ℕ → List (KeptRun T) → Type 0
 AreRunsFound {T} {A} meaning found starts runs =
-    (value_at : ℕ → A) → Finds meaning found value_at → AreStartsOf value_at starts → AreRuns value_at (map (run_value meaning) runs)
+    (value_at : ℕ → A) → Finds meaning found starts value_at → AreStartsOf value_at starts → AreRuns value_at (map (run_value meaning) runs)
 
 -- A function of addresses with values of this kind has at most one list of runs.
 abbrev pub RunsAreUnique : Type 0 → Type 0

@@ -3,8 +3,12 @@ use Rattle.std.specs.Prelude.{◌≡◌, ℕ, ◌+◌, ◌<◌, ◌^◌, false, 
 use Rattle.std.specs.List.{AllByRecursion}
 use Rattle.std.specs.List.Sorted.{IsStrictlyIncreasing}
 use Rattle.desk_text.specs.AddrSet.{is_among}
+use Rattle.desk_tables.specs.FileSystems.{fs_of}
+use Rattle.desk_policy.specs.Policy.{Content}
+use Rattle.desk_policy.specs.Verdict.{verdict_of}
 use Rattle.desk_policy.specs.Weights.{weight_of}
 use Rattle.desk_policy.specs.declared.row.Row.{Row}
+use Rattle.desk_who.specs.Runs.{AreStartsOf}
 
 -- a line matches an address as it matches the one before it, unless this is one of these
 abbrev pub IsSteadyLine : List ℕ → Row → Type 0
@@ -15,3 +19,8 @@ pub record AreStarts (rows : List Row) (starts : List ℕ) : Type 0 where
   pub ascend : IsStrictlyIncreasing starts
   pub behind : is_among 0 starts ≡ false
   pub steady : AllByRecursion (IsSteadyLine starts) rows
+
+-- ascending addresses, at which alone the verdict on a path changes, and on each other path of its file system
+abbrev pub AreStartsUnder : Content → List (List ℕ) → List ℕ → Type 0
+AreStartsUnder content path starts =
+    (other : List (List ℕ)) → fs_of content.table other ≡ fs_of content.table path → AreStartsOf (λ address. verdict_of content address other) starts

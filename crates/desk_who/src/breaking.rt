@@ -5,12 +5,12 @@ ghost use Rattle.std.specs.Option.{option_map};
 ghost use Rattle.desk_text.specs.Address.{number_of};
 ghost use Rattle.desk_policy.specs.Verdict.{Grant, verdict_of, verdict_result};
 ghost use Rattle.desk_policy.specs.declared.verdict.Denial.{Denial};
-ghost use Rattle.desk_who.specs.Breaking.{AreBreaches, broken_at, those_with_value};
-ghost use Rattle.desk_who.specs.Runs.{AreStartsOf, run_value};
+ghost use Rattle.desk_who.specs.Breaking.{AreBreaches, AreBrokenStarts, broken_at};
+ghost use Rattle.desk_who.specs.Runs.{AreStartsOf};
 ghost use Rattle.desk_who.specs.Who.{range_value};
 
 use crate::ranges::Range;
-use crate::runs::{Run, longest_runs};
+use crate::runs::{longest_runs, those_with_value};
 use crate::starts::{joined, starts_under};
 use desk_policy::{Policy, PolicyView, Verdict};
 use desk_text::laws::sorted_sets_are_unique;
@@ -46,11 +46,11 @@ pub fn breaches<'a, V: PolicyView, E: Expected>(
     let runs = longest_runs(alloc, &starts, |address| {
         broken_at(view, path, expected, address)
     })?;
-    those_broken(alloc, runs.as_slice())
+    those_with_value(alloc, runs.as_slice())
 }
 
 /// Finds the verdict on a path for an address, if the address breaks what is expected by it.
-fn broken_at<'a, V: PolicyView, E: Expected>(
+pub(crate) fn broken_at<'a, V: PolicyView, E: Expected>(
     view: &'a V,
     path: &Path,
     expected: &E,
@@ -67,36 +67,17 @@ fn broken_at<'a, V: PolicyView, E: Expected>(
     }
 }
 
-/// Gathers the addresses at which the verdict on a path may change, or what is expected of it.
-fn broken_starts<E: Expected>(
+/// Gathers the addresses at which the verdict on a path may change, or what is expected of it; and so of each path of its file
+/// system.
+pub fn broken_starts<E: Expected>(
     alloc: Global,
     policy: &Policy,
     path: &Path,
     expected: &E,
 ) -> Result<AddrSet, AllocError>
-    ensures { IfOk result (AreStartsOf (broken_at (E.breaks expected.now) (λ address. verdict_of policy.now address path.now))) }
+    ensures { IfOk result (AreBrokenStarts (E.breaks expected.now) policy.now path.now) }
 {
     sorted_sets_are_unique();
     let own = starts_under(alloc, policy, path)?;
     joined(own, expected.starts())
-}
-
-/// Gathers the runs at which a verdict breaks what is expected.
-fn those_broken<'a>(
-    alloc: Global,
-    runs: &[Run<Option<Verdict<'a>>>],
-) -> Result<Vec<Range<'a>>, AllocError>
-    ensures { IfOk result (λ ranges. map range_value ranges.items ≡ those_with_value (map (run_value (option_map verdict_result)) runs.now)) }
-{
-    let mut ranges = Vec::new(alloc);
-    for run in runs {
-        if let Some(value) = run.value {
-            ranges.push(Run {
-                first: run.first,
-                last: run.last,
-                value,
-            })?;
-        }
-    }
-    Ok(ranges)
 }

@@ -4,8 +4,7 @@ ghost use Rattle.std.specs.Prelude.{◌≡◌, IfOk, map};
 ghost use Rattle.std.specs.Bool.{Decides};
 ghost use Rattle.desk_policy.specs.Verdict.{verdict_result};
 ghost use Rattle.desk_who.specs.Impact as spec;
-ghost use Rattle.desk_who.specs.Impact.{IsImpact, ThoseThatMatter, change_value, effect, two_verdicts, verdicts_at};
-ghost use Rattle.desk_who.specs.Runs.{AreStartsOf};
+ghost use Rattle.desk_who.specs.Impact.{AreStartsOfBoth, IsImpact, ThoseThatMatter, change_value, effect, two_verdicts, verdicts_at};
 
 use crate::runs::{Alike, Run, longest_runs};
 use crate::sayings::say_the_same;
@@ -65,14 +64,15 @@ pub fn impact<'a, V: PolicyView>(
     Ok(changes)
 }
 
-/// Gathers the addresses at which the verdict of one of two policies on a path may change.
-fn starts_of_both(
+/// Gathers the addresses at which the verdict of one of two policies on a path may change; and so on each path of its file
+/// systems.
+pub fn starts_of_both(
     alloc: Global,
     before: &Policy,
     after: &Policy,
     path: &Path,
 ) -> Result<AddrSet, AllocError>
-    ensures { IfOk result (AreStartsOf (verdicts_at before.now after.now path.now)) }
+    ensures { IfOk result (AreStartsOfBoth before.now after.now path.now) }
 {
     sorted_sets_are_unique();
     let old = starts_under(alloc, before, path)?;

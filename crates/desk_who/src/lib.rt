@@ -14,6 +14,7 @@
 //! ```
 #![tactic(auto)]
 
+pub mod beside;
 pub mod breaking;
 pub mod change_prints;
 pub mod changes;
@@ -24,9 +25,10 @@ pub mod runs;
 mod sayings;
 pub mod starts;
 
-pub use breaking::{Expected, breaches};
+pub use beside::{breaches_beside, impact_beside};
+pub use breaking::{Expected, breaches, broken_starts};
 pub use change_prints::impact_text;
-pub use changes::{Change, TwoVerdicts, impact, those_that_matter};
+pub use changes::{Change, TwoVerdicts, impact, starts_of_both, those_that_matter};
 pub use laws::{
     breaches_are_unique, breaches_tell_addresses, impacts_are_unique, impacts_tell_changes,
     impacts_tell_effects, no_breach_is_all_kept, ranges_tell_verdicts, runs_are_unique,
@@ -35,4 +37,4 @@ pub use laws::{
 pub use range_prints::who_text;
 pub use ranges::{Range, who};
 pub use runs::{Alike, Run, longest_runs};
-pub use starts::starts_among;
+pub use starts::{starts_among, starts_within};

@@ -1,10 +1,11 @@
 //! What runs over addresses: the longest ranges of addresses that have one value.
 
-ghost use Rattle.std.specs.Prelude.{◌≡◌, false, IfOk, Option};
+ghost use Rattle.std.specs.Prelude.{◌≡◌, false, IfOk, Option, map};
 ghost use Rattle.std.specs.Bool.{Decides};
 ghost use Rattle.std.specs.Option.{option_map};
 ghost use Rattle.desk_text.specs.AddrSet.{is_among};
-ghost use Rattle.desk_who.specs.Runs.{AreRunsFound};
+ghost use Rattle.desk_who.specs.Breaking.{those_with_value};
+ghost use Rattle.desk_who.specs.Runs.{AreRunsFound, run_value};
 
 use desk_text::{Addr, AddrSet};
 use std::alloc::{AllocError, Global};
@@ -71,4 +72,24 @@ pub fn longest_runs<T: Alike, F: Fn(Addr) -> T>(
     let last = Addr::from_number(u32::MAX);
     runs.push(Run { first, last, value })?;
     Ok(runs)
+}
+
+/// Gathers the runs that have a value.
+pub(crate) fn those_with_value<T: Alike>(
+    alloc: Global,
+    runs: &[Run<Option<T>>],
+) -> Result<Vec<Run<T>>, AllocError>
+    ensures { IfOk result (λ found. map (run_value T.meaning) found.items ≡ those_with_value (map (run_value (option_map T.meaning)) runs.now)) }
+{
+    let mut found = Vec::new(alloc);
+    for run in runs {
+        if let Some(value) = run.value {
+            found.push(Run {
+                first: run.first,
+                last: run.last,
+                value,
+            })?;
+        }
+    }
+    Ok(found)
 }

@@ -1,4 +1,4 @@
-use Rattle.std.proofs.Common.{◌≡◌, ◌∙◌, ap, map, rules}
+use Rattle.std.proofs.Common.{◌≡◌, ◌∙◌, ap, map, refl, rules}
 use Rattle.std.specs.Prelude.{filter}
 use Rattle.std.proofs.lemmas.Fn.{filter_same}
 use Rattle.desk_who.specs.Impact.{change_value, verdicts_at}
@@ -8,7 +8,7 @@ use Rattle.desk_who.proofs.Telling.{map-filter, says_otherwise, says_otherwise_d
 use Rattle.desk_who.proofs.changes.impact.Goals as goal
 
 pub longest_runs-requires-clause-behind : goal.longest_runs-requires-clause-behind
-longest_runs-requires-clause-behind g c = c.in_ok-starts.ensures.behind
+longest_runs-requires-clause-behind g c = (c.in_ok-starts.ensures c.args.path.now refl refl).behind
 
 pub returns : goal.returns
 returns g c =
@@ -21,6 +21,6 @@ returns g c =
     let chosen = rw (c.policy-old.ensures, c.policy-new.ensures) at kept in
     record {
       whole = map change_value changes;
-      runs = c.in_ok-changes.ensures (verdicts_at before after c.args.path.now) (λ address verdicts gives. search rules) starts;
+      runs = c.in_ok-changes.ensures (verdicts_at before after c.args.path.now) (λ address verdicts asked gives. search rules) (starts c.args.path.now refl refl);
       chosen = record { test = says_otherwise before after; decides = says_otherwise_decides before after; are = ap (map change_value) chosen ∙ map-filter change_value (says_otherwise before after) changes };
     }

@@ -1,0 +1,96 @@
+-- What is known of file systems.
+use Rattle.std.proofs.Common.{◌≡◌, ℕ, Bool, List, [], ◌∷◌, ◌++◌, get_or, length, length-append, map, refl, sym, ap, ◌∙◌, subst, arith}
+use Rattle.std.specs.Prelude.{Option, Some, None, Result}
+use Rattle.std.specs.List.{All, Contains}
+use Rattle.std.specs.Option.{option_map}
+use Rattle.std.proofs.lemmas.List.Elements.{All-get_or, All-push}
+use Rattle.desk_tables.specs.FileSystems.{fs_of}
+use Rattle.desk_policy.specs.Policy.{Content}
+use Rattle.desk_policy.specs.Verdict.{Grant, verdict_of}
+use Rattle.desk_policy.specs.declared.verdict.Denial.{Denial}
+use Rattle.desk_policy.specs.declared.verdict.Verdict.{Verdict}
+use Rattle.desk_who.specs.Breaking.{AreBreaches, AreBrokenStarts}
+use Rattle.desk_who.specs.Impact.{AreStartsOfBoth, IsImpact, change_value, verdicts_at}
+use Rattle.desk_who.specs.Who.{range_value}
+use Rattle.desk_who.specs.declared.changes.TwoVerdicts.{TwoVerdicts as KeptVerdicts}
+use Rattle.desk_impact.specs.Places.{Others, place_verdict, place_verdicts, verdict_elsewhere}
+use Rattle.desk_impact.specs.PrivateKnown.{AreKnownBreaches, HasLearnedBreaches, HasLearnedChange, IsKnownAt, IsKnownChange, fs_number}
+use Rattle.desk_impact.specs.PrivatePlaces.{IsFree}
+use Rattle.desk_impact.specs.PrivateReport.{taken_by}
+use Rattle.desk_impact.specs.declared.known.Known.{Known}
+use Rattle.desk_impact.proofs.Breached.{breaches_of_others, same_breaches}
+use Rattle.desk_impact.proofs.Reporting.{changes_of_others, same_impact}
+use Rattle.desk_impact.proofs.Same.{Path}
+use Rattle.desk_impact.proofs.Searched.{free_of_given}
+
+-- a file system by its number
+pub number_is : (o : Option ℕ) → fs_number (option_map (λ i. record { 0 = i }) o) ≡ o
+number_is None = refl
+number_is (Some i) = refl
+
+-- ---- the directories that no line writes, in the file systems of a path
+pub known_others : (old new : Content) (one : Known KeptVerdicts) (path : Path) → IsKnownChange old new one → fs_number one.old ≡ fs_of old.table path → fs_number one.new ≡ fs_of new.table path
+    → IsImpact old new (place_verdicts old new (Others path)) (map change_value one.found)
+known_others old new one path known is is' =
+    same_impact old new (place_verdicts old new (Others known.path)) (place_verdicts old new (Others path)) (map change_value one.found)
+    (λ address.
+    ap (λ fs. record { before = verdict_elsewhere old address fs; after = verdict_elsewhere new address (fs_of new.table known.path) }) (sym known.old_is ∙ is)
+    ∙ ap (λ fs. record { before = verdict_elsewhere old address (fs_of old.table path); after = verdict_elsewhere new address fs }) (sym known.new_is ∙ is')) known.changes
+
+pub known_breaches : (breaks : ℕ → Result Grant Denial → Bool) (content : Content) (one : Known Verdict) (path : Path) → AreKnownBreaches breaks content one → fs_number one.old ≡ fs_of content.table path
+    → AreBreaches breaks (λ address. place_verdict content (Others path) address) (map range_value one.found)
+known_breaches breaks content one path known is =
+    same_breaches breaks (λ address. place_verdict content (Others known.path) address) (λ address. place_verdict content (Others path) address) (map range_value one.found)
+    (λ address. ap (verdict_elsewhere content address) (sym known.old_is ∙ is)) known.ranges
+
+-- ---- what is known is one more
+module _ {T : Type 0} (P : Known T → Type 0) (known : List (Known T)) (old new : Option ℕ) (place : ℕ) (at : IsKnownAt known old new place) where
+  pub is_known : All P known → P at.one
+  is_known all = subst P at.there (All-get_or P known place at.one at.within all)
+
+last_at : {X : Type 0} (xs : List X) (x d : X) → get_or (xs ++ x ∷ []) (length xs) d ≡ x
+last_at [] x d = refl
+last_at (y ∷ xs) x d = last_at xs x d
+
+pub known_last : {T : Type 0} (known : List (Known T)) (one : Known T) (old new : Option ℕ) → fs_number one.old ≡ old → fs_number one.new ≡ new → IsKnownAt (known ++ one ∷ []) old new (length known)
+known_last known one old new is is' = record {
+  one = one;
+  within = omega (arith, length-append known (one ∷ []));
+  there = last_at known one one;
+  old_is = is;
+  new_is = is';
+}
+
+-- what is known of file systems is known of those that they are
+pub known_as : {T : Type 0} (known : List (Known T)) (was will old new : Option ℕ) (place : ℕ) → was ≡ old → will ≡ new → IsKnownAt known was will place → IsKnownAt known old new place
+known_as known was will old new place is is' at = record { one = at.one; within = at.within; there = at.there; old_is = at.old_is ∙ is; new_is = at.new_is ∙ is' }
+
+module _ (path other : Path) (taken : List Path) (free : IsFree path taken other) where
+  pub learned_change : (old new : Content) (known : List (Known KeptVerdicts)) (one : Known KeptVerdicts) (place : ℕ) → All (Contains taken) (taken_by old new) → place ≡ length known
+      → fs_number one.old ≡ fs_of old.table path → fs_number one.new ≡ fs_of new.table path → AreStartsOfBoth old new path one.starts → IsImpact old new (verdicts_at old new other) (map change_value one.found)
+      → All (IsKnownChange old new) known → HasLearnedChange old new path (known ++ one ∷ []) place
+  learned_change old new known one place listed last is is' starts impact so_far = record {
+    all = All-push (IsKnownChange old new) known one so_far
+        (record {
+          path = path;
+          old_is = is;
+          new_is = is';
+          starts = starts;
+          changes = changes_of_others old new path other (map change_value one.found) (free_of_given (taken_by old new) taken path other listed free) impact;
+        });
+    own = subst (IsKnownAt (known ++ one ∷ []) (fs_of old.table path) (fs_of new.table path)) (sym last) (known_last known one (fs_of old.table path) (fs_of new.table path) is is');
+  }
+
+  pub learned_breaches : (breaks : ℕ → Result Grant Denial → Bool) (content : Content) (known : List (Known Verdict)) (one : Known Verdict) (place : ℕ) → All (Contains taken) (taken_by content content) → place ≡ length known
+      → fs_number one.old ≡ fs_of content.table path → fs_number one.new ≡ fs_of content.table path → AreBrokenStarts breaks content path one.starts
+      → AreBreaches breaks (λ address. verdict_of content address other) (map range_value one.found) → All (AreKnownBreaches breaks content) known → HasLearnedBreaches breaks content path (known ++ one ∷ []) place
+  learned_breaches breaks content known one place listed last is is' starts ranges so_far = record {
+    all = All-push (AreKnownBreaches breaks content) known one so_far
+        (record {
+          path = path;
+          old_is = is;
+          starts = starts;
+          ranges = breaches_of_others breaks content path other (map range_value one.found) (free_of_given (taken_by content content) taken path other listed free) ranges;
+        });
+    own = subst (IsKnownAt (known ++ one ∷ []) (fs_of content.table path) (fs_of content.table path)) (sym last) (known_last known one (fs_of content.table path) (fs_of content.table path) is is');
+  }

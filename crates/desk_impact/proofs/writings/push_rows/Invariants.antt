@@ -1,0 +1,7 @@
+-- Those of the lines so far are added.
+use Rattle.std.proofs.Common.{◌≡◌, ◌++◌, map, take}
+use Rattle.desk_impact.specs.PrivateWritings.{writing_value, written_by_all}
+use Rattle.desk_impact.proofs.writings.push_rows.Given as goal
+
+abbrev pub invariant-loop-row : goal.invariant-loop-row
+invariant-loop-row l = map writing_value l.writings.items ≡ map writing_value l.initial.writings.items ++ written_by_all (take l.row-index l.rows)

@@ -1,0 +1,47 @@
+-- What is found for a path, from what is found where the verdicts are mostly the same. (this project's own)
+use Rattle.std.specs.Prelude.{◌≡◌, ◌⊎◌, ℕ, ◌+◌, ◌<◌, ◌^◌, Bool, true, false, List, None, Result}
+use Rattle.std.specs.List.{AllByRecursion}
+use Rattle.desk_text.specs.AddrSet.{is_among}
+use Rattle.desk_policy.specs.Policy.{Content}
+use Rattle.desk_policy.specs.Verdict.{Grant}
+use Rattle.desk_policy.specs.Weights.{weight_of}
+use Rattle.desk_policy.specs.declared.row.Row.{Row}
+use Rattle.desk_policy.specs.declared.verdict.Denial.{Denial}
+use Rattle.desk_who.specs.Breaking.{AreBreaches, broken_at}
+use Rattle.desk_who.specs.Impact.{IsImpact, TwoVerdicts}
+use Rattle.desk_who.specs.Runs.{Run}
+use Rattle.desk_who.specs.Starts.{IsSteadyLine}
+
+-- two functions of addresses have the same value at an address, and the same one at the next
+pub record AreAlike {A : Type 0} (value_at other_at : ℕ → A) (address : ℕ) : Type 0 where
+  pub here : value_at address ≡ other_at address
+  pub next : value_at (address + 1) ≡ other_at (address + 1)
+
+-- neither has another value at the next address
+pub record NeitherChanges {A : Type 0} (value_at other_at : ℕ → A) (address : ℕ) : Type 0 where
+  pub own : value_at (address + 1) ≡ value_at address
+  pub other : other_at (address + 1) ≡ other_at address
+
+-- Two functions of addresses go together except at the decided addresses: at any other one, and at the one before it, they have
+-- the same values, or neither changes between the two.
+abbrev pub GoTogether : {A : Type 0} → (ℕ → A) → (ℕ → A) → List ℕ → Type 0
+GoTogether value_at other_at decided =
+    (address : ℕ) → address + 1 < 2 ^ 32 → is_among (address + 1) decided ≡ false → AreAlike value_at other_at address ⊎ NeitherChanges value_at other_at address
+
+-- Given the changes of other verdicts, which go together with these except at the decided addresses, these are the changes.
+abbrev pub IsImpactBeside : Content → Content → (ℕ → TwoVerdicts) → List (Run TwoVerdicts) → List ℕ → List (Run TwoVerdicts) → Type 0
+IsImpactBeside before after verdicts others decided changes =
+    (other_at : ℕ → TwoVerdicts) → IsImpact before after other_at others → GoTogether verdicts other_at decided → IsImpact before after verdicts changes
+
+-- Given the breaches of other verdicts, which break what is expected together with these except at the decided addresses, these
+-- are the breaches.
+abbrev pub AreBreachesBeside : (ℕ → Result Grant Denial → Bool) → (ℕ → Result Grant Denial) → List (Run (Result Grant Denial)) → List ℕ → List (Run (Result Grant Denial)) → Type 0
+AreBreachesBeside breaks verdict_at others decided ranges =
+    (other_at : ℕ → Result Grant Denial) → AreBreaches breaks other_at others → GoTogether (broken_at breaks verdict_at) (broken_at breaks other_at) decided
+    → AreBreaches breaks verdict_at ranges
+
+-- The addresses at which one of these lines begins or ceases to match, and those of the starts at which one of them matches.
+pub record AreStartsWithin (starts : List ℕ) (rows : List Row) (decided : List ℕ) : Type 0 where
+  pub behind : is_among 0 decided ≡ false
+  pub steady : AllByRecursion (IsSteadyLine decided) rows
+  pub apart : (address : ℕ) → address < 2 ^ 32 → is_among address starts ≡ true → is_among address decided ≡ false → AllByRecursion (λ row. weight_of row address ≡ None) rows
