@@ -34,13 +34,17 @@ use Rattle.cli_database.specs.declared.init_command.NotMade.TheVariants as not_m
 -- the site of these seven texts and exports
 abbrev site_by : SiteFiles → (List ℕ → ExportsText) → SiteTexts
 site_by texts exports = record {
-  custodians = string_bytes texts.custodians;
-  filesystems = string_bytes texts.filesystems;
-  hosts = string_bytes texts.hosts;
-  networks = string_bytes texts.networks;
-  passwd = string_bytes texts.passwd;
-  group = string_bytes texts.group;
-  netgroup = string_bytes texts.netgroup;
+  files = record {
+    custodians = string_bytes texts.custodians;
+    filesystems = string_bytes texts.filesystems;
+    tables = record {
+      hosts = string_bytes texts.hosts;
+      networks = string_bytes texts.networks;
+      passwd = string_bytes texts.passwd;
+      group = string_bytes texts.group;
+      netgroup = string_bytes texts.netgroup;
+    };
+  };
   exports = exports;
 }
 

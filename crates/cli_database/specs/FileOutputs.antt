@@ -4,7 +4,7 @@ use Rattle.std.specs.Fmt.{decimal}
 use Rattle.std.specs.List.{flat_map}
 use Rattle.desk_exports.specs.declared.profile.Profile.{Profile}
 use Rattle.desk_exports.specs.declared.profile.Profile.TheVariants.{One, Two}
-use Rattle.desk_core.specs.Judging.{is_of_seven}
+use Rattle.desk_policy.specs.SiteFile.{is_of_seven}
 use Rattle.desk_store.specs.declared.desk.Signature.{Signature}
 
 -- the class of a network counts in a text of a file: it is an exports file's, of profile 1

@@ -1,5 +1,5 @@
 -- The output of `init` by its words and files. (this project's own)
-use Rattle.std.specs.Prelude.{◌≡◌, ◌⊎◌, false, IfErr, IsTrue, OnErr, OnOk, ℕ, ◌++◌, ◌∷◌, List, [], Option, Result, Ok, Err, String, codes, take, unwrap_or, if◌then◌else◌}
+use Rattle.std.specs.Prelude.{◌≡◌, ◌⊎◌, false, IfErr, IsTrue, OnErr, OnOk, ℕ, ◌++◌, ◌∷◌, List, [], Option, Result, Ok, Err, String, codes, map, take, unwrap_or, if◌then◌else◌}
 use Rattle.std.specs.BTreeMap.{BTreeMap, get_by_text}
 use Rattle.std.specs.Fmt.{decimal}
 use Rattle.std.specs.List.{flat_map}
@@ -20,7 +20,8 @@ use Rattle.desk_exports.specs.declared.profile.Profile.TheVariants.{Two}
 use Rattle.desk_exports.specs.declared.rules.Rule.{Rule}
 use Rattle.desk_policy.specs.Parsing.{read_site}
 use Rattle.desk_policy.specs.Policy.{Content}
-use Rattle.desk_policy.specs.Site.{HaveLengthsWithin, SiteTexts, no_exports}
+use Rattle.desk_policy.specs.Site.{HaveLengthsWithin, SiteTexts, no_exports, text_of}
+use Rattle.desk_policy.specs.SiteFile.{all_files}
 use Rattle.desk_policy.specs.declared.site.ExportsText.{ExportsText}
 use Rattle.desk_policy.specs.Warning.{kind_name}
 use Rattle.desk_policy.specs.declared.site_fault.SiteFault.{SiteFault}
@@ -149,7 +150,7 @@ SplitsExports read text (Err NoMemory) = Unit {0}
 
 -- the seven texts of a site
 abbrev pub seven_of : SiteTexts → List (List ℕ)
-seven_of site = site.custodians ∷ site.filesystems ∷ site.hosts ∷ site.networks ∷ site.passwd ∷ site.group ∷ site.netgroup ∷ []
+seven_of site = map (text_of site) all_files
 
 -- a site has these texts of its seven files, and of the exports of these mount points
 pub record HasTexts (seven : List (List ℕ)) (mounts : List Mount) (parts : List (List ℕ)) (site : SiteTexts) : Type 0 where

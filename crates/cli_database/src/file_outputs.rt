@@ -2,7 +2,6 @@
 
 ghost use Rattle.std.specs.Prelude.{◌≡◌, ◌++◌, IfOk, None, OnOk};
 ghost use Rattle.std.specs.String.{string_bytes};
-ghost use Rattle.desk_core.specs.Judging as judging;
 ghost use Rattle.desk_service.specs.Questions.{ByFile, file_question};
 ghost use Rattle.desk_service.specs.declared.questions.FileAnswer.TheVariants as found;
 ghost use Rattle.cli_database.specs.FileOutputs as spec;
@@ -160,14 +159,7 @@ fn counts_classes(name: &str, profile: Profile) -> bool
     ensures { result ≡ spec.counts_classes name.now profile }
 {
     match profile {
-        Profile::One => !is_of_seven(name),
+        Profile::One => !SiteFile::is_name(name),
         Profile::Two => false,
     }
-}
-
-/// Tests whether a file is one of the seven that are not of one file system.
-fn is_of_seven(name: &str) -> bool
-    ensures { result ≡ judging.is_of_seven name.now }
-{
-    SiteFile::of(name).is_some()
 }

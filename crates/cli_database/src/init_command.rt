@@ -32,7 +32,9 @@ use desk_check::split_text::SplitFault;
 use desk_check::{SiteSources, Source, WholeSources, tell_site_fault, tell_split_fault};
 use desk_core::{LONGEST_REVISION, Refusal};
 use desk_exports::{Profile, Rule, split};
-use desk_policy::{ExportsText, Site, SiteFault, SiteFile, Warning, mount_of, parse};
+use desk_policy::{
+    ExportsText, PerSite, PerTable, Site, SiteFault, SiteFile, Warning, mount_of, parse,
+};
 use desk_service::Refused as ByDesk;
 use desk_store::{CreateError, Desk};
 use desk_tables::{FileSystems, Mount};
@@ -184,14 +186,20 @@ fn site_of(
 ) -> Result<Site, AllocError>
     ensures { IfOk result (λ site. IsSiteWith (site_list texts.now) exports (texts_of site)) }
 {
+    let tables = PerTable {
+        hosts: texts.hosts.as_str(),
+        networks: texts.networks.as_str(),
+        passwd: texts.passwd.as_str(),
+        group: texts.group.as_str(),
+        netgroup: texts.netgroup.as_str(),
+    };
+    let files = PerSite {
+        custodians: texts.custodians.as_str(),
+        filesystems: texts.filesystems.as_str(),
+        tables,
+    };
     Ok(Site {
-        custodians: Text::copy(alloc, texts.custodians.as_str())?,
-        filesystems: Text::copy(alloc, texts.filesystems.as_str())?,
-        hosts: Text::copy(alloc, texts.hosts.as_str())?,
-        networks: Text::copy(alloc, texts.networks.as_str())?,
-        passwd: Text::copy(alloc, texts.passwd.as_str())?,
-        group: Text::copy(alloc, texts.group.as_str())?,
-        netgroup: Text::copy(alloc, texts.netgroup.as_str())?,
+        files: PerSite::copy(alloc, files)?,
         exports,
     })
 }

@@ -23,10 +23,10 @@ use cli_output::output::Output;
 use cli_output::refused::Refused;
 use cli_words::arguments::read_number;
 use cli_words::database_words::PutWords;
-use desk_check::{SiteSources, Source, TableSources, WholeSources, tell_site_fault};
+use desk_check::{SiteSources, Source, WholeSources, tell_site_fault};
 use desk_core::{Edit, Refusal};
 use desk_exports::Profile;
-use desk_policy::{SiteFault, SiteFile};
+use desk_policy::{PerTable, SiteFault, SiteFile};
 use desk_service::{Refused as ByDesk, Replies, put_over};
 use desk_store::{Desk, DeskError};
 use sqlite::{Alter, Connection, Start, Wary};
@@ -291,7 +291,7 @@ fn sources_of<'a, S: Alter + Drop>(
         custodians: source_of(desk, edit, SiteFile::Custodians.name()),
         filesystems: source_of(desk, edit, SiteFile::Filesystems.name()),
         whole: WholeSources {
-            tables: TableSources {
+            tables: PerTable {
                 hosts: source_of(desk, edit, SiteFile::Hosts.name()),
                 networks: source_of(desk, edit, SiteFile::Networks.name()),
                 passwd: source_of(desk, edit, SiteFile::Passwd.name()),

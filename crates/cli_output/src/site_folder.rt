@@ -9,8 +9,8 @@ ghost use Rattle.cli_output.specs.SiteFolder.{AreShortFiles, needs_no_slash, pat
 
 use cli_files::failure::Failure;
 use cli_files::files::{FileArgument, read_if_given};
-use desk_check::{SiteSources, Source, TableSources, WholeSources};
-use desk_policy::SiteFile;
+use desk_check::{SiteSources, Source, WholeSources};
+use desk_policy::{PerTable, SiteFile};
 use std::alloc::{AllocError, Global};
 use std::io::BufRead;
 
@@ -36,7 +36,7 @@ pub fn sources_of<'a>(paths: &'a SiteFiles, texts: &'a SiteFiles) -> SiteSources
         custodians: source_of(&paths.custodians, &texts.custodians),
         filesystems: source_of(&paths.filesystems, &texts.filesystems),
         whole: WholeSources {
-            tables: TableSources {
+            tables: PerTable {
                 hosts: source_of(&paths.hosts, &texts.hosts),
                 networks: source_of(&paths.networks, &texts.networks),
                 passwd: source_of(&paths.passwd, &texts.passwd),

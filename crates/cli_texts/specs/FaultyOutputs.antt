@@ -2,9 +2,9 @@
 use Rattle.std.specs.Prelude.{◌≡◌, List, Result}
 use Rattle.std.specs.String.{string_bytes}
 use Rattle.desk_tables.specs.declared.filesystems.Mount.{Mount}
-use Rattle.desk_policy.specs.Parsing.{read_tables}
 use Rattle.desk_policy.specs.declared.parsing.SiteTables.{SiteTables}
 use Rattle.desk_policy.specs.declared.site_fault.SiteFault.{SiteFault}
+use Rattle.desk_check.specs.CheckText.{tables_of}
 use Rattle.desk_check.specs.ToldFault.{TellsOf, TellsOfSplit}
 use Rattle.desk_check.specs.declared.check_faults.Source.{Source}
 use Rattle.desk_check.specs.declared.check_text.WholeSources.{WholeSources}
@@ -24,8 +24,7 @@ IsToldFaulty sources table fault output = ⊥
 
 -- what the tables beside an exports text are read as
 abbrev pub tables_in : WholeSources → Result SiteTables SiteFault
-tables_in sources =
-    read_tables (record { hosts = sources.tables.hosts.text.now; networks = sources.tables.networks.text.now; passwd = sources.tables.passwd.text.now; group = sources.tables.group.text.now; netgroup = sources.tables.netgroup.text.now })
+tables_in sources = tables_of sources.tables
 
 -- beside a fault of `split` that is told; another output says nothing more
 abbrev pub IsToldSplit : Source → Source → Output → Type 0

@@ -1,19 +1,12 @@
--- The tables with which an exports text is read, and a view of what it is read as. (this project's own)
+-- A view of what an exports text is read as. (this project's own)
 use Rattle.std.specs.Prelude.{◌≡◌, Result, Ok, Err}
 use Rattle.desk_text.specs.declared.reading.ReadError.{ReadError}
 use Rattle.desk_text.specs.declared.reading.ReadError.TheVariants.{Fault, Memory}
 use Rattle.desk_policy.specs.Contradiction.{HasNoContradiction}
-use Rattle.desk_policy.specs.Parsing.{read_tables, without_warnings}
+use Rattle.desk_policy.specs.Parsing.{without_warnings}
 use Rattle.desk_policy.specs.Policy.{Content}
 use Rattle.desk_policy.specs.View.{IsFaultOf}
-use Rattle.desk_policy.specs.declared.parsing.SiteTables.{SiteTables}
 use Rattle.desk_policy.specs.declared.site_fault.SiteFault.{SiteFault}
-use Rattle.desk_check.specs.declared.check_faults.TableSources.{TableSources}
-
--- what these texts are read as
-abbrev pub tables_read : TableSources → Result SiteTables SiteFault
-tables_read sources =
-    read_tables (record { hosts = sources.hosts.text.now; networks = sources.networks.text.now; passwd = sources.passwd.text.now; group = sources.group.text.now; netgroup = sources.netgroup.text.now })
 
 -- An exports text is read as this policy, but for its warnings, and it has no contradiction.
 abbrev pub Writes : Result Content SiteFault → Content → Type 0

@@ -14,7 +14,8 @@ use cli_files::failure::Failure;
 use cli_output::output::Output;
 use cli_words::arguments::read_mounts;
 use cli_words::text_words::{CheckWords, TableWords};
-use desk_check::{CheckForm, Gathered, Source, TableSources, WholeSources, gather, report_found};
+use desk_check::{CheckForm, Gathered, Source, WholeSources, gather, report_found};
+use desk_policy::PerTable;
 use desk_tables::FileSystems;
 use std::alloc::Global;
 use std::io::BufRead;
@@ -144,7 +145,7 @@ pub fn sources_of<'a>(
     ensures texts { texts_in result ≡ texts_of texts.now }
 {
     WholeSources {
-        tables: TableSources {
+        tables: PerTable {
             hosts: source_of(tables.hosts, texts.hosts.as_str()),
             networks: source_of(tables.networks, texts.networks.as_str()),
             passwd: source_of(tables.passwd, texts.passwd.as_str()),

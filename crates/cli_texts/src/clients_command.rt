@@ -15,13 +15,13 @@ use crate::View;
 use crate::check_command::sources_of;
 use crate::faulty_outputs::faulty;
 use crate::table_files::{names_input_twice, read_whole_texts};
-use crate::whole_tables::{read_tables, view_of};
+use crate::whole_tables::view_of;
 use cli_files::bad_argument::Argument;
 use cli_files::failure::Failure;
 use cli_output::output::Output;
 use cli_words::arguments::{read_mounts, read_path};
 use cli_words::text_words::ClientsWords;
-use desk_check::WholeSources;
+use desk_check::{WholeSources, read_sources};
 use desk_policy::{PolicyView, SiteFault, SiteTables};
 use desk_tables::FileSystems;
 use desk_text::{Path, ReadError};
@@ -95,7 +95,7 @@ fn answer_texts(
     ensures answers { TellsWith (tables_in sources.entry) sources.entry.exports.text.now filesystems path.now result }
     ensures told { IfOk result (IsTold sources.entry filesystems) }
 {
-    match read_tables(alloc, sources.tables) {
+    match read_sources(alloc, sources.tables) {
         Ok(tables) => answer_with(alloc, path, filesystems, &tables, sources),
         Err(ReadError::Fault(fault)) => faulty(alloc, sources, filesystems, fault),
         Err(ReadError::Memory) => {

@@ -17,14 +17,14 @@ use crate::View;
 use crate::check_command::source_of;
 use crate::compared_files::{ComparedTexts, compared_name_input_twice, read_compared_texts};
 use crate::faulty_outputs::faulty;
-use crate::whole_tables::{read_tables, view_of};
+use crate::whole_tables::view_of;
 use cli_files::failure::Failure;
 use cli_output::output::Output;
 use cli_words::arguments::read_mounts;
 use cli_words::text_words::{CompareWords, TableWords};
-use desk_check::{TableSources, WholeSources};
+use desk_check::{WholeSources, read_sources};
 use desk_impact::impact_report;
-use desk_policy::SiteTables;
+use desk_policy::{PerTable, SiteTables};
 use desk_tables::FileSystems;
 use desk_text::ReadError;
 use std::alloc::Global;
@@ -80,7 +80,7 @@ fn old_sources_of<'a>(
         ≡ string_bytes all.hosts ∷ string_bytes all.networks ∷ string_bytes all.passwd ∷ string_bytes all.group ∷ string_bytes all.netgroup ∷ string_bytes all.old_exports ∷ [] }
 {
     WholeSources {
-        tables: TableSources {
+        tables: PerTable {
             hosts: source_of(tables.hosts, texts.hosts.as_str()),
             networks: source_of(tables.networks, texts.networks.as_str()),
             passwd: source_of(tables.passwd, texts.passwd.as_str()),
@@ -102,7 +102,7 @@ fn new_sources_of<'a>(
         ≡ string_bytes all.hosts ∷ string_bytes all.networks ∷ string_bytes all.passwd ∷ string_bytes all.group ∷ string_bytes all.netgroup ∷ string_bytes all.new_exports ∷ [] }
 {
     WholeSources {
-        tables: TableSources {
+        tables: PerTable {
             hosts: source_of(tables.hosts, texts.hosts.as_str()),
             networks: source_of(tables.networks, texts.networks.as_str()),
             passwd: source_of(tables.passwd, texts.passwd.as_str()),
@@ -127,7 +127,7 @@ fn answer_texts(
     requires new_exports { IsReadable new_sources.exports.text.now }
     ensures { ComparesTexts filesystems all old_sources.entry new_sources.entry result }
 {
-    match read_tables(alloc, old_sources.tables) {
+    match read_sources(alloc, old_sources.tables) {
         Ok(tables) => answer_with(alloc, filesystems, all, &tables, old_sources, new_sources),
         Err(ReadError::Fault(fault)) => faulty(alloc, old_sources, filesystems, fault),
         Err(ReadError::Memory) => {

@@ -18,9 +18,9 @@ use cli_files::failure::Failure;
 use cli_output::output::Output;
 use cli_words::arguments::{Request, read_credential, read_request};
 use cli_words::text_words::TryWords;
-use desk_check::WholeSources;
 use desk_check::try_text::try_text;
-use desk_policy::{PerTable, SiteTables};
+use desk_check::{WholeSources, read_sources};
+use desk_policy::SiteTables;
 use desk_tables::Cred;
 use desk_text::ReadError;
 use std::alloc::Global;
@@ -100,14 +100,7 @@ fn answer_as(
     ensures answers { TellsWith (tables_in sources.entry) sources.entry.exports.text.now own.now request result }
     ensures told { IfOk result (IsTold sources.entry request.filesystems) }
 {
-    let texts = PerTable {
-        hosts: sources.tables.hosts.text,
-        networks: sources.tables.networks.text,
-        passwd: sources.tables.passwd.text,
-        group: sources.tables.group.text,
-        netgroup: sources.tables.netgroup.text,
-    };
-    match SiteTables::read(alloc, texts) {
+    match read_sources(alloc, sources.tables) {
         Ok(tables) => answer_with(alloc, own, request, &tables, sources),
         Err(ReadError::Fault(fault)) => faulty(alloc, sources, request.filesystems, fault),
         Err(ReadError::Memory) => {

@@ -1,3 +1,2 @@
 pub mod CopyAnswers
-pub mod ExportsNames
 pub mod Telling

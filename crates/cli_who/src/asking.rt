@@ -15,7 +15,6 @@ ghost use Rattle.cli_database.specs.Opening.{OnlyMigrates};
 ghost use Rattle.cli_database.specs.RefusedOutputs.{IsRefusedByDesk};
 ghost use Rattle.cli_who.specs.Asking.{TellsAsked, TellsAtPath, TellsByDatabase, TellsChangesTo, TellsImpact, TellsProposal, asked_of, text_of};
 
-use crate::file_names::{is_guarded, is_known};
 use cli_database::View;
 use cli_database::file_outputs::proposal_told;
 use cli_database::put_command::refused;
@@ -23,7 +22,7 @@ use cli_database::refused_outputs::{no_revision, not_opened_at, refused_by_copy}
 use cli_database_files::copy::{Unopened, open_copy};
 use cli_files::failure::Failure;
 use cli_output::output::Output;
-use desk_core::{Edit, Foresight, LONGEST_REVISION, Proposal, Refusal};
+use desk_core::{Edit, Foresight, LONGEST_REVISION, Proposal, Refusal, is_guarded, is_known};
 use desk_impact::{Report, impact_report, lines_report};
 use desk_policy::PolicyView;
 use desk_service::FileQuestion;

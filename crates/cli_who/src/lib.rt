@@ -11,6 +11,5 @@
 #![tactic(auto)]
 
 mod asking;
-mod file_names;
 pub mod impact_command;
 pub mod laws;

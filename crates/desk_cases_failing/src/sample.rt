@@ -1,7 +1,7 @@
 //! The sample site.
 
 use desk_exports::Profile;
-use desk_policy::{ExportsText, Site};
+use desk_policy::{ExportsText, PerSite, PerTable, Site};
 use desk_text::Text;
 use std::alloc::{AllocError, Global};
 use std::collections::BTreeMap;
@@ -73,14 +73,20 @@ pub const TABLES: [(&str, &str); 6] = [
 
 /// Returns the texts of the site, with this text of the file systems.
 pub fn site(alloc: Global, filesystems: &str) -> Result<Site, AllocError> {
+    let tables = PerTable {
+        hosts: HOSTS,
+        networks: NETWORKS,
+        passwd: PASSWD,
+        group: GROUP,
+        netgroup: NETGROUP,
+    };
+    let files = PerSite {
+        custodians: CUSTODIANS,
+        filesystems,
+        tables,
+    };
     Ok(Site {
-        custodians: Text::copy(alloc, CUSTODIANS)?,
-        filesystems: Text::copy(alloc, filesystems)?,
-        hosts: Text::copy(alloc, HOSTS)?,
-        networks: Text::copy(alloc, NETWORKS)?,
-        passwd: Text::copy(alloc, PASSWD)?,
-        group: Text::copy(alloc, GROUP)?,
-        netgroup: Text::copy(alloc, NETGROUP)?,
+        files: PerSite::copy(alloc, files)?,
         exports: exports(alloc)?,
     })
 }

@@ -43,16 +43,13 @@ pub fn site(alloc: Global) -> Result<Site, AllocError> {
             body: Text::copy(alloc, "/usr -ro\n")?,
         },
     )?;
-    Ok(Site {
-        custodians: Text::copy(alloc, CUSTODIANS)?,
-        filesystems: Text::copy(alloc, "/usr site\n")?,
-        hosts: Text::copy(alloc, "131.104.48.17 grumpy\n")?,
-        networks: Text::copy(alloc, "")?,
-        passwd: Text::copy(alloc, "")?,
-        group: Text::copy(alloc, "")?,
-        netgroup: Text::copy(alloc, "")?,
-        exports,
-    })
+    let mut site = Site::new(alloc);
+    site.exports = exports;
+    let files = &mut site.files;
+    files.custodians = Text::copy(alloc, CUSTODIANS)?;
+    files.filesystems = Text::copy(alloc, "/usr site\n")?;
+    files.tables.hosts = Text::copy(alloc, "131.104.48.17 grumpy\n")?;
+    Ok(site)
 }
 
 /// Tells the number of the newest revision of each file, and then each revision of the hosts file: its number, its author and its

@@ -10,8 +10,7 @@ use crate::sites::say_fault;
 use desk_exports::{BoxedMapping, Flavour, Profile, Terms};
 use desk_index::Index;
 use desk_policy::{
-    Denial, ExportsText, PerTable, PolicyView, Row, SiteFault, SiteTables, Verdict, are_ascending,
-    read_lines,
+    Denial, ExportsText, PolicyView, Row, SiteFault, SiteTables, Verdict, are_ascending, read_lines,
 };
 use desk_tables::FsId;
 use desk_text::{Addr, Path, ReadError, Sequence, Text, is_readable};
@@ -60,14 +59,7 @@ pub(crate) fn tables_of(
 ) -> Result<SiteTables, ReadError<SiteFault>>
     requires { HaveReadableLengths (texts_of texts.now) }
 {
-    let texts = PerTable {
-        hosts: texts.hosts.as_str(),
-        networks: texts.networks.as_str(),
-        passwd: texts.passwd.as_str(),
-        group: texts.group.as_str(),
-        netgroup: texts.netgroup.as_str(),
-    };
-    SiteTables::read(alloc, texts)
+    SiteTables::read(alloc, texts.files.tables.lend())
 }
 
 /// Puts the lines of a text, read with these tables, in the place of those of a file system, and keeps the text.

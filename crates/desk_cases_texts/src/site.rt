@@ -6,9 +6,9 @@ use desk_index::Index;
 use desk_netgroup::Netgroups;
 use desk_policy::{Plain, Policy, PolicyView, Verdict, decide};
 use desk_tables::{Custodians, FileSystems, Groups, Hosts, Networks, TableFault, Users};
-use desk_text::{Addr, Path, ReadError, Text};
+use desk_text::{Addr, Path, ReadError};
 use std::alloc::{AllocError, Global};
-use std::collections::{BTreeMap, BTreeSet};
+use std::collections::BTreeSet;
 
 /// What was read last. Until then a table is without rows, or there is none, and the texts of the site are empty.
 #[derive(Drop)]
@@ -62,20 +62,6 @@ impl InForce {
     }
 }
 
-/// Returns the texts of a site that has none.
-pub fn no_texts(alloc: Global) -> desk_policy::Site {
-    desk_policy::Site {
-        custodians: Text::from_string(String::new(alloc)),
-        filesystems: Text::from_string(String::new(alloc)),
-        hosts: Text::from_string(String::new(alloc)),
-        networks: Text::from_string(String::new(alloc)),
-        passwd: Text::from_string(String::new(alloc)),
-        group: Text::from_string(String::new(alloc)),
-        netgroup: Text::from_string(String::new(alloc)),
-        exports: BTreeMap::new(alloc),
-    }
-}
-
 impl Site {
     /// Profile 2, tables without rows, empty texts, and no policy.
     pub fn new(alloc: Global) -> Site {
@@ -88,7 +74,7 @@ impl Site {
             groups: Groups::new(alloc),
             filesystems: None,
             custodians: None,
-            texts: no_texts(alloc),
+            texts: desk_policy::Site::new(alloc),
             policy: None,
             index: None,
             before: None,

@@ -6,11 +6,12 @@ ghost use Rattle.desk_text.specs.Lines.{IsReadable};
 
 use crate::answers::{Asked, say, split};
 use crate::indexes::{add_by_keys, index_of};
-use crate::site::{InForce, Site, no_texts};
+use crate::site::{InForce, Site};
 use desk_exports::Profile;
 use desk_index::Index;
 use desk_policy::{
-    ExportsText, Plain, Policy, PolicyView, SiteFault, Warning, compile, parse, parse_whole,
+    ExportsText, Plain, Policy, PolicyView, SiteFault, SiteFile, Warning, compile, parse,
+    parse_whole,
 };
 use desk_tables::FileSystems;
 use desk_text::{ReadError, Text};
@@ -37,7 +38,7 @@ fn new(alloc: Global, site: &mut Site, out: &mut String, text: &str) -> Asked {
     if !text.is_empty() {
         return Ok(false);
     }
-    site.texts = no_texts(alloc);
+    site.texts = desk_policy::Site::new(alloc);
     site.keys = BTreeSet::new(alloc);
     say(out, "new")
 }
@@ -72,17 +73,13 @@ pub fn keep(
     name: &str,
     text: Text,
 ) -> Result<bool, AllocError> {
-    match name {
-        "custodians" => texts.custodians = text,
-        "filesystems" => texts.filesystems = text,
-        "hosts" => texts.hosts = text,
-        "networks" => texts.networks = text,
-        "passwd" => texts.passwd = text,
-        "group" => texts.group = text,
-        "netgroup" => texts.netgroup = text,
-        _ => return keep_exports(alloc, texts, profile, name, text),
+    match SiteFile::of(name) {
+        Some(file) => {
+            texts.files.set(file, text);
+            Ok(true)
+        }
+        None => keep_exports(alloc, texts, profile, name, text),
     }
-    Ok(true)
 }
 
 fn keep_exports(

@@ -24,6 +24,7 @@ use Rattle.desk_policy.specs.Unlisted.{unlisted_line}
 use Rattle.desk_policy.specs.declared.parsing.SiteTables.{SiteTables}
 use Rattle.desk_policy.specs.declared.site_fault.SiteFault.{SiteFault}
 use Rattle.desk_policy.specs.declared.site_fault.SiteRule.TheVariants as site_rule
+use Rattle.desk_policy.specs.declared.per_table.PerTable.{PerTable}
 use Rattle.desk_exports.specs.Files.{whole_answer}
 use Rattle.desk_tables.specs.FileSystemsText.{read_filesystems}
 use Rattle.desk_check.specs.CheckFaults.{TellTables, Tells, tell_group, tell_line, tell_table}
@@ -33,7 +34,6 @@ use Rattle.desk_check.specs.CheckText.{Finds, Gathers, GathersBy, GathersExports
 use Rattle.desk_check.specs.Finding.{HaveSlices}
 use Rattle.desk_check.specs.Told.{Told, tell, told}
 use Rattle.desk_check.specs.declared.check_faults.Source.{Source}
-use Rattle.desk_check.specs.declared.check_faults.TableSources.{TableSources}
 use Rattle.desk_check.specs.declared.check_site.SiteSources.{SiteSources}
 use Rattle.desk_check.specs.declared.check_text.Gathered.{Gathered}
 use Rattle.desk_check.specs.declared.check_text.WholeSources.{WholeSources}
@@ -67,7 +67,7 @@ line_or_whole : (source : Source) (one : TablePlacedFault) → tables.IsOnLineOr
 line_or_whole source one (inl at) = within_at source one.place at.place (matter.Fault (site_rule.Table one.fault.rule) None) at.there at.lies
 line_or_whole source one (inr whole) = no_place source one.place (matter.Fault (site_rule.Table one.fault.rule) None) whole.1
 
-five_within : (sources : TableSources) (all : List Told) → TellTables sources all → All Within all
+five_within : (sources : PerTable Source) (all : List Told) → TellTables sources all → All Within all
 five_within sources all tells =
     let hosts = in_table sources.hosts _ tells.hosts tells.tell_hosts in
     let networks = in_table sources.networks _ tells.networks tells.tell_networks in
@@ -107,7 +107,7 @@ by_entries (Err fault) sources table site_tables gathered found =
 pub exports_slices : (sources : WholeSources) (table : List Mount) (site_tables : SiteTables) (gathered : Gathered) → GathersExports sources table site_tables gathered → HaveSlices gathered.findings
 exports_slices sources table site_tables gathered found = by_entries (whole_answer (rows_with Two table site_tables) sources.exports.text.now) sources table site_tables gathered found
 
-pub tables_slices : (tables : TableSources) (gathered : Gathered) → GathersTables tables gathered → HaveSlices gathered.findings
+pub tables_slices : (tables : PerTable Source) (gathered : Gathered) → GathersTables tables gathered → HaveSlices gathered.findings
 tables_slices tables gathered found = finds_slices _ _ gathered (five_within tables) found
 
 by_tables : (read : Result SiteTables SiteFault) (sources : WholeSources) (table : List Mount) (gathered : Gathered) → GathersWith read sources table gathered → HaveSlices gathered.findings

@@ -1,4 +1,3 @@
-pub mod ExportsNames
 pub mod FoundFaults
 pub mod FoundSlices
 pub mod HintLemmas

@@ -1,5 +1,5 @@
 -- Where words stand, by the crates that read their lines.
-use Rattle.std.proofs.Common.{◌≡◌, ℕ, List}
+use Rattle.std.proofs.Common.{ℕ, List}
 use Rattle.std.specs.List.{All, IsAmong}
 use Rattle.desk_text.specs.Lines.{LogicalLine, logical_lines}
 use Rattle.desk_text.specs.declared.place.Place.{Place}

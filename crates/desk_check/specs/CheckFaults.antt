@@ -13,10 +13,11 @@ use Rattle.desk_netgroup.specs.Faults.{IsPlaced as IsPlacedInNetgroup}
 use Rattle.desk_netgroup.specs.Netgroups.{netgroup_faults}
 use Rattle.desk_netgroup.specs.declared.faults.PlacedFault.{PlacedFault as GroupPlacedFault}
 use Rattle.desk_exports.specs.declared.faults.PlacedFault.{PlacedFault as LinePlacedFault}
+use Rattle.desk_policy.specs.PerTable.{EachTable}
+use Rattle.desk_policy.specs.declared.per_table.PerTable.{PerTable}
 use Rattle.desk_policy.specs.declared.site_fault.SiteRule.TheVariants as site_rule
 use Rattle.desk_check.specs.Told.{Told, tell, told}
 use Rattle.desk_check.specs.declared.check_faults.Source.{Source}
-use Rattle.desk_check.specs.declared.check_faults.TableSources.{TableSources}
 use Rattle.desk_check.specs.declared.finding.Finding.{Finding}
 use Rattle.desk_check.specs.declared.finding.Matter.TheVariants as matter
 
@@ -57,7 +58,7 @@ abbrev pub TellNetgroup : Source → List Told → Type 0
 TellNetgroup source all = Tells (λ one. one.fault) (IsPlacedInNetgroup source.text.now) (tell_group source) (netgroup_faults source.text.now) all
 
 -- the faults of these tables, in the order in which they are read
-pub record TellTables (sources : TableSources) (all : List Told) : Type 0 where
+pub record TellTables (sources : PerTable Source) (all : List Told) : Type 0 where
   pub hosts : List Told
   pub networks : List Told
   pub passwd : List Told
@@ -77,9 +78,5 @@ pub record Adds (TellAll : List Told → Type 0) (old new : List Finding) : Type
   pub are : map told new ≡ map told old ++ added
 
 -- no text of these tables is too long to be read
-pub record AreReadable (sources : TableSources) : Type 0 where
-  pub hosts : IsReadable sources.hosts.text.now
-  pub networks : IsReadable sources.networks.text.now
-  pub passwd : IsReadable sources.passwd.text.now
-  pub group : IsReadable sources.group.text.now
-  pub netgroup : IsReadable sources.netgroup.text.now
+abbrev pub AreReadable : PerTable Source → Type 0
+AreReadable sources = EachTable (λ (source : Source). IsReadable source.text.now) sources

@@ -10,10 +10,12 @@ use Rattle.desk_exports.specs.declared.files.Scope.TheVariants.{Whole}
 use Rattle.desk_exports.specs.declared.profile.Profile.TheVariants.{Two}
 use Rattle.desk_exports.specs.declared.rules.Rule.{Rule}
 use Rattle.desk_policy.specs.Parsing.{read_tables, rows_with}
+use Rattle.desk_policy.specs.PerTable.{map_tables}
 use Rattle.desk_policy.specs.Policy.{content_of}
 use Rattle.desk_policy.specs.Warning.{netgroup_warnings, whole_warnings}
 use Rattle.desk_policy.specs.declared.contradiction.Contradiction.{Contradiction}
 use Rattle.desk_policy.specs.declared.parsing.SiteTables.{SiteTables}
+use Rattle.desk_policy.specs.declared.per_table.PerTable.{PerTable}
 use Rattle.desk_policy.specs.declared.row.Row.{Row}
 use Rattle.desk_policy.specs.declared.site_fault.SiteFault.{SiteFault}
 use Rattle.desk_policy.specs.declared.warning.Warning.{Warning}
@@ -21,7 +23,6 @@ use Rattle.desk_check.specs.CheckFaults.{TellTables, Tells, tell_line}
 use Rattle.desk_check.specs.CheckOdd.{AreContradictionsIn, TellOdds}
 use Rattle.desk_check.specs.Told.{Told, told}
 use Rattle.desk_check.specs.declared.check_faults.Source.{Source}
-use Rattle.desk_check.specs.declared.check_faults.TableSources.{TableSources}
 use Rattle.desk_check.specs.declared.check_text.Gathered.{Gathered}
 use Rattle.desk_check.specs.declared.check_text.WholeSources.{WholeSources}
 
@@ -54,7 +55,7 @@ pub record TellOddities (sources : WholeSources) (table : List Mount) (site_tabl
   pub are : all ≡ netgroup ++ exports
 
 -- the faults of the tables alone
-abbrev pub GathersTables : TableSources → Gathered → Type 0
+abbrev pub GathersTables : PerTable Source → Gathered → Type 0
 GathersTables tables gathered = Finds (TellTables tables) false gathered
 
 abbrev pub GathersFaults : Source → List Mount → SiteTables → Gathered → Type 0
@@ -75,8 +76,8 @@ GathersExports sources table site_tables gathered =
     GathersBy (whole_answer (rows_with Two table site_tables) sources.exports.text.now) sources table site_tables gathered
 
 -- what these texts of the five tables are read as
-abbrev pub tables_of : TableSources → Result SiteTables SiteFault
-tables_of sources = read_tables (record { hosts = sources.hosts.text.now; networks = sources.networks.text.now; passwd = sources.passwd.text.now; group = sources.group.text.now; netgroup = sources.netgroup.text.now })
+abbrev pub tables_of : PerTable Source → Result SiteTables SiteFault
+tables_of sources = read_tables (map_tables (λ (source : Source). source.text.now) sources)
 
 abbrev pub GathersWith : Result SiteTables SiteFault → WholeSources → List Mount → Gathered → Type 0
 GathersWith (Ok site_tables) sources table gathered = GathersExports sources table site_tables gathered

@@ -1,6 +1,5 @@
 -- The finding that standard error tells beside the fault of a site: the one that `check` prints. (this project's own)
-use Rattle.std.specs.Prelude.{◌≡◌, ℕ, List, [], ◌∷◌, Option, Some, None, Result, Ok, Err, position, slice_get}
-use Rattle.std.specs.Str.{bytes_eq}
+use Rattle.std.specs.Prelude.{◌≡◌, ℕ, List, [], ◌∷◌, Option, Some, None, Result, Ok, Err, slice_get}
 use Rattle.desk_text.specs.Lines.{IsReadable}
 use Rattle.desk_text.specs.declared.address.Addr.{Addr}
 use Rattle.desk_text.specs.declared.reading.LineFault.{LineFault}
@@ -12,7 +11,7 @@ use Rattle.desk_exports.specs.declared.files.Scope.TheVariants.{File, Whole}
 use Rattle.desk_exports.specs.declared.profile.Profile.{Profile}
 use Rattle.desk_exports.specs.declared.rules.Rule.{Rule}
 use Rattle.desk_policy.specs.Parsing.{rows_with}
-use Rattle.desk_policy.specs.SiteFault.{exports_name}
+use Rattle.desk_policy.specs.SiteFile.{exports_place}
 use Rattle.desk_policy.specs.declared.parsing.SiteTables.{SiteTables}
 use Rattle.desk_policy.specs.declared.site_fault.SiteFault.{SiteFault}
 use Rattle.desk_policy.specs.declared.site_fault.SiteRule.{SiteRule}
@@ -46,13 +45,9 @@ abbrev pub scope_at : Option ℕ → Scope
 scope_at None = Whole
 scope_at (Some fs) = File (record { 0 = fs })
 
--- where the file system stands whose exports file has this name
-abbrev pub place_of : List ℕ → List Mount → Option ℕ
-place_of name table = position (λ mount. bytes_eq (exports_name mount.path) name) table
-
 -- the scope in which the lines of a file of this name are read: that of the file system whose exports file it is, or else all
 abbrev pub scope_of : List ℕ → List Mount → Scope
-scope_of name table = scope_at (place_of name table)
+scope_of name table = scope_at (exports_place table name)
 
 -- the fault of a line of an exports file that is read by this profile, with these file systems and tables, is told
 abbrev pub TellLineWith : Profile → Source → LineFault Rule → List Mount → SiteTables → List Told → Type 0

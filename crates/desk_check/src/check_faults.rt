@@ -11,7 +11,7 @@ use crate::finding::{Finding, Matter};
 use desk_exports as exports;
 use desk_netgroup as netgroup;
 use desk_netgroup::Netgroups;
-use desk_policy::SiteRule;
+use desk_policy::{PerTable, SiteRule};
 use desk_tables as tables;
 use desk_tables::{Groups, Hosts, Networks, Users};
 use desk_text::{Place, Sequence};
@@ -22,16 +22,6 @@ use std::alloc::{AllocError, Global};
 pub struct Source<'a> {
     pub path: &'a str,
     pub text: &'a str,
-}
-
-/// The texts of the tables after the file systems.
-#[derive(Clone, Copy)]
-pub struct TableSources<'a> {
-    pub hosts: Source<'a>,
-    pub networks: Source<'a>,
-    pub passwd: Source<'a>,
-    pub group: Source<'a>,
-    pub netgroup: Source<'a>,
 }
 
 /// The front of a physical line of a text, in bytes, whose characters are counted. It keeps the work linear when a long line
@@ -46,7 +36,7 @@ pub struct Front {
 /// Adds the faults of each table, in the order in which they are read.
 pub fn push_tables<'a>(
     alloc: Global,
-    sources: TableSources<'a>,
+    sources: PerTable<Source<'a>>,
     found: &mut Sequence<Finding<'a>>,
 ) -> Result<(), AllocError>
     requires { AreReadable sources }

@@ -13,7 +13,7 @@ ghost use Rattle.desk_check.specs.CheckFaults.{Adds, AreReadable};
 ghost use Rattle.desk_check.specs.CheckText.{Gathers, GathersExports, GathersFaults, GathersOdd, GathersTables, TellInconsistencies, TellNetgroupWarnings, tables_of};
 ghost use Rattle.desk_check.specs.Finding.{HaveSlices};
 
-use crate::check_faults::{Source, TableSources, push_line_faults, push_tables};
+use crate::check_faults::{Source, push_line_faults, push_tables};
 use crate::check_odd::{Among, contradictions_in, push_odds};
 use crate::finding::Finding;
 use desk_exports::{Boxed, Entry, Profile, Rule, Scope, Tables, find_faults, read_whole};
@@ -28,7 +28,7 @@ use std::alloc::{AllocError, Global};
 /// An exports text, and the texts of the tables with which it is read.
 #[derive(Clone, Copy)]
 pub struct WholeSources<'a> {
-    pub tables: TableSources<'a>,
+    pub tables: PerTable<Source<'a>>,
     pub exports: Source<'a>,
 }
 
@@ -65,7 +65,7 @@ pub fn gather<'a>(
 /// Reads the tables that these texts write, or the fault of the first faulty one.
 pub fn read_sources(
     alloc: Global,
-    sources: TableSources<'_>,
+    sources: PerTable<Source<'_>>,
 ) -> Result<SiteTables, ReadError<SiteFault>>
     requires { AreReadable sources }
     ensures { Reads result (tables_of sources.entry) }
@@ -83,7 +83,7 @@ pub fn read_sources(
 /// Finds the faults of the tables, unless memory ran out.
 fn gather_if_fault<'a>(
     alloc: Global,
-    tables: TableSources<'a>,
+    tables: PerTable<Source<'a>>,
     error: ReadError<SiteFault>,
 ) -> Result<Gathered<'a>, AllocError>
     requires { AreReadable tables }
@@ -100,7 +100,10 @@ fn gather_if_fault<'a>(
 }
 
 /// Finds the faults of the tables alone.
-fn gather_tables<'a>(alloc: Global, tables: TableSources<'a>) -> Result<Gathered<'a>, AllocError>
+fn gather_tables<'a>(
+    alloc: Global,
+    tables: PerTable<Source<'a>>,
+) -> Result<Gathered<'a>, AllocError>
     requires { AreReadable tables }
     ensures { IfOk result (GathersTables tables.entry) }
 {

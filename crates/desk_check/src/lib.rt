@@ -30,10 +30,10 @@ mod told_fault;
 mod told_site;
 pub mod try_text;
 
-pub use check_faults::{Source, TableSources};
+pub use check_faults::Source;
 pub use check_report::{CheckForm, Checked, report_found};
 pub use check_site::{SiteSources, gather_site};
-pub use check_text::{Gathered, WholeSources, gather};
+pub use check_text::{Gathered, WholeSources, gather, read_sources};
 pub use faults::fault_text;
 pub use finding::{Finding, Matter, has_fault};
 pub use finding_json::findings_json;

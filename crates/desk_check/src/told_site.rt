@@ -1,7 +1,6 @@
 //! What standard error tells beside the fault of a site: the finding that `check` prints of it.
 
 ghost use Rattle.std.specs.Prelude.{◌≡◌, ◌∷◌, [], Decides, IfOk, OnOk};
-ghost use Rattle.std.specs.Option.{option_map};
 ghost use Rattle.std.specs.String.{string_bytes};
 ghost use Rattle.desk_text.specs.Lines.{IsReadable};
 ghost use Rattle.desk_tables.specs.FileSystemsText.{read_filesystems};
@@ -17,8 +16,8 @@ use crate::check_text::{read_sources, tables_with};
 use crate::finding::{Finding, Matter};
 use crate::told_fault::{push_one_with, told_first};
 use desk_exports::{Profile, Rule, Scope};
-use desk_policy::{SiteFault, SiteRule, SiteTables, mount_of};
-use desk_tables::{FileSystems, FsId};
+use desk_policy::{SiteFault, SiteRule, SiteTables, exports_place};
+use desk_tables::FileSystems;
 use desk_text::{LineFault, ReadError, Sequence, is_readable};
 use std::alloc::{AllocError, Global};
 
@@ -207,18 +206,8 @@ fn push_of_file<'a>(
 fn scope_of(name: &str, filesystems: &FileSystems) -> Scope
     ensures { result ≡ spec.scope_of name.now filesystems.now }
 {
-    match place_of(name, filesystems) {
+    match exports_place(filesystems, name) {
         Some(fs) => Scope::File(fs),
         None => Scope::Whole,
-    }
-}
-
-/// Finds the file system whose exports file has this name.
-fn place_of(name: &str, filesystems: &FileSystems) -> Option<FsId>
-    ensures { result ≡ option_map (λ at. record { 0 = at }) (spec.place_of name.now filesystems.now) }
-{
-    match mount_of(name) {
-        Some(mount) => filesystems.printed_as(mount),
-        None => None,
     }
 }

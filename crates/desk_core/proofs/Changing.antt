@@ -65,8 +65,8 @@ pub may_stand : {V : Type 0} (content : Content) (old new : SiteTexts) (change :
 may_stand content old new (Whole made) rests_on = tt
 may_stand content old new (Lines fs rows) rests_on = rests_on.0
 
-custodians_put : {V : Type 0} (content : Content) (old new : SiteTexts) (change : Changed V) (custodians : List Custodian) → RestsOn content old new change → read_custodians old.custodians ≡ Ok custodians
-    → read_custodians new.custodians ≡ Ok (custodians_after custodians change)
+custodians_put : {V : Type 0} (content : Content) (old new : SiteTexts) (change : Changed V) (custodians : List Custodian) → RestsOn content old new change → read_custodians old.files.custodians ≡ Ok custodians
+    → read_custodians new.files.custodians ≡ Ok (custodians_after custodians change)
 custodians_put content old new (Whole made) custodians rests_on is = rests_on.0
 custodians_put content old new (Lines fs rows) custodians rests_on is = rests_on.1 ∙ is
 
@@ -82,7 +82,7 @@ view_revised in_force state change head heads' content' puts newest view =
 
 -- a state after a change, whose revision is the newest of its file
 pub revised : {V : Type 0} (in_force : V → Content) (state : Kept V) (custodians custodians' : List Custodian) (tables tables' : SiteTables) (change : Changed V) (head : Head) (heads' : List Head) (proposals' : List Proposal) (content' : Content)
-    → read_custodians (site_in (newest_in state.heads)).custodians ≡ Ok custodians → read_site_tables (site_in (newest_in state.heads)) ≡ Ok tables
+    → read_custodians (site_in (newest_in state.heads)).files.custodians ≡ Ok custodians → read_site_tables (site_in (newest_in state.heads)) ≡ Ok tables
     → PutsSite in_force state change (site_in (put (newest_in state.heads) head)) → newest_in heads' ≡ put (newest_in state.heads) head → All CanBeKept heads' → All CanBePending proposals'
     → custodians' ≡ custodians_after custodians change → tables' ≡ tables_after tables change → content' ≡ changed in_force (in_force state.view) change → IsState heads' proposals' content' custodians' tables'
 revised in_force state custodians custodians' tables tables' change head heads' proposals' content' custodians_are tables_are puts newest kept pending c t v =
@@ -91,7 +91,7 @@ revised in_force state custodians custodians' tables tables' change head heads' 
     let site : site_in (newest_in heads') ≡ new = ap site_in newest in
     record {
       in_force = view_revised in_force state change head heads' content' puts newest v;
-      custodians_are = ap (λ (texts : SiteTexts). read_custodians texts.custodians) site ∙ custodians_put (in_force state.view) old new change custodians puts.rests_on custodians_are ∙ ap Ok (sym c);
+      custodians_are = ap (λ (texts : SiteTexts). read_custodians texts.files.custodians) site ∙ custodians_put (in_force state.view) old new change custodians puts.rests_on custodians_are ∙ ap Ok (sym c);
       tables_are = ap read_site_tables site ∙ tables_put (in_force state.view) old new change tables puts.rests_on tables_are ∙ ap Ok (sym t);
       kept = kept;
       pending = pending;

@@ -20,7 +20,8 @@ use Rattle.desk_policy.specs.Site.{SiteTexts}
 use Rattle.desk_policy.specs.SiteFault.{exports_name, table_fault}
 use Rattle.desk_policy.specs.Unlisted.{unlisted_line}
 use Rattle.desk_policy.specs.declared.site_fault.SiteFault.{SiteFault}
-use Rattle.desk_core.specs.Judging.{IsFileName, exports_place, is_of_seven}
+use Rattle.desk_policy.specs.SiteFile.{exports_place, is_of_seven}
+use Rattle.desk_core.specs.Judging.{IsFileName}
 use Rattle.desk_core.specs.Laws.{KnownFilesHaveNames}
 use Rattle.desk_core.specs.Site.{policy_of, policy_read}
 
@@ -66,9 +67,9 @@ found_back law text (Err fault) is = tt
 policy_back : MountPointsReadBack → (texts : SiteTexts) → ReadBack (policy_of texts).table
 unfolding read_site
 policy_back law texts =
-    let own = found_back law texts.filesystems (read_filesystems texts.filesystems) refl in
+    let own = found_back law texts.files.filesystems (read_filesystems texts.files.filesystems) refl in
     policy_table (read_site texts)
-    (then_back (in_file (table_fault (codes "custodians")) (read_custodians texts.custodians)) _ (λ custodians. listed_back texts custodians (read_filesystems texts.filesystems) own))
+    (then_back (in_file (table_fault (codes "custodians")) (read_custodians texts.files.custodians)) _ (λ custodians. listed_back texts custodians (read_filesystems texts.files.filesystems) own))
 
 placed_name : (table : List Mount) (file : List ℕ) → ReadBack table → (place : Option ℕ) → exports_place table file ≡ place → is_some place ≡ true → IsFileName file
 placed_name table file all None is h = absurd (cc)

@@ -1,6 +1,6 @@
 -- For the laws `known_files_are_listed` and `guarded_files_are_marked`: the mount point whose exports file a file is.
 use Rattle.std.proofs.Common.{◌≡◌, ◌∙◌, sym, ap, refl, inl, inr, ℕ, ◌<◌, ◌++◌, Bool, true, false, cond, List, [], ◌∷◌, Option, Some, None, codes, get_or, length, arith}
-use Rattle.std.specs.Prelude.{Contains, is_some, nat_lt, position, slice_get}
+use Rattle.std.specs.Prelude.{is_some, nat_lt, position, slice_get}
 use Rattle.std.specs.List.{position_or_len}
 use Rattle.std.specs.Option.{option_map_or}
 use Rattle.std.specs.Str.{bytes_eq}
@@ -13,7 +13,7 @@ use Rattle.desk_text.specs.Path.{path_text}
 use Rattle.desk_tables.specs.FileSystemsText.{is_guarded}
 use Rattle.desk_tables.specs.declared.filesystems.Mount.{Mount}
 use Rattle.desk_policy.specs.SiteFault.{exports_name}
-use Rattle.desk_core.specs.Judging.{exports_place, is_known, is_of_seven}
+use Rattle.desk_policy.specs.SiteFile.{exports_place, is_of_seven}
 use Rattle.desk_core.specs.Laws.{GuardedFilesAreMarked, IsExportsOf, KnownFilesAreListed}
 
 abbrev is_named : List ℕ → Mount → Bool

@@ -23,12 +23,13 @@ use Rattle.desk_policy.specs.Site.{SiteTexts}
 use Rattle.desk_policy.specs.SiteFault.{contradiction_fault, exports_name}
 use Rattle.desk_policy.specs.View.{HasFault, IsFaultOf, IsLeastContradiction, IsPart, MakesPart, NamesLeast}
 use Rattle.desk_policy.specs.declared.parsing.SiteTables.{SiteTables}
+use Rattle.desk_policy.specs.declared.per_site.PerSite.{PerSite}
 use Rattle.desk_policy.specs.declared.row.Row.{Row}
 use Rattle.desk_policy.specs.declared.site.ExportsText.{ExportsText}
 use Rattle.desk_policy.specs.declared.site_fault.SiteFault.{SiteFault}
+use Rattle.desk_policy.specs.SiteFile.{exports_place}
 use Rattle.desk_core.specs.Edit.{Edit, revision_of}
 use Rattle.desk_core.specs.Head.{newest_in, put}
-use Rattle.desk_core.specs.Judging.{exports_place}
 use Rattle.desk_core.specs.PrivateState.{AreLinesOf, MakesChange, ReadsRows}
 use Rattle.desk_core.specs.Site.{IsInForce, IsSound, policy_of, policy_read, site_in}
 use Rattle.desk_core.specs.State.{PutsSite}
@@ -117,7 +118,7 @@ module _ {V : Type 0} (law : OneFileIsReplaced) (order : TablesAreInOrder) (in_f
     in_former = ap (λ ms. slice_get ms fs) (sym same_table) ∙ here
 
     differ : DifferIn former.0.table fs old new
-    differ = differ_in (newest_in state.heads) (revision_of e) former.0.table fs mount (order old.filesystems former.0.table (table_read old former.0 former.1)).0 in_former file
+    differ = differ_in (newest_in state.heads) (revision_of e) former.0.table fs mount (order old.files.filesystems former.0.table (table_read old former.0 former.1)).0 in_former file
 
     own_file : read_exports new former.0.table tables fs mount.path ≡ gives
     own_file =
@@ -150,7 +151,7 @@ module _ {V : Type 0} (law : OneFileIsReplaced) (order : TablesAreInOrder) (in_f
                 rows = ap (λ (all : List (List Row)). set all fs rows) same_rows ∙ sym lines.lines ∙ sym (ap (λ (c : Content). c.rows) policy);
               };
             };
-            rests_on = (part, ap read_custodians differ.custodians, same_tables old new differ);
+            rests_on = (part, ap (λ (files : PerSite (List ℕ)). read_custodians files.custodians) differ.files, same_tables old new differ);
           }
 
   -- the lines of the text, or its fault

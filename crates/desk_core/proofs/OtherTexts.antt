@@ -1,5 +1,5 @@
 -- The texts of a site, if a revision is that of an exports file: those of the other files are as they were.
-use Rattle.std.proofs.Common.{◌≡◌, ◌≢◌, ◌∙◌, ◌<◌, ◌++◌, ℕ, Bool, true, false, cond, List, Some, Result, ap, arith, codes, get_or, inl, inr, subst, sym}
+use Rattle.std.proofs.Common.{◌≡◌, ◌≢◌, ◌∙◌, ◌<◌, ◌++◌, ℕ, Bool, true, false, cond, List, Some, ap, arith, codes, get_or, inl, inr, subst, sym}
 use Rattle.std.specs.Prelude.{slice_get}
 use Rattle.std.specs.Cmp.Lexicographic.{slice_cmp}
 use Rattle.std.specs.Option.{option_map_or}
@@ -7,6 +7,7 @@ use Rattle.std.specs.Ordering.{is_eq, is_lt, nat_cmp}
 use Rattle.std.specs.Str.{bytes_eq}
 use Rattle.std.specs.declared.cmp.Ordering.{Ordering}
 use Rattle.std.specs.declared.cmp.Ordering.TheVariants.{Less, Equal, Greater}
+use Rattle.std.proofs.Math.Path.{fun_ext}
 use Rattle.std.proofs.lemmas.Bool.{cases_Bool, cases_order}
 use Rattle.std.proofs.lemmas.List.{append_cancel_left}
 use Rattle.std.proofs.lemmas.Map.Text.{is_eq-slice_cmp}
@@ -16,12 +17,15 @@ use Rattle.desk_text.specs.Path.{path_text}
 use Rattle.desk_tables.specs.FileSystems.{AreAscending, is_before}
 use Rattle.desk_tables.specs.declared.filesystems.Mount.{Mount}
 use Rattle.desk_policy.specs.Parsing.{read_site_tables, read_tables}
+use Rattle.desk_policy.specs.PerSite.{by_file}
 use Rattle.desk_policy.specs.Replacing.{DifferIn}
 use Rattle.desk_policy.specs.Site.{SiteTexts, no_exports}
 use Rattle.desk_policy.specs.SiteFault.{exports_name}
-use Rattle.desk_policy.specs.declared.parsing.SiteTables.{SiteTables}
+use Rattle.desk_policy.specs.SiteFile.{file_name}
+use Rattle.desk_policy.specs.declared.per_site.PerSite.{PerSite}
 use Rattle.desk_policy.specs.declared.site.ExportsText.{ExportsText}
-use Rattle.desk_policy.specs.declared.site_fault.SiteFault.{SiteFault}
+use Rattle.desk_policy.specs.declared.site_file.SiteFile.{SiteFile}
+use Rattle.desk_policy.specs.declared.site_file.SiteFile.TheVariants.{Custodians, Filesystems, Group, Hosts, Netgroup, Networks, Passwd}
 use Rattle.desk_core.specs.Head.{Newest, Revision, put}
 use Rattle.desk_core.specs.Site.{revision_text, site_in, text_in}
 
@@ -56,6 +60,15 @@ module _ (table : List Mount) (ascending : AreAscending table) where
 other_letter : (rest name : List ℕ) → get_or name 0 0 ≢ 101 → codes "exports:" ++ rest ≡ name → ⊥
 other_letter rest name other same = other (ap (λ xs. get_or xs 0 0) (sym same))
 
+first_letter : (own : SiteFile) → get_or (file_name own) 0 0 ≢ 101
+first_letter Custodians e = omega arith
+first_letter Filesystems e = omega arith
+first_letter Hosts e = omega arith
+first_letter Networks e = omega arith
+first_letter Passwd e = omega arith
+first_letter Group e = omega arith
+first_letter Netgroup e = omega arith
+
 not_named : (file name : List ℕ) → (file ≡ name → ⊥) → bytes_eq file name ≡ false
 not_named file name other = elim (cases_Bool (bytes_eq file name)) [
   | inl same ↦ absurd (other ((bytes_eq-Decides file name).0 same))
@@ -78,13 +91,7 @@ module _ (newest : Newest) (r : Revision) where
 
     pub differ_in : DifferIn table fs (site_in newest) (site_in (put newest r))
     differ_in = record {
-      custodians = of_seven (codes "custodians") (λ e. omega arith);
-      filesystems = of_seven (codes "filesystems") (λ e. omega arith);
-      hosts = of_seven (codes "hosts") (λ e. omega arith);
-      networks = of_seven (codes "networks") (λ e. omega arith);
-      passwd = of_seven (codes "passwd") (λ e. omega arith);
-      group = of_seven (codes "group") (λ e. omega arith);
-      netgroup = of_seven (codes "netgroup") (λ e. omega arith);
+      files = ap by_file (fun_ext (λ own. of_seven (file_name own) (first_letter own)));
       exports = λ place other ne there. other_text (exports_name other.path) (λ same.
           apart table ascending place fs other mount ne there here
           (append_cancel_left (codes "exports:") (path_text other.path) (path_text mount.path) (sym same ∙ file)));
@@ -92,11 +99,4 @@ module _ (newest : Newest) (r : Revision) where
 
 -- texts that differ in an exports file write the same tables
 pub same_tables : {table : List Mount} {fs : ℕ} (texts other : SiteTexts) → DifferIn table fs texts other → read_site_tables other ≡ read_site_tables texts
-same_tables texts other differ =
-    let T : List ℕ → List ℕ → List ℕ → List ℕ → List ℕ → Result SiteTables SiteFault = λ hosts networks passwd group netgroup.
-    read_tables (record { hosts = hosts; networks = networks; passwd = passwd; group = group; netgroup = netgroup }) in
-    ap (λ t. T t other.networks other.passwd other.group other.netgroup) differ.hosts
-    ∙ ap (λ t. T texts.hosts t other.passwd other.group other.netgroup) differ.networks
-    ∙ ap (λ t. T texts.hosts texts.networks t other.group other.netgroup) differ.passwd
-    ∙ ap (λ t. T texts.hosts texts.networks texts.passwd t other.netgroup) differ.group
-    ∙ ap (λ t. T texts.hosts texts.networks texts.passwd texts.group t) differ.netgroup
+same_tables texts other differ = ap (λ (files : PerSite (List ℕ)). read_tables files.tables) differ.files

@@ -28,7 +28,7 @@ listed_read : (custodians : List Custodian) (read : Result (List Mount) TableFau
 listed_read custodians (Ok found) table is = all_listed found table (unlisted_line custodians found) is
 listed_read custodians (Err fault) table is = is
 
-pub table_read : (texts : SiteTexts) (policy : Content) → read_site texts ≡ Ok policy → read_filesystems texts.filesystems ≡ Ok policy.table
+pub table_read : (texts : SiteTexts) (policy : Content) → read_site texts ≡ Ok policy → read_filesystems texts.files.filesystems ≡ Ok policy.table
 unfolding read_site
 table_read texts policy is =
     let custodians = was_read (custodians_in texts) (λ rows. then_read (filesystems_in texts rows) (read_after_filesystems texts)) policy is in
@@ -36,4 +36,4 @@ table_read texts policy is =
     let tables = was_read (read_site_tables texts) (read_policy texts table.0) policy table.2 in
     let files = was_read (read_files texts table.0 tables.0 0 table.0) (λ all. Ok (content_with table.0 tables.0 all)) policy tables.2 in
     let same : content_with table.0 tables.0 files.0 ≡ policy = (let e : Ok (content_with table.0 tables.0 files.0) ≡ Ok policy = files.2 in cc) in
-    listed_read custodians.0 (read_filesystems texts.filesystems) table.0 (file_read _ (if_listed custodians.0 (read_filesystems texts.filesystems)) table.0 table.1) ∙ ap Ok (ap (λ (c : Content). c.table) same)
+    listed_read custodians.0 (read_filesystems texts.files.filesystems) table.0 (file_read _ (if_listed custodians.0 (read_filesystems texts.files.filesystems)) table.0 table.1) ∙ ap Ok (ap (λ (c : Content). c.table) same)

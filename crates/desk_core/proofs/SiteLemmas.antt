@@ -1,13 +1,15 @@
 -- The site of heads, one head after another.
-use Rattle.std.proofs.Common.{◌≡◌, ◌∙◌, sym, ap, subst, refl, ℕ, ◌+◌, ◌<◌, ◌≤◌, ◌++◌, Bool, true, false, cond, List, [], ◌∷◌, Option, Some, Result, Ok, Err, IfOk, All, ◌-◌, length, get_or, drop, arith}
-use Rattle.std.specs.Prelude.{codes, find}
+use Rattle.std.proofs.Common.{◌≡◌, ◌∙◌, inl, inr, sym, ap, subst, refl, ℕ, ◌+◌, ◌<◌, ◌≤◌, ◌++◌, Bool, true, false, cond, List, [], ◌∷◌, Option, Some, Result, Ok, Err, IfOk, All, ◌-◌, length, get_or, drop, arith}
+use Rattle.std.specs.Prelude.{codes, find, None}
 use Rattle.std.specs.List.{AllByRecursion}
 use Rattle.std.specs.Option.{option_map_or}
 use Rattle.std.specs.Result.{result_unwrap_or}
 use Rattle.std.specs.Str.{bytes_eq}
 use Rattle.std.proofs.Math.Path.{fun_ext}
+use Rattle.std.proofs.lemmas.Bool.{cases_Bool, cond-false, cond-true}
 use Rattle.std.proofs.lemmas.List.{at_drop_more}
 use Rattle.std.proofs.lemmas.List.Elements.{recursion_from_All}
+use Rattle.std.proofs.lemmas.Slice.Eq.{bytes_eq-Decides}
 use Rattle.desk_text.specs.Lines.{longest_text}
 use Rattle.desk_tables.specs.Custodians.{read_custodians}
 use Rattle.desk_tables.specs.Rules.{TableFault}
@@ -15,29 +17,36 @@ use Rattle.desk_tables.specs.declared.custodians.Custodian.{Custodian}
 use Rattle.desk_policy.specs.Contradiction.{HasNoContradiction}
 use Rattle.desk_policy.specs.Parsing.{read_site}
 use Rattle.desk_policy.specs.Policy.{Content}
-use Rattle.desk_policy.specs.Site.{HaveReadableLengths, SiteTexts, no_exports}
+use Rattle.desk_policy.specs.PerSite.{by_file, of_file, with_file}
+use Rattle.desk_policy.specs.Site.{HaveReadableLengths, SiteTexts, no_exports, no_texts, text_of}
+use Rattle.desk_policy.specs.SiteFile.{all_files, file_name, file_of}
+use Rattle.desk_policy.specs.declared.per_site.PerSite.{PerSite}
 use Rattle.desk_policy.specs.declared.site.ExportsText.{ExportsText}
 use Rattle.desk_policy.specs.View.{HasFault, IsFaultOf}
 use Rattle.desk_policy.specs.declared.site_fault.SiteFault.{SiteFault}
+use Rattle.desk_policy.specs.declared.site_file.SiteFile.{SiteFile}
+use Rattle.desk_policy.specs.declared.site_file.SiteFile.TheVariants.{Custodians, Filesystems, Group, Hosts, Netgroup, Networks, Passwd}
 use Rattle.desk_core.specs.Head.{CanBeKept, Newest, newest_in, put}
-use Rattle.desk_core.specs.PrivateSite.{no_texts, with_text}
+use Rattle.desk_core.specs.PrivateSite.{text_or, with_text}
 use Rattle.desk_core.specs.Site.{IsConsistent, IsInForce, IsSound, custodians_of, policy_of, policy_read, site_by, site_in, text_in, revision_text}
 use Rattle.desk_core.specs.declared.head.Head.{Head}
 
-abbrev made : List ℕ → List ℕ → List ℕ → List ℕ → List ℕ → List ℕ → List ℕ → (List ℕ → ExportsText) → SiteTexts
-made a b c d e f g x = record { custodians = a; filesystems = b; hosts = c; networks = d; passwd = e; group = f; netgroup = g; exports = x }
+abbrev made : PerSite (List ℕ) → (List ℕ → ExportsText) → SiteTexts
+made files exports = record { files = files; exports = exports }
 
 -- texts that are equal one by one
-pub same_texts : (s t : SiteTexts) → s.custodians ≡ t.custodians → s.filesystems ≡ t.filesystems → s.hosts ≡ t.hosts → s.networks ≡ t.networks → s.passwd ≡ t.passwd → s.group ≡ t.group → s.netgroup ≡ t.netgroup → ((mount : List ℕ) → s.exports mount ≡ t.exports mount) → s ≡ t
-same_texts s t a b c d e f g x =
-    ap (λ v. made v s.filesystems s.hosts s.networks s.passwd s.group s.netgroup s.exports) a
-    ∙ ap (λ v. made t.custodians v s.hosts s.networks s.passwd s.group s.netgroup s.exports) b
-    ∙ ap (λ v. made t.custodians t.filesystems v s.networks s.passwd s.group s.netgroup s.exports) c
-    ∙ ap (λ v. made t.custodians t.filesystems t.hosts v s.passwd s.group s.netgroup s.exports) d
-    ∙ ap (λ v. made t.custodians t.filesystems t.hosts t.networks v s.group s.netgroup s.exports) e
-    ∙ ap (λ v. made t.custodians t.filesystems t.hosts t.networks t.passwd v s.netgroup s.exports) f
-    ∙ ap (λ v. made t.custodians t.filesystems t.hosts t.networks t.passwd t.group v s.exports) g
-    ∙ ap (λ v. made t.custodians t.filesystems t.hosts t.networks t.passwd t.group t.netgroup v) (fun_ext x)
+same_texts : (s t : SiteTexts) → s.files ≡ t.files → ((mount : List ℕ) → s.exports mount ≡ t.exports mount) → s ≡ t
+same_texts s t files exports = ap (λ f. made f s.exports) files ∙ ap (made t.files) (fun_ext exports)
+
+-- what is made for each file
+of_made : {X : Type 0} (f : SiteFile → X) (file : SiteFile) → of_file (by_file f) file ≡ f file
+of_made f Custodians = refl
+of_made f Filesystems = refl
+of_made f Hosts = refl
+of_made f Networks = refl
+of_made f Passwd = refl
+of_made f Group = refl
+of_made f Netgroup = refl
 
 chosen : (b : Bool) (h : Head) (o : Option Head) → cond b (revision_text h) (option_map_or revision_text o no_exports) ≡ option_map_or revision_text (cond b (Some h) o) no_exports
 chosen true h o = refl
@@ -50,9 +59,57 @@ chosen_body false h o = refl
 -- the text of a head is that of its file
 pub site_put : (newest : Newest) (h : Head) → with_text (site_in newest) h.file (revision_text h) ≡ site_in (put newest h)
 site_put newest h =
-    let own : (name : List ℕ) → cond (bytes_eq h.file name) h.body (text_in newest name).body ≡ (text_in (put newest h) name).body = λ name. chosen_body (bytes_eq h.file name) h (newest name) in
-    same_texts (with_text (site_in newest) h.file (revision_text h)) (site_in (put newest h)) (own (codes "custodians")) (own (codes "filesystems")) (own (codes "hosts")) (own (codes "networks")) (own (codes "passwd")) (own (codes "group")) (own (codes "netgroup"))
+    let own : (file : SiteFile) → cond (bytes_eq h.file (file_name file)) h.body (text_of (site_in newest) file) ≡ (text_in (put newest h) (file_name file)).body =
+    λ file. ap (cond (bytes_eq h.file (file_name file)) h.body) (of_made (λ f. (text_in newest (file_name f)).body) file) ∙ chosen_body (bytes_eq h.file (file_name file)) h (newest (file_name file)) in
+    same_texts (with_text (site_in newest) h.file (revision_text h)) (site_in (put newest h)) (ap by_file (fun_ext own))
     (λ mount. chosen (bytes_eq h.file (codes "exports:" ++ mount)) h (newest (codes "exports:" ++ mount)))
+
+-- the text of one of the seven is put there
+own_put : (files : PerSite (List ℕ)) (exports : List ℕ → ExportsText) (text : ExportsText) (own : SiteFile) → made (with_file files own text.body) exports ≡ with_text (made files exports) (file_name own) text
+own_put files exports text Custodians = refl
+own_put files exports text Filesystems = refl
+own_put files exports text Hosts = refl
+own_put files exports text Networks = refl
+own_put files exports text Passwd = refl
+own_put files exports text Group = refl
+own_put files exports text Netgroup = refl
+
+is_found : (p : SiteFile → Bool) (files : List SiteFile) (own : SiteFile) → find p files ≡ Some own → p own ≡ true
+is_found p [] own e = absurd (cc)
+is_found p (file ∷ files) own e = elim (cases_Bool (p file)) [
+  | inl passes ↦
+      let first : Some file ≡ Some own = sym (cond-true (p file) (Some file) (find p files) passes) ∙ e in
+      let same : file ≡ own = cc in
+      subst (λ (f : SiteFile). p f ≡ true) same passes
+  | inr fails ↦ is_found p files own (sym (cond-false (p file) (Some file) (find p files) fails) ∙ e)
+]
+
+pub own_taken : (files : PerSite (List ℕ)) (exports : List ℕ → ExportsText) (text : ExportsText) (name : List ℕ) (own : SiteFile) → file_of name ≡ Some own
+    → made (with_file files own text.body) exports ≡ with_text (made files exports) name text
+own_taken files exports text name own is =
+    let named : name ≡ file_name own = (bytes_eq-Decides name (file_name own)).0 (is_found (λ file. bytes_eq name (file_name file)) all_files own is) in
+    own_put files exports text own ∙ ap (λ n. with_text (made files exports) n text) (sym named)
+
+own_name : (own : SiteFile) → file_of (file_name own) ≡ Some own
+own_name Custodians = refl
+own_name Filesystems = refl
+own_name Hosts = refl
+own_name Networks = refl
+own_name Passwd = refl
+own_name Group = refl
+own_name Netgroup = refl
+
+other_name : (name : List ℕ) (own : SiteFile) → file_of name ≡ None → bytes_eq name (file_name own) ≡ false
+other_name name own is = elim (cases_Bool (bytes_eq name (file_name own))) [
+  | inl same ↦ absurd (let both : None ≡ Some own = sym is ∙ ap file_of ((bytes_eq-Decides name (file_name own)).0 same) ∙ own_name own in cc)
+  | inr other ↦ other
+]
+
+-- the text of another file is put among the exports files
+pub other_taken : (files : PerSite (List ℕ)) (old new : List ℕ → ExportsText) (text : ExportsText) (name : List ℕ) → file_of name ≡ None
+    → ((mount : List ℕ) → new mount ≡ text_or name text (codes "exports:" ++ mount) (old mount)) → made files new ≡ with_text (made files old) name text
+other_taken files old new text name is exports =
+    same_texts (made files new) (with_text (made files old) name text) (ap by_file (fun_ext (λ own. sym (ap (λ b. cond b text.body (of_file files own)) (other_name name own is))))) exports
 
 pub site_none : no_texts ≡ site_in (newest_in [])
 unfolding newest_in
@@ -67,7 +124,7 @@ in_force texts content e none =
     let is : policy_of texts ≡ content = ap policy_read e in
     record { consistent = subst IsSound (sym e) none; lines = record { table = sym (ap (λ c. c.table) is); rows = sym (ap (λ c. c.rows) is) } }
 
-pub custodians_in_force : (texts : SiteTexts) (custodians : List Custodian) → read_custodians texts.custodians ≡ Ok custodians → custodians ≡ custodians_of texts
+pub custodians_in_force : (texts : SiteTexts) (custodians : List Custodian) → read_custodians texts.files.custodians ≡ Ok custodians → custodians ≡ custodians_of texts
 custodians_in_force texts custodians e = sym (ap (λ (r : Result (List Custodian) TableFault). result_unwrap_or r []) e)
 
 apart : (read : Result Content SiteFault) (fault : SiteFault) → IsSound read → IsFaultOf read fault → ⊥
@@ -99,13 +156,7 @@ AreShort newest = (name : List ℕ) → length (text_in newest name).body ≤ lo
 
 readable : (newest : Newest) → AreShort newest → HaveReadableLengths (site_in newest)
 readable newest short = record {
-  custodians = short (codes "custodians");
-  filesystems = short (codes "filesystems");
-  hosts = short (codes "hosts");
-  networks = short (codes "networks");
-  passwd = short (codes "passwd");
-  group = short (codes "group");
-  netgroup = short (codes "netgroup");
+  files = λ file. subst (λ (text : List ℕ). length text ≤ longest_text) (sym (of_made (λ f. (text_in newest (file_name f)).body) file)) (short (file_name file));
   exports = λ mount. short (codes "exports:" ++ mount);
 }
 

@@ -8,8 +8,8 @@ use Rattle.desk_policy.specs.Policy.{Content, content_of_lines, rows_of, with_li
 use Rattle.desk_policy.specs.Site.{SiteTexts}
 use Rattle.desk_policy.specs.View.{HasFault}
 use Rattle.desk_policy.specs.declared.site_fault.SiteFault.{SiteFault}
+use Rattle.desk_policy.specs.SiteFile.{exports_place}
 use Rattle.desk_core.specs.Head.{Newest, Revision, newest_in, put}
-use Rattle.desk_core.specs.Judging.{exports_place}
 use Rattle.desk_core.specs.Site.{IsInForce, site_in}
 use Rattle.desk_core.specs.Views.{Kept}
 use Rattle.desk_core.specs.declared.foresight.ForeseenSite.{ForeseenSite}

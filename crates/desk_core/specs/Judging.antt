@@ -1,6 +1,6 @@
 -- What an edit is answered: by the first of nine cases that holds, or else by the site with its text, and by whether the
 -- file is guarded. (this project's own)
-use Rattle.std.specs.Prelude.{◌≡◌, ◌⊎◌, ℕ, ◌+◌, ◌==◌, ◌&&◌, ◌||◌, Bool, true, false, not, List, [], ◌∷◌, Option, Some, None, Ok, codes, find, is_none, is_some, length, map, nat_lt, position, if◌then◌else◌}
+use Rattle.std.specs.Prelude.{◌≡◌, ◌⊎◌, ℕ, ◌+◌, ◌==◌, ◌&&◌, ◌||◌, Bool, true, false, not, List, [], ◌∷◌, Option, Some, None, Ok, codes, find, is_none, is_some, length, map, nat_lt, if◌then◌else◌}
 use Rattle.std.specs.Option.{option_map_or}
 use Rattle.std.specs.Str.{bytes_eq}
 use Rattle.sha2.specs.Sha256.{sha256}
@@ -11,7 +11,7 @@ use Rattle.desk_tables.specs.declared.custodians.Custodian.{Custodian}
 use Rattle.desk_tables.specs.declared.filesystems.Mount.{Mount}
 use Rattle.desk_policy.specs.Site.{SiteTexts}
 use Rattle.desk_policy.specs.SiteFault.{exports_name}
-use Rattle.desk_policy.specs.SiteFile.{all_files, file_name, file_of}
+use Rattle.desk_policy.specs.SiteFile.{all_files, exports_place, file_name, is_of_seven}
 use Rattle.desk_policy.specs.View.{HasFault}
 use Rattle.desk_core.specs.Edit.{Already, Answer, Edit, Pending, Proposed, Refused, Stored, approved_revision, proposal_of, revision_of}
 use Rattle.desk_core.specs.Head.{Newest, Revision, last_revision, longest_revision, newest_number, put}
@@ -27,14 +27,6 @@ use Rattle.desk_core.specs.declared.proposal.Proposal.{Proposal}
 -- the names of the seven files that are not of one file system, in the order in which they are judged
 abbrev pub seven : List (List ℕ)
 seven = map file_name all_files
-
--- a name is that of one of the seven files
-abbrev pub is_of_seven : List ℕ → Bool
-is_of_seven file = is_some (file_of file)
-
--- the place of the mount point whose exports file has this name
-abbrev pub exports_place : List Mount → List ℕ → Option ℕ
-exports_place table file = position (λ mount. bytes_eq (exports_name mount.path) file) table
 
 -- a file is one of the seven, or the exports file of a listed mount point
 abbrev pub is_known : List Mount → List ℕ → Bool

@@ -7,11 +7,12 @@ use Rattle.desk_policy.specs.Site.{SiteTexts}
 use Rattle.desk_policy.specs.SiteFault.{exports_name}
 use Rattle.desk_policy.specs.View.{HasFault}
 use Rattle.desk_policy.specs.declared.site_fault.SiteFault.{SiteFault}
+use Rattle.desk_policy.specs.SiteFile.{is_of_seven}
 use Rattle.desk_core.specs.Edit.{Already, Answer, Edit, Pending, Proposed, Refused, Stored, approved_revision, proposal_of, revision_of}
 use Rattle.desk_core.specs.Foresight.{with_text}
 use Rattle.desk_core.specs.Head.{Newest, Revision, last_revision, longest_revision, newest_number, put}
 use Rattle.desk_core.specs.History.{Exchange, IsHistory, Run, added_by, history_through, pending_in, standing_of}
-use Rattle.desk_core.specs.Judging.{Answers, IsFileName, answer_in, first_case, is_guarded_file, is_known, is_of_seven, keeps_file, table_in}
+use Rattle.desk_core.specs.Judging.{Answers, IsFileName, answer_in, first_case, is_guarded_file, is_known, keeps_file, table_in}
 use Rattle.desk_core.specs.Site.{IsConsistent, custodians_of, policy_of, site_in}
 use Rattle.desk_core.specs.Standing.{Standing, with_entry}
 use Rattle.desk_core.specs.declared.edit.Refusal.{Refusal}

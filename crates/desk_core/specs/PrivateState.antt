@@ -32,7 +32,7 @@ use Rattle.desk_core.specs.declared.state.Judged.TheVariants as judged
 -- what a state keeps: the policy in force, and the custodians and the tables of the site
 pub record IsState (heads : List Head) (proposals : List Proposal) (content : Content) (custodians : List Custodian) (tables : SiteTables) : Type 0 where
   pub in_force : IsInForce (site_in (newest_in heads)) content
-  pub custodians_are : read_custodians (site_in (newest_in heads)).custodians ≡ Ok custodians
+  pub custodians_are : read_custodians (site_in (newest_in heads)).files.custodians ≡ Ok custodians
   pub tables_are : read_site_tables (site_in (newest_in heads)) ≡ Ok tables
   pub kept : All CanBeKept heads
   pub pending : All CanBePending proposals
@@ -54,7 +54,7 @@ Accepts in_force state e (Err Memory) = Unit {0}
 
 -- what was made is the site's: its custodians, its tables, and its policy in force
 pub record IsSiteInForce {V : Type 0} (in_force : V → Content) (texts : SiteTexts) (made : SiteInForce V) : Type 0 where
-  pub custodians : read_custodians texts.custodians ≡ Ok made.custodians
+  pub custodians : read_custodians texts.files.custodians ≡ Ok made.custodians
   pub tables : read_site_tables texts ≡ Ok made.tables
   pub view : IsInForce texts (in_force made.view)
 

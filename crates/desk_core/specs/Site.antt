@@ -8,7 +8,9 @@ use Rattle.desk_tables.specs.declared.custodians.Custodian.{Custodian}
 use Rattle.desk_policy.specs.Contradiction.{HasNoContradiction}
 use Rattle.desk_policy.specs.Parsing.{read_site}
 use Rattle.desk_policy.specs.Policy.{Content}
+use Rattle.desk_policy.specs.PerSite.{by_file}
 use Rattle.desk_policy.specs.Site.{SiteTexts, no_exports}
+use Rattle.desk_policy.specs.SiteFile.{file_name}
 use Rattle.desk_policy.specs.declared.site_fault.SiteFault.{SiteFault}
 use Rattle.desk_core.specs.Head.{Newest, Revision}
 
@@ -23,13 +25,7 @@ text_in newest file = option_map_or revision_text (newest file) no_exports
 -- the site whose files have these texts; only of an exports file the profile counts
 abbrev pub site_by : (List ℕ → ExportsText) → SiteTexts
 site_by text = record {
-  custodians = (text (codes "custodians")).body;
-  filesystems = (text (codes "filesystems")).body;
-  hosts = (text (codes "hosts")).body;
-  networks = (text (codes "networks")).body;
-  passwd = (text (codes "passwd")).body;
-  group = (text (codes "group")).body;
-  netgroup = (text (codes "netgroup")).body;
+  files = by_file (λ file. (text (file_name file)).body);
   exports = λ mount. text (codes "exports:" ++ mount);
 }
 
@@ -39,7 +35,7 @@ site_in newest = site_by (text_in newest)
 
 -- the custodians of a site; none if their text is faulty
 abbrev pub custodians_of : SiteTexts → List Custodian
-custodians_of texts = result_unwrap_or (read_custodians texts.custodians) []
+custodians_of texts = result_unwrap_or (read_custodians texts.files.custodians) []
 
 abbrev pub policy_read : Result Content SiteFault → Content
 policy_read (Ok policy) = policy

@@ -9,10 +9,11 @@ use Rattle.desk_policy.specs.Policy.{Content, with_rows}
 use Rattle.desk_policy.specs.Site.{SiteTexts}
 use Rattle.desk_policy.specs.View.{HasFault, IsPart}
 use Rattle.desk_policy.specs.declared.site_fault.SiteFault.{SiteFault}
+use Rattle.desk_policy.specs.SiteFile.{exports_place}
 use Rattle.desk_core.specs.Edit.{Already, Answer, Edit, Pending, Refused}
 use Rattle.desk_core.specs.Head.{CanBeKept, Revision, newest_in, put}
 use Rattle.desk_core.specs.History.{entry_file}
-use Rattle.desk_core.specs.Judging.{Answers, answer_of, entry_of, exports_place, first_case}
+use Rattle.desk_core.specs.Judging.{Answers, answer_of, entry_of, first_case}
 use Rattle.desk_core.specs.Site.{IsInForce, site_in}
 use Rattle.desk_core.specs.Standing.{CanBePending, Standing, standing_in}
 use Rattle.desk_core.specs.Views.{Changed, Kept, Lines, Ready, Whole}
@@ -36,9 +37,9 @@ changed in_force content (Lines fs rows) = with_rows content fs rows
 -- Beside the policy: a whole site has the custodians and the tables of the new texts; lines may stand for those of their file
 -- system, and the new texts write the same custodians and tables as the old.
 abbrev pub RestsOn : {V : Type 0} → Content → SiteTexts → SiteTexts → Changed V → Type 0
-RestsOn content old new (Whole made) = (read_custodians new.custodians ≡ Ok made.custodians) × (read_site_tables new ≡ Ok made.tables)
+RestsOn content old new (Whole made) = (read_custodians new.files.custodians ≡ Ok made.custodians) × (read_site_tables new ≡ Ok made.tables)
 RestsOn content old new (Lines fs rows) =
-    IsPart content fs rows × (read_custodians new.custodians ≡ read_custodians old.custodians) × (read_site_tables new ≡ read_site_tables old)
+    IsPart content fs rows × (read_custodians new.files.custodians ≡ read_custodians old.files.custodians) × (read_site_tables new ≡ read_site_tables old)
 
 -- a change of a state puts the policy of a site in force
 pub record PutsSite {V : Type 0} (in_force : V → Content) (state : Kept V) (change : Changed V) (texts : SiteTexts) : Type 0 where

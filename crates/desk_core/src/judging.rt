@@ -2,7 +2,7 @@
 //! store of an edit of which none holds.
 
 ghost use Rattle.std.specs.Prelude.{◌≡◌, ◌↔◌, ◌<◌, ℕ, IfOk, IsTrue, List, Ok, false, find};
-ghost use Rattle.std.specs.Option.{option_copied, option_map, option_map_or};
+ghost use Rattle.std.specs.Option.{option_copied, option_map_or};
 ghost use Rattle.std.specs.Str.{bytes_eq};
 ghost use Rattle.desk_core.specs.Edit.{approved_revision, asked, proposal_of, revision_by, revision_of};
 ghost use Rattle.desk_core.specs.Head.{last_revision};
@@ -14,8 +14,8 @@ use crate::entry::Entry;
 use crate::head::{Head, LAST_REVISION, LONGEST_REVISION, newest_number};
 use crate::proposal::Proposal;
 use desk_exports::Profile;
-use desk_policy::{SiteFile, mount_of};
-use desk_tables::{Custodians, FileSystems, FsId};
+use desk_policy::{SiteFile, exports_place, mount_of};
+use desk_tables::{Custodians, FileSystems};
 use desk_text::laws::written_paths_read_back;
 use desk_text::{Path, ReadError, Text};
 use sha2::{Digest, Sha256};
@@ -110,14 +110,14 @@ fn is_key(key: &str, listed: Option<&[u8; 32]>) -> bool
 pub fn is_known(table: &FileSystems, file: &str) -> bool
     ensures { result ≡ spec.is_known table.now file.now }
 {
-    is_of_seven(file) || exports_place(table, file).is_some()
+    SiteFile::is_name(file) || exports_place(table, file).is_some()
 }
 
 /// Tests whether a custodian keeps a file: `site` the seven, and those listed for a mount point its exports file.
 fn keeps_file(table: &FileSystems, caller: &str, file: &str) -> bool
     ensures { result ≡ spec.keeps_file table.now caller.now file.now }
 {
-    if is_of_seven(file) {
+    if SiteFile::is_name(file) {
         return caller == "site";
     }
     match exports_place(table, file) {
@@ -126,18 +126,11 @@ fn keeps_file(table: &FileSystems, caller: &str, file: &str) -> bool
     }
 }
 
-/// Tests whether a file is one of the seven that are not of one file system.
-fn is_of_seven(file: &str) -> bool
-    ensures { result ≡ spec.is_of_seven file.now }
-{
-    SiteFile::of(file).is_some()
-}
-
 /// Tests whether a file may have this name: that of one of the seven, or `exports:` and a path in printed form.
 pub fn is_file_name(alloc: Global, file: &str) -> Result<bool, AllocError>
     ensures { IfOk result (λ named. IsTrue named ↔ spec.IsFileName file.now) }
 {
-    if is_of_seven(file) {
+    if SiteFile::is_name(file) {
         return Ok(true);
     }
     is_exports_name(alloc, file)
@@ -166,16 +159,6 @@ fn is_printed_path(alloc: Global, text: &str) -> Result<bool, AllocError>
         }
         Err(ReadError::Fault(_)) => Ok(false),
         Err(ReadError::Memory) => Err(AllocError),
-    }
-}
-
-/// Finds the file system whose exports file has this name.
-pub(crate) fn exports_place(table: &FileSystems, file: &str) -> Option<FsId>
-    ensures { result ≡ option_map (λ place. record { 0 = place }) (spec.exports_place table.now file.now) }
-{
-    match mount_of(file) {
-        Some(mount) => table.printed_as(mount),
-        None => None,
     }
 }
 

@@ -2,14 +2,15 @@
 
 ghost use Rattle.std.specs.Prelude.{◌≡◌, ◌++◌, ℕ, List, IfOk, OnOk, codes, unwrap_or};
 ghost use Rattle.std.specs.BTreeMap.{get_by_text};
+ghost use Rattle.desk_policy.specs.PerSite.{with_file};
 ghost use Rattle.desk_policy.specs.Site.{no_exports, texts_of};
 ghost use Rattle.desk_core.specs.Head.{newest_in, put};
-ghost use Rattle.desk_core.specs.PrivateSite.{no_texts, text_or, with_text};
+ghost use Rattle.desk_core.specs.PrivateSite.{text_or, with_text};
 ghost use Rattle.desk_core.specs.Site.{site_in, revision_text};
 
 use crate::head::Head;
 use desk_exports::Profile;
-use desk_policy::{ExportsText, Site, mount_of};
+use desk_policy::{ExportsText, PerSite, Site, SiteFile, mount_of};
 use desk_text::Text;
 use std::alloc::{AllocError, Global};
 use std::collections::BTreeMap;
@@ -27,7 +28,7 @@ pub(crate) fn site_with(alloc: Global, heads: &[Head], head: &Head) -> Result<Si
 pub(crate) fn site_of(alloc: Global, heads: &[Head]) -> Result<Site, AllocError>
     ensures { IfOk result (λ site. texts_of site ≡ site_in (newest_in heads.now)) }
 {
-    let mut site = empty_site(alloc);
+    let mut site = Site::new(alloc);
     let mut left = heads.len();
     while left > 0 {
         left -= 1;
@@ -36,52 +37,28 @@ pub(crate) fn site_of(alloc: Global, heads: &[Head]) -> Result<Site, AllocError>
     Ok(site)
 }
 
-/// Makes a site whose files are empty.
-fn empty_site(alloc: Global) -> Site
-    ensures { texts_of result ≡ no_texts }
-{
-    Site {
-        custodians: Text::from_string(String::new(alloc)),
-        filesystems: Text::from_string(String::new(alloc)),
-        hosts: Text::from_string(String::new(alloc)),
-        networks: Text::from_string(String::new(alloc)),
-        passwd: Text::from_string(String::new(alloc)),
-        group: Text::from_string(String::new(alloc)),
-        netgroup: Text::from_string(String::new(alloc)),
-        exports: BTreeMap::new(alloc),
-    }
-}
-
 /// Puts the text of this head in the place of that of its file. A head of a file of another name changes nothing.
 fn take_head(alloc: Global, site: &mut Site, head: &Head) -> Result<(), AllocError>
     ensures { OnOk result (texts_of site.new ≡ with_text (texts_of site.old) head.now.file (revision_text head.now)) }
 {
     let file = head.file.as_str();
     let body = head.body.as_str();
-    put_text(alloc, &mut site.custodians, file, "custodians", body)?;
-    put_text(alloc, &mut site.filesystems, file, "filesystems", body)?;
-    put_text(alloc, &mut site.hosts, file, "hosts", body)?;
-    put_text(alloc, &mut site.networks, file, "networks", body)?;
-    put_text(alloc, &mut site.passwd, file, "passwd", body)?;
-    put_text(alloc, &mut site.group, file, "group", body)?;
-    put_text(alloc, &mut site.netgroup, file, "netgroup", body)?;
-    put_exports(alloc, &mut site.exports, file, head.profile, body)?;
-    Ok(())
+    match SiteFile::of(file) {
+        Some(own) => put_text(alloc, &mut site.files, own, body),
+        None => put_exports(alloc, &mut site.exports, file, head.profile, body),
+    }
 }
 
-/// Puts a text in the place of that of the file of this name.
+/// Puts a text in the place of that of one of the seven files.
 fn put_text(
     alloc: Global,
-    slot: &mut Text,
-    file: &str,
-    name: &str,
+    files: &mut PerSite<Text>,
+    file: SiteFile,
     text: &str,
 ) -> Result<(), AllocError>
-    ensures { OnOk result (slot.new ≡ text_or file.now text.now name.now slot.old) }
+    ensures { OnOk result (files.new ≡ with_file files.old file text.now) }
 {
-    if file == name {
-        *slot = Text::copy(alloc, text)?;
-    }
+    files.set(file, Text::copy(alloc, text)?);
     Ok(())
 }
 

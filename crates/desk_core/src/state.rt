@@ -4,11 +4,12 @@ ghost use Rattle.std.specs.Prelude.{◌≡◌, ◌<◌, ◌≤◌, [], All, IfOk
 ghost use Rattle.std.specs.Option.{option_copied};
 ghost use Rattle.desk_policy.specs.Parsing.{read_site_tables};
 ghost use Rattle.desk_policy.specs.Site.{HaveReadableLengths};
+ghost use Rattle.desk_policy.specs.SiteFile.{exports_place};
 ghost use Rattle.desk_core.specs.Edit as spec;
 ghost use Rattle.desk_core.specs.Edit.{asked};
 ghost use Rattle.desk_core.specs.Foresight.{Foresees, ForeseesSite};
 ghost use Rattle.desk_core.specs.Head.{CanBeKept, StandOnce, last_revision, longest_revision, newest_in, put};
-ghost use Rattle.desk_core.specs.Judging.{answer_in, entry_of, exports_place, first_case};
+ghost use Rattle.desk_core.specs.Judging.{answer_in, entry_of, first_case};
 ghost use Rattle.desk_core.specs.PrivateState.{Accepts, AnswersCase, MakesChange, PutsInForce, ReadsRows, ShowsLines, refusal_of};
 ghost use Rattle.desk_core.specs.Site.{IsInForce, site_in};
 ghost use Rattle.desk_core.specs.Standing.{CanBePending, PendOnce, proposals_in, with_entry, without};
@@ -23,11 +24,11 @@ use crate::edit::{Edit, Refusal};
 use crate::entry::Entry;
 use crate::foresight::{ForeseenSite, Foresight};
 use crate::head::{Head, newest, newest_number, put_head};
-use crate::judging::{Case, entry_by, exports_place, first_case, revision_of};
+use crate::judging::{Case, entry_by, first_case, revision_of};
 use crate::proposal::{Proposal, proposal_for, put_proposal, withdraw};
 use desk_exports::Profile;
 use desk_policy::{
-    Policy, PolicyView, Row, SiteFault, SiteTables, one_file_is_replaced, read_lines,
+    Policy, PolicyView, Row, SiteFault, SiteTables, exports_place, one_file_is_replaced, read_lines,
 };
 use desk_tables::FsId;
 use desk_tables::laws::tables_are_in_order;

@@ -1,6 +1,6 @@
 -- Names of files that are not exports files of listed mount points.
-use Rattle.std.proofs.Common.{◌≡◌, ◌∙◌, sym, ap, inl, inr, refl, ℕ, ◌+◌, ◌++◌, Bool, true, false, cond, not, List, [], ◌∷◌, Some, None, length, arith}
-use Rattle.std.specs.Prelude.{codes, nat_lt, position}
+use Rattle.std.proofs.Common.{◌≡◌, ◌∙◌, sym, ap, inl, inr, refl, ℕ, ◌+◌, Bool, true, false, cond, not, List, [], ◌∷◌, Some, None, length, arith}
+use Rattle.std.specs.Prelude.{nat_lt, position}
 use Rattle.std.specs.List.{position_or_len, prefix_len}
 use Rattle.std.specs.Str.{bytes_eq}
 use Rattle.std.proofs.lemmas.Bool.{cases_Bool, cond-false, le-ltb}

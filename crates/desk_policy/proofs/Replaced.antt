@@ -14,6 +14,7 @@ use Rattle.desk_policy.specs.Replacing.{DifferIn, OneFileIsReplaced, ReadsWith}
 use Rattle.desk_policy.specs.Site.{SiteTexts}
 use Rattle.desk_policy.specs.SiteFault.{table_fault}
 use Rattle.desk_policy.specs.declared.parsing.SiteTables.{SiteTables}
+use Rattle.desk_policy.specs.declared.per_site.PerSite.{PerSite}
 use Rattle.desk_policy.specs.declared.site.ExportsText.{ExportsText}
 use Rattle.desk_policy.specs.declared.site_fault.SiteFault.{SiteFault}
 use Rattle.desk_policy.proofs.SiteLaws.{file_at, was_read}
@@ -106,14 +107,7 @@ module _ (other : SiteTexts) (table : List Mount) (tables : SiteTables) (files :
 
 module _ (texts other : SiteTexts) {table : List Mount} {fs : ℕ} (apart : DifferIn table fs texts other) where
   same_tables : read_site_tables other ≡ read_site_tables texts
-  same_tables =
-      let T : List ℕ → List ℕ → List ℕ → List ℕ → List ℕ → Result SiteTables SiteFault = λ hosts networks passwd group netgroup.
-      read_tables (record { hosts = hosts; networks = networks; passwd = passwd; group = group; netgroup = netgroup }) in
-      ap (λ t. T t other.networks other.passwd other.group other.netgroup) apart.hosts
-      ∙ ap (λ t. T texts.hosts t other.passwd other.group other.netgroup) apart.networks
-      ∙ ap (λ t. T texts.hosts texts.networks t other.group other.netgroup) apart.passwd
-      ∙ ap (λ t. T texts.hosts texts.networks texts.passwd t other.netgroup) apart.group
-      ∙ ap (λ t. T texts.hosts texts.networks texts.passwd texts.group t) apart.netgroup
+  same_tables = ap (λ (files : PerSite (List ℕ)). read_tables files.tables) apart.files
 
 -- what the other texts write, as far as they are the same
 whole : (texts other : SiteTexts) {table : List Mount} {fs : ℕ} → DifferIn table fs texts other → (rows : List Custodian) (mounts : List Mount) (tables : SiteTables)
@@ -121,8 +115,8 @@ whole : (texts other : SiteTexts) {table : List Mount} {fs : ℕ} → DifferIn t
     → read_site other ≡ then_read (read_files other mounts tables 0 mounts) (λ found. Ok (content_with mounts tables found))
 unfolding read_site
 whole texts other apart rows mounts tables c f t =
-    ap (λ r. then_read r (λ rs. then_read (filesystems_in other rs) (read_after_filesystems other))) (ap (λ x. in_file (table_fault (codes "custodians")) (read_custodians x)) apart.custodians ∙ c)
-    ∙ ap (λ r. then_read r (read_after_filesystems other)) (ap (λ x. in_file (table_fault (codes "filesystems")) (if_listed rows (read_filesystems x))) apart.filesystems ∙ f)
+    ap (λ r. then_read r (λ rs. then_read (filesystems_in other rs) (read_after_filesystems other))) (ap (λ (files : PerSite (List ℕ)). in_file (table_fault (codes "custodians")) (read_custodians files.custodians)) apart.files ∙ c)
+    ∙ ap (λ r. then_read r (read_after_filesystems other)) (ap (λ (files : PerSite (List ℕ)). in_file (table_fault (codes "filesystems")) (if_listed rows (read_filesystems files.filesystems))) apart.files ∙ f)
     ∙ ap (λ r. then_read r (λ ts. then_read (read_files other mounts ts 0 mounts) (λ files. Ok (content_with mounts ts files)))) (same_tables texts other apart ∙ t)
 
 pub one_file_is_replaced : OneFileIsReplaced

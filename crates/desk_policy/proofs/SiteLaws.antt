@@ -141,7 +141,7 @@ of_tables (Ok v) (Ok w) (Ok x) (Ok y) (Ok z) all = refl
 
 module _ (texts : SiteTexts) where
   abbrev TablesFault : Result SiteTables SiteFault → Type 0
-  TablesFault read = MatchResult read (λ tables. first_of (faults_of_tables texts) ≡ None) (λ fault. first_of (faults_of_tables texts) ≡ Some fault)
+  TablesFault read = MatchResult read (λ tables. first_of (faults_of_tables texts.files.tables) ≡ None) (λ fault. first_of (faults_of_tables texts.files.tables) ≡ Some fault)
 
   tables_fault : TablesFault (read_site_tables texts)
   tables_fault = of_tables {Y = SiteTables} _ _ _ _ _ (λ hosts networks users groups netgroups. record { hosts = hosts; networks = networks; users = users; groups = groups; netgroups = netgroups })
@@ -157,7 +157,7 @@ second_file custodians filesystems more rows is = ap (λ read. first_among read 
 pub first_faulty_file_is_reported : FirstFaultyFileIsReported
 unfolding read_site
 first_faulty_file_is_reported texts fault is =
-    let more = faults_of_tables texts in
+    let more = faults_of_tables texts.files.tables in
     let filesystems = filesystems_in texts in
     elim (was_faulty (custodians_in texts) (λ rows. then_read (filesystems rows) (read_after_filesystems texts)) fault is) [
       | inl faulty ↦ inl (ap (λ read. first_among read filesystems more) faulty)

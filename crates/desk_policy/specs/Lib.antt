@@ -15,6 +15,7 @@ pub mod Keys
 pub mod PrivateFirstLines
 pub mod Unlisted
 pub mod SiteFile
+pub mod PerSite
 pub mod Site
 pub mod PrivateSite
 pub mod SiteFault

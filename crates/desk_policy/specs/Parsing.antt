@@ -69,8 +69,7 @@ read_tables texts =
 
 -- the tables of a site after its file systems
 abbrev pub read_site_tables : SiteTexts → Result SiteTables SiteFault
-read_site_tables texts =
-    read_tables (record { hosts = texts.hosts; networks = texts.networks; passwd = texts.passwd; group = texts.group; netgroup = texts.netgroup })
+read_site_tables texts = read_tables texts.files.tables
 
 -- the profile and the tables with which an exports file is read
 abbrev pub rows_with : Profile → List Mount → SiteTables → TableRows
@@ -127,8 +126,8 @@ read_after_filesystems texts table = then_read (read_site_tables texts) (read_po
 -- the policy that the texts write, or the fault of the first faulty file, in the order in which they are read
 unfoldable pub read_site : SiteTexts → Result Content SiteFault
 read_site texts =
-    then_read (in_file (table_fault (codes "custodians")) (read_custodians texts.custodians)) (λ custodians.
-    then_read (in_file (table_fault (codes "filesystems")) (if_listed custodians (read_filesystems texts.filesystems))) (λ table.
+    then_read (in_file (table_fault (codes "custodians")) (read_custodians texts.files.custodians)) (λ custodians.
+    then_read (in_file (table_fault (codes "filesystems")) (if_listed custodians (read_filesystems texts.files.filesystems))) (λ table.
     read_after_filesystems texts table))
 
 -- the policy of the entries of a whole exports text, by these tables; its warnings are those of the text alone

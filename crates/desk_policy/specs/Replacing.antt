@@ -29,13 +29,7 @@ ReadsLines result text table site_tables fs = (mount : Mount) → slice_get tabl
 
 -- texts that differ, of the files that are read, in the exports file of this file system alone
 pub record DifferIn (table : List Mount) (fs : ℕ) (texts other : SiteTexts) : Type 0 where
-  pub custodians : other.custodians ≡ texts.custodians
-  pub filesystems : other.filesystems ≡ texts.filesystems
-  pub hosts : other.hosts ≡ texts.hosts
-  pub networks : other.networks ≡ texts.networks
-  pub passwd : other.passwd ≡ texts.passwd
-  pub group : other.group ≡ texts.group
-  pub netgroup : other.netgroup ≡ texts.netgroup
+  pub files : other.files ≡ texts.files
   pub exports : (place : ℕ) (mount : Mount) → place ≢ fs → slice_get table place ≡ Some mount → other.exports (path_text mount.path) ≡ texts.exports (path_text mount.path)
 
 -- the policy that was read has these lines for one file system, and the other lines of a former policy (its warnings may be

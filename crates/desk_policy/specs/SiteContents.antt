@@ -10,7 +10,7 @@ use Rattle.desk_policy.specs.declared.site_fault.SiteFault.{SiteFault}
 
 -- the texts of a site write these custodians, these tables and this policy
 pub record AreWritten (texts : SiteTexts) (contents : SiteContents) : Type 0 where
-  pub custodians : read_custodians texts.custodians ≡ Ok contents.custodians
+  pub custodians : read_custodians texts.files.custodians ≡ Ok contents.custodians
   pub tables : read_site_tables texts ≡ Ok contents.tables
   pub policy : read_site texts ≡ Ok contents.policy
 

@@ -22,6 +22,7 @@ pub mod listing_prints;
 pub mod listings;
 pub mod names;
 pub mod parsing;
+pub mod per_site;
 pub mod per_table;
 pub mod policy;
 pub mod prints;
@@ -54,6 +55,7 @@ pub use parsing::{
     SiteContents, SiteTables, parse, parse_whole, parse_whole_with, parse_whole_without_warnings,
     read_contents, read_lines,
 };
+pub use per_site::PerSite;
 pub use per_table::PerTable;
 pub use policy::{Policy, are_ascending};
 pub use prints::{mount_text, verdict_text};

@@ -155,9 +155,9 @@ pub fn read_contents(alloc: Global, site: &Site) -> Result<SiteContents, ReadErr
     requires { HaveReadableLengths (texts_of site.now) }
     ensures { ReadsSite result (texts_of site.now) }
 {
-    let custodians = Custodians::read(alloc, site.custodians.as_str());
+    let custodians = Custodians::read(alloc, site.files.custodians.as_str());
     let custodians = in_table(alloc, SiteFile::Custodians, custodians)?;
-    let filesystems = read_filesystems(alloc, site.filesystems.as_str(), &custodians);
+    let filesystems = read_filesystems(alloc, site.files.filesystems.as_str(), &custodians);
     let filesystems = in_table(alloc, SiteFile::Filesystems, filesystems)?;
     let (tables, policy) = read_after_filesystems(alloc, site, filesystems)?;
     Ok(SiteContents {
@@ -259,14 +259,7 @@ fn read_site_tables(alloc: Global, site: &Site) -> Result<SiteTables, ReadError<
     requires { HaveReadableLengths (texts_of site.now) }
     ensures { Reads result (spec.read_site_tables (texts_of site.now)) }
 {
-    let texts = PerTable {
-        hosts: site.hosts.as_str(),
-        networks: site.networks.as_str(),
-        passwd: site.passwd.as_str(),
-        group: site.group.as_str(),
-        netgroup: site.netgroup.as_str(),
-    };
-    SiteTables::read(alloc, texts)
+    SiteTables::read(alloc, site.files.tables.lend())
 }
 
 /// Reads the exports file of each file system, and adds its lines and its warnings.

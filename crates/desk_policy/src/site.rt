@@ -4,12 +4,14 @@ ghost use Rattle.std.specs.Prelude.{◌≡◌, Decides};
 ghost use Rattle.std.specs.BTreeMap.{IsOrdered, values};
 ghost use Rattle.std.specs.List.{list_all};
 ghost use Rattle.std.specs.String.{string_cmp};
-ghost use Rattle.desk_policy.specs.Site.{HaveLengthsWithin, HaveReadableLengths, text_of, texts_of};
+ghost use Rattle.desk_policy.specs.Site.{HaveLengthsWithin, HaveReadableLengths, no_texts, text_of, texts_of};
 ghost use Rattle.desk_policy.specs.PrivateSite.{are_files_within, has_body_within, is_within};
 
+use crate::per_site::PerSite;
 use crate::site_file::SiteFile;
 use desk_exports::Profile;
 use desk_text::{LONGEST_TEXT, Text};
+use std::alloc::Global;
 use std::collections::BTreeMap;
 
 /// The text of an exports file, and the profile by which it is read.
@@ -23,17 +25,21 @@ pub struct ExportsText {
 /// file system without an exports file has an empty one, and one of a mount point that is not listed is not read.
 #[derive(Drop)]
 pub struct Site {
-    pub custodians: Text,
-    pub filesystems: Text,
-    pub hosts: Text,
-    pub networks: Text,
-    pub passwd: Text,
-    pub group: Text,
-    pub netgroup: Text,
+    pub files: PerSite<Text>,
     pub exports: BTreeMap<String, ExportsText>,
 }
 
 impl Site {
+    /// Makes a site whose files are empty.
+    pub fn new(alloc: Global) -> Site
+        ensures { texts_of result ≡ no_texts }
+    {
+        Site {
+            files: PerSite::empty(alloc),
+            exports: BTreeMap::new(alloc),
+        }
+    }
+
     /// Tests whether each text can be read: whether it has at most 4,294,967,294 bytes.
     pub fn is_readable(&self) -> bool
         ensures { Decides result (HaveReadableLengths (texts_of self.now)) }
@@ -45,22 +51,14 @@ impl Site {
     pub fn has_lengths_within(&self, limit: usize) -> bool
         ensures { Decides result (HaveLengthsWithin limit (texts_of self.now)) }
     {
-        are_files_within(self, limit) && are_exports_within(&self.exports, limit)
+        are_files_within(&self.files, limit) && are_exports_within(&self.exports, limit)
     }
 
     /// Returns the text of one of the seven files.
     pub fn text(&self, file: SiteFile) -> &str
         ensures { result.now ≡ text_of (texts_of self.now) file }
     {
-        match file {
-            SiteFile::Custodians => self.custodians.as_str(),
-            SiteFile::Filesystems => self.filesystems.as_str(),
-            SiteFile::Hosts => self.hosts.as_str(),
-            SiteFile::Networks => self.networks.as_str(),
-            SiteFile::Passwd => self.passwd.as_str(),
-            SiteFile::Group => self.group.as_str(),
-            SiteFile::Netgroup => self.netgroup.as_str(),
-        }
+        self.files.of(file).as_str()
     }
 
     /// Returns the text of the exports file of a printed mount point, which is empty if the site has none.
@@ -85,16 +83,12 @@ impl Site {
 }
 
 /// Tests whether each of the seven files has at most so many bytes.
-fn are_files_within(site: &Site, limit: usize) -> bool
-    ensures { result ≡ are_files_within limit site.now }
+fn are_files_within(files: &PerSite<Text>, limit: usize) -> bool
+    ensures { result ≡ are_files_within limit files.now }
 {
-    is_within(&site.custodians, limit)
-        && is_within(&site.filesystems, limit)
-        && is_within(&site.hosts, limit)
-        && is_within(&site.networks, limit)
-        && is_within(&site.passwd, limit)
-        && is_within(&site.group, limit)
-        && is_within(&site.netgroup, limit)
+    SiteFile::ALL
+        .iter()
+        .all(|file| is_within(files.of(*file), limit))
 }
 
 /// Tests whether each exports file has at most so many bytes.

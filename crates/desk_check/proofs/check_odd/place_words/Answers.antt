@@ -1,4 +1,4 @@
-use Rattle.std.proofs.Common.{◌≡◌, subst, sym}
+use Rattle.std.proofs.Common.{subst, sym}
 use Rattle.std.specs.List.{IsAmong}
 use Rattle.desk_check.proofs.check_odd.place_words.Goals as goal
 

@@ -1,4 +1,4 @@
-use Rattle.std.proofs.Common.{◌≡◌, subst, sym}
+use Rattle.std.proofs.Common.{subst, sym}
 use Rattle.std.specs.List.{IsAmong}
 use Rattle.std.specs.Option.{IfSome}
 use Rattle.desk_check.specs.CheckOdd.{IsOnNumbered}

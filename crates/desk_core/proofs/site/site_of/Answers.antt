@@ -10,7 +10,7 @@ use Rattle.desk_core.proofs.site.site_of.Goals as goal
 pub loop-left-init : goal.loop-left-init
 loop-left-init c =
     let none : drop (length c.args.heads.now) c.args.heads.now ≡ [] = drop_all (length c.args.heads.now) c.args.heads.now (omega arith) in
-    (omega arith, c.empty_site-site.ensures ∙ site_none ∙ ap (λ (hs : List Head). site_in (newest_in hs)) (sym none))
+    (omega arith, c.new-site.ensures ∙ site_none ∙ ap (λ (hs : List Head). site_in (newest_in hs)) (sym none))
 
 pub loop-left-preserved : goal.loop-left-preserved
 loop-left-preserved c =

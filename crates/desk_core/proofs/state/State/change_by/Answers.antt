@@ -5,9 +5,9 @@ use Rattle.desk_tables.specs.declared.filesystems.FsId.{FsId}
 use Rattle.desk_tables.specs.declared.filesystems.Mount.{Mount}
 use Rattle.desk_policy.specs.Policy.{Content}
 use Rattle.desk_policy.specs.Site.{HaveReadableLengths}
+use Rattle.desk_policy.specs.SiteFile.{exports_place}
 use Rattle.desk_core.specs.Edit.{asked, revision_of}
 use Rattle.desk_core.specs.Head.{CanBeKept, newest_in, put}
-use Rattle.desk_core.specs.Judging.{exports_place}
 use Rattle.desk_core.specs.PrivateState.{IsSiteInForce, PutsInForce}
 use Rattle.desk_core.specs.Site.{site_in}
 use Rattle.desk_core.specs.declared.head.Head.{Head}
