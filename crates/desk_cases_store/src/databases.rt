@@ -3,7 +3,8 @@
 use crate::stores::Fresh;
 use desk_cases_texts::answers::{Asked, number, say, say_whether, split};
 use desk_policy::PolicyView;
-use desk_store::{Desk, declares_approval, declares_file_rev, declares_meta, declares_proposal};
+use desk_schema::{declares_approval, declares_file_rev, declares_meta, declares_proposal};
+use desk_store::Desk;
 use sqlite::{Alter, Connection, Error, ErrorCode, Row, params};
 use sqlite_value::value::ValueRef;
 use std::alloc::{AllocError, Global};

@@ -9,7 +9,6 @@ use crate::stores::Fresh;
 use crate::subject::Subject;
 use crate::views::ByKeys;
 use desk_cases_texts::answers::{Asked, number, say, split};
-use desk_cases_texts::site::no_texts;
 use desk_policy::PolicyView;
 use desk_store::{CreateError, Desk, DeskError, Done, Revision, Signature, StoreFault, Task};
 use desk_text::Text;
@@ -209,7 +208,7 @@ fn keys_in_force<S: Fresh, V: ByKeys>(
     let Some(desk) = &subject.database.desk else {
         return Ok(false);
     };
-    let mut texts = no_texts(alloc);
+    let mut texts = desk_policy::Site::new(alloc);
     let asked = match keep_all(alloc, desk, &mut texts) {
         Ok(()) => desk
             .view()

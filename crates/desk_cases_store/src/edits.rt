@@ -5,7 +5,6 @@ use crate::subject::Subject;
 use crate::views::ByKeys;
 use desk_cases_texts::answers::{Asked, number, say, split};
 use desk_cases_texts::policies::say_verdict;
-use desk_cases_texts::site::no_texts;
 use desk_cases_texts::sites::{keep, say_fault};
 use desk_core::{Edit, Entry, Head, Judged, Proposal, Refusal, State, can_be_kept, can_be_pending};
 use desk_exports::Profile;
@@ -363,7 +362,7 @@ fn keys_in_force<S: Fresh, V: ByKeys>(
     let Some(state) = &subject.edits.state else {
         return Ok(false);
     };
-    let mut texts = no_texts(alloc);
+    let mut texts = desk_policy::Site::new(alloc);
     let asked = match keep_heads(alloc, &mut texts, state.heads()) {
         Ok(()) => state
             .view()

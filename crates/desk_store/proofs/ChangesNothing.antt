@@ -7,7 +7,8 @@ use Rattle.sqlite.specs.declared.error.Error.{Error}
 use Rattle.sqlite.proofs.InsideLemmas.{fails_whole}
 use Rattle.sqlite.proofs.StateLemmas.{survives_then}
 use Rattle.desk_store.specs.Looks.{ChangesNothing}
-use Rattle.desk_store.specs.Tables.{HasThese, IsAtRestWith}
+use Rattle.desk_schema.specs.Tables.{HasThese}
+use Rattle.desk_store.specs.Tables.{IsAtRestWith}
 
 -- after a refusal or a failure
 pub rest_after_error : (all : Bool) (old new : State) → IsAtRestWith all old → IsUnchanged old new ⊎ IsRolledBack old new → IsAtRestWith all new

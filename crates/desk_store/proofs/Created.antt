@@ -15,7 +15,8 @@ use Rattle.sqlite_schema.specs.declared.schema.Reference.{Reference}
 use Rattle.sqlite_schema.specs.Names.{same_name, table_named}
 use Rattle.sqlite.specs.Order.{Row}
 use Rattle.sqlite_catalog.specs.Listing.{IsTableRow}
-use Rattle.desk_store.specs.Tables.{Declares, IsFree, are_referred, cells, refers_to, rows_of, table_in}
+use Rattle.desk_schema.specs.Tables.{Declares, IsFree, are_referred, refers_to, table_in}
+use Rattle.desk_store.specs.Tables.{cells, rows_of}
 use Rattle.desk_store.proofs.Placed.{placed, rows_are}
 
 -- ---- lists

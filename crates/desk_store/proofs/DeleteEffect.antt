@@ -36,7 +36,8 @@ use Rattle.sqlite_schema.specs.declared.schema.Reference.{Reference}
 use Rattle.desk_store.proofs.OwnRowids.{each_id, neither, one_id}
 use Rattle.desk_store.proofs.RowsAnswered.{filter_all, query, rows_answered}
 use Rattle.desk_store.proofs.InsertEffect.{same_value, went}
-use Rattle.desk_store.specs.Tables.{AreKeys, is_own_tree, refers_to}
+use Rattle.desk_schema.specs.Tables.{is_own_tree, refers_to}
+use Rattle.desk_store.specs.Tables.{AreKeys}
 
 -- ---- lists
 

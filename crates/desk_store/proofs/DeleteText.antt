@@ -25,7 +25,8 @@ use Rattle.desk_store.proofs.NamedRows.{file_test}
 use Rattle.desk_store.proofs.NamedText.{of_file}
 use Rattle.desk_store.proofs.QueryText.{IsColumn, IsPlainTest, draft, one_equal}
 use Rattle.desk_store.proofs.DeleteEffect.{deleting}
-use Rattle.desk_store.specs.Tables.{delete_proposal, delete_version, meta_table, proposal_table}
+use Rattle.desk_schema.specs.Tables.{meta_table, proposal_table}
+use Rattle.desk_store.specs.Tables.{delete_proposal, delete_version}
 
 -- what the text of a DELETE from the table at this place means
 pub record MeansToDelete (sql : List ℕ) (tests : List Term) (schema : Schema) (at tree : ℕ) : Type 0 where

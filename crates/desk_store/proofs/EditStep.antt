@@ -24,7 +24,8 @@ use Rattle.desk_core.specs.declared.entry.Entry.TheVariants as entry
 use Rattle.desk_core.specs.declared.judging.Case.{Case}
 use Rattle.desk_core.specs.declared.judging.Case.TheVariants as case
 use Rattle.desk_core.specs.declared.proposal.Proposal.{Proposal}
-use Rattle.desk_store.specs.Tables.{HasTables, IsAtRest, IsKeyed, LeadsTo, LeavesCommit, Stores, StoresIn}
+use Rattle.desk_schema.specs.Tables.{HasTables}
+use Rattle.desk_store.specs.Tables.{IsAtRest, IsKeyed, LeadsTo, LeavesCommit, Stores, StoresIn}
 use Rattle.desk_store.specs.History.{Holds, entry_rows}
 use Rattle.desk_store.specs.Desk.{AnswersBy, CommitsAtMost, CommitsOne, HasStored, IsAccepted, IsDesk, IsEdited, IsInUtf8, IsSiteHistory, Stands, StepsOn, is_proposed, pending_after, standing_after, told}
 use Rattle.desk_store.specs.Laws.{AnsweredEditsKeepSiteHistories}

@@ -17,7 +17,8 @@ use Rattle.desk_store.proofs.InsertEffect.{Puts, numbered_row, put_permutes}
 use Rattle.desk_store.proofs.Inserting.{Soundly, approval_put, is_proposal_of, proposal_put, proposal_taken, revision_put}
 use Rattle.desk_store.proofs.Placed.{placed, rowids_are, rows_are}
 use Rattle.desk_store.proofs.OwnRowids.{keys_kept, keys_put, neither}
-use Rattle.desk_store.specs.Tables.{AreKeys, Declares, HasTables, IsKeyed, SpareFrozen, Stores, Writes, approval_row, approval_table, are_referred, cells, delete_proposal, file_rev_table, insert_approval, insert_proposal, insert_revision, is_row_of, is_written, meta_table, proposal_row, proposal_table, refers_to, revision_row, rowids_of, rows_of, table_at, table_in, without_file}
+use Rattle.desk_schema.specs.Tables.{Declares, HasTables, approval_table, are_referred, file_rev_table, meta_table, proposal_table, refers_to, table_at, table_in}
+use Rattle.desk_store.specs.Tables.{AreKeys, IsKeyed, SpareFrozen, Stores, Writes, approval_row, cells, delete_proposal, insert_approval, insert_proposal, insert_revision, is_row_of, is_written, proposal_row, revision_row, rowids_of, rows_of, without_file}
 
 -- ---- trees
 

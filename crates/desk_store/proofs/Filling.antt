@@ -17,7 +17,8 @@ use Rattle.desk_core.specs.History.{IsHistory}
 use Rattle.desk_core.specs.declared.entry.Entry.TheVariants.{Revised}
 use Rattle.desk_store.specs.Create.{AddsRow, AddsRows, Fills, HasRoom, Makes, MakesEmpty, MakesRoom, with_four, with_meta}
 use Rattle.desk_store.specs.History.{approval_of, proposed_row, revisions_in, row_of}
-use Rattle.desk_store.specs.Tables.{Declares, HasTables, Writes, approval_table, file_rev_table, is_written, meta_table, proposal_table, rows_of}
+use Rattle.desk_schema.specs.Tables.{Declares, HasTables, approval_table, file_rev_table, meta_table, proposal_table}
+use Rattle.desk_store.specs.Tables.{Writes, is_written, rows_of}
 use Rattle.desk_store.proofs.Created.{each_both, old_part}
 use Rattle.desk_store.proofs.Entries.{spare_then, writes_then}
 use Rattle.desk_store.proofs.Revisions.{none_of_revised, revised_back}

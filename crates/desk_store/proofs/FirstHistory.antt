@@ -174,12 +174,12 @@ AreShort rs = AllByRecursion (λ (r : Revision). length r.body ≤ longest_revis
 seven_short : (texts : SiteTexts) (more : List Revision) → first_long texts ≡ None → AreShort more → AreShort (map (revision_of_seven texts) seven ++ more)
 seven_short texts more none rest =
     let s = all_false (λ file. is_long (text_of_seven texts file)) seven none in (
-      short texts.custodians s.0,
+      short texts.files.custodians s.0,
       (
-        short texts.filesystems s.1.0,
+        short texts.files.filesystems s.1.0,
         (
-          short texts.hosts s.1.1.0,
-          (short texts.networks s.1.1.1.0, (short texts.passwd s.1.1.1.1.0, (short texts.group s.1.1.1.1.1.0, (short texts.netgroup s.1.1.1.1.1.1.0, rest)))),
+          short texts.files.tables.hosts s.1.1.0,
+          (short texts.files.tables.networks s.1.1.1.0, (short texts.files.tables.passwd s.1.1.1.1.0, (short texts.files.tables.group s.1.1.1.1.1.0, (short texts.files.tables.netgroup s.1.1.1.1.1.1.0, rest)))),
         ),
       ),
     )
@@ -236,11 +236,11 @@ listed_so P (Ok table) none h = h table refl
 listed_so P (Err fault) none h = none
 
 pub listed_ascend : TablesAreInOrder → (texts : SiteTexts) → AreAscending (mounts_of texts)
-listed_ascend law texts = listed_so AreAscending (read_filesystems texts.filesystems) (λ i j d lt within. absurd (omega arith)) (λ table is. (law texts.filesystems table is).0)
+listed_ascend law texts = listed_so AreAscending (read_filesystems texts.files.filesystems) (λ i j d lt within. absurd (omega arith)) (λ table is. (law texts.files.filesystems table is).0)
 
 pub listed_read_back : MountPointsReadBack → (texts : SiteTexts) → All (λ (m : Mount). read_path (path_text m.path) ≡ Ok m.path) (mounts_of texts)
 listed_read_back law texts =
-    listed_so (λ table. All (λ (m : Mount). read_path (path_text m.path) ≡ Ok m.path) table) (read_filesystems texts.filesystems) (λ k d below. absurd (omega arith)) (λ table is. law texts.filesystems table is)
+    listed_so (λ table. All (λ (m : Mount). read_path (path_text m.path) ≡ Ok m.path) table) (read_filesystems texts.files.filesystems) (λ k d below. absurd (omega arith)) (λ table is. law texts.files.filesystems table is)
 
 -- the revision of one mount point more
 pub add_mount : (texts : SiteTexts) (ms : List Mount) (i : ℕ) (m : Mount) (heads new : List Revision) (head : Revision) → i < length ms → m ≡ get_or ms i m → head ≡ revision_of_mount texts m → new ≡ heads ++ head ∷ []

@@ -22,8 +22,8 @@ use Rattle.desk_policy.specs.declared.contradiction.Contradiction.{Contradiction
 use Rattle.desk_policy.specs.declared.parsing.SiteTables.{SiteTables}
 use Rattle.desk_policy.specs.declared.site.ExportsText.{ExportsText}
 use Rattle.desk_policy.specs.declared.site_fault.SiteFault.{SiteFault}
+use Rattle.desk_policy.specs.SiteFile.{is_of_seven}
 use Rattle.desk_core.specs.Head.{Revision, newest_in}
-use Rattle.desk_core.specs.Judging.{is_of_seven}
 use Rattle.desk_core.specs.Site.{IsConsistent, IsSound, revision_text, site_in}
 use Rattle.desk_store.specs.Create.{IsFaultOfSeven, by_second, mounts_of, revision_of_mount, revisions_with}
 
@@ -96,8 +96,8 @@ table_same custodians (Err fault) f g h = refl
 pub read_same : (texts : SiteTexts) (exports : List ℕ → ExportsText) → AllByRecursion (Agree texts exports) (mounts_of texts) → read_site (with_exports texts exports) ≡ read_site texts
 unfolding read_site
 read_same texts exports h =
-    then_same (in_file (table_fault (codes "custodians")) (read_custodians texts.custodians)) _ _ (λ custodians.
-    table_same custodians (read_filesystems texts.filesystems) (read_after_filesystems (with_exports texts exports)) (read_after_filesystems texts) (after_same texts exports (mounts_of texts) h))
+    then_same (in_file (table_fault (codes "custodians")) (read_custodians texts.files.custodians)) _ _ (λ custodians.
+    table_same custodians (read_filesystems texts.files.filesystems) (read_after_filesystems (with_exports texts exports)) (read_after_filesystems texts) (after_same texts exports (mounts_of texts) h))
 
 -- the first revisions of all files write a site that reads as theirs by profile 2
 pub site_reads : (texts : SiteTexts) → read_site (site_in (newest_in (revisions_with texts (mounts_of texts)))) ≡ read_site (by_second texts)
@@ -154,8 +154,8 @@ then_tells (Err e) f g h = λ fault is seven. ap Err (sym is)
 pub seven_tells : (texts : SiteTexts) (one other : List ℕ → ExportsText) → TellsSeven (read_site (with_exports texts one)) (read_site (with_exports texts other))
 unfolding read_site
 seven_tells texts one other =
-    then_tells (in_file (table_fault (codes "custodians")) (read_custodians texts.custodians)) _ _ (λ custodians.
-    then_tells (in_file (table_fault (codes "filesystems")) (if_listed custodians (read_filesystems texts.filesystems))) _ _ (λ table.
+    then_tells (in_file (table_fault (codes "custodians")) (read_custodians texts.files.custodians)) _ _ (λ custodians.
+    then_tells (in_file (table_fault (codes "filesystems")) (if_listed custodians (read_filesystems texts.files.filesystems))) _ _ (λ table.
     then_tells (read_site_tables texts) _ _ (λ tables.
     content_tells table tables (read_files (with_exports texts one) table tables 0 table) _ (files_not (with_exports texts one) table tables 0 table))))
 

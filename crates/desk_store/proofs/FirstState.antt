@@ -7,8 +7,8 @@ use Rattle.desk_policy.specs.Site.{SiteTexts}
 use Rattle.desk_policy.specs.SiteFault.{exports_name}
 use Rattle.desk_policy.specs.View.{HasFault}
 use Rattle.desk_policy.specs.declared.site_fault.SiteFault.{SiteFault}
+use Rattle.desk_policy.specs.SiteFile.{is_of_seven}
 use Rattle.desk_core.specs.Head.{CanBeKept, Revision, newest_in}
-use Rattle.desk_core.specs.Judging.{is_of_seven}
 use Rattle.desk_core.specs.Site.{IsConsistent, IsSound, site_in}
 use Rattle.desk_core.specs.Views.{Kept}
 use Rattle.desk_store.specs.Create.{IsFaultOfSeven, IsFaultOrMemory, IsFirstState, IsSevenOrMemory, IsUtf8Revision, RefusesSite, first_long, first_long_mount, first_revisions, mounts_of, revisions_with}

@@ -17,7 +17,8 @@ use Rattle.desk_core.specs.History.{IsHistory, pending_in}
 use Rattle.desk_core.specs.declared.entry.Entry.{Entry}
 use Rattle.desk_core.specs.declared.entry.Entry.TheVariants as entry
 use Rattle.desk_core.specs.declared.proposal.Proposal.{Proposal}
-use Rattle.desk_store.specs.Tables.{HasTables, Stores, is_row_of, rows_of, without_file}
+use Rattle.desk_schema.specs.Tables.{HasTables}
+use Rattle.desk_store.specs.Tables.{Stores, is_row_of, rows_of, without_file}
 use Rattle.desk_store.specs.History.{Holds, approval_of, entry_rows, proposed_row, revisions_in, row_of}
 use Rattle.desk_store.proofs.LongerHistory.{others, pending_more, revisions_more}
 

@@ -23,7 +23,8 @@ use Rattle.desk_store.proofs.InsertEffect.{Puts, cast_int, cast_null, does_inser
 use Rattle.desk_store.proofs.InsertText.{InsertsAnywhere, approval_means, approval_terms, proposal_means, proposal_terms, revision_means, revision_terms}
 use Rattle.desk_store.proofs.NamedRows.{file_passes, file_test}
 use Rattle.desk_store.proofs.Placed.{placed, rowids_are}
-use Rattle.desk_store.specs.Tables.{AreKeys, Declares, IsKeyed, approval_row, approval_table, cells, delete_proposal, delete_version, file_rev_table, insert_approval, insert_proposal, insert_revision, meta_table, proposal_row, proposal_table, refers_to, revision_row}
+use Rattle.desk_schema.specs.Tables.{Declares, approval_table, file_rev_table, meta_table, proposal_table, refers_to}
+use Rattle.desk_store.specs.Tables.{AreKeys, IsKeyed, approval_row, cells, delete_proposal, delete_version, insert_approval, insert_proposal, insert_revision, proposal_row, revision_row}
 
 pub low_tree : (tree : ℕ) → tree < 65536 → nat_le (2 ^ 31) tree ≡ false
 low_tree tree low = lt-leb (2 ^ 31) tree (omega arith)

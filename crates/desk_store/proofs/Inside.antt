@@ -57,7 +57,7 @@ if_ok (Err e) S P Q h f = tt
 pub did_so : {T : Type 0} (a b : State) (result : Result T Error) (One Both : State → State → Type 0) → (One a b → Both a b) → RunsInside a b result One → RunsInside a b result Both
 did_so a b result One Both f h = record { kept = h.kept; crash = h.crash; done = λ clean. if_ok result (Shows a b b.now a.committed true) (One a b) (Both a b) (h.done clean) f }
 
-same_survives : (a : State) → Survives a a (λ _. ⊥)
+pub same_survives : (a : State) → Survives a a (λ _. ⊥)
 same_survives a = record { clean = omega arith; shield = λ h. h; counts = omega arith; limit = refl; closes = λ clean live. inl live; crash = λ clean trees may. inl may }
 
 -- no step

@@ -19,7 +19,8 @@ use Rattle.sqlite_resolve.specs.declared.scope.Output.{Output}
 use Rattle.sqlite_resolve.specs.declared.state.Carried.{Carried}
 use Rattle.desk_store.proofs.QueryText.{Opens, at, column_open, draft, means_so, name_lowered, no_tests, one_read, own_column, own_table, parsed, select, shown_open, within}
 use Rattle.desk_store.proofs.SelectText.{MeansAnywhere, key_columns, key_names, q}
-use Rattle.desk_store.specs.Tables.{meta_table, proposal_table, select_proposal_keys, select_version_keys}
+use Rattle.desk_schema.specs.Tables.{meta_table, proposal_table}
+use Rattle.desk_store.specs.Tables.{select_proposal_keys, select_version_keys}
 
 abbrev key : List ℕ
 key = codes "rowid"

@@ -3,6 +3,7 @@ pub mod DeleteEffect
 pub mod DeleteText
 pub mod OwnRowids
 pub mod Inside
+pub mod Said
 pub mod Committing
 pub mod Entries
 pub mod InsertText
@@ -29,7 +30,6 @@ pub mod EditRuns
 pub mod SiteHistories
 pub mod EditStep
 pub mod OneHistory
-pub mod FirstTables
 pub mod FoundRows
 pub mod ListedRows
 pub mod NextNumbers
@@ -39,6 +39,8 @@ pub mod OneRow
 pub mod Opened
 pub mod PendingEdits
 pub mod RowsRead
+pub mod OpeningSaid
+pub mod LookSaid
 pub mod SameTables
 pub mod SiteRows
 pub mod SortedNumbers

@@ -20,7 +20,8 @@ use Rattle.sqlite_catalog.specs.Listing.{automatic}
 use Rattle.std.specs.Fmt.{digits}
 use Rattle.sqlite_schema.specs.Names.{same_name, table_named}
 use Rattle.desk_store.specs.Create.{HasLaterRoom, HasRoom, LaterAreMade, MakesEmpty, MakesLater, MakesRoom, Ran, insert_version, with_four, with_meta}
-use Rattle.desk_store.specs.Tables.{Declares, HasFirstTables, HasTables, IsFree, SpareFrozen, approval_table, are_referred, cells, create_approval, create_file_rev, create_meta, create_proposal, file_rev_table, meta_table, proposal_table, rows_of, table_in}
+use Rattle.desk_schema.specs.Tables.{Declares, HasFirstTables, HasTables, IsFree, approval_table, are_referred, create_approval, create_file_rev, create_meta, create_proposal, file_rev_table, meta_table, proposal_table, table_in}
+use Rattle.desk_store.specs.Tables.{SpareFrozen, cells, rows_of}
 use Rattle.desk_store.proofs.CreateEffect.{does_create}
 use Rattle.desk_store.proofs.CreateText.{Reads, approval_reads, create_compiled, create_understood, file_rev_reads, meta_reads, proposal_reads, table_read}
 use Rattle.desk_store.proofs.Created.{are_low, below_next, declared_now, declared_yet, each_both, free_yet, new_part, old_part, referred_so, rows_stay, there_yet, tree_stays}

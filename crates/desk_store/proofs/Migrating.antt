@@ -10,7 +10,8 @@ use Rattle.sqlite.specs.State.{HasCleanDisk, State}
 use Rattle.desk_store.specs.Desk.{CommitsAtMost, History}
 use Rattle.desk_store.specs.History.{HoldsFirst, proposed_row}
 use Rattle.desk_store.specs.Open.{Migrates}
-use Rattle.desk_store.specs.Tables.{AreKeys, IsKeyed, cells, rows_of, table_in}
+use Rattle.desk_schema.specs.Tables.{table_in}
+use Rattle.desk_store.specs.Tables.{AreKeys, IsKeyed, cells, rows_of}
 use Rattle.desk_store.proofs.RowsRead.{none_left}
 
 -- nothing was tried

@@ -19,7 +19,8 @@ use Rattle.desk_store.proofs.Placed.{placed, rowids_are, rows_are}
 use Rattle.desk_store.proofs.SelectText as whole
 use Rattle.desk_store.proofs.SelectText.{Means, MeansAnywhere, q, key_names}
 use Rattle.desk_store.specs.Looks.{IsLook, approver_in, approver_of, approvers_in, author_profile_and_text, is_at, is_of, number_and_approver, number_author_and_profile, numbers_in, revision_in, select_approver, select_approvers, select_numbers, select_revision}
-use Rattle.desk_store.specs.Tables.{Declares, HasThese, approval_table, cells, file_rev_table, meta_table, proposal_table, rowids_of, rows_of, select_approvals, select_proposal_keys, select_proposals, select_revisions, select_version, select_version_keys, table_in}
+use Rattle.desk_schema.specs.Tables.{Declares, HasThese, approval_table, file_rev_table, meta_table, proposal_table, table_in}
+use Rattle.desk_store.specs.Tables.{cells, rowids_of, rows_of, select_approvals, select_proposal_keys, select_proposals, select_revisions, select_version, select_version_keys}
 
 -- the tables that these schemas declare
 abbrev IsDeclared : Bool → List ℕ → (ℕ → Table) → Type 0

@@ -16,7 +16,8 @@ use Rattle.sqlite.specs.declared.types.Value.{Value}
 use Rattle.sqlite.specs.declared.types.Value.TheVariants.{Null, Int, Real, Text as Words, Blob as Bytes}
 use Rattle.desk_store.proofs.RowsAnswered.{query, rows_answered}
 use Rattle.desk_store.specs.Looks.{approver_of, are_equal, author_profile_and_text, is_at, is_of, number_and_approver, number_author_and_profile}
-use Rattle.desk_store.specs.Tables.{approval_table, cells, file_rev_table}
+use Rattle.desk_schema.specs.Tables.{approval_table, file_rev_table}
+use Rattle.desk_store.specs.Tables.{cells}
 
 module _ (tests project : List Term) (table : Table) (params : Row) (test : Row → Bool) (shown : Row → Row)
     (passes : (row : Row) → list_all (holds (params ∷ row ∷ [])) tests ≡ test (cells table row)) (shows : (row : Row) → eval_all project (params ∷ row ∷ []) ≡ shown (cells table row)) where

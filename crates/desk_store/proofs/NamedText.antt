@@ -29,7 +29,7 @@ use Rattle.desk_store.proofs.QueryText.{IsColumn, IsPlainTest, Opens, and_open, 
 use Rattle.desk_store.proofs.NamedRows.{approver_columns, approvers_columns, file_test, number_columns, rev_test, text_columns}
 use Rattle.desk_store.proofs.RowsAnswered.{query}
 use Rattle.desk_store.specs.Looks.{select_approver, select_approvers, select_numbers, select_revision}
-use Rattle.desk_store.specs.Tables.{approval_table, file_rev_table}
+use Rattle.desk_schema.specs.Tables.{approval_table, file_rev_table}
 
 abbrev pub of_file : Expr
 of_file = written.Binary by.Eq (named (codes "file")) (written.Parameter 1)

@@ -7,7 +7,8 @@ use Rattle.sqlite.specs.Table.{Table}
 use Rattle.sqlite.specs.Effect.{Database}
 use Rattle.sqlite.specs.Tree.{rowid}
 use Rattle.sqlite_schema.specs.Names.{table_named}
-use Rattle.desk_store.specs.Tables.{cells, rowids_of, rows_of, table_in}
+use Rattle.desk_schema.specs.Tables.{table_in}
+use Rattle.desk_store.specs.Tables.{cells, rowids_of, rows_of}
 
 -- the place of a table that is found by its name
 pub placed : (schema : Schema) (name : List ℕ) (table : Table) → table_in schema name ≡ Some table

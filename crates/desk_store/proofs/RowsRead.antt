@@ -12,8 +12,9 @@ use Rattle.desk_store.specs.Desk.{History, IsSiteHistory}
 use Rattle.desk_store.specs.History.{HoldsFirst, approval_of, proposed_row, revisions_in}
 use Rattle.desk_store.specs.Open.{version_rows}
 use Rattle.desk_store.specs.StoredRows.{AreRowsOf}
-use Rattle.desk_store.specs.Tables.{HasFirstTables, has_later, rows_of}
-use Rattle.desk_store.specs.declared.declared.Version.TheVariants.{First}
+use Rattle.desk_schema.specs.Tables.{HasFirstTables, has_later}
+use Rattle.desk_store.specs.Tables.{rows_of}
+use Rattle.desk_schema.specs.declared.declared.Version.TheVariants.{First}
 use Rattle.desk_store.specs.declared.error.DeskError.{DeskError}
 use Rattle.desk_store.proofs.OneRow.{one_row}
 

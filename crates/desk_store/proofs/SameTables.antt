@@ -19,7 +19,8 @@ use Rattle.sqlite.specs.Schema.{Schema}
 use Rattle.desk_store.specs.Desk.{History}
 use Rattle.desk_store.specs.Open.{IsProject}
 use Rattle.desk_store.specs.History.{Holds, HoldsFirst, approval_of, proposed_row, revisions_in, row_of}
-use Rattle.desk_store.specs.Tables.{Declares, HasFirstTables, HasTables, cells, has_later, has_table, is_kept_table, rows_of}
+use Rattle.desk_schema.specs.Tables.{Declares, HasFirstTables, HasTables, has_later, has_table, is_kept_table}
+use Rattle.desk_store.specs.Tables.{cells, rows_of}
 use Rattle.desk_store.proofs.Placed.{placed}
 
 ok_injective : {A B : Type 0} {a b : A} → ◌≡◌ {A = Result A B} (Ok a) (Ok b) → a ≡ b

@@ -17,7 +17,8 @@ use Rattle.desk_store.specs.Desk.{History}
 use Rattle.desk_store.specs.History.{Holds, HoldsFirst, approval_of, proposed_row, revisions_in, row_of}
 use Rattle.desk_store.specs.Open.{IsFirst, Migrates, is_meta}
 use Rattle.desk_store.specs.Storing.{MakesSecond}
-use Rattle.desk_store.specs.Tables.{AreKeys, Declares, HasFirstTables, HasTables, IsAtRestWith, IsKeyed, approval_table, delete_version, file_rev_table, meta_table, proposal_table, rows_of, table_in}
+use Rattle.desk_schema.specs.Tables.{Declares, HasFirstTables, HasTables, approval_table, file_rev_table, meta_table, proposal_table, table_in}
+use Rattle.desk_store.specs.Tables.{AreKeys, IsAtRestWith, IsKeyed, delete_version, rows_of}
 use Rattle.desk_store.proofs.Created.{each_both, tree_stays}
 use Rattle.desk_store.proofs.DeleteEffect.{Takes}
 use Rattle.desk_store.proofs.Entries.{apart_trees, kept_rows, spare_then, unreferred_two}

@@ -13,10 +13,11 @@ use Rattle.desk_tables.specs.FileSystemsText.{is_guarded}
 use Rattle.desk_tables.specs.declared.filesystems.Mount.{Mount}
 use Rattle.desk_policy.specs.Site.{no_exports}
 use Rattle.desk_policy.specs.SiteFault.{exports_name}
+use Rattle.desk_policy.specs.SiteFile.{is_of_seven}
 use Rattle.desk_core.specs.Edit.{Already, Edit, Pending, Proposed, Refused, Stored, proposal_of, revision_by, revision_of}
 use Rattle.desk_core.specs.Head.{Newest, Revision, last_revision, put}
 use Rattle.desk_core.specs.History.{IsHistory, newest_of, pending_in, revisions_of, standing_of}
-use Rattle.desk_core.specs.Judging.{IsExportsName, is_guarded_file, is_of_seven, seven, table_in}
+use Rattle.desk_core.specs.Judging.{IsExportsName, is_guarded_file, seven, table_in}
 use Rattle.desk_core.specs.Laws.{AnsweredEditsKeepTheNumbers, AnswersAreRight, KnownFilesHaveNames, MayBeAccepted, StandingOfALongerHistory}
 use Rattle.desk_core.specs.Site.{IsConsistent, revision_text, site_by, site_in}
 use Rattle.desk_core.specs.Standing.{proposals_in}

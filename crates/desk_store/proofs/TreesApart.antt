@@ -13,7 +13,7 @@ use Rattle.sqlite_trees.specs.Objects.{catalog_tree}
 use Rattle.sqlite_catalog.specs.Listing.{IsSound, IsTableRow, is_table_row}
 use Rattle.sqlite_catalog.proofs.LayoutLemmas.{rising_trees}
 use Rattle.sqlite_schema.specs.Names.{same_name}
-use Rattle.desk_store.specs.Tables.{Declares, table_in}
+use Rattle.desk_schema.specs.Tables.{Declares, table_in}
 use Rattle.desk_store.proofs.Placed.{placed}
 
 abbrev Below : Row → Row → Type 0

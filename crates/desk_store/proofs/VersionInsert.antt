@@ -14,7 +14,8 @@ use Rattle.sqlite_ast.specs.declared.Rows.TheVariants as written
 use Rattle.sqlite_rules.specs.Cast.{cast_row}
 use Rattle.sqlite_tied.specs.Compute.{everything}
 use Rattle.desk_store.specs.Create.{insert_version}
-use Rattle.desk_store.specs.Tables.{Declares, cells, meta_table, rows_of}
+use Rattle.desk_schema.specs.Tables.{Declares, meta_table}
+use Rattle.desk_store.specs.Tables.{cells, rows_of}
 use Rattle.desk_store.proofs.InsertEffect.{Puts, cast_int, cast_null, numbered_row}
 use Rattle.desk_store.proofs.InsertText.{InsertsAnywhere, inserting, means_to_insert}
 use Rattle.desk_store.proofs.Inserting.{Soundly, inserts}

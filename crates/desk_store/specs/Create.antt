@@ -1,9 +1,9 @@
 -- What making a database promises. (this project's own)
-use Rattle.std.specs.Prelude.{◌≡◌, ◌⊎◌, ℕ, Bool, true, false, List, [], ◌∷◌, ◌++◌, Option, Some, None, Result, Ok, Err, IfErr, IfOk, IsTrue, OnErr, OnOk, codes, pos, find, length, map, nat_lt, if◌then◌else◌, ◌||◌}
+use Rattle.std.specs.Prelude.{◌≡◌, ◌⊎◌, ℕ, Bool, true, false, List, [], ◌∷◌, ◌++◌, Option, Some, None, Result, Ok, Err, IfErr, IfOk, IsTrue, OnErr, OnOk, codes, pos, find, length, map, nat_lt, ◌||◌}
 use Rattle.std.specs.List.{AllByRecursion, filter_map}
-use Rattle.std.specs.Option.{option_map}
+use Rattle.std.specs.Option.{option_map, option_map_or}
 use Rattle.std.specs.Result.{result_unwrap_or}
-use Rattle.std.specs.Str.{IsUtf8, bytes_eq}
+use Rattle.std.specs.Str.{IsUtf8}
 use Rattle.sqlite.specs.Held.{Held}
 use Rattle.sqlite.specs.State.{Executes, HasCleanDisk, KeepsCommit, Shows, State, Survives}
 use Rattle.sqlite.specs.Effect.{Database, IsDatabase}
@@ -17,18 +17,21 @@ use Rattle.sqlite.specs.Change.{created}
 use Rattle.desk_text.specs.Path.{path_text}
 use Rattle.desk_tables.specs.FileSystemsText.{read_filesystems}
 use Rattle.desk_tables.specs.declared.filesystems.Mount.{Mount}
-use Rattle.desk_policy.specs.Site.{SiteTexts}
+use Rattle.desk_policy.specs.Site.{SiteTexts, text_of}
 use Rattle.desk_policy.specs.SiteFault.{exports_name}
+use Rattle.desk_policy.specs.SiteFile.{file_of}
 use Rattle.desk_policy.specs.View.{HasFault}
 use Rattle.desk_policy.specs.declared.site_fault.SiteFault.{SiteFault}
+use Rattle.desk_policy.specs.SiteFile.{is_of_seven}
 use Rattle.desk_core.specs.Head.{Revision, longest_revision, newest_in}
 use Rattle.desk_core.specs.History.{IsHistory, newest_of}
-use Rattle.desk_core.specs.Judging.{is_of_seven, seven}
+use Rattle.desk_core.specs.Judging.{seven}
 use Rattle.desk_core.specs.Site.{IsConsistent}
 use Rattle.desk_store.specs.Desk.{IsSiteHistory, LeavesTables, Shown, Stands}
 use Rattle.desk_store.specs.History.{Holds, approval_of}
 use Rattle.desk_core.specs.Views.{Kept}
-use Rattle.desk_store.specs.Tables.{HasTables, IsAtRest, IsFree, LeavesCommit, SpareFrozen, Writes, approval_table, are_referred, file_rev_table, has_later, has_table, meta_table, proposal_table, rows_of}
+use Rattle.desk_schema.specs.Tables.{HasTables, IsFree, approval_table, are_referred, file_rev_table, has_later, has_table, meta_table, proposal_table}
+use Rattle.desk_store.specs.Tables.{IsAtRest, LeavesCommit, SpareFrozen, Writes, rows_of}
 use Rattle.desk_exports.specs.declared.profile.Profile.TheVariants.{Two}
 use Rattle.desk_core.specs.declared.entry.Entry.{Entry}
 use Rattle.desk_core.specs.declared.entry.Entry.TheVariants.{Revised}
@@ -44,14 +47,7 @@ has_one schema = has_table schema (codes "meta") || has_table schema (codes "fil
 
 -- of each of the seven files its text
 abbrev pub text_of_seven : SiteTexts → List ℕ → List ℕ
-text_of_seven texts file =
-    if bytes_eq file (codes "custodians") then texts.custodians
-    else (if bytes_eq file (codes "filesystems") then texts.filesystems
-    else (if bytes_eq file (codes "hosts") then texts.hosts
-    else (if bytes_eq file (codes "networks") then texts.networks
-    else (if bytes_eq file (codes "passwd") then texts.passwd
-    else (if bytes_eq file (codes "group") then texts.group
-    else texts.netgroup)))))
+text_of_seven texts name = option_map_or (text_of texts) (file_of name) []
 
 -- a text is longer than a revision's may be
 abbrev pub is_long : List ℕ → Bool
@@ -63,7 +59,7 @@ first_long texts = find (λ file. is_long (text_of_seven texts file)) seven
 
 -- the mount points that the text of the file systems lists, none if it has a fault
 abbrev pub mounts_of : SiteTexts → List Mount
-mounts_of texts = result_unwrap_or (read_filesystems texts.filesystems) []
+mounts_of texts = result_unwrap_or (read_filesystems texts.files.filesystems) []
 
 -- the first of these mount points whose exports text is too long
 abbrev pub first_long_mount : SiteTexts → List Mount → Option Mount

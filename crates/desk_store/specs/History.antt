@@ -10,7 +10,8 @@ use Rattle.desk_core.specs.History.{IsHistory, pending_in, revision_in}
 use Rattle.desk_core.specs.declared.entry.Entry.{Entry}
 use Rattle.desk_core.specs.declared.entry.Entry.TheVariants.{Revised, Proposed}
 use Rattle.desk_core.specs.declared.proposal.Proposal.{Proposal}
-use Rattle.desk_store.specs.Tables.{EntryRows, HasFirstTables, HasTables, approval_row, has_later, proposal_row, revision_row, rows_of}
+use Rattle.desk_schema.specs.Tables.{HasFirstTables, HasTables, has_later}
+use Rattle.desk_store.specs.Tables.{EntryRows, approval_row, proposal_row, revision_row, rows_of}
 
 -- the row of a revision, that of its approval if it has one, and that of a proposal
 abbrev pub row_of : Revision → Row

@@ -1,6 +1,8 @@
 -- What a look changes, which is nothing, and what the queries read. (this project's own)
 use Rattle.std.specs.Prelude.{◌≡◌, ◌&&◌, ℕ, Bool, true, false, List, [], ◌∷◌, Option, Some, None, IfOk, IsPermutation, IsTrue, Ok, OnOk, Result, Vec, codes, filter, map, pos}
 use Rattle.std.specs.Ordering.{is_eq}
+use Rattle.sqlite_trees.specs.declared.store.Store.{Ghosts}
+use Rattle.sqlite.specs.Held.{Held, state}
 use Rattle.sqlite.specs.Effect.{Database, IsDatabase, Reads}
 use Rattle.sqlite.specs.Given.{IsPlain}
 use Rattle.sqlite.specs.Listing.{reads_listing, understood}
@@ -12,9 +14,11 @@ use Rattle.sqlite.specs.Order.{Row, column, value_cmp}
 use Rattle.sqlite.specs.declared.types.Value.{Value}
 use Rattle.sqlite.specs.declared.types.Value.TheVariants.{Int, Text as Words}
 use Rattle.desk_store.specs.Desk.{LeavesTables}
-use Rattle.desk_store.specs.Tables.{HasFirstTables, HasTables, HasThese, IsAtRestWith, has_later, rows_of}
-use Rattle.desk_store.specs.declared.declared.Version.{Version}
-use Rattle.desk_store.specs.declared.declared.Version.TheVariants as version
+use Rattle.desk_store.specs.Error.{FailsAsSaid, Query, Statement}
+use Rattle.desk_schema.specs.Tables.{DeclaresVersion, HasThese, has_later}
+use Rattle.desk_store.specs.Tables.{IsAtRestWith, rows_of}
+use Rattle.desk_schema.specs.declared.declared.Version.{Version}
+use Rattle.desk_schema.specs.declared.declared.Version.TheVariants as version
 
 -- A look changes nothing: the tables are as before, and a crash leaves what it could before. A connection that was at rest, with the
 -- tables of version 1 or with all four, still is, and one that is open was.
@@ -24,11 +28,13 @@ pub record ChangesNothing (old new : State) : Type 0 where
   pub opened : HasCleanDisk new → IsTrue new.is_open → IsTrue old.is_open
   pub leaves : LeavesTables old new
 
--- a query changes nothing, and reads these rows of the database, in some order, over a connection that is open
-pub record ReadsRows {Y : Type 0} (of : Database → List Row) (old new : State) (result : Result (Vec Row Y) Error) : Type 0 where
-  pub look : ChangesNothing old new
-  pub live : HasCleanDisk new → OnOk result (IsTrue new.is_open)
-  pub rows : HasCleanDisk new → IfOk result (λ rows. IsPermutation (of old.committed) rows.items)
+-- this query changes nothing, and reads these rows of the database, in some order, over a connection that is open; or it fails by
+-- what it said
+pub record ReadsRows {S Y : Type 0} (g : Ghosts S) (of : Database → List Row) (query : Statement) (old new : Held S) (result : Result (Vec Row Y) Error) : Type 0 where
+  pub look : ChangesNothing (state g old) (state g new)
+  pub live : HasCleanDisk (state g new) → OnOk result (IsTrue (state g new).is_open)
+  pub rows : HasCleanDisk (state g new) → IfOk result (λ rows. IsPermutation (of (state g old).committed) rows.items)
+  pub said : FailsAsSaid g (λ s. s ≡ query) old new result
 
 -- a query that writes nothing, and that shows these rows of a database with the tables of version 1, or with all four, in some order
 pub record IsLook (all : Bool) (sql : List ℕ) (params : Row) (of : Database → List Row) : Type 0 where
@@ -36,18 +42,15 @@ pub record IsLook (all : Bool) (sql : List ℕ) (params : Row) (of : Database �
   pub unlisted : (schema : Schema) → HasThese all schema → reads_listing schema sql ≡ false
   pub rows : (db : Database) (rows : List Row) (c : Compiled) → HasThese all db.schema → understood db.schema sql ≡ Ok c → Reads c.command db params rows → IsPermutation (of db) rows
 
--- the version whose tables a schema declares: the second, if it has all four; the first, if it has those of version 1 and none with
--- the name of a later one; or neither
-abbrev pub DeclaresVersion : Schema → Option Version → Type 0
-DeclaresVersion schema (Some version.Second) = HasTables schema
-DeclaresVersion schema (Some version.First) = HasFirstTables schema × (has_later schema ≡ false)
-DeclaresVersion schema None = (HasTables schema → ⊥) × (HasFirstTables schema → has_later schema ≡ false → ⊥)
-
 -- The tables that are seen: all four; or those of version 1, and none with the name of a later one; or neither.
 abbrev pub SeesTables : State → State → Option Version → Type 0
 SeesTables old new (Some version.Second) = IsAtRestWith true new × IsDatabase old.committed
 SeesTables old new (Some version.First) = IsAtRestWith false new × (has_later old.committed.schema ≡ false) × IsDatabase old.committed
 SeesTables old new None = DeclaresVersion old.committed.schema None
+
+-- a query that reads nothing
+abbrev pub select_nothing : List ℕ
+select_nothing = codes "SELECT 1"
 
 abbrev pub select_numbers : List ℕ
 select_numbers = codes "SELECT rev, author, profile FROM file_rev WHERE file = ?1"
@@ -99,3 +102,13 @@ approver_in file rev db = map approver_of (filter (is_at file rev) (rows_of db (
 
 abbrev pub approvers_in : List ℕ → Database → List Row
 approvers_in file db = map number_and_approver (filter (is_of file) (rows_of db (codes "approval")))
+
+-- the queries of a look for one revision, for the revisions of a file, and for who signed them
+abbrev pub revision_queries : List ℕ → ℕ → List Statement
+revision_queries file rev = Query select_revision (Words file ∷ Int (pos rev) ∷ []) ∷ Query select_approver (Words file ∷ Int (pos rev) ∷ []) ∷ []
+
+abbrev pub numbers_queries : List ℕ → List Statement
+numbers_queries file = Query select_numbers (Words file ∷ []) ∷ []
+
+abbrev pub signature_queries : List ℕ → List Statement
+signature_queries file = Query select_numbers (Words file ∷ []) ∷ Query select_approvers (Words file ∷ []) ∷ []

@@ -1,5 +1,5 @@
 -- What opening a desk promises. (this project's own)
-use Rattle.std.specs.Prelude.{◌≡◌, ◌≢◌, ◌⊎◌, ℕ, Bool, false, List, [], ◌∷◌, Result, Ok, Err, IsTrue, codes, pos, ◌==◌}
+use Rattle.std.specs.Prelude.{◌≡◌, ◌≢◌, ◌⊎◌, ℕ, Bool, false, List, [], ◌∷◌, Contains, Result, Ok, Err, IsTrue, codes, pos, ◌==◌}
 use Rattle.std.specs.List.{AllByRecursion}
 use Rattle.std.specs.Option.{option_map_or}
 use Rattle.sqlite_trees.specs.declared.store.Store.{Ghosts}
@@ -12,19 +12,24 @@ use Rattle.sqlite.specs.Table.{Table}
 use Rattle.sqlite.specs.Tree.{Trees}
 use Rattle.sqlite.specs.Order.{Row}
 use Rattle.sqlite.specs.declared.types.Value.TheVariants.{Int}
+use Rattle.sqlite.specs.declared.error.Error.{Error}
 use Rattle.sqlite.specs.declared.error.Error.TheVariants.{SqliteFailure}
 use Rattle.sqlite.specs.declared.error.ErrorCode.TheVariants as code
 use Rattle.desk_core.specs.declared.entry.Entry.{Entry}
+use Rattle.desk_store.specs.Create.{HasLaterRoom, insert_version}
 use Rattle.desk_store.specs.Desk.{IsSiteHistory, Shown, Stands}
+use Rattle.desk_store.specs.Error.{Commit, IsSaid, Query, Statement, Step, TellsBy}
 use Rattle.desk_store.specs.History.{Holds, HoldsFirst}
-use Rattle.desk_store.specs.Tables.{SpareFrozen, approval_table, proposal_table, table_in}
+use Rattle.desk_store.specs.Looks.{select_nothing}
+use Rattle.desk_schema.specs.Tables.{approval_table, create_approval, create_proposal, proposal_table, table_in}
+use Rattle.desk_store.specs.Tables.{IsKeyed, SpareFrozen, delete_version, rows_of, select_approvals, select_proposal_keys, select_proposals, select_revisions, select_version, select_version_keys}
 use Rattle.desk_store.specs.declared.error.DeskError.{DeskError}
 use Rattle.desk_store.specs.declared.error.DeskError.TheVariants as error
 use Rattle.desk_store.specs.declared.error.StoreFault.{StoreFault}
 use Rattle.desk_store.specs.declared.error.Task.{Task}
 use Rattle.desk_store.specs.declared.error.Task.TheVariants as task
-use Rattle.desk_store.specs.declared.declared.Version.{Version}
-use Rattle.desk_store.specs.declared.declared.Version.TheVariants as version
+use Rattle.desk_schema.specs.declared.declared.Version.{Version}
+use Rattle.desk_schema.specs.declared.declared.Version.TheVariants as version
 
 -- the number of a version, and the rows of `meta` that tell it
 abbrev pub version_number : Version → ℕ
@@ -59,6 +64,39 @@ IsLook task.ReadVersion = Unit {0}
 -- refused for another cause
 abbrev pub IsOfOpening : DeskError → Type 0
 IsOfOpening e = (e ≡ error.Schema) ⊎ ((e ≡ error.Memory) ⊎ ((fault : StoreFault) × IsLook fault.task × (fault.error ≢ SqliteFailure code.OutOfMemory) × (e ≡ error.Store fault)))
+
+-- the queries that tell the version of a database: one by which its schema is read, and the one of `meta`
+abbrev pub version_queries : List Statement
+version_queries = Query select_nothing [] ∷ Query select_version [] ∷ []
+
+-- the statements of an opening: those, the queries of the other tables and of rowids, and what makes a database of version 1 one of
+-- version 2, in one transaction
+abbrev pub opening_statements : List Statement
+opening_statements =
+    Query select_nothing [] ∷ Query select_version [] ∷ Query select_version_keys [] ∷ Query select_proposal_keys [] ∷ Query select_revisions [] ∷ Query select_approvals []
+    ∷ Query select_proposals [] ∷ Step create_approval [] ∷ Step create_proposal [] ∷ Step delete_version [] ∷ Step insert_version [] ∷ Commit ∷ []
+
+-- the rowids of `meta`, or those of `proposal`, are not integers of which none comes twice
+abbrev pub HasBadKeys : Database → Type 0
+HasBadKeys db = (IsKeyed db (codes "meta") → ⊥) ⊎ (IsKeyed db (codes "proposal") → ⊥)
+
+-- The error of a fault in an opening: what SQLite said of one of its statements; or that the file is damaged, if it has such rowids;
+-- or that a name is taken, if the two later tables cannot be made.
+abbrev pub IsOpeningError : {S : Type 0} (g : Ghosts S) → Held S → Held S → Error → Type 0
+IsOpeningError g old new e =
+    IsSaid g (Contains opening_statements) old new e
+    ⊎ (((e ≡ SqliteFailure code.DatabaseCorrupt) × HasBadKeys (state g old).committed) ⊎ ((e ≡ SqliteFailure code.NameTaken) × (HasLaterRoom (state g old).committed.schema → ⊥)))
+
+-- a fault in an opening is told by such an error
+abbrev pub TellsOpening : {S : Type 0} (g : Ghosts S) → Held S → Held S → DeskError → Type 0
+TellsOpening g old new e = TellsBy (IsOpeningError g old new) e
+
+-- Out of memory is told if SQLite said so when it was asked for the version, and else only of a database that tells version 1 or 2. (One
+-- of another version is not of this project.)
+abbrev pub TellsMemory : {S : Type 0} (g : Ghosts S) → Held S → Held S → Type 0
+TellsMemory g old new =
+    IsSaid g (Contains version_queries) old new (SqliteFailure code.OutOfMemory)
+    ⊎ ((version : Version) × (rows_of (state g old).committed (codes "meta") ≡ version_rows version))
 
 -- a database of this project with this history, of this version or the one before
 pub record IsProject (db : Database) (history : List Entry) : Type 0 where

@@ -1,6 +1,6 @@
 -- What is read of the rows of revisions and of approvals. (this project's own)
-use Rattle.std.specs.Prelude.{◌≡◌, ◌≢◌, ◌-◌, ◌==◌, ◌&&◌, ℕ, Bool, false, List, [], ◌∷◌, Option, None, Some, All, IsPermutation, codes, length, map, slice_get, if◌then◌else◌}
-use Rattle.std.specs.List.{AllPairs, filter_map}
+use Rattle.std.specs.Prelude.{◌≡◌, ◌-◌, ◌==◌, ◌&&◌, ℕ, Bool, false, List, [], ◌∷◌, Option, None, Some, All, IsPermutation, codes, length, map, slice_get, if◌then◌else◌}
+use Rattle.std.specs.List.{filter_map}
 use Rattle.std.specs.Cmp.Lexicographic.{slice_cmp}
 use Rattle.std.specs.Option.{option_map_or}
 use Rattle.std.specs.Ordering.{is_lt, nat_cmp, ordering_then}
@@ -10,6 +10,7 @@ use Rattle.sqlite.specs.Order.{Row}
 use Rattle.desk_exports.specs.declared.profile.Profile.{Profile}
 use Rattle.desk_core.specs.Head.{Newest, Revision, newest_in, newest_number}
 use Rattle.desk_core.specs.History.{IsHistory, newest_of, pending_in}
+use Rattle.desk_core.specs.Standing.{PendOnce}
 use Rattle.desk_core.specs.declared.entry.Entry.{Entry}
 use Rattle.desk_core.specs.declared.entry.Entry.TheVariants.{Revised}
 use Rattle.desk_core.specs.declared.proposal.Proposal.{Proposal}
@@ -103,5 +104,5 @@ pub record AreNewestOf (revisions approvals : List Row) (heads history : List Re
 
 -- Proposals may be pending behind these newest revisions: no two are of one file, and each follows the newest revision of its file.
 pub record MayFollow (newest : Newest) (proposals : List Proposal) : Type 0 where
-  pub once : AllPairs (λ proposal later. proposal.file ≢ later.file) proposals
+  pub once : PendOnce proposals
   pub follow : All (λ proposal. newest_number (newest proposal.file) ≡ proposal.base) proposals

@@ -1,6 +1,6 @@
 //! Making a desk's tables in a database, with the first revisions of a site, in one transaction.
 
-ghost use Rattle.std.specs.Prelude.{◌≡◌, [], false, is_some, map, IsTrue};
+ghost use Rattle.std.specs.Prelude.{◌≡◌, ◌⊎◌, ◌↔◌, [], false, is_some, map, IsTrue};
 ghost use Rattle.std.specs.List.{filter_map, list_any};
 ghost use Rattle.sqlite.specs.Table.{Table as Declared};
 ghost use Rattle.sqlite.specs.Held.{state};
@@ -10,15 +10,16 @@ ghost use Rattle.desk_core.specs.History.{IsHistory};
 ghost use Rattle.desk_core.specs.declared.entry.Entry.TheVariants.{Revised};
 ghost use Rattle.sqlite.specs.Rows.{sequence};
 ghost use Rattle.desk_store.specs.Create.{HasLaterRoom, HasRoom, IsCreated, IsOfMaking, LooksForRoom, has_one, AddsRows, Fills, IsInside, MakesLater, MakesRoom, Ran, RunsInside, StoresAll};
+ghost use Rattle.desk_store.specs.Error.{FailsInside, Step};
 ghost use Rattle.desk_store.specs.History.{approval_of, row_of};
-ghost use Rattle.desk_store.specs.Tables.{IsFree};
+ghost use Rattle.desk_schema.specs.Tables.{IsFree, create_approval, create_proposal};
 
-use crate::declared::{are_referred, has_later, has_table};
 use crate::error::{CreateError, StoreFault, Task};
 use crate::first::first_state;
 use crate::storing::add_revision;
 use desk_core::{Head, State};
 use desk_policy::{PolicyView, Site};
+use desk_schema::{are_referred, has_later, has_table};
 use sqlite::{Alter, Connection, Error, ErrorCode, Transaction};
 use sqlite_schema::schema::Schema;
 use std::alloc::Global;
@@ -27,6 +28,7 @@ use std::alloc::Global;
 pub(crate) fn run<S: Alter>(tx: &mut Transaction<'_, S>, text: &str) -> Result<(), Error>
     ensures same_reference { tx.new.conn.ghost_name ≡ tx.old.conn.ghost_name }
     ensures ran { RunsInside (state S.Store tx.old.conn.now) (state S.Store tx.new.conn.now) result (Ran text.now) }
+    ensures said { FailsInside S.Store (λ s. s ≡ Step text.now []) tx.old.conn.now tx.new.conn.now result }
 {
     tx.execute(text, &[])?;
     Ok(())
@@ -36,6 +38,7 @@ pub(crate) fn run<S: Alter>(tx: &mut Transaction<'_, S>, text: &str) -> Result<(
 pub(crate) fn make_later<S: Alter>(tx: &mut Transaction<'_, S>) -> Result<(), Error>
     ensures same_reference { tx.new.conn.ghost_name ≡ tx.old.conn.ghost_name }
     ensures made { RunsInside (state S.Store tx.old.conn.now) (state S.Store tx.new.conn.now) result MakesLater }
+    ensures said { FailsInside S.Store (λ s. (s ≡ Step create_approval []) ⊎ (s ≡ Step create_proposal [])) tx.old.conn.now tx.new.conn.now result }
 {
     run(
         tx,
@@ -119,7 +122,7 @@ fn has_one(schema: &Schema) -> bool
 
 /// Tests whether a name is free.
 fn is_free(schema: &Schema, name: &[u8]) -> bool
-    ensures { IsTrue result → IsFree schema.now name.now }
+    ensures { IsTrue result ↔ IsFree schema.now name.now }
 {
     schema.table_named(name).is_none()
         && schema.view_named(name).is_none()
@@ -149,7 +152,7 @@ fn counts(schema: &Schema) -> bool
 
 /// Tests whether the two tables that came with version 2 can be made.
 pub(crate) fn has_later_room(schema: &Schema) -> bool
-    ensures { IsTrue result → HasLaterRoom schema.now }
+    ensures { IsTrue result ↔ HasLaterRoom schema.now }
 {
     is_free(schema, b"approval".as_slice())
         && is_free(schema, b"proposal".as_slice())

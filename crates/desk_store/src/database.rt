@@ -1,25 +1,27 @@
 //! The state for which a database stands, if it is one of this project. One of version 1 is made one of version 2.
 
-ghost use Rattle.std.specs.Prelude.{◌≡◌, [], false, codes, Err, IfErr, IfOk, IsTrue, OnErr, OnOk};
+ghost use Rattle.std.specs.Prelude.{◌≡◌, ◌≢◌, [], false, codes, Contains, Err, IfErr, IfOk, IsTrue, OnErr, OnOk};
 ghost use Rattle.sqlite.specs.Effect.{IsDatabase};
 ghost use Rattle.sqlite.specs.Held.{state};
 ghost use Rattle.sqlite.specs.State.{HasCleanDisk, Survives};
 ghost use Rattle.desk_core.specs.History.{standing_of};
+ghost use Rattle.desk_core.specs.Standing.{PendOnce};
 ghost use Rattle.desk_core.specs.State.{standing};
 ghost use Rattle.desk_store.specs.Create.{HasLaterRoom, RunsInside};
 ghost use Rattle.desk_store.specs.Desk.{CommitsAtMost, History, IsSiteHistory};
+ghost use Rattle.desk_store.specs.Error.{FailsAsSaid, FailsInside};
 ghost use Rattle.desk_store.specs.History.{Holds, HoldsFirst};
 ghost use Rattle.desk_store.specs.Looks.{ChangesNothing, SeesTables};
-ghost use Rattle.desk_store.specs.Open.{IsFirst, IsOfOpening, IsOurs, IsProject, LeavesOpened, MayMigrate, Migrates, version_rows};
+ghost use Rattle.desk_store.specs.Open.{IsFirst, IsOfOpening, IsOpeningError, IsOurs, IsProject, LeavesOpened, MayMigrate, Migrates, TellsMemory, TellsOpening, opening_statements, version_rows};
 ghost use Rattle.desk_store.specs.Rows.{IsOfTask};
 ghost use Rattle.desk_store.specs.StoredRows.{AreRowsIn};
 ghost use Rattle.desk_store.specs.Storing.{MakesSecond};
-ghost use Rattle.desk_store.specs.Tables.{AreKeys, IsAtRest, IsAtRestWith, IsKeyed, has_later, rows_of};
+ghost use Rattle.desk_schema.specs.Tables.{has_later};
+ghost use Rattle.desk_store.specs.Tables.{AreKeys, IsAtRest, IsAtRestWith, IsKeyed, rows_of};
 ghost use Rattle.desk_store.specs.declared.error.DeskError.TheVariants as error;
 ghost use Rattle.desk_store.specs.declared.error.Task.TheVariants as tasks;
 
 use crate::creating::{has_later_room, make_later, run};
-use crate::declared::Version;
 use crate::error::{DeskError, Task};
 use crate::keys::are_keys;
 use crate::opening::{accept_version, state_in};
@@ -30,6 +32,7 @@ use crate::tables::{
 };
 use desk_core::State;
 use desk_policy::PolicyView;
+use desk_schema::Version;
 use sqlite::{Alter, Connection, Error, ErrorCode, Row, Transaction};
 use std::alloc::Global;
 
@@ -41,6 +44,8 @@ fn find_tables<S: Alter>(conn: &mut Connection<S>) -> Result<Version, DeskError>
     ensures seen { HasCleanDisk (state S.Store conn.new) → IfOk result (λ version. SeesTables (state S.Store conn.old) (state S.Store conn.new) (Some version)) }
     ensures foreign { HasCleanDisk (state S.Store conn.new) → result ≡ Err error.Schema → SeesTables (state S.Store conn.old) (state S.Store conn.new) None }
     ensures errors { IfErr result IsOfOpening }
+    ensures said { HasCleanDisk (state S.Store conn.new) → IfErr result (TellsOpening S.Store conn.old conn.new) }
+    ensures memory { HasCleanDisk (state S.Store conn.new) → result ≡ Err error.Memory → TellsMemory S.Store conn.old conn.new }
 {
     match seen_tables(conn) {
         Ok(Some(version)) => Ok(version),
@@ -57,6 +62,8 @@ fn check_version<S: Alter>(conn: &mut Connection<S>, version: Version) -> Result
     ensures version { HasCleanDisk (state S.Store conn.new) → OnOk result (rows_of (state S.Store conn.old).committed (codes "meta") ≡ version_rows version) }
     ensures foreign { HasCleanDisk (state S.Store conn.new) → result ≡ Err error.Schema → rows_of (state S.Store conn.old).committed (codes "meta") ≡ version_rows version → ⊥ }
     ensures errors { IfErr result IsOfOpening }
+    ensures said { HasCleanDisk (state S.Store conn.new) → IfErr result (TellsOpening S.Store conn.old conn.new) }
+    ensures memory { HasCleanDisk (state S.Store conn.new) → result ≡ Err error.Memory → TellsMemory S.Store conn.old conn.new }
 {
     match read_versions(conn) {
         Ok(rows) => accept_version(rows.as_slice(), version),
@@ -79,6 +86,9 @@ fn read_second<S: Alter, V: PolicyView + Drop>(
     ensures foreign { HasCleanDisk (state S.Store conn.new) → result ≡ Err error.Schema → (history : History) → IsSiteHistory history
         → Holds (state S.Store conn.old).committed history → ⊥ }
     ensures errors { IfErr result IsOfOpening }
+    ensures said { HasCleanDisk (state S.Store conn.new) → IfErr result (TellsOpening S.Store conn.old conn.new) }
+    ensures memory { HasCleanDisk (state S.Store conn.new) → result ≡ Err error.Memory → TellsMemory S.Store conn.old conn.new }
+    ensures proposals_once { IfOk result (λ state'. PendOnce state'.proposals) }
 {
     check_version(conn, Version::Second)?;
     check_keys(alloc, conn)?;
@@ -99,6 +109,8 @@ fn read_history<S: Alter, V: PolicyView + Drop>(
     ensures foreign { HasCleanDisk (state S.Store conn.new) → result ≡ Err error.Schema → (history : History) → IsSiteHistory history
         → AreRowsIn (state S.Store conn.old).committed history → ⊥ }
     ensures errors { IfErr result IsOfOpening }
+    ensures said { HasCleanDisk (state S.Store conn.new) → IfErr result (TellsOpening S.Store conn.old conn.new) }
+    ensures proposals_once { IfOk result (λ state'. PendOnce state'.proposals) }
 {
     let revisions = match read_revisions(conn) {
         Ok(rows) => rows,
@@ -135,6 +147,9 @@ fn read_first<S: Alter, V: PolicyView + Drop>(
     ensures foreign { HasCleanDisk (state S.Store conn.new) → result ≡ Err error.Schema → (history : History) → IsSiteHistory history
         → HoldsFirst (state S.Store conn.old).committed history → ⊥ }
     ensures errors { IfErr result IsOfOpening }
+    ensures said { HasCleanDisk (state S.Store conn.new) → IfErr result (TellsOpening S.Store conn.old conn.new) }
+    ensures memory { HasCleanDisk (state S.Store conn.new) → result ≡ Err error.Memory → TellsMemory S.Store conn.old conn.new }
+    ensures proposals_once { IfOk result (λ state'. PendOnce state'.proposals) }
 {
     check_version(conn, Version::First)?;
     check_version_keys(alloc, conn)?;
@@ -151,6 +166,7 @@ fn check_keys<S: Alter>(alloc: Global, conn: &mut Connection<S>) -> Result<(), D
     ensures live { HasCleanDisk (state S.Store conn.new) → OnOk result (IsTrue (state S.Store conn.new).is_open) }
     ensures keyed { HasCleanDisk (state S.Store conn.new) → OnOk result (IsKeyed (state S.Store conn.old).committed (codes "proposal")) }
     ensures errors { IfErr result (IsOfTask tasks.ReadRevisions) }
+    ensures said { HasCleanDisk (state S.Store conn.new) → IfErr result (TellsOpening S.Store conn.old conn.new) }
 {
     match read_proposal_keys(conn) {
         Ok(rows) => accept_keys(alloc, Task::ReadRevisions, rows.as_slice()),
@@ -165,6 +181,7 @@ fn check_version_keys<S: Alter>(alloc: Global, conn: &mut Connection<S>) -> Resu
     ensures live { HasCleanDisk (state S.Store conn.new) → OnOk result (IsTrue (state S.Store conn.new).is_open) }
     ensures keyed { HasCleanDisk (state S.Store conn.new) → OnOk result (IsKeyed (state S.Store conn.old).committed (codes "meta")) }
     ensures errors { IfErr result (IsOfTask tasks.ReadVersion) }
+    ensures said { HasCleanDisk (state S.Store conn.new) → IfErr result (TellsOpening S.Store conn.old conn.new) }
 {
     match read_version_keys(conn) {
         Ok(rows) => accept_keys(alloc, Task::ReadVersion, rows.as_slice()),
@@ -176,6 +193,7 @@ fn check_version_keys<S: Alter>(alloc: Global, conn: &mut Connection<S>) -> Resu
 fn accept_keys(alloc: Global, task: Task, rows: &[Row]) -> Result<(), DeskError>
     ensures keys { OnOk result (AreKeys rows.now) }
     ensures errors { IfErr result (IsOfTask task) }
+    ensures twice { IfErr result (λ e. e ≢ error.Memory → (e ≡ error.Store (record { task = task; error = Error.SqliteFailure ErrorCode.DatabaseCorrupt })) × (AreKeys rows.now → ⊥)) }
 {
     match are_keys(alloc, rows) {
         Ok(true) => Ok(()),
@@ -188,6 +206,7 @@ fn accept_keys(alloc: Global, task: Task, rows: &[Row]) -> Result<(), DeskError>
 fn make_second<S: Alter>(tx: &mut Transaction<'_, S>) -> Result<(), Error>
     ensures same_reference { tx.new.conn.ghost_name ≡ tx.old.conn.ghost_name }
     ensures made { RunsInside (state S.Store tx.old.conn.now) (state S.Store tx.new.conn.now) result MakesSecond }
+    ensures said { FailsInside S.Store (Contains opening_statements) tx.old.conn.now tx.new.conn.now result }
 {
     make_later(tx)?;
     run(tx, "DELETE FROM meta")?;
@@ -202,6 +221,7 @@ fn commit_second<S: Alter>(conn: &mut Connection<S>) -> Result<(), Error>
     requires keyed { HasCleanDisk (state S.Store conn.old) → IsTrue (state S.Store conn.old).is_open → IsKeyed (state S.Store conn.old).committed (codes "meta") }
     requires room { HasCleanDisk (state S.Store conn.old) → IsTrue (state S.Store conn.old).is_open → HasLaterRoom (state S.Store conn.old).committed.schema }
     ensures migrated { CommitsAtMost Migrates (state S.Store conn.old) (state S.Store conn.new) result }
+    ensures said { FailsAsSaid S.Store (Contains opening_statements) conn.old conn.new result }
 {
     let mut tx = conn.transaction();
     make_second(&mut tx)?;
@@ -213,10 +233,12 @@ fn commit_second<S: Alter>(conn: &mut Connection<S>) -> Result<(), Error>
 /// is not there.)
 fn migrate<S: Alter>(conn: &mut Connection<S>) -> Result<(), Error>
     requires autocommit { (state S.Store conn.old).in_transaction ≡ false }
+    requires live { HasCleanDisk (state S.Store conn.old) → IsTrue (state S.Store conn.old).is_open }
     requires rest { HasCleanDisk (state S.Store conn.old) → IsAtRestWith false (state S.Store conn.old) }
     requires first { HasCleanDisk (state S.Store conn.old) → IsTrue (state S.Store conn.old).is_open → IsFirst (state S.Store conn.old).committed }
     requires keyed { HasCleanDisk (state S.Store conn.old) → IsTrue (state S.Store conn.old).is_open → IsKeyed (state S.Store conn.old).committed (codes "meta") }
     ensures migrated { CommitsAtMost Migrates (state S.Store conn.old) (state S.Store conn.new) result }
+    ensures said { HasCleanDisk (state S.Store conn.new) → IfErr result (IsOpeningError S.Store conn.old conn.new) }
 {
     if has_later_room(conn.schema()) {
         commit_second(conn)
@@ -244,6 +266,9 @@ pub(crate) fn read_state<S: Alter, V: PolicyView + Drop>(
     ensures crash { Survives (state S.Store conn.old) (state S.Store conn.new) (MayMigrate (state S.Store conn.old)) }
     ensures foreign { HasCleanDisk (state S.Store conn.new) → result ≡ Err error.Schema → ¬ IsOurs (state S.Store conn.old).committed }
     ensures errors { IfErr result IsOfOpening }
+    ensures said { HasCleanDisk (state S.Store conn.new) → IfErr result (TellsOpening S.Store conn.old conn.new) }
+    ensures memory { HasCleanDisk (state S.Store conn.new) → result ≡ Err error.Memory → TellsMemory S.Store conn.old conn.new }
+    ensures proposals_once { IfOk result (λ state'. PendOnce state'.proposals) }
 {
     match find_tables(conn) {
         Ok(Version::Second) => read_second(alloc, conn),
@@ -272,6 +297,9 @@ fn read_and_migrate<S: Alter, V: PolicyView + Drop>(
     ensures crash { Survives (state S.Store conn.old) (state S.Store conn.new) (MayMigrate (state S.Store conn.old)) }
     ensures foreign { HasCleanDisk (state S.Store conn.new) → result ≡ Err error.Schema → ¬ IsFirst (state S.Store conn.old).committed }
     ensures errors { IfErr result IsOfOpening }
+    ensures said { HasCleanDisk (state S.Store conn.new) → IfErr result (TellsOpening S.Store conn.old conn.new) }
+    ensures memory { HasCleanDisk (state S.Store conn.new) → result ≡ Err error.Memory → TellsMemory S.Store conn.old conn.new }
+    ensures proposals_once { IfOk result (λ state'. PendOnce state'.proposals) }
 {
     let current = match read_first(alloc, conn) {
         Ok(current) => current,

@@ -1,6 +1,6 @@
 //! A desk: a connection to a database, and the state that its tables stand for.
 
-ghost use Rattle.std.specs.Prelude.{◌≡◌, ◌≢◌, ◌+◌, ◌≤◌, ℕ, List, [], false, Err, IfErr, IfOk, IsTrue, None, Ok, length, map, option_copied};
+ghost use Rattle.std.specs.Prelude.{◌≡◌, ◌≢◌, ◌+◌, ◌≤◌, ℕ, Contains, List, [], false, Err, IfErr, IfOk, IsTrue, None, Ok, length, map, option_copied};
 ghost use Rattle.sqlite.specs.Held.{state};
 ghost use Rattle.sqlite.specs.State.{HasCleanDisk, Survives};
 ghost use Rattle.desk_policy.specs.Parsing.{read_site_tables};
@@ -11,13 +11,16 @@ ghost use Rattle.desk_core.specs.Head.{longest_revision, newest_in};
 ghost use Rattle.desk_core.specs.History.{newest_of, revisions_of, standing_of};
 ghost use Rattle.desk_core.specs.Judging.{entry_of, first_case};
 ghost use Rattle.desk_core.specs.Site.{IsConsistent, IsInForce, site_in};
-ghost use Rattle.desk_core.specs.Standing.{proposals_in};
+ghost use Rattle.desk_core.specs.Standing.{PendOnce, proposals_in};
 ghost use Rattle.desk_core.specs.State.{standing};
 ghost use Rattle.desk_store.specs.Create.{IsMade, JudgesSite, MayMake, RefusesToCreate, answer_of, first_revisions};
 ghost use Rattle.desk_store.specs.Desk.{AddsNothing, CommitsOne, HasGoodDisk, HasStored, History, IsAccepted, IsEdited, IsInUtf8, IsJudgedBy, LeavesTables, StandsAt, StaysAsItWas, StepsTo, is_proposed, revision_at, signature_of, stored_of, told};
+ghost use Rattle.desk_store.specs.Error.{TellsSaid};
 ghost use Rattle.desk_store.specs.History.{entry_rows};
-ghost use Rattle.desk_store.specs.Open.{IsOfOpening, IsOurs, LeavesOpened, MayMigrate, OpensAt, held_in};
-ghost use Rattle.desk_store.specs.Rows.{IsOfEdit, IsOfTask};
+ghost use Rattle.desk_store.specs.Looks.{numbers_queries, revision_queries, signature_queries};
+ghost use Rattle.desk_store.specs.Open.{IsOfOpening, IsOurs, LeavesOpened, MayMigrate, OpensAt, TellsMemory, TellsOpening, held_in};
+ghost use Rattle.desk_store.specs.Rows.{IsOfEdit, IsOfTask, TellsLook};
+ghost use Rattle.desk_store.specs.Storing.{statements_of};
 ghost use Rattle.desk_store.specs.Tables.{LeavesCommit};
 ghost use Rattle.desk_store.specs.declared.error.DeskError.TheVariants as error;
 ghost use Rattle.desk_store.specs.declared.error.Task.TheVariants as tasks;
@@ -61,6 +64,7 @@ impl<S: Alter + Drop, V: PolicyView + Drop> Model for Desk<S, V> {
     ghost use Rattle.std.specs.Prelude.{◌≡◌, false};
     ghost use Rattle.sqlite.specs.Held.{state};
     ghost use Rattle.sqlite.specs.State.{HasCleanDisk};
+    ghost use Rattle.desk_core.specs.Standing.{PendOnce};
     ghost use Rattle.desk_store.specs.Desk.{IsDesk, Shown, shown_code};
 
     ghost Value = { Shown S V };
@@ -69,7 +73,7 @@ impl<S: Alter + Drop, V: PolicyView + Drop> Model for Desk<S, V> {
 
     ghost view = { λ d. record { conn = d.conn; state = d.current } };
 
-    ghost invariant = { λ d. ((state S.Store d.conn).in_transaction ≡ false) × (HasCleanDisk (state S.Store d.conn) → IsDesk (state S.Store d.conn) d.current) };
+    ghost invariant = { λ d. ((state S.Store d.conn).in_transaction ≡ false) × (HasCleanDisk (state S.Store d.conn) → IsDesk (state S.Store d.conn) d.current) × PendOnce d.current.proposals };
 }
 
 /// What an edit is answered that is not refused.
@@ -118,8 +122,11 @@ impl<S: Alter + Drop, V: PolicyView + Drop> Desk<S, V> {
         ensures opened { IfOk result (λ desk. HasGoodDisk S.Store desk → OpensAt S.Store (state S.Store conn).committed desk) }
         ensures durable { IfOk result (λ desk. HasGoodDisk S.Store desk → IsTrue (state S.Store desk.conn).is_open × LeavesCommit (state S.Store desk.conn)) }
 
-        // An error is `Schema`, out of memory, or a look that was refused; `Schema` only if the tables are not those of a site's history.
+        // An error is `Schema`, out of memory, or a look that was refused, told as SQLite said it; `Schema` only if the tables are not
+        // those of a site's history; and of a database of another version not out of memory, but where SQLite said so.
         ensures errors { IfErr result (λ both. IsOfOpening both.0) }
+        ensures said { IfErr result (λ both. HasCleanDisk (state S.Store both.1) → TellsOpening S.Store conn both.1 both.0) }
+        ensures memory { IfErr result (λ both. HasCleanDisk (state S.Store both.1) → both.0 ≡ error.Memory → TellsMemory S.Store conn both.1) }
         ensures foreign { IfErr result (λ both. HasCleanDisk (state S.Store both.1) → both.0 ≡ error.Schema → ¬ IsOurs (state S.Store conn).committed) }
 
         // A database of version 1 is made one of version 2, with the same history, in one commit; any other stays as it is. Beside an
@@ -172,9 +179,10 @@ impl<S: Alter + Drop, V: PolicyView + Drop> Desk<S, V> {
         self.current.heads()
     }
 
-    /// Lends the proposals, in no order. This takes no statement.
+    /// Lends the proposals, at most one of each file, in no order. This takes no statement.
     pub fn proposals(&self) -> &[Proposal]
         ensures proposals { result.now ≡ self.now.state.proposals }
+        ensures once { PendOnce result.now }
         ensures stood_at { (history pending : History) → StandsAt S.Store self.now history pending
             → (file : List ℕ) → proposals_in result.now file ≡ (standing_of history).proposals file }
     {
@@ -236,6 +244,10 @@ impl<S: Alter + Drop, V: PolicyView + Drop> Desk<S, V> {
         ensures schema { result ≢ Err error.Schema }
         ensures errors { IfErr result IsOfEdit }
 
+        // A refused statement is one of those that store the edit's entry, and its error is told as SQLite said it.
+        ensures said { HasGoodDisk S.Store self.new → IfErr result
+            (TellsSaid S.Store (Contains (statements_of (entry_of (standing self.old.state) (asked edit.now)))) self.old.conn self.new.conn) }
+
         // What was not stored changed nothing.
         ensures unchanged { AddsNothing self.old.state (asked edit.now) (told result) → self.new.state ≡ self.old.state }
         ensures tables { HasGoodDisk S.Store self.new → IsTrue (state S.Store self.new.conn).is_open → AddsNothing self.old.state (asked edit.now) (told result)
@@ -265,6 +277,8 @@ impl<S: Alter + Drop, V: PolicyView + Drop> Desk<S, V> {
             → StandsAt S.Store self.old history pending
             → IfOk result (λ found. found ≡ stored_of (revision_at history file.now rev)) }
         ensures errors { IfErr result (IsOfTask tasks.ReadRevisions) }
+        ensures said { HasGoodDisk S.Store self.new
+            → IfErr result (TellsLook S.Store (Contains (revision_queries file.now rev)) self.old.conn self.new.conn) }
         ensures tables { LeavesTables (state S.Store self.old.conn) (state S.Store self.new.conn) }
     {
         let rows = match read_revision(&mut self.conn, file, rev) {
@@ -291,6 +305,8 @@ impl<S: Alter + Drop, V: PolicyView + Drop> Desk<S, V> {
             → StandsAt S.Store self.old history pending
             → IfOk result (λ found. found ≡ map (λ r. (r.rev, r.author)) (revisions_of file.now history)) }
         ensures errors { IfErr result (IsOfTask tasks.ReadRevisions) }
+        ensures said { HasGoodDisk S.Store self.new
+            → IfErr result (TellsLook S.Store (Contains (numbers_queries file.now)) self.old.conn self.new.conn) }
         ensures tables { LeavesTables (state S.Store self.old.conn) (state S.Store self.new.conn) }
     {
         match read_numbers(&mut self.conn, file) {
@@ -310,6 +326,8 @@ impl<S: Alter + Drop, V: PolicyView + Drop> Desk<S, V> {
             → StandsAt S.Store self.old history pending
             → IfOk result (λ found. found ≡ map signature_of (revisions_of file.now history)) }
         ensures errors { IfErr result (IsOfTask tasks.ReadRevisions) }
+        ensures said { HasGoodDisk S.Store self.new
+            → IfErr result (TellsLook S.Store (Contains (signature_queries file.now)) self.old.conn self.new.conn) }
         ensures tables { LeavesTables (state S.Store self.old.conn) (state S.Store self.new.conn) }
     {
         let rows = match read_numbers(&mut self.conn, file) {
@@ -374,6 +392,8 @@ impl<S: Alter + Drop, V: PolicyView + Drop> Desk<S, V> {
         requires sound { IsConsistent (site_in (newest_in self.old.state.heads)) }
         ensures edited { IsEdited (state S.Store self.old.conn) (state S.Store self.new.conn) self.old.state self.new.state (asked edit.now) result }
         ensures errors { IfErr result IsOfEdit }
+        ensures said { HasGoodDisk S.Store self.new → IfErr result
+            (TellsSaid S.Store (Contains (statements_of (entry_of (standing self.old.state) (asked edit.now)))) self.old.conn self.new.conn) }
     {
         match self.current.judge(alloc, edit) {
             Ok(Judged::Already { rev, proposed }) => Ok(Done {
@@ -393,6 +413,8 @@ impl<S: Alter + Drop, V: PolicyView + Drop> Desk<S, V> {
         requires accepted { IsAccepted V.in_force self.old.state (asked edit.now) accepted }
         ensures edited { IsEdited (state S.Store self.old.conn) (state S.Store self.new.conn) self.old.state self.new.state (asked edit.now) result }
         ensures errors { IfErr result IsOfEdit }
+        ensures said { HasGoodDisk S.Store self.new → IfErr result
+            (TellsSaid S.Store (Contains (statements_of (entry_of (standing self.old.state) (asked edit.now)))) self.old.conn self.new.conn) }
     {
         standing_of_a_longer_history();
         answered_edits_keep_site_histories();

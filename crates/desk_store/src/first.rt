@@ -9,8 +9,9 @@ ghost use Rattle.desk_tables.specs.FileSystemsText.{read_filesystems};
 ghost use Rattle.desk_policy.specs.Site.{texts_of};
 ghost use Rattle.desk_policy.specs.SiteFault.{exports_name};
 ghost use Rattle.desk_policy.specs.declared.site_fault.SiteFault.{SiteFault};
+ghost use Rattle.desk_policy.specs.SiteFile.{is_of_seven};
 ghost use Rattle.desk_core.specs.Head.{CanBeKept, newest_in};
-ghost use Rattle.desk_core.specs.Judging.{is_of_seven, seven};
+ghost use Rattle.desk_core.specs.Judging.{seven};
 ghost use Rattle.desk_store.specs.Create.{IsFaultOfSeven, IsFaultOrMemory, IsFirstState, IsSevenOrMemory, IsUtf8Revision, RefusesSite, TellsTooLarge, first_long, first_long_exports, first_long_mount, first_revision, revisions_with, is_long, mounts_of, revision_of_mount, revision_of_seven};
 ghost use Rattle.desk_core.specs.Site.{IsConsistent, site_in};
 ghost use Rattle.desk_store.specs.declared.error.CreateError.TheVariants as refused;
@@ -35,19 +36,19 @@ fn is_long(text: &str) -> bool
 fn first_long(site: &Site) -> Option<&'static str>
     ensures { option_copied result ≡ first_long (texts_of site.now) }
 {
-    if is_long(site.custodians.as_str()) {
+    if is_long(site.files.custodians.as_str()) {
         Some("custodians")
-    } else if is_long(site.filesystems.as_str()) {
+    } else if is_long(site.files.filesystems.as_str()) {
         Some("filesystems")
-    } else if is_long(site.hosts.as_str()) {
+    } else if is_long(site.files.tables.hosts.as_str()) {
         Some("hosts")
-    } else if is_long(site.networks.as_str()) {
+    } else if is_long(site.files.tables.networks.as_str()) {
         Some("networks")
-    } else if is_long(site.passwd.as_str()) {
+    } else if is_long(site.files.tables.passwd.as_str()) {
         Some("passwd")
-    } else if is_long(site.group.as_str()) {
+    } else if is_long(site.files.tables.group.as_str()) {
         Some("group")
-    } else if is_long(site.netgroup.as_str()) {
+    } else if is_long(site.files.tables.netgroup.as_str()) {
         Some("netgroup")
     } else {
         None
@@ -102,14 +103,16 @@ fn revisions_of_seven(alloc: Global, site: &Site) -> Result<Vec<Head>, AllocErro
     ensures made { IfOk result (λ heads. heads.items ≡ map (revision_of_seven (texts_of site.now)) seven) }
     ensures utf8 { IfOk result (λ heads. All IsUtf8Revision heads.items) }
 {
+    let files = &site.files;
+    let tables = &files.tables;
     let mut heads: Vec<Head> = Vec::new(alloc);
-    add_first(alloc, &mut heads, "custodians", site.custodians.as_str())?;
-    add_first(alloc, &mut heads, "filesystems", site.filesystems.as_str())?;
-    add_first(alloc, &mut heads, "hosts", site.hosts.as_str())?;
-    add_first(alloc, &mut heads, "networks", site.networks.as_str())?;
-    add_first(alloc, &mut heads, "passwd", site.passwd.as_str())?;
-    add_first(alloc, &mut heads, "group", site.group.as_str())?;
-    add_first(alloc, &mut heads, "netgroup", site.netgroup.as_str())?;
+    add_first(alloc, &mut heads, "custodians", files.custodians.as_str())?;
+    add_first(alloc, &mut heads, "filesystems", files.filesystems.as_str())?;
+    add_first(alloc, &mut heads, "hosts", tables.hosts.as_str())?;
+    add_first(alloc, &mut heads, "networks", tables.networks.as_str())?;
+    add_first(alloc, &mut heads, "passwd", tables.passwd.as_str())?;
+    add_first(alloc, &mut heads, "group", tables.group.as_str())?;
+    add_first(alloc, &mut heads, "netgroup", tables.netgroup.as_str())?;
     Ok(heads)
 }
 
@@ -128,11 +131,11 @@ fn first_heads(alloc: Global, site: &Site, mounts: &[Mount]) -> Result<Vec<Head>
 
 /// Reads the file systems of a site; none if their text has a fault.
 fn read_table(alloc: Global, site: &Site) -> Result<Option<FileSystems>, CreateError>
-    requires { IsReadable (texts_of site.now).filesystems }
+    requires { IsReadable (texts_of site.now).files.filesystems }
     ensures table { IfOk result (λ table. unwrap_or table [] ≡ mounts_of (texts_of site.now)) }
     ensures errors { IfErr result (λ e. e ≡ refused.Memory) }
 {
-    match FileSystems::read(alloc, site.filesystems.as_str()) {
+    match FileSystems::read(alloc, site.files.filesystems.as_str()) {
         Ok(table) => Ok(Some(table)),
         Err(ReadError::Fault(_)) => Ok(None),
         Err(ReadError::Memory) => Err(CreateError::Memory),
@@ -162,13 +165,6 @@ fn state_of<V: PolicyView + Drop>(alloc: Global, heads: Vec<Head>) -> Result<Sta
         Err(ReadError::Fault(fault)) => Err(CreateError::Fault(fault)),
         Err(ReadError::Memory) => Err(CreateError::Memory),
     }
-}
-
-/// Tests whether a file is one of the seven.
-fn is_of_seven(file: &str) -> bool
-    ensures { result ≡ is_of_seven file.now }
-{
-    SiteFile::of(file).is_some()
 }
 
 /// Tells that the text of a file is too long.
@@ -217,7 +213,7 @@ fn if_seven(fault: SiteFault) -> Result<(), CreateError>
     ensures seven { IfErr result (λ e. (e ≡ refused.Fault fault) × (is_of_seven fault.file ≡ true)) }
     ensures other { OnOk result (is_of_seven fault.file ≡ false) }
 {
-    if is_of_seven(fault.file.as_str()) {
+    if SiteFile::is_name(fault.file.as_str()) {
         Err(CreateError::Fault(fault))
     } else {
         Ok(())

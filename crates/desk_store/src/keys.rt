@@ -1,11 +1,12 @@
 //! Whether the rowids of a table are integers of which none comes twice. So they are in each file of SQLite, and what a DELETE takes
 //! out is said by them.
 
-ghost use Rattle.std.specs.Prelude.{◌≡◌, ◌≢◌, IfOk, IfSome, IsTrue, map};
-ghost use Rattle.std.specs.List.{AllPairs};
+ghost use Rattle.std.specs.Prelude.{◌≡◌, ◌<◌, IfOk, IfSome, IsTrue, MatchOption, None, length, map};
+ghost use Rattle.std.specs.List.{IsAllAdjacentAnswer};
 ghost use Rattle.sqlite.specs.Order.{column};
 ghost use Rattle.sqlite.specs.declared.types.Value.TheVariants.{Int};
-ghost use Rattle.desk_store.specs.Keys.{AreKeysIf, IsAbove};
+ghost use Rattle.sqlite_trees.specs.View.{is_int};
+ghost use Rattle.desk_store.specs.Keys.{AreKeysIf, AreWhole, is_below};
 
 use sqlite::Row;
 use sqlite_value::value::ValueRef;
@@ -26,38 +27,32 @@ pub(crate) fn are_keys(alloc: Global, rows: &[Row]) -> Result<bool, AllocError>
 
 /// Reads the rowids in rows; none if one is not an integer.
 fn keys_in(alloc: Global, rows: &[Row]) -> Result<Option<Vec<i64>>, AllocError>
-    ensures { IfOk result (λ found. IfSome found (λ keys. map (λ row. column row 0) rows.now ≡ map Int keys.items)) }
+    ensures keys { IfOk result (λ found. IfSome found (λ keys. map (λ row. column row 0) rows.now ≡ map Int keys.items)) }
+    ensures none { IfOk result (λ found. found ≡ None → AreWhole rows.now → ⊥) }
 {
     let mut keys = Vec::new(alloc);
     for row in rows {
-        match row.get_ref(0) {
-            Ok(ValueRef::Int(key)) => keys.push(key)?,
-            _ => return Ok(None),
+        match key_in(row) {
+            Some(key) => keys.push(key)?,
+            None => return Ok(None),
         }
     }
     Ok(Some(keys))
 }
 
-/// Tests whether each number is above the one before.
-fn rise(keys: &[i64]) -> bool
-    ensures { IsTrue result → AllPairs (λ key later. key ≢ later) keys.now }
+/// Reads the rowid in a row; none if it is not an integer.
+fn key_in(row: &Row) -> Option<i64>
+    ensures { MatchOption result (0 < length row.now → IsTrue (is_int (column row.now 0)) → ⊥) (λ key. column row.now 0 ≡ Int key) }
 {
-    let mut last = None;
-    for key in keys {
-        if !is_above(*key, last) {
-            return false;
-        }
-        last = Some(*key);
+    match row.get_ref(0) {
+        Ok(ValueRef::Int(key)) => Some(key),
+        _ => None,
     }
-    true
 }
 
-/// Tests whether a number is above the last one, if there is one.
-fn is_above(key: i64, last: Option<i64>) -> bool
-    ensures { IsTrue result → IsAbove last key }
+/// Tests whether each number is below the next.
+fn rise(keys: &[i64]) -> bool
+    ensures { IsAllAdjacentAnswer (λ key next below. below ≡ is_below key next) keys.now result }
 {
-    match last {
-        Some(last) => last < key,
-        None => true,
-    }
+    keys.is_sorted_by(|key, next| key < next)
 }

@@ -12,7 +12,6 @@
 
 mod creating;
 mod database;
-pub mod declared;
 pub mod desk;
 pub mod error;
 mod first;
@@ -27,9 +26,6 @@ mod stored;
 mod storing;
 mod tables;
 
-pub use declared::{
-    Version, declares_approval, declares_file_rev, declares_meta, declares_proposal,
-};
 pub use desk::{Desk, Done, Revision, Signature};
 pub use error::{
     CreateError, DeskError, MEMORY_NUMBER, SCHEMA_NUMBER, STORE_NUMBER, StoreFault, Task,

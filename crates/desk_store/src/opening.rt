@@ -7,7 +7,7 @@ ghost use Rattle.desk_core.specs.Head.{CanBeKept, Revision, StandOnce, newest_in
 ghost use Rattle.desk_core.specs.History.{IsHistory, standing_of};
 ghost use Rattle.desk_core.specs.Judging.{seven};
 ghost use Rattle.desk_core.specs.Site.{IsConsistent, site_in};
-ghost use Rattle.desk_core.specs.Standing.{CanBePending, standing_in};
+ghost use Rattle.desk_core.specs.Standing.{CanBePending, PendOnce, standing_in};
 ghost use Rattle.desk_core.specs.State.{standing};
 ghost use Rattle.desk_core.specs.declared.entry.Entry.TheVariants.{Revised};
 ghost use Rattle.desk_store.specs.Desk.{History, IsSiteHistory, IsStorable};
@@ -17,13 +17,13 @@ ghost use Rattle.desk_store.specs.Open.{IsOfRows, version_number, version_rows};
 ghost use Rattle.desk_store.specs.StoredRows.{AreNewestOf, AreRowsOf};
 ghost use Rattle.desk_store.specs.declared.error.DeskError.TheVariants as error;
 
-use crate::declared::Version;
 use crate::error::DeskError;
 use crate::newest::newest_heads;
 use crate::pending::{approve, may_follow};
 use crate::stored::{approvals_in, number_in, proposals_in, revisions_in};
 use desk_core::{Head, Proposal, State, consistent_sites_have_no_fault};
 use desk_policy::PolicyView;
+use desk_schema::Version;
 use desk_text::ReadError;
 use sqlite::Row;
 use std::alloc::Global;
@@ -62,7 +62,7 @@ fn number_of(version: Version) -> u32
 pub(crate) fn accept_version(rows: &[Row], version: Version) -> Result<(), DeskError>
     ensures version { OnOk result (rows.now ≡ version_rows version) }
     ensures foreign { result ≡ Err error.Schema → rows.now ≡ version_rows version → ⊥ }
-    ensures errors { IfErr result IsOfRows }
+    ensures errors { IfErr result (λ e. e ≡ error.Schema) }
 {
     if is_version(rows, number_of(version)) {
         Ok(())
@@ -91,6 +91,7 @@ fn state_of<V: PolicyView + Drop>(
     requires proposals { All CanBePending proposals.items }
     ensures made { IfOk result (λ state. standing state ≡ standing_in heads.items proposals.items) }
     ensures kept { IfOk result (λ state. state.heads ≡ heads.items) }
+    ensures pending { IfOk result (λ state. state.proposals ≡ proposals.items) }
     ensures consistent { IfOk result (λ state. IsConsistent (site_in (newest_in heads.items))) }
     ensures foreign { result ≡ Err error.Schema → IsConsistent (site_in (newest_in heads.items)) → ⊥ }
     ensures errors { IfErr result IsOfRows }
@@ -112,6 +113,7 @@ pub(crate) fn state_in<V: PolicyView + Drop>(
 ) -> Result<State<V>, DeskError>
     ensures history { IfOk result (λ state. (history : History) × IsSiteHistory history × AreRowsOf history revisions.now approvals.now proposals.now × (standing state ≡ standing_of history)) }
     ensures once { IfOk result (λ state. StandOnce state.heads) }
+    ensures proposals_once { IfOk result (λ state. PendOnce state.proposals) }
     ensures foreign { result ≡ Err error.Schema → (history : History) → IsSiteHistory history → AreRowsOf history revisions.now approvals.now proposals.now → ⊥ }
     ensures errors { IfErr result IsOfRows }
 {

@@ -1,11 +1,12 @@
 //! Who approved the revisions that are read of a database, and the proposals that are pending behind them.
 
-ghost use Rattle.std.specs.Prelude.{◌≡◌, ◌↔◌, ◌==◌, ◌++◌, ◌≢◌, All, Err, IfErr, IsPermutation, IsTrue, List, OnOk, map, not, option_copied, reverse};
-ghost use Rattle.std.specs.List.{AllPairs, filter_map, list_all};
+ghost use Rattle.std.specs.Prelude.{◌≡◌, ◌↔◌, ◌==◌, ◌++◌, All, Err, IfErr, IsPermutation, IsTrue, List, OnOk, map, not, option_copied, reverse};
+ghost use Rattle.std.specs.List.{filter_map, list_all};
 ghost use Rattle.std.specs.List.Sorted.{IsSortedBy};
 ghost use Rattle.std.specs.Option.{option_to_list};
 ghost use Rattle.std.specs.Str.{bytes_eq};
 ghost use Rattle.desk_core.specs.Head.{Revision, newest_in, newest_number};
+ghost use Rattle.desk_core.specs.Standing.{PendOnce};
 ghost use Rattle.desk_store.specs.Desk.{IsStorable};
 ghost use Rattle.desk_store.specs.History.{approval_of, row_of};
 ghost use Rattle.desk_store.specs.Open.{IsOfRows};
@@ -109,7 +110,7 @@ pub(crate) fn may_follow(heads: &[Head], proposals: &[Proposal]) -> bool
 
 /// Tests whether no two proposals are of one file. (A database has at most one for each, by its key.)
 fn stand_once(proposals: &[Proposal]) -> bool
-    ensures { IsTrue result ↔ AllPairs (λ proposal later. proposal.file ≢ later.file) proposals.now }
+    ensures { IsTrue result ↔ PendOnce proposals.now }
 {
     for (place, proposal) in proposals.iter().enumerate() {
         if !is_first(&proposals[..place], proposal) {

@@ -4,9 +4,8 @@ ghost use Rattle.std.specs.Prelude.{◌≡◌, ◌⊎◌, ◌↔◌, ◌++◌, �
 ghost use Rattle.sqlite.specs.Order.{column};
 ghost use Rattle.sqlite.specs.declared.types.Value.TheVariants.{Int, Text as Words};
 ghost use Rattle.desk_exports.specs.Profile.{profile_number};
-ghost use Rattle.desk_store.specs.Rows.{Finds, IsOfTask, Lists, Says, SaysWho, listed};
+ghost use Rattle.desk_store.specs.Rows.{Finds, IsOfRow, IsOfTask, Lists, Says, SaysWho, listed};
 ghost use Rattle.desk_store.specs.declared.error.DeskError.TheVariants as error;
-ghost use Rattle.desk_store.specs.declared.error.Task.TheVariants as tasks;
 
 use crate::desk::Revision;
 use crate::error::{DeskError, StoreFault, Task};
@@ -35,7 +34,7 @@ pub(crate) fn find_revision(
     approvals: &[Row],
 ) -> Result<Option<Revision>, DeskError>
     ensures found { IfOk result (Finds rows.now approvals.now) }
-    ensures errors { IfErr result (IsOfTask tasks.ReadRevisions) }
+    ensures errors { IfErr result IsOfRow }
 {
     match rows.first() {
         Some(row) => {
@@ -49,7 +48,7 @@ pub(crate) fn find_revision(
 /// Finds who the rows of an approval say approved a revision; nobody if there is no row.
 fn find_approver(alloc: Global, approvals: &[Row]) -> Result<Option<Text>, DeskError>
     ensures who { IfOk result (SaysWho approvals.now) }
-    ensures errors { IfErr result (IsOfTask tasks.ReadRevisions) }
+    ensures errors { IfErr result IsOfRow }
 {
     match approvals.first() {
         Some(row) => Ok(Some(approver_in(alloc, row)?)),
@@ -60,7 +59,7 @@ fn find_approver(alloc: Global, approvals: &[Row]) -> Result<Option<Text>, DeskE
 /// Reads the approver in a row.
 fn approver_in(alloc: Global, row: &Row) -> Result<Text, DeskError>
     ensures approver { IfOk result (λ approver. column row.now 0 ≡ Words approver) }
-    ensures errors { IfErr result (IsOfTask tasks.ReadRevisions) }
+    ensures errors { IfErr result IsOfRow }
 {
     match row.get_ref(0) {
         Ok(ValueRef::Text(approver)) => text_in(alloc, approver, 0),
@@ -74,7 +73,7 @@ pub(crate) fn list_revisions(
     rows: &[Row],
 ) -> Result<Sequence<(u32, Text)>, DeskError>
     ensures listed { IfOk result (Lists rows.now) }
-    ensures errors { IfErr result (IsOfTask tasks.ReadRevisions) }
+    ensures errors { IfErr result IsOfRow }
 {
     let mut found = listed_rows(alloc, rows)?;
     found.sort_unstable_by_key(|one| one.0);
@@ -84,7 +83,7 @@ pub(crate) fn list_revisions(
 /// Reads the numbers and authors with which rows begin, or the numbers and approvers, in the order of the rows.
 pub(crate) fn listed_rows(alloc: Global, rows: &[Row]) -> Result<Vec<(u32, Text)>, DeskError>
     ensures listed { IfOk result (λ found. found.items ≡ map listed rows.now) }
-    ensures errors { IfErr result (IsOfTask tasks.ReadRevisions) }
+    ensures errors { IfErr result IsOfRow }
 {
     let mut found = Vec::new(alloc);
     for row in rows {
@@ -96,7 +95,7 @@ pub(crate) fn listed_rows(alloc: Global, rows: &[Row]) -> Result<Vec<(u32, Text)
 /// Adds the number and the author in a row.
 fn add_listed(alloc: Global, found: &mut Vec<(u32, Text)>, row: &Row) -> Result<(), DeskError>
     ensures added { OnOk result (found.new.items ≡ found.old.items ++ listed row.now ∷ []) }
-    ensures errors { IfErr result (IsOfTask tasks.ReadRevisions) }
+    ensures errors { IfErr result IsOfRow }
 {
     let one = listed_in(alloc, row)?;
     match found.push(one) {
@@ -108,7 +107,7 @@ fn add_listed(alloc: Global, found: &mut Vec<(u32, Text)>, row: &Row) -> Result<
 /// Reads the number and the author in a row.
 fn listed_in(alloc: Global, row: &Row) -> Result<(u32, Text), DeskError>
     ensures listed { IfOk result (λ one. one ≡ listed row.now) }
-    ensures errors { IfErr result (IsOfTask tasks.ReadRevisions) }
+    ensures errors { IfErr result IsOfRow }
 {
     let rev = number_in(row)?;
     let author = author_in(alloc, row)?;
@@ -118,7 +117,7 @@ fn listed_in(alloc: Global, row: &Row) -> Result<(u32, Text), DeskError>
 /// Reads the number in a row.
 pub(crate) fn number_in(row: &Row) -> Result<u32, DeskError>
     ensures number { IfOk result (λ rev. column row.now 0 ≡ Int (pos rev)) }
-    ensures errors { IfErr result (IsOfTask tasks.ReadRevisions) }
+    ensures errors { IfErr result IsOfRow }
 {
     match row.get_ref(0) {
         Ok(ValueRef::Int(number)) => u32::try_from(number).map_err(|_| unreadable(0)),
@@ -129,7 +128,7 @@ pub(crate) fn number_in(row: &Row) -> Result<u32, DeskError>
 /// Reads the author in a row that begins with a number.
 pub(crate) fn author_in(alloc: Global, row: &Row) -> Result<Text, DeskError>
     ensures author { IfOk result (λ author. column row.now 1 ≡ Words author) }
-    ensures errors { IfErr result (IsOfTask tasks.ReadRevisions) }
+    ensures errors { IfErr result IsOfRow }
 {
     match row.get_ref(1) {
         Ok(ValueRef::Text(author)) => text_in(alloc, author, 1),
@@ -141,7 +140,7 @@ pub(crate) fn author_in(alloc: Global, row: &Row) -> Result<Text, DeskError>
 fn revision_in(alloc: Global, row: &Row, approver: Option<Text>) -> Result<Revision, DeskError>
     ensures says { IfOk result (Says row.now) }
     ensures approver { IfOk result (λ found. found.approver ≡ approver) }
-    ensures errors { IfErr result (IsOfTask tasks.ReadRevisions) }
+    ensures errors { IfErr result IsOfRow }
 {
     let profile = profile_in(row, 1)?;
     match (row.get_ref(0), row.get_ref(2)) {
@@ -158,7 +157,7 @@ fn revision_in(alloc: Global, row: &Row, approver: Option<Text>) -> Result<Revis
 /// Reads the profile in a column.
 pub(crate) fn profile_in(row: &Row, at: usize) -> Result<Profile, DeskError>
     ensures profile { IfOk result (λ profile. column row.now at ≡ Int (pos (profile_number profile))) }
-    ensures errors { IfErr result (IsOfTask tasks.ReadRevisions) }
+    ensures errors { IfErr result IsOfRow }
 {
     match row.get_ref(at) {
         Ok(ValueRef::Int(1)) => Ok(Profile::One),
@@ -170,7 +169,7 @@ pub(crate) fn profile_in(row: &Row, at: usize) -> Result<Profile, DeskError>
 /// Copies the bytes in a column as a text. (In a database of this project they are UTF-8.)
 fn text_in(alloc: Global, bytes: &[u8], column: usize) -> Result<Text, DeskError>
     ensures text { IfOk result (λ text. text ≡ bytes.now) }
-    ensures errors { IfErr result (IsOfTask tasks.ReadRevisions) }
+    ensures errors { IfErr result IsOfRow }
 {
     let Ok(text) = std::str::from_utf8(bytes) else {
         return Err(unreadable(column));
@@ -183,7 +182,7 @@ fn text_in(alloc: Global, bytes: &[u8], column: usize) -> Result<Text, DeskError
 
 /// Tells that a column of a row cannot be read.
 fn unreadable(column: usize) -> DeskError
-    ensures { IsOfTask tasks.ReadRevisions result }
+    ensures { IsOfRow result }
 {
     DeskError::Store(StoreFault {
         task: Task::ReadRevisions,

@@ -1,8 +1,7 @@
 //! Who signed the revisions of a file, as rows say.
 
 ghost use Rattle.std.specs.Prelude.{◌≡◌, ◌++◌, ◌∷◌, [], IfErr, IfOk, OnOk, map};
-ghost use Rattle.desk_store.specs.Rows.{IsOfTask, Signs, approver_at, signed};
-ghost use Rattle.desk_store.specs.declared.error.Task.TheVariants as tasks;
+ghost use Rattle.desk_store.specs.Rows.{IsOfRow, Signs, approver_at, signed};
 
 use crate::desk::Signature;
 use crate::error::DeskError;
@@ -18,7 +17,7 @@ pub(crate) fn list_signatures(
     approvals: &[Row],
 ) -> Result<Sequence<Signature>, DeskError>
     ensures signs { IfOk result (Signs rows.now approvals.now) }
-    ensures errors { IfErr result (IsOfTask tasks.ReadRevisions) }
+    ensures errors { IfErr result IsOfRow }
 {
     let approved = listed_rows(alloc, approvals)?;
     let mut found = signed_rows(alloc, rows, approved.as_slice())?;
@@ -33,7 +32,7 @@ fn signed_rows(
     approved: &[(u32, Text)],
 ) -> Result<Vec<Signature>, DeskError>
     ensures signed { IfOk result (λ found. found.items ≡ map (signed approved.now) rows.now) }
-    ensures errors { IfErr result (IsOfTask tasks.ReadRevisions) }
+    ensures errors { IfErr result IsOfRow }
 {
     let mut found = Vec::new(alloc);
     for row in rows {
@@ -50,7 +49,7 @@ fn add_signed(
     approved: &[(u32, Text)],
 ) -> Result<(), DeskError>
     ensures added { OnOk result (found.new.items ≡ found.old.items ++ signed approved.now row.now ∷ []) }
-    ensures errors { IfErr result (IsOfTask tasks.ReadRevisions) }
+    ensures errors { IfErr result IsOfRow }
 {
     let one = signature_in(alloc, row, approved)?;
     match found.push(one) {
@@ -62,7 +61,7 @@ fn add_signed(
 /// Reads who signed the revision in a row.
 fn signature_in(alloc: Global, row: &Row, approved: &[(u32, Text)]) -> Result<Signature, DeskError>
     ensures signed { IfOk result (λ one. one ≡ signed approved.now row.now) }
-    ensures errors { IfErr result (IsOfTask tasks.ReadRevisions) }
+    ensures errors { IfErr result IsOfRow }
 {
     let rev = number_in(row)?;
     let profile = profile_in(row, 2)?;
@@ -79,7 +78,7 @@ fn signature_in(alloc: Global, row: &Row, approved: &[(u32, Text)]) -> Result<Si
 /// Copies who approved the revision with a number, if it was approved.
 fn approver_of(alloc: Global, approved: &[(u32, Text)], rev: u32) -> Result<Option<Text>, DeskError>
     ensures approver { IfOk result (λ approver. approver ≡ approver_at approved.now rev) }
-    ensures errors { IfErr result (IsOfTask tasks.ReadRevisions) }
+    ensures errors { IfErr result IsOfRow }
 {
     match approved.iter().find(|one| one.0 == rev) {
         Some(one) => match Text::copy(alloc, one.1.as_str()) {

@@ -1,15 +1,17 @@
 //! The statements that read the tables.
 
-ghost use Rattle.std.specs.Prelude.{◌≡◌, Bool, false, IsTrue, List, OnOk, IfOk, codes};
+ghost use Rattle.std.specs.Prelude.{◌≡◌, ◌∷◌, [], Bool, false, IsTrue, List, OnOk, IfOk, codes, pos};
 ghost use Rattle.sqlite.specs.Effect.{Database, IsDatabase};
 ghost use Rattle.sqlite.specs.Order.{Row as Values};
 ghost use Rattle.sqlite.specs.State.{HasCleanDisk};
 ghost use Rattle.sqlite.specs.Held.{state};
 ghost use Rattle.sqlite.specs.Values.{bound};
-ghost use Rattle.desk_store.specs.Looks.{ChangesNothing, IsLook, ReadsRows, SeesTables, approver_in, approvers_in, numbers_in, revision_in};
-ghost use Rattle.desk_store.specs.Tables.{IsAtRest, IsAtRestWith, rowids_of, rows_of};
+ghost use Rattle.sqlite.specs.declared.types.Value.TheVariants.{Int, Text as Words};
+ghost use Rattle.desk_store.specs.Error.{FailsAsSaid, Query};
+ghost use Rattle.desk_store.specs.Looks.{ChangesNothing, IsLook, ReadsRows, SeesTables, approver_in, approvers_in, numbers_in, revision_in, select_approver, select_approvers, select_nothing, select_numbers, select_revision};
+ghost use Rattle.desk_store.specs.Tables.{IsAtRest, IsAtRestWith, rowids_of, rows_of, select_approvals, select_proposal_keys, select_proposals, select_revisions, select_version, select_version_keys};
 
-use crate::declared::{Version, declared_version};
+use desk_schema::{Version, declared_version};
 use sqlite::{Alter, Connection, Error, Row, params};
 use sqlite_value::value::ValueRef;
 
@@ -20,7 +22,7 @@ fn read<S: Alter>(
     params: &[ValueRef<'_>],
 ) -> Result<Vec<Row>, Error>
     ensures { (all : Bool) (of : Database → List Values) → (HasCleanDisk (state S.Store conn.old) → IsAtRestWith all (state S.Store conn.old))
-        → IsLook all query.now (bound params.now) of → ReadsRows of (state S.Store conn.old) (state S.Store conn.new) result }
+        → IsLook all query.now (bound params.now) of → ReadsRows S.Store of (Query query.now (bound params.now)) conn.old conn.new result }
 {
     match conn.prepare(query) {
         Ok(select) => select.query_all(conn, params),
@@ -31,7 +33,7 @@ fn read<S: Alter>(
 /// Reads the rows of all revisions, in any order.
 pub(crate) fn read_revisions<S: Alter>(conn: &mut Connection<S>) -> Result<Vec<Row>, Error>
     requires { HasCleanDisk (state S.Store conn.old) → IsAtRestWith false (state S.Store conn.old) }
-    ensures { ReadsRows (λ db. rows_of db (codes "file_rev")) (state S.Store conn.old) (state S.Store conn.new) result }
+    ensures { ReadsRows S.Store (λ db. rows_of db (codes "file_rev")) (Query select_revisions []) conn.old conn.new result }
 {
     read(conn, "SELECT * FROM file_rev", &[])
 }
@@ -42,7 +44,7 @@ pub(crate) fn read_numbers<S: Alter>(
     file: &str,
 ) -> Result<Vec<Row>, Error>
     requires { HasCleanDisk (state S.Store conn.old) → IsAtRest (state S.Store conn.old) }
-    ensures { ReadsRows (numbers_in file.now) (state S.Store conn.old) (state S.Store conn.new) result }
+    ensures { ReadsRows S.Store (numbers_in file.now) (Query select_numbers (Words file.now ∷ [])) conn.old conn.new result }
 {
     read(
         conn,
@@ -54,7 +56,7 @@ pub(crate) fn read_numbers<S: Alter>(
 /// Reads the rows of all approvals, in any order.
 pub(crate) fn read_approvals<S: Alter>(conn: &mut Connection<S>) -> Result<Vec<Row>, Error>
     requires { HasCleanDisk (state S.Store conn.old) → IsAtRest (state S.Store conn.old) }
-    ensures { ReadsRows (λ db. rows_of db (codes "approval")) (state S.Store conn.old) (state S.Store conn.new) result }
+    ensures { ReadsRows S.Store (λ db. rows_of db (codes "approval")) (Query select_approvals []) conn.old conn.new result }
 {
     read(conn, "SELECT * FROM approval", &[])
 }
@@ -62,7 +64,7 @@ pub(crate) fn read_approvals<S: Alter>(conn: &mut Connection<S>) -> Result<Vec<R
 /// Reads the rows of all proposals, in any order.
 pub(crate) fn read_proposals<S: Alter>(conn: &mut Connection<S>) -> Result<Vec<Row>, Error>
     requires { HasCleanDisk (state S.Store conn.old) → IsAtRest (state S.Store conn.old) }
-    ensures { ReadsRows (λ db. rows_of db (codes "proposal")) (state S.Store conn.old) (state S.Store conn.new) result }
+    ensures { ReadsRows S.Store (λ db. rows_of db (codes "proposal")) (Query select_proposals []) conn.old conn.new result }
 {
     read(conn, "SELECT * FROM proposal", &[])
 }
@@ -74,7 +76,7 @@ pub(crate) fn read_revision<S: Alter>(
     rev: u32,
 ) -> Result<Vec<Row>, Error>
     requires { HasCleanDisk (state S.Store conn.old) → IsAtRest (state S.Store conn.old) }
-    ensures { ReadsRows (revision_in file.now rev) (state S.Store conn.old) (state S.Store conn.new) result }
+    ensures { ReadsRows S.Store (revision_in file.now rev) (Query select_revision (Words file.now ∷ Int (pos rev) ∷ [])) conn.old conn.new result }
 {
     read(
         conn,
@@ -90,7 +92,7 @@ pub(crate) fn read_approver<S: Alter>(
     rev: u32,
 ) -> Result<Vec<Row>, Error>
     requires { HasCleanDisk (state S.Store conn.old) → IsAtRest (state S.Store conn.old) }
-    ensures { ReadsRows (approver_in file.now rev) (state S.Store conn.old) (state S.Store conn.new) result }
+    ensures { ReadsRows S.Store (approver_in file.now rev) (Query select_approver (Words file.now ∷ Int (pos rev) ∷ [])) conn.old conn.new result }
 {
     read(
         conn,
@@ -105,7 +107,7 @@ pub(crate) fn read_approvers<S: Alter>(
     file: &str,
 ) -> Result<Vec<Row>, Error>
     requires { HasCleanDisk (state S.Store conn.old) → IsAtRest (state S.Store conn.old) }
-    ensures { ReadsRows (approvers_in file.now) (state S.Store conn.old) (state S.Store conn.new) result }
+    ensures { ReadsRows S.Store (approvers_in file.now) (Query select_approvers (Words file.now ∷ [])) conn.old conn.new result }
 {
     read(
         conn,
@@ -117,7 +119,7 @@ pub(crate) fn read_approvers<S: Alter>(
 /// Reads the rows of the database's versions.
 pub(crate) fn read_versions<S: Alter>(conn: &mut Connection<S>) -> Result<Vec<Row>, Error>
     requires { HasCleanDisk (state S.Store conn.old) → IsAtRestWith false (state S.Store conn.old) }
-    ensures { ReadsRows (λ db. rows_of db (codes "meta")) (state S.Store conn.old) (state S.Store conn.new) result }
+    ensures { ReadsRows S.Store (λ db. rows_of db (codes "meta")) (Query select_version []) conn.old conn.new result }
 {
     read(conn, "SELECT * FROM meta", &[])
 }
@@ -125,7 +127,7 @@ pub(crate) fn read_versions<S: Alter>(conn: &mut Connection<S>) -> Result<Vec<Ro
 /// Reads the rowids of the proposals.
 pub(crate) fn read_proposal_keys<S: Alter>(conn: &mut Connection<S>) -> Result<Vec<Row>, Error>
     requires { HasCleanDisk (state S.Store conn.old) → IsAtRest (state S.Store conn.old) }
-    ensures { ReadsRows (λ db. rowids_of db (codes "proposal")) (state S.Store conn.old) (state S.Store conn.new) result }
+    ensures { ReadsRows S.Store (λ db. rowids_of db (codes "proposal")) (Query select_proposal_keys []) conn.old conn.new result }
 {
     read(conn, "SELECT rowid FROM proposal", &[])
 }
@@ -133,7 +135,7 @@ pub(crate) fn read_proposal_keys<S: Alter>(conn: &mut Connection<S>) -> Result<V
 /// Reads the rowids of the database's versions.
 pub(crate) fn read_version_keys<S: Alter>(conn: &mut Connection<S>) -> Result<Vec<Row>, Error>
     requires { HasCleanDisk (state S.Store conn.old) → IsAtRestWith false (state S.Store conn.old) }
-    ensures { ReadsRows (λ db. rowids_of db (codes "meta")) (state S.Store conn.old) (state S.Store conn.new) result }
+    ensures { ReadsRows S.Store (λ db. rowids_of db (codes "meta")) (Query select_version_keys []) conn.old conn.new result }
 {
     read(conn, "SELECT rowid FROM meta", &[])
 }
@@ -144,6 +146,7 @@ pub(crate) fn seen_tables<S: Alter>(conn: &mut Connection<S>) -> Result<Option<V
     ensures look { ChangesNothing (state S.Store conn.old) (state S.Store conn.new) }
     ensures live { HasCleanDisk (state S.Store conn.new) → OnOk result (IsTrue (state S.Store conn.new).is_open) }
     ensures seen { HasCleanDisk (state S.Store conn.new) → IfOk result (SeesTables (state S.Store conn.old) (state S.Store conn.new)) }
+    ensures said { FailsAsSaid S.Store (λ s. s ≡ Query select_nothing []) conn.old conn.new result }
 {
     conn.prepare("SELECT 1")?;
     if !conn.is_autocommit() {

@@ -1,7 +1,7 @@
 use Rattle.sqlite.specs.Held.{state}
 use Rattle.sqlite.specs.State.{State}
 use Rattle.desk_store.specs.Create.{MakesLater, MakesRoom, Ran, insert_version}
-use Rattle.desk_store.specs.Tables.{create_file_rev, create_meta}
+use Rattle.desk_schema.specs.Tables.{create_file_rev, create_meta}
 use Rattle.desk_store.proofs.Inside.{inside_then}
 use Rattle.desk_store.proofs.Making.{made_room}
 use Rattle.desk_store.proofs.creating.make_tables.Goals as goal

@@ -1,6 +1,14 @@
-use Rattle.std.proofs.Common.{◌∙◌, codes, false}
+use Rattle.std.proofs.Common.{◌∙◌, ◌≡◌, [], Err, ap, arith, codes, false, inr, refl}
+use Rattle.std.proofs.lemmas.Result.{err_from_is_err_and}
 use Rattle.sqlite.specs.Held.{state}
+use Rattle.desk_store.specs.Error.{Query}
+use Rattle.desk_store.specs.Tables.{select_revisions}
+use Rattle.desk_schema.specs.declared.declared.Version.TheVariants.{First}
+use Rattle.desk_store.specs.declared.error.DeskError.TheVariants as error
+use Rattle.desk_store.specs.declared.error.Task.TheVariants as tasks
 use Rattle.desk_store.proofs.ChangesNothing.{early, rest_after, same_after}
+use Rattle.desk_store.proofs.OpeningSaid.{later_told, rows_told, told_query}
+use Rattle.desk_store.proofs.Said.{both}
 use Rattle.desk_store.proofs.RowsRead.{first_before, first_read, read_in}
 use Rattle.desk_store.proofs.database.read_first.Goals as goal
 
@@ -38,3 +46,62 @@ returns-in-Ok-clause-foreign g c clean told history site holds =
     let same = same_after one two c.check_version_keys.ensures.look clean_two (c.in_ok-check_version_keys.ensures.live clean_two) ∙ same_after before one c.check_version.ensures.look clean_one live in
     let revised = read_in (codes "file_rev") before.committed two.committed c.in-Ok.revisions.items c.as_slice.result.now same c.as_slice.ensures.value (c.in-Ok.ensures.rows clean) in
     c.state_in.ensures.foreign told history site (first_read before.committed c.as_slice.result.now revised history holds)
+
+pub returns-in_err-check_version-clause-said : goal.returns-in_err-check_version-clause-said
+returns-in_err-check_version-clause-said g c clean =
+    let p = err_from_is_err_and c.from_residual.result c.from_residual.ensures.1 in
+    rw (p.1, p.2) (c.in_err-check_version.ensures.said clean)
+
+pub returns-in_err-check_version-clause-memory : goal.returns-in_err-check_version-clause-memory
+returns-in_err-check_version-clause-memory g c clean memory =
+    let p = err_from_is_err_and c.from_residual.result c.from_residual.ensures.1 in
+    let is = p.1 in
+    let from = p.2 in
+    let told : c.in_err-check_version.field-0.0 ≡ error.Memory = cc in
+    c.in_err-check_version.ensures.memory clean (ap Err told)
+
+pub returns-in_err-check_version_keys-clause-said : goal.returns-in_err-check_version_keys-clause-said
+returns-in_err-check_version_keys-clause-said g c clean =
+    let old = c.args.conn.now in
+    let one = c.check_version.new.conn in
+    let two = c.check_version_keys.new.conn in
+    let look = c.check_version.ensures.look in
+    let clean_one = early (state g.S.Store one) (state g.S.Store two) c.check_version_keys.ensures.look clean in
+    let same = same_after (state g.S.Store old) (state g.S.Store one) look clean_one (c.in_ok-check_version.ensures.live clean_one) in
+    let p = err_from_is_err_and c.from_residual-in_err-check_version_keys.result c.from_residual-in_err-check_version_keys.ensures.1 in
+    rw (p.1, p.2) (later_told g.S.Store old one two look.leaves.crash same c.in_err-check_version_keys.field-0.0 (c.in_err-check_version_keys.ensures.said clean))
+
+pub returns-in_err-check_version_keys-clause-memory : goal.returns-in_err-check_version_keys-clause-memory
+returns-in_err-check_version_keys-clause-memory g c clean memory =
+    let clean_one = early (state g.S.Store c.check_version.new.conn) (state g.S.Store c.check_version_keys.new.conn) c.check_version_keys.ensures.look clean in
+    inr (First, c.in_ok-check_version.ensures.version clean_one)
+
+pub returns-in-Ok-clause-said : goal.returns-in-Ok-clause-said
+returns-in-Ok-clause-said g c clean = rows_told g.S.Store c.args.conn.now c.read_revisions.new.conn c.state_in.result c.state_in.ensures.errors
+
+pub returns-in-Ok-clause-memory : goal.returns-in-Ok-clause-memory
+returns-in-Ok-clause-memory g c clean memory =
+    let clean_two = early (state g.S.Store c.check_version_keys.new.conn) (state g.S.Store c.read_revisions.new.conn) c.read_revisions.ensures.look clean in
+    let clean_one = early (state g.S.Store c.check_version.new.conn) (state g.S.Store c.check_version_keys.new.conn) c.check_version_keys.ensures.look clean_two in
+    inr (First, c.in_ok-check_version.ensures.version clean_one)
+
+pub returns-in-Err-clause-said : goal.returns-in-Err-clause-said
+returns-in-Err-clause-said g c clean =
+    let old = c.args.conn.now in
+    let one = c.check_version.new.conn in
+    let two = c.check_version_keys.new.conn in
+    let new = c.read_revisions.new.conn in
+    let first = c.check_version.ensures.look in
+    let then = c.check_version_keys.ensures.look in
+    let clean_two = early (state g.S.Store two) (state g.S.Store new) c.read_revisions.ensures.look clean in
+    let clean_one = early (state g.S.Store one) (state g.S.Store two) then clean_two in
+    let same = same_after (state g.S.Store one) (state g.S.Store two) then clean_two (c.in_ok-check_version_keys.ensures.live clean_two)
+    ∙ same_after (state g.S.Store old) (state g.S.Store one) first clean_one (c.in_ok-check_version.ensures.live clean_one) in
+    later_told g.S.Store old two new (both (state g.S.Store old) (state g.S.Store one) (state g.S.Store two) first.leaves.crash then.leaves.crash) same c.not_stored.result
+    (told_query g.S.Store two new (Query select_revisions []) (4, omega arith, refl) tasks.ReadRevisions c.in-Err.e c.not_stored.result c.not_stored.ensures.named (c.in-Err.ensures.said clean))
+
+pub returns-in-Err-clause-memory : goal.returns-in-Err-clause-memory
+returns-in-Err-clause-memory g c clean memory =
+    let clean_two = early (state g.S.Store c.check_version_keys.new.conn) (state g.S.Store c.read_revisions.new.conn) c.read_revisions.ensures.look clean in
+    let clean_one = early (state g.S.Store c.check_version.new.conn) (state g.S.Store c.check_version_keys.new.conn) c.check_version_keys.ensures.look clean_two in
+    inr (First, c.in_ok-check_version.ensures.version clean_one)

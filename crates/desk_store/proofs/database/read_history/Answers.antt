@@ -1,7 +1,11 @@
-use Rattle.std.proofs.Common.{◌∙◌, codes, refl, true}
+use Rattle.std.proofs.Common.{◌∙◌, [], arith, codes, refl, true}
 use Rattle.sqlite.specs.Held.{state}
-use Rattle.desk_store.specs.Tables.{rows_of}
+use Rattle.desk_store.specs.Error.{Query}
+use Rattle.desk_store.specs.Tables.{rows_of, select_approvals, select_proposals, select_revisions}
+use Rattle.desk_store.specs.declared.error.Task.TheVariants as tasks
 use Rattle.desk_store.proofs.ChangesNothing.{early, rest_after, same_after}
+use Rattle.desk_store.proofs.OpeningSaid.{later_told, rows_told, told_query}
+use Rattle.desk_store.proofs.Said.{both}
 use Rattle.desk_store.proofs.RowsRead.{are_read, history_before, read_in}
 use Rattle.desk_store.proofs.database.read_history.Goals as goal
 
@@ -43,3 +47,38 @@ returns-in-Ok-read_proposals-clause-foreign g c clean told history site are =
     c.state_in.ensures.foreign told history site
     (are_read (rows_of before.committed (codes "file_rev")) (rows_of before.committed (codes "approval")) (rows_of before.committed (codes "proposal"))
     c.as_slice.result.now c.as_slice-in-Ok-read_proposals.result.now c.as_slice-in-Ok-read_proposals-2.result.now revised approved proposed history are)
+
+pub returns-in-Err-clause-said : goal.returns-in-Err-clause-said
+returns-in-Err-clause-said g c clean =
+    told_query g.S.Store c.args.conn.now c.read_revisions.new.conn (Query select_revisions []) (4, omega arith, refl) tasks.ReadRevisions c.in-Err.e c.not_stored.result c.not_stored.ensures.named (c.in-Err.ensures.said clean)
+
+pub returns-in-Err-read_approvals-clause-said : goal.returns-in-Err-read_approvals-clause-said
+returns-in-Err-read_approvals-clause-said g c clean =
+    let old = c.args.conn.now in
+    let one = c.read_revisions.new.conn in
+    let two = c.read_approvals.new.conn in
+    let look = c.read_revisions.ensures.look in
+    let told = c.not_stored-in-Err-read_approvals in
+    let clean_one = early (state g.S.Store one) (state g.S.Store two) c.read_approvals.ensures.look clean in
+    let same = same_after (state g.S.Store old) (state g.S.Store one) look clean_one (c.in-Ok.ensures.live clean_one) in
+    later_told g.S.Store old one two look.leaves.crash same told.result
+    (told_query g.S.Store one two (Query select_approvals []) (5, omega arith, refl) tasks.ReadRevisions c.in-Err-read_approvals.e told.result told.ensures.named (c.in-Err-read_approvals.ensures.said clean))
+
+pub returns-in-Ok-read_proposals-clause-said : goal.returns-in-Ok-read_proposals-clause-said
+returns-in-Ok-read_proposals-clause-said g c clean = rows_told g.S.Store c.args.conn.now c.read_proposals.new.conn c.state_in.result c.state_in.ensures.errors
+
+pub returns-clause-said : goal.returns-clause-said
+returns-clause-said g c clean =
+    let old = c.args.conn.now in
+    let one = c.read_revisions.new.conn in
+    let two = c.read_approvals.new.conn in
+    let new = c.read_proposals.new.conn in
+    let first = c.read_revisions.ensures.look in
+    let then = c.read_approvals.ensures.look in
+    let told = c.not_stored-in-Err-read_proposals in
+    let clean_two = early (state g.S.Store two) (state g.S.Store new) c.read_proposals.ensures.look clean in
+    let clean_one = early (state g.S.Store one) (state g.S.Store two) then clean_two in
+    let same = same_after (state g.S.Store one) (state g.S.Store two) then clean_two (c.in-Ok-read_approvals.ensures.live clean_two)
+    ∙ same_after (state g.S.Store old) (state g.S.Store one) first clean_one (c.in-Ok.ensures.live clean_one) in
+    later_told g.S.Store old two new (both (state g.S.Store old) (state g.S.Store one) (state g.S.Store two) first.leaves.crash then.leaves.crash) same told.result
+    (told_query g.S.Store two new (Query select_proposals []) (6, omega arith, refl) tasks.ReadRevisions c.in-Err-read_proposals.e told.result told.ensures.named (c.in-Err-read_proposals.ensures.said clean))

@@ -1,7 +1,7 @@
-use Rattle.std.proofs.Common.{arith, of_z, pos, to_z, w64}
-use Rattle.desk_store.proofs.KeysApart.{pushed_at}
+use Rattle.std.proofs.Common.{rules}
+use Rattle.std.proofs.lemmas.Fn.{always_returns_same}
+use Rattle.desk_store.specs.Keys.{is_below}
 use Rattle.desk_store.proofs.keys.rise.Goals as goal
 
-pub loop-key-preserved : goal.loop-key-preserved
-loop-key-preserved c =
-    pushed_at (λ key. to_z w64 (of_z w64 key)) c.args.keys.now c.loop-key.key-index c.loop-key.last (pos 0) (omega arith) (c.is_above.ensures search) c.loop-key.invariant
+pub returns : goal.returns
+returns c = c.is_sorted_by.ensures.cases is_below (always_returns_same _ _ _ (λ a r f k. search rules))

@@ -5,6 +5,7 @@ use Rattle.std.proofs.lemmas.Result.{err_from_is_err_and}
 use Rattle.desk_core.specs.Head.{Revision, StandOnce}
 use Rattle.desk_core.specs.History.{pending_in}
 use Rattle.desk_core.specs.Judging.{seven}
+use Rattle.desk_core.specs.Standing.{PendOnce}
 use Rattle.desk_core.specs.State.{standing}
 use Rattle.desk_store.specs.History.{revisions_in}
 use Rattle.desk_store.specs.Newest.{has_revision}
@@ -56,6 +57,11 @@ returns-clause-history g c =
 pub returns-clause-once : goal.returns-clause-once
 returns-clause-once g c =
     if_both c.state_of.result _ _ _ (λ state kept kept'. subst StandOnce (sym kept) c.in_ok-heads.ensures.once) c.state_of.ensures.kept c.state_of.ensures.kept
+
+pub returns-clause-proposals_once : goal.returns-clause-proposals_once
+returns-clause-proposals_once g c =
+    let may = may_read c.as_slice-2.ensures.value c.as_slice-3.ensures.value (c.may_follow.ensures.0 c.if-not-may_follow.false) in
+    if_both c.state_of.result _ _ _ (λ state pending pending'. subst PendOnce (sym pending) may.once) c.state_of.ensures.pending c.state_of.ensures.pending
 
 pub returns-clause-foreign : goal.returns-clause-foreign
 returns-clause-foreign g c = λ schema history site same.

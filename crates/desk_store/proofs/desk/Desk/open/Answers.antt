@@ -10,6 +10,7 @@ invariant_of-result g c =
           let live = a.live clean in
           desk_opened (state g.S.Store c.args.conn) (state g.S.Store c.read_state.new.conn) c.in-Ok.current (a.opened clean) (a.sound clean)
           (λ trees may. g.met.S.Store.settled c.read_state.new.conn.store trees live may) (a.project clean) (a.rest clean) (a.keyed clean),
+      a.proposals_once,
     )
 
 pub returns-in-Ok-clause-opened : goal.returns-in-Ok-clause-opened

@@ -1,18 +1,25 @@
-use Rattle.std.proofs.Common.{◌≡◌, sym, subst, map, IfOk, IsPermutation, arith}
+use Rattle.std.proofs.Common.{◌≡◌, ◌∷◌, [], ap, refl, sym, subst, map, IfOk, IsPermutation, arith}
 use Rattle.sqlite.specs.Held.{state}
 use Rattle.sqlite.specs.State.{HasCleanDisk}
 use Rattle.desk_core.specs.History.{revisions_of}
 use Rattle.desk_store.specs.Desk.{Stands, signature_of}
-use Rattle.desk_store.specs.Looks.{approvers_in, numbers_in}
+use Rattle.desk_store.specs.Looks.{approvers_in, numbers_in, select_approvers, select_numbers, signature_queries}
 use Rattle.desk_store.proofs.FoundRows.{desk_still, rest_still, stands_still}
 use Rattle.desk_store.proofs.ListedRows.{signatures_if}
+use Rattle.std.specs.Prelude.{Contains, IfErr}
+use Rattle.desk_store.specs.Error.{Query, Statement}
+use Rattle.desk_store.specs.Rows.{IsOfTask, TellsLook}
+use Rattle.desk_store.specs.declared.error.Task.TheVariants as tasks
+use Rattle.sqlite.specs.declared.types.Value.TheVariants.{Text as Words}
+use Rattle.desk_store.proofs.Inside.{same_survives}
+use Rattle.desk_store.proofs.LookSaid.{of_rows, query_told, rows_told}
 use Rattle.desk_store.proofs.desk.Desk.signatures.Goals as goal
 use Rattle.desk_store.proofs.desk.Desk.signatures.Goals.{in-Ok-read_approvers, in-Err-read_approvers}
 
 pub invariant_of-self : goal.invariant_of-self
 invariant_of-self g c =
     let look = c.read_numbers.ensures.look in
-    (look.mode c.self.invariant.0, desk_still (state g.S.Store c.self.inside.conn) (state g.S.Store c.read_numbers.new.conn) c.self.inside.current look c.self.invariant.1)
+    (look.mode c.self.invariant.0, desk_still (state g.S.Store c.self.inside.conn) (state g.S.Store c.read_numbers.new.conn) c.self.inside.current look c.self.invariant.1, c.self.invariant.2)
 
 pub read_approvers-requires : goal.read_approvers-requires
 read_approvers-requires g c = rest_still (state g.S.Store c.self.inside.conn) (state g.S.Store c.read_numbers.new.conn) c.self.inside.current c.read_numbers.ensures.look c.self.invariant.1
@@ -25,7 +32,7 @@ invariant_of-self-2 g c =
     let kept = c.self.inside.current in
     let first = c.read_numbers.ensures.look in
     let second = c.read_approvers.ensures.look in
-    (second.mode (first.mode c.self.invariant.0), desk_still mid new kept second (desk_still old mid kept first c.self.invariant.1))
+    (second.mode (first.mode c.self.invariant.0), desk_still mid new kept second (desk_still old mid kept first c.self.invariant.1), c.self.invariant.2)
 
 pub returns-clause-found : goal.returns-clause-found
 returns-clause-found g c clean history pending stands =
@@ -48,4 +55,33 @@ returns-clause-found g c clean history pending stands =
           let found = signatures_if mid.committed history w.as_slice.result.now (there.tables live) file rows w.as_slice-in-Ok-read_approvers.result.now approvals w.list_signatures.result w.list_signatures.ensures.signs in
           subst (λ r. IfOk r (λ found. found ≡ map signature_of (revisions_of file history))) (sym w.result-is) found
       | in-Err-read_approvers w ↦ subst (λ r. IfOk r (λ found. found ≡ map signature_of (revisions_of file history))) (sym w.result-is) tt
+    ]
+
+pub returns-in-Err-clause-said : goal.returns-in-Err-clause-said
+returns-in-Err-clause-said g c clean =
+    let own : Statement → Type 0 = Contains (signature_queries c.args.file.now) in
+    let old = c.self.inside.conn in
+    let new = c.read_numbers.new.conn in
+    subst (λ conn. TellsLook g.S.Store own conn new c.not_stored.result) (ap (λ s. s.conn) c.self.view_is)
+    (query_told g.S.Store own old new (Query select_numbers (Words c.args.file.now ∷ [])) (0, omega arith, refl) old (same_survives (state g.S.Store old)) tasks.ReadRevisions c.in-Err.e c.not_stored.result c.not_stored.ensures.named (c.in-Err.ensures.said clean))
+
+pub returns-clause-errors : goal.returns-clause-errors
+returns-clause-errors g c =
+    elim c.match-read_approvers.branch [
+      | in-Ok-read_approvers w ↦ subst (λ r. IfErr r (IsOfTask tasks.ReadRevisions)) (sym w.result-is) (of_rows w.list_signatures.result w.list_signatures.ensures.errors)
+      | in-Err-read_approvers w ↦ subst (λ r. IfErr r (IsOfTask tasks.ReadRevisions)) (sym w.result-is) w.not_stored-in-Err-read_approvers.ensures.either
+    ]
+
+pub returns-clause-said : goal.returns-clause-said
+returns-clause-said g c clean =
+    let own : Statement → Type 0 = Contains (signature_queries c.args.file.now) in
+    let old = c.self.inside.conn in
+    let now = c.args.self.now.conn in
+    let new = c.read_approvers.new.conn in
+    let is = ap (λ s. s.conn) c.self.view_is in
+    elim c.match-read_approvers.branch [
+      | in-Ok-read_approvers w ↦ subst (λ r. IfErr r (TellsLook g.S.Store own now new)) (sym w.result-is) (rows_told g.S.Store own now new w.list_signatures.result w.list_signatures.ensures.errors)
+      | in-Err-read_approvers w ↦
+          let told = query_told g.S.Store own old new (Query select_approvers (Words c.args.file.now ∷ [])) (1, omega arith, refl) c.read_numbers.new.conn c.read_numbers.ensures.look.leaves.crash tasks.ReadRevisions w.in-Err-read_approvers.e w.not_stored-in-Err-read_approvers.result w.not_stored-in-Err-read_approvers.ensures.named (w.in-Err-read_approvers.ensures.said clean) in
+          subst (λ r. IfErr r (TellsLook g.S.Store own now new)) (sym w.result-is) (subst (λ conn. TellsLook g.S.Store own conn new w.not_stored-in-Err-read_approvers.result) is told)
     ]
