@@ -5,6 +5,8 @@ for by a key, and no address is looked for at which something might change: rang
 A path is a tuple of components, an address a number, and a mount point a path.
 """
 
+import functools
+
 
 class Site:
     """Its mount points in byte order, its hosts and groups, and for each mount point its lines and their text."""
@@ -13,6 +15,7 @@ class Site:
         self.mounts, self.hosts, self.groups = in_order(mounts), hosts, groups
         self.lines, self.texts = {}, {}
         self.known = {}  # the addresses of names, once they were looked up
+        self.chosen = {}  # of a mount point and an address its lines, and those of them that are selected, once they were found
 
 
 class Line:
@@ -87,9 +90,14 @@ def weight(site, line, address):
 
 def selected(site, mount, address):
     """The lines that match the address with the greatest weight."""
-    matching = [(weight(site, line, address), line) for line in site.lines[mount]]
-    weights = [found for found, _ in matching if found is not None]
-    return [line for found, line in matching if weights and found == max(weights)]
+    lines, chosen = site.chosen.get((mount, address), (None, None))
+    if lines is not site.lines[mount]:
+        lines = site.lines[mount]
+        weights = [weight(site, line, address) for line in lines]
+        greatest = max((found for found in weights if found is not None), default=None)
+        chosen = [line for found, line in zip(weights, lines) if found is not None and found == greatest]
+        site.chosen[mount, address] = lines, chosen
+    return chosen
 
 
 def lists(site, mount, line, path):
@@ -151,18 +159,27 @@ def is_steady(site, line, first, bits):
 def runs(value_of, sites, path):
     """The longest ranges of addresses with one value, each its first address, its last one, and the value, which is that of the
     verdicts that the sites have on the path."""
-    lines = [(site, line) for site in sites for line in site.lines.get(fs_of(site.mounts, path), [])]
+    found = []
+    for first, last in steady_blocks(tuple((site, fs_of(site.mounts, path)) for site in sites)):
+        value = value_of(first)
+        if found and found[-1][2] == value:
+            first = found.pop()[0]
+        found.append((first, last, value))
+    return found
+
+
+@functools.lru_cache(maxsize=1)
+def steady_blocks(places):
+    """The addresses in blocks, found by halving, in each of which all lines of these mount points have one weight."""
+    lines = [(site, line) for site, mount in places for line in site.lines.get(mount, [])]
     found, blocks = [], [(0, 0)]
     while blocks:
         first, bits = blocks.pop()
         size = 2 ** (32 - bits)
-        if not all(is_steady(site, line, first, bits) for site, line in lines):
+        if all(is_steady(site, line, first, bits) for site, line in lines):
+            found.append((first, first + size - 1))
+        else:
             blocks += [(first + size // 2, bits + 1), (first, bits + 1)]
-            continue
-        last, value = first + size - 1, value_of(first)
-        if found and found[-1][2] == value:
-            first = found.pop()[0]
-        found.append((first, last, value))
     return found
 
 
