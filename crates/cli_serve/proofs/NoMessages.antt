@@ -1,6 +1,6 @@
 -- A desk that is left alone. (this project's own)
 use Rattle.std.specs.Prelude.{ℕ, List, [], refl}
-use Rattle.desk_messages.specs.Stream.{Message}
+use Rattle.desk_http_messages.specs.Stream.{Message}
 use Rattle.desk_store.specs.Desk.{History}
 use Rattle.desk_http.specs.Answering.{Serves}
 

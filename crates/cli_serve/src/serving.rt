@@ -2,11 +2,11 @@
 
 ghost use Rattle.std.specs.Prelude.{ℕ, List};
 ghost use Rattle.desk_store.specs.Desk.{HasGoodDisk, StandsAt};
-ghost use Rattle.desk_messages.specs.Stream.{Message};
+ghost use Rattle.desk_http_messages.specs.Stream.{Message};
 ghost use Rattle.desk_http.specs.Answering.{Serves};
 
 use desk_http::{runs_follow, serve};
-use desk_messages::transport::Of;
+use desk_http_messages::transport::Of;
 use desk_policy::PolicyView;
 use desk_store::Desk;
 use sqlite::Alter;

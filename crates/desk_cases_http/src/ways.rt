@@ -3,7 +3,7 @@
 ghost use Rattle.std.specs.Prelude.{◌<◌};
 
 use desk_http::serve;
-use desk_messages::{Bytes, End, Of, Served, StreamFault};
+use desk_http_messages::{Bytes, End, Of, Served, StreamFault};
 use desk_policy::PolicyView;
 use desk_store::Desk;
 use sqlite::Alter;

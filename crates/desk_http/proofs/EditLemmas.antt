@@ -16,7 +16,7 @@ use Rattle.desk_store.specs.declared.error.Task.{Task}
 use Rattle.desk_service.specs.Edits.{PutsBy, reply_in}
 use Rattle.desk_service.specs.Refused.{refused_by}
 use Rattle.desk_service.specs.declared.edits.Replies.{Replies}
-use Rattle.desk_messages.specs.Replies.{Reply, memory_reply, print_reply}
+use Rattle.desk_http_messages.specs.Replies.{Reply, memory_reply, print_reply}
 use Rattle.desk_http.specs.Edits.{answer_reply}
 use Rattle.desk_http.specs.Questions.{store_reply}
 use Rattle.desk_http.specs.Replies.{refused_reply}

@@ -2,9 +2,9 @@
 use Rattle.std.proofs.Common.{◌≡◌, ℕ, List, ◌++◌, length, All, Option}
 use Rattle.std.specs.List.{flat_map}
 use Rattle.std.specs.Io.KnownBytes.{Consumes, Appends}
-use Rattle.desk_messages.specs.Stream.{Message, IsMessage, GoesOn, print_message}
+use Rattle.desk_http_messages.specs.Stream.{Message, IsMessage, GoesOn, print_message}
 use Rattle.desk_store.specs.Desk.{History}
-use Rattle.desk_messages.specs.Replies.{joined}
+use Rattle.desk_http_messages.specs.Replies.{joined}
 use Rattle.desk_http.specs.Answering.{Serves}
 
 -- the messages that were answered, and their replies

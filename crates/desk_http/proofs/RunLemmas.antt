@@ -6,17 +6,17 @@ use Rattle.std.proofs.lemmas.List.{length_push}
 use Rattle.std.proofs.lemmas.List.Concat.{flat_map-append}
 use Rattle.std.proofs.lemmas.List.Elements.{All-push, All-nil}
 use Rattle.httparse.specs.declared.spans.HeaderSpan.{HeaderSpan}
-use Rattle.desk_messages.specs.declared.framing.Extent.{Extent}
-use Rattle.desk_messages.specs.declared.requests.StreamFault.{StreamFault}
-use Rattle.desk_messages.specs.declared.requests.End.{End}
-use Rattle.desk_messages.specs.declared.requests.End.TheVariants.{Input, Closed, Bad, ReadFault, WriteFault, Memory}
-use Rattle.desk_messages.specs.declared.requests.Served.{Served}
-use Rattle.desk_messages.specs.Head.{ends_stream}
-use Rattle.desk_messages.specs.Stream.{Message, IsMessage, print_message, Splits, GoesOn, ClosesAfter, HasFault, EndsSo, IsOpen, IsUnfaulted}
-use Rattle.desk_messages.specs.Front.{IsMessageAt}
+use Rattle.desk_http_messages.specs.declared.framing.Extent.{Extent}
+use Rattle.desk_http_messages.specs.declared.requests.StreamFault.{StreamFault}
+use Rattle.desk_http_messages.specs.declared.requests.End.{End}
+use Rattle.desk_http_messages.specs.declared.requests.End.TheVariants.{Input, Closed, Bad, ReadFault, WriteFault, Memory}
+use Rattle.desk_http_messages.specs.declared.requests.Served.{Served}
+use Rattle.desk_http_messages.specs.Head.{ends_stream}
+use Rattle.desk_http_messages.specs.Stream.{Message, IsMessage, print_message, Splits, GoesOn, ClosesAfter, HasFault, EndsSo, IsOpen, IsUnfaulted}
+use Rattle.desk_http_messages.specs.Front.{IsMessageAt}
 use Rattle.desk_store.specs.Desk.{History}
-use Rattle.desk_messages.specs.Asked.{asked_by}
-use Rattle.desk_messages.specs.Replies.{Reply, print_reply, fault_reply, joined}
+use Rattle.desk_http_messages.specs.Asked.{asked_by}
+use Rattle.desk_http_messages.specs.Replies.{Reply, print_reply, fault_reply, joined}
 use Rattle.desk_http.specs.Answering.{Answered, Replies, Serves}
 use Rattle.desk_http.specs.Serving.{IsReplyTo, AnswersAll, AnswersBefore, AnswersInPart, CutReply, SessionOf}
 use Rattle.desk_http.specs.PrivateAnswering.{AnswersAsked, AnswersMessage}

@@ -2,12 +2,12 @@
 use Rattle.std.specs.Prelude.{◌≡◌, ℕ, ◌⊎◌, Bool, true, false, List, [], ◌∷◌, Option, Some, None}
 use Rattle.desk_core.specs.Edit.{Edit}
 use Rattle.desk_store.specs.Desk.{History}
-use Rattle.desk_messages.specs.Asked.{Asked, asked_by}
-use Rattle.desk_messages.specs.Head.{ends_stream}
-use Rattle.desk_messages.specs.Replies.{Reply, memory_reply, print_reply}
-use Rattle.desk_messages.specs.Stream.{Message}
-use Rattle.desk_requests.specs.Calls.{Asks, Puts, Query, edit_in, first_fault, query_asked}
-use Rattle.desk_requests.specs.declared.faults.RequestFault.{RequestFault}
+use Rattle.desk_http_messages.specs.Asked.{Asked, asked_by}
+use Rattle.desk_http_messages.specs.Head.{ends_stream}
+use Rattle.desk_http_messages.specs.Replies.{Reply, memory_reply, print_reply}
+use Rattle.desk_http_messages.specs.Stream.{Message}
+use Rattle.desk_http_requests.specs.Calls.{Asks, Puts, Query, edit_in, first_fault, query_asked}
+use Rattle.desk_http_requests.specs.declared.faults.RequestFault.{RequestFault}
 use Rattle.desk_http.specs.Replies.{request_fault_reply}
 use Rattle.desk_http.specs.Questions.{QuestionReply, asks_tables, store_reply}
 use Rattle.desk_http.specs.Edits.{EditReply}

@@ -5,8 +5,8 @@ use Rattle.desk_core.specs.History.{added_by, standing_of}
 use Rattle.desk_core.specs.Judging.{Answers}
 use Rattle.desk_store.specs.Desk.{History}
 use Rattle.desk_service.specs.declared.refused.Refused.TheVariants as refused
-use Rattle.desk_messages.specs.Replies.{Reply, reply_with}
-use Rattle.desk_bodies.specs.Edits.{done_data, proposed_data}
+use Rattle.desk_http_messages.specs.Replies.{Reply, reply_with}
+use Rattle.desk_http_bodies.specs.Edits.{done_data, proposed_data}
 use Rattle.desk_http.specs.Replies.{refused_reply}
 
 -- the reply to an edit, by its answer

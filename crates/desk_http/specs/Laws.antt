@@ -2,7 +2,7 @@
 use Rattle.std.specs.Prelude.{ℕ, List, ◌++◌}
 use Rattle.sqlite_trees.specs.declared.store.Store.{Ghosts}
 use Rattle.desk_store.specs.Desk.{HasGoodDisk, Shown, StandsAt}
-use Rattle.desk_messages.specs.Stream.{Message}
+use Rattle.desk_http_messages.specs.Stream.{Message}
 use Rattle.desk_http.specs.Answering.{Serves}
 
 -- a desk after some messages and then others is one after all of them

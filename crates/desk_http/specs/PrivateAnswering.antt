@@ -8,12 +8,12 @@ use Rattle.desk_who.specs.Who.{IsWho}
 use Rattle.desk_core.specs.Edit.{Already, Edit, Pending, Proposed, Stored}
 use Rattle.desk_store.specs.Desk.{History}
 use Rattle.desk_service.specs.declared.edits.Replies.{Replies}
-use Rattle.desk_messages.specs.Asked.{Asked, asked_by}
-use Rattle.desk_messages.specs.Head.{ends_stream}
-use Rattle.desk_messages.specs.Replies.{Reply, memory_reply, print_reply, reply_with}
-use Rattle.desk_messages.specs.Stream.{Message}
-use Rattle.desk_requests.specs.Calls.{Question}
-use Rattle.desk_bodies.specs.Ranges.{who_data}
+use Rattle.desk_http_messages.specs.Asked.{Asked, asked_by}
+use Rattle.desk_http_messages.specs.Head.{ends_stream}
+use Rattle.desk_http_messages.specs.Replies.{Reply, memory_reply, print_reply, reply_with}
+use Rattle.desk_http_messages.specs.Stream.{Message}
+use Rattle.desk_http_requests.specs.Calls.{Question}
+use Rattle.desk_http_bodies.specs.Ranges.{who_data}
 use Rattle.desk_http.specs.Questions.{QuestionReply, asks_tables, store_reply}
 use Rattle.desk_http.specs.Edits.{EditReply, answer_reply}
 use Rattle.desk_http.specs.Answering.{Answered}

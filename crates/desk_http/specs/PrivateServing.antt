@@ -1,11 +1,11 @@
 -- How the last reply of a connection is written. (this project's own)
 use Rattle.std.specs.Prelude.{◌≡◌, ℕ, ◌+◌, ◌<◌, ◌⊎◌, true, List, length, take, Option}
 use Rattle.std.specs.Io.KnownBytes.{Appends, Keeps}
-use Rattle.desk_messages.specs.declared.requests.End.{End}
-use Rattle.desk_messages.specs.declared.requests.End.TheVariants.{Bad, WriteFault}
-use Rattle.desk_messages.specs.declared.requests.Served.{Served}
-use Rattle.desk_messages.specs.declared.requests.StreamFault.{StreamFault}
-use Rattle.desk_messages.specs.Replies.{fault_reply, print_reply}
+use Rattle.desk_http_messages.specs.declared.requests.End.{End}
+use Rattle.desk_http_messages.specs.declared.requests.End.TheVariants.{Bad, WriteFault}
+use Rattle.desk_http_messages.specs.declared.requests.Served.{Served}
+use Rattle.desk_http_messages.specs.declared.requests.StreamFault.{StreamFault}
+use Rattle.desk_http_messages.specs.Replies.{fault_reply, print_reply}
 
 -- the reply to a fault was written after so many replies and bytes, or a part of it
 abbrev pub Refuses : StreamFault → Option (List ℕ) → Option (List ℕ) → ℕ → ℕ → Served → Type 0

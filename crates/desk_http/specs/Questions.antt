@@ -7,12 +7,12 @@ use Rattle.desk_service.specs.Questions as service
 use Rattle.desk_service.specs.declared.questions.FileAnswer.{FileAnswer}
 use Rattle.desk_service.specs.declared.questions.FileAnswer.TheVariants as found
 use Rattle.desk_service.specs.declared.refused.Refused.TheVariants as refused
-use Rattle.desk_messages.specs.Replies.{Reply, reply_with}
-use Rattle.desk_requests.specs.Calls.{Exports, File, Mount, Proposal, Question, Revisions, Who}
-use Rattle.desk_bodies.specs.Exports.{exports_data}
-use Rattle.desk_bodies.specs.Ranges.{who_data}
-use Rattle.desk_bodies.specs.Revisions.{file_data, proposal_data, revisions_data}
-use Rattle.desk_bodies.specs.Verdicts.{verdict_data}
+use Rattle.desk_http_messages.specs.Replies.{Reply, reply_with}
+use Rattle.desk_http_requests.specs.Calls.{Exports, File, Mount, Proposal, Question, Revisions, Who}
+use Rattle.desk_http_bodies.specs.Exports.{exports_data}
+use Rattle.desk_http_bodies.specs.Ranges.{who_data}
+use Rattle.desk_http_bodies.specs.Revisions.{file_data, proposal_data, revisions_data}
+use Rattle.desk_http_bodies.specs.Verdicts.{verdict_data}
 use Rattle.desk_http.specs.Replies.{refused_reply}
 
 -- what desk_service is asked for a question

@@ -6,10 +6,10 @@ use Rattle.desk_core.specs.declared.edit.Refusal.TheVariants as refusal
 use Rattle.desk_service.specs.Refused.{refused_name, refused_number}
 use Rattle.desk_service.specs.declared.refused.Refused.{Refused}
 use Rattle.desk_service.specs.declared.refused.Refused.TheVariants as refused
-use Rattle.desk_messages.specs.Replies.{Reply, refusal_data, refusal_reply, reply_with}
-use Rattle.desk_requests.specs.declared.faults.RequestFault.{RequestFault}
-use Rattle.desk_requests.specs.declared.faults.RequestFault.TheVariants as fault
-use Rattle.desk_bodies.specs.Edits.{refused_data}
+use Rattle.desk_http_messages.specs.Replies.{Reply, refusal_data, refusal_reply, reply_with}
+use Rattle.desk_http_requests.specs.declared.faults.RequestFault.{RequestFault}
+use Rattle.desk_http_requests.specs.declared.faults.RequestFault.TheVariants as fault
+use Rattle.desk_http_bodies.specs.Edits.{refused_data}
 
 -- the number of the fault of a request
 abbrev pub request_fault_number : RequestFault → ℕ

@@ -1,12 +1,12 @@
 -- What one connection did: what it read, what it wrote, and what the desk became. (this project's own)
 use Rattle.std.specs.Prelude.{◌≡◌, ℕ, ◌+◌, ◌<◌, ◌⊎◌, true, List, [], ◌∷◌, ◌++◌, length, take, Option}
 use Rattle.std.specs.Io.KnownBytes.{Consumes, Appends, Keeps, IsAtEnd}
-use Rattle.desk_messages.specs.declared.requests.End.{End}
-use Rattle.desk_messages.specs.declared.requests.End.TheVariants.{Input, Closed, Bad, ReadFault, WriteFault, Memory}
-use Rattle.desk_messages.specs.declared.requests.StreamFault.{StreamFault}
-use Rattle.desk_messages.specs.Stream.{Message, Splits, GoesOn, ClosesAfter, HasFault, EndsSo, IsOpen, IsUnfaulted}
+use Rattle.desk_http_messages.specs.declared.requests.End.{End}
+use Rattle.desk_http_messages.specs.declared.requests.End.TheVariants.{Input, Closed, Bad, ReadFault, WriteFault, Memory}
+use Rattle.desk_http_messages.specs.declared.requests.StreamFault.{StreamFault}
+use Rattle.desk_http_messages.specs.Stream.{Message, Splits, GoesOn, ClosesAfter, HasFault, EndsSo, IsOpen, IsUnfaulted}
 use Rattle.desk_store.specs.Desk.{History}
-use Rattle.desk_messages.specs.Replies.{print_reply, fault_reply, joined, last_texts}
+use Rattle.desk_http_messages.specs.Replies.{print_reply, fault_reply, joined, last_texts}
 use Rattle.desk_http.specs.Answering.{Serves}
 
 -- these texts are the replies to a stream of these bytes, which ends so and leaves the desk as new

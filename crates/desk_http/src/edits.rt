@@ -5,7 +5,7 @@ ghost use Rattle.std.specs.String.{string_bytes};
 ghost use Rattle.desk_core.specs.Edit.{asked};
 ghost use Rattle.desk_core.specs.Head.{last_revision};
 ghost use Rattle.desk_store.specs.Desk.{HasGoodDisk, StandsAt};
-ghost use Rattle.desk_messages.specs.Replies.{memory_reply};
+ghost use Rattle.desk_http_messages.specs.Replies.{memory_reply};
 ghost use Rattle.desk_http.specs.PrivateAnswering.{AreReplies, EditAnswered, Gives, GivesText};
 
 use crate::replies::{done_text, failed_text, proposed_text};

@@ -7,20 +7,22 @@ ghost use Rattle.desk_text.specs.Address.{number_of};
 ghost use Rattle.desk_policy.specs.Listings.{listing_of};
 ghost use Rattle.desk_policy.specs.Verdict.{verdict_of};
 ghost use Rattle.desk_store.specs.Desk.{HasGoodDisk, StandsAt};
-ghost use Rattle.desk_messages.specs.Replies.{memory_reply, print_reply, reply_with};
-ghost use Rattle.desk_requests.specs.Calls as calls;
-ghost use Rattle.desk_requests.specs.Calls.{question_of};
-ghost use Rattle.desk_bodies.specs.Exports.{exports_data};
-ghost use Rattle.desk_bodies.specs.Revisions.{revisions_data};
-ghost use Rattle.desk_bodies.specs.Verdicts.{verdict_data};
+ghost use Rattle.desk_http_messages.specs.Replies.{memory_reply, print_reply, reply_with};
+ghost use Rattle.desk_http_requests.specs.Calls as calls;
+ghost use Rattle.desk_http_requests.specs.Calls.{question_of};
+ghost use Rattle.desk_http_bodies.specs.Exports.{exports_data};
+ghost use Rattle.desk_http_bodies.specs.Revisions.{revisions_data};
+ghost use Rattle.desk_http_bodies.specs.Verdicts.{verdict_data};
 ghost use Rattle.desk_http.specs.Questions.{file_reply, numbered_author};
 ghost use Rattle.desk_http.specs.PrivateAnswering.{Gives, GivesText, IsWhoText, QuestionAnswered};
 
 use crate::replies::{failed_text, refused_text};
-use desk_bodies::{exports_body, file_body, proposal_body, revisions_body, verdict_body, who_body};
-use desk_messages::reply_text;
+use desk_http_bodies::{
+    exports_body, file_body, proposal_body, revisions_body, verdict_body, who_body,
+};
+use desk_http_messages::reply_text;
+use desk_http_requests::Question;
 use desk_policy::PolicyView;
-use desk_requests::Question;
 use desk_service::{
     FileAnswer, FileQuestion, PolicyAnswer, PolicyQuestion, Refused, answer_by_desk, answer_by_view,
 };

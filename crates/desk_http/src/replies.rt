@@ -2,15 +2,15 @@
 
 ghost use Rattle.std.specs.Prelude.{◌≡◌, IfOk};
 ghost use Rattle.std.specs.String.{string_bytes};
-ghost use Rattle.desk_messages.specs.Replies.{print_reply, reply_with};
+ghost use Rattle.desk_http_messages.specs.Replies.{print_reply, reply_with};
 ghost use Rattle.desk_service.specs.Refused.{refused_by};
-ghost use Rattle.desk_bodies.specs.Edits.{done_data, proposed_data};
+ghost use Rattle.desk_http_bodies.specs.Edits.{done_data, proposed_data};
 ghost use Rattle.desk_http.specs.Replies as spec;
 
-use desk_bodies::{done_body, proposed_body, refusal_body};
 use desk_core::Refusal;
-use desk_messages::{refusal_text, reply_text};
-use desk_requests::RequestFault;
+use desk_http_bodies::{done_body, proposed_body, refusal_body};
+use desk_http_messages::{refusal_text, reply_text};
+use desk_http_requests::RequestFault;
 use desk_service::Refused;
 use desk_store::DeskError;
 use http::StatusCode;

@@ -4,21 +4,21 @@ ghost use Rattle.std.specs.Prelude.{◌≡◌, ◌⊎◌, ◌↔◌, ℕ, ◌+�
 ghost use Rattle.std.specs.Io.KnownBytes.{Appends};
 ghost use Rattle.httparse.specs.Spans.{IsHeaderWithin};
 ghost use Rattle.desk_store.specs.Desk.{HasGoodDisk, StandsAt};
-ghost use Rattle.desk_messages.specs.Asked.{asked_of};
-ghost use Rattle.desk_messages.specs.Front.{end_of};
-ghost use Rattle.desk_messages.specs.Stream.{Message};
+ghost use Rattle.desk_http_messages.specs.Asked.{asked_of};
+ghost use Rattle.desk_http_messages.specs.Front.{end_of};
+ghost use Rattle.desk_http_messages.specs.Stream.{Message};
 ghost use Rattle.desk_http.specs.Answering.{Serves};
 ghost use Rattle.desk_http.specs.Serving.{SessionOf};
 ghost use Rattle.desk_http.specs.PrivateAnswering.{AnswersAsked};
 ghost use Rattle.desk_http.specs.PrivateServing.{EndsBy, Refuses};
 
 use crate::answering::answer;
-use desk_messages::{
+use desk_http_messages::{
     Buffer, End, Front, Outcome, Pending, Request, Served, Sink, Source, StreamFault, fault_text,
     look_at, memory_text, read_on, request_at, write_whole,
 };
+use desk_http_requests::Routes;
 use desk_policy::PolicyView;
-use desk_requests::Routes;
 use desk_store::Desk;
 use httparse::spans::{EMPTY_HEADER_SPAN, HeaderSpan};
 use sqlite::Alter;

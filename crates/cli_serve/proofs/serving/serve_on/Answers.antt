@@ -1,7 +1,7 @@
 -- What each connection came to goes on from what the ones before it came to.
 use Rattle.std.proofs.Common.{ℕ, List, ◌++◌, subst, sym}
 use Rattle.desk_store.specs.Desk.{HasGoodDisk, StandsAt}
-use Rattle.desk_messages.specs.Stream.{Message}
+use Rattle.desk_http_messages.specs.Stream.{Message}
 use Rattle.desk_http.specs.Answering.{Serves}
 use Rattle.cli_serve.proofs.NoMessages.{no_messages}
 use Rattle.cli_serve.proofs.serving.serve_on.Goals as goal

@@ -1,6 +1,6 @@
 use Rattle.std.proofs.Common.{ℕ, List}
 use Rattle.desk_store.specs.Desk.{HasGoodDisk, StandsAt}
-use Rattle.desk_messages.specs.Stream.{Message}
+use Rattle.desk_http_messages.specs.Stream.{Message}
 use Rattle.desk_http.specs.Answering.{Serves}
 use Rattle.cli_serve.proofs.serving.serve_on.Given as goal
 

@@ -1,7 +1,7 @@
 -- A request without a route or a method is replied that.
 use Rattle.std.specs.String.{string_bytes}
 use Rattle.desk_store.specs.Desk.{HasGoodDisk, StandsAt}
-use Rattle.desk_messages.specs.Asked.{asked_of}
+use Rattle.desk_http_messages.specs.Asked.{asked_of}
 use Rattle.desk_http.proofs.AnswerLemmas.{fault_given, unasked}
 use Rattle.desk_http.proofs.answering.answer.Goals as goal
 

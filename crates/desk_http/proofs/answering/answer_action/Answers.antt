@@ -3,9 +3,9 @@ use Rattle.std.proofs.Common.{subst}
 use Rattle.std.specs.String.{string_bytes}
 use Rattle.desk_core.specs.Edit.{asked}
 use Rattle.desk_store.specs.Desk.{HasGoodDisk, StandsAt}
-use Rattle.desk_messages.specs.Asked.{asked_of}
-use Rattle.desk_requests.specs.Calls.{IsCall, question_of}
-use Rattle.desk_requests.specs.declared.calls.Call.{Call}
+use Rattle.desk_http_messages.specs.Asked.{asked_of}
+use Rattle.desk_http_requests.specs.Calls.{IsCall, question_of}
+use Rattle.desk_http_requests.specs.declared.calls.Call.{Call}
 use Rattle.desk_http.proofs.AnswerLemmas.{edit_err, edit_given, fault_given, question_err, question_given, unasked}
 use Rattle.desk_http.proofs.answering.answer_action.Goals as goal
 

@@ -9,11 +9,11 @@ use Rattle.desk_core.specs.History.{newest_of}
 use Rattle.desk_core.specs.Site.{IsInForce, site_in}
 use Rattle.desk_store.specs.Desk.{HasGoodDisk, History, StandsAt}
 use Rattle.desk_service.specs.Questions.{ByPolicy, ListingIs, RangesAre, VerdictIs}
-use Rattle.desk_messages.specs.Replies.{Reply, memory_reply, print_reply, reply_with}
-use Rattle.desk_requests.specs.Calls.{Exports, Mount, Question, Who, question_of}
-use Rattle.desk_bodies.specs.Exports.{exports_data}
-use Rattle.desk_bodies.specs.Ranges.{who_data}
-use Rattle.desk_bodies.specs.Verdicts.{verdict_data}
+use Rattle.desk_http_messages.specs.Replies.{Reply, memory_reply, print_reply, reply_with}
+use Rattle.desk_http_requests.specs.Calls.{Exports, Mount, Question, Who, question_of}
+use Rattle.desk_http_bodies.specs.Exports.{exports_data}
+use Rattle.desk_http_bodies.specs.Ranges.{who_data}
+use Rattle.desk_http_bodies.specs.Verdicts.{verdict_data}
 use Rattle.desk_http.specs.Questions.{QuestionReply}
 use Rattle.desk_http.specs.PrivateAnswering.{Gives, GivesText, IsWhoText, QuestionAnswered}
 use Rattle.desk_http.proofs.AnswerLemmas.{looked_any, looked_err, looked_text}

@@ -5,8 +5,8 @@ use Rattle.desk_store.specs.Desk.{HasGoodDisk, StandsAt}
 use Rattle.desk_store.specs.declared.error.Task.TheVariants as tasks
 use Rattle.desk_service.specs.Questions.{ByFile}
 use Rattle.desk_service.specs.Refused.{refused_by}
-use Rattle.desk_messages.specs.Replies.{memory_reply}
-use Rattle.desk_requests.specs.Calls.{Revisions}
+use Rattle.desk_http_messages.specs.Replies.{memory_reply}
+use Rattle.desk_http_requests.specs.Calls.{Revisions}
 use Rattle.desk_http.specs.Questions.{file_reply}
 use Rattle.desk_http.specs.Replies.{refused_reply}
 use Rattle.desk_http.proofs.AnswerLemmas.{told, told_err, told_text}

@@ -1,10 +1,10 @@
 -- Each arm of the loop keeps what was done so far, or ends it.
 use Rattle.std.proofs.Common.{◌≡◌, ◌+◌, ◌-◌, ◌∙◌, [], ap, append-nil, arith, drop, inr, length, length-drop, refl, subst, sym}
-use Rattle.desk_messages.specs.declared.framing.Front.TheVariants.{Fault}
-use Rattle.desk_messages.specs.declared.requests.End.TheVariants.{Closed}
-use Rattle.desk_messages.specs.Front.{IsFront, end_of}
-use Rattle.desk_messages.specs.Reading.{ReadOn}
-use Rattle.desk_messages.specs.Stream.{HasFault}
+use Rattle.desk_http_messages.specs.declared.framing.Front.TheVariants.{Fault}
+use Rattle.desk_http_messages.specs.declared.requests.End.TheVariants.{Closed}
+use Rattle.desk_http_messages.specs.Front.{IsFront, end_of}
+use Rattle.desk_http_messages.specs.Reading.{ReadOn}
+use Rattle.desk_http_messages.specs.Stream.{HasFault}
 use Rattle.desk_store.specs.Desk.{HasGoodDisk, StandsAt}
 use Rattle.desk_http.specs.Serving.{AnswersAll}
 use Rattle.desk_http.specs.PrivateAnswering.{AnswersAsked}

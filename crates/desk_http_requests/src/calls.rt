@@ -1,0 +1,97 @@
+//! What a request calls for.
+
+ghost use Rattle.std.specs.Prelude.{◌≡◌, ◌≤◌, All, IfOk, IfSome, Some, is_some, length};
+ghost use Rattle.std.specs.Option.{option_map};
+ghost use Rattle.std.specs.Str.{is_utf8};
+ghost use Rattle.httparse.specs.Spans.{IsHeaderWithin};
+ghost use Rattle.desk_core.specs.Head.{last_revision};
+ghost use Rattle.desk_http_messages.specs.Asked.{asked_of};
+ghost use Rattle.desk_http_requests.specs.Calls.{IsCall, Puts, action_of, header_text, query_asked, utf8_text};
+ghost use Rattle.desk_http_requests.specs.Parameters.{pairs};
+ghost use Rattle.desk_http_requests.specs.Parameters as spec;
+ghost use Rattle.desk_http_requests.specs.Target.{query_of};
+
+use crate::faults::RequestFault;
+use crate::parameters::Parameter;
+use crate::queries::{Query, Question, query_for};
+use crate::routes::Action;
+use desk_core::Edit;
+use desk_http_messages::{Request, Values, values_of};
+use std::alloc::{AllocError, Global};
+
+/// What a request calls for.
+#[derive(Drop)]
+pub enum Call<'a> {
+    /// Nothing: it has this fault.
+    Refused(RequestFault),
+    Asks(Question<'a>),
+    Edits(Edit<'a>),
+}
+
+/// Finds the only value of a header, if it is text.
+fn header_text<'a>(request: &Request<'a>, name: &[u8]) -> Option<&'a str>
+    requires { All (IsHeaderWithin (length request.now.head.now)) request.now.headers.now }
+    ensures { option_map (λ text. text.now) result ≡ header_text name.now (asked_of request.now).headers }
+{
+    match values_of(request.head, request.headers, name) {
+        Values::One(value) => utf8_text(value),
+        _ => None,
+    }
+}
+
+/// Returns the text that bytes are.
+fn utf8_text(bytes: &[u8]) -> Option<&str>
+    ensures value { option_map (λ text. text.now) result ≡ utf8_text bytes.now }
+    ensures text { IfSome result (λ text. text.now ≡ bytes.now) }
+    ensures tested { is_some result ≡ is_utf8 bytes.now }
+{
+    match std::str::from_utf8(bytes) {
+        Ok(text) => Some(text),
+        Err(_) => None,
+    }
+}
+
+/// Reads what a request calls for that does this, by its parameters.
+pub fn read_call<'a>(
+    alloc: Global,
+    action: Action,
+    request: &Request<'a>,
+    parameters: &'a [Parameter],
+) -> Result<Call<'a>, AllocError>
+    requires headers { All (IsHeaderWithin (length request.now.head.now)) request.now.headers.now }
+    requires action { action_of (asked_of request.now) ≡ Some action }
+    requires parameters { pairs parameters.now ≡ spec.parameters_of (query_of request.now.target.now) }
+    ensures { IfOk result (IsCall (asked_of request.now)) }
+{
+    match query_for(alloc, action, parameters)? {
+        None => Ok(Call::Refused(RequestFault::BadQuery)),
+        Some(Query::Asks(question)) => Ok(Call::Asks(question)),
+        Some(Query::Puts(file, base)) => Ok(edit_of(request, file, base)),
+    }
+}
+
+/// Makes the edit of a file that a request asks for.
+fn edit_of<'a>(request: &Request<'a>, file: &'a str, base: u32) -> Call<'a>
+    requires headers { All (IsHeaderWithin (length request.now.head.now)) request.now.headers.now }
+    requires action { action_of (asked_of request.now) ≡ Some Action.Put }
+    requires query { query_asked (asked_of request.now) ≡ Some (Puts file.now base) }
+    requires base { base ≤ last_revision }
+    ensures { IsCall (asked_of request.now) result }
+{
+    let (Some(caller), Some(key)) = (
+        header_text(request, b"x-custodian"),
+        header_text(request, b"x-key"),
+    ) else {
+        return Call::Refused(RequestFault::BadHeader);
+    };
+    match utf8_text(request.body) {
+        Some(text) => Call::Edits(Edit {
+            file,
+            base,
+            caller,
+            key,
+            text,
+        }),
+        None => Call::Refused(RequestFault::BadBody),
+    }
+}
