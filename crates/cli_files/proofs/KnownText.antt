@@ -4,11 +4,11 @@ use Rattle.std.proofs.lemmas.Bool.Decides.{nat_tests}
 use Rattle.std.proofs.lemmas.List.{length-take-le, take_all}
 use Rattle.std.proofs.lemmas.Slice.Eq.{bytes_eq-Decides}
 use Rattle.std.specs.Str.{bytes_eq}
-use Rattle.cli_files.specs.Files.{IsNoText, IsUnread, ReadsText, TakesText}
+use Rattle.cli_files.specs.Files.{IsNoText, ReadsText, TakesText}
+use Rattle.cli_output.specs.Failure.{IsUnread}
 use Rattle.cli_files.specs.Input.{longest_input, text_of}
-use Rattle.cli_files.specs.declared.failure.Failure.{Failure}
-use Rattle.cli_files.specs.declared.files.FileArgument.{FileArgument}
-use Rattle.cli_files.specs.declared.input.TextFault.{TextFault}
+use Rattle.cli_output.specs.declared.failure.Failure.{Failure}
+use Rattle.cli_output.specs.declared.failure.TextFault.{TextFault}
 
 over : (xs : List ℕ) → 16777216 < length xs → nat_lt longest_input (length xs) ≡ true
 over xs long = grind (arith, nat_tests)
@@ -27,13 +27,13 @@ text_of_front given =
     ]
 
 -- a file that could not be read has no text, whatever its bytes
-pub no_text : (argument : FileArgument) (word : List ℕ) (read : Result (List ℕ) TextFault) (failure : Failure) → IsUnread argument word failure → IsNoText argument word read failure
+pub no_text : (argument : List ℕ) (word : List ℕ) (read : Result (List ℕ) TextFault) (failure : Failure) → IsUnread argument word failure → IsNoText argument word read failure
 no_text argument word (Ok text) failure unread = unread
 no_text argument word (Err fault) failure unread = inl unread
 
 module _ {A : Type 0} where
   -- the text of the bytes that were read: for `-` that of the bytes that the input has
-  pub known_text : (argument : FileArgument) (word : List ℕ) (known : Option (List ℕ)) (bytes : List ℕ) (result : Result (String A) Failure) → (word ≡ codes "-" → IfSome known (λ given. bytes ≡ take 16777217 given)) → TakesText argument word (text_of bytes) result → ReadsText argument word known result
+  pub known_text : (argument : List ℕ) (word : List ℕ) (known : Option (List ℕ)) (bytes : List ℕ) (result : Result (String A) Failure) → (word ≡ codes "-" → IfSome known (λ given. bytes ≡ take 16777217 given)) → TakesText argument word (text_of bytes) result → ReadsText argument word known result
   known_text argument word known bytes result read taken = go (bytes_eq word (codes "-")) refl known read
     where
       go : (b : Bool) → bytes_eq word (codes "-") ≡ b → (known : Option (List ℕ)) → (word ≡ codes "-" → IfSome known (λ given. bytes ≡ take 16777217 given)) → ReadsText argument word known result
@@ -52,6 +52,6 @@ module _ {A : Type 0} where
       }
 
   -- the failure where no byte of the file matters
-  pub unread_text : (argument : FileArgument) (word : List ℕ) (known : Option (List ℕ)) (failure : Failure) → IsUnread argument word failure → ReadsText {A = A} argument word known (Err failure)
+  pub unread_text : (argument : List ℕ) (word : List ℕ) (known : Option (List ℕ)) (failure : Failure) → IsUnread argument word failure → ReadsText {A = A} argument word known (Err failure)
   unread_text argument word None failure unread = record { bytes = []; contents = λ dash. tt; text = no_text argument word (text_of []) failure unread }
   unread_text argument word (Some given) failure unread = record { bytes = given; contents = λ dash. refl; text = no_text argument word (text_of given) failure unread }

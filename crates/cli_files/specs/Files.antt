@@ -3,42 +3,17 @@ use Rattle.std.specs.Prelude.{◌≡◌, ◌⊎◌, ℕ, nat_lt, Bool, false, co
 use Rattle.std.specs.Str.{bytes_eq}
 use Rattle.std.specs.String.{string_bytes}
 use Rattle.cli_files.specs.Input.{text_of}
-use Rattle.cli_files.specs.declared.failure.Failure.{Failure}
-use Rattle.cli_files.specs.declared.failure.Failure.TheVariants.{File, FirstLine, Memory}
-use Rattle.cli_files.specs.declared.failure.ReadFailure.{ReadFailure}
-use Rattle.cli_files.specs.declared.failure.ReadFailure.TheVariants.{System, Text}
-use Rattle.cli_files.specs.declared.files.FileArgument.{FileArgument}
-use Rattle.cli_files.specs.declared.input.TextFault.{TextFault}
+use Rattle.cli_output.specs.Failure.{IsFileFailure, IsUnread}
+use Rattle.cli_output.specs.declared.failure.Failure.{Failure}
+use Rattle.cli_output.specs.declared.failure.ReadFailure.TheVariants.{Text}
+use Rattle.cli_output.specs.declared.failure.TextFault.{TextFault}
 
 -- the word names standard input
 abbrev pub is_input : List ℕ → Bool
 is_input word = bytes_eq word (codes "-")
 
--- the failure names this file and why it could not be read; out of memory says nothing
-abbrev pub IsFileFailure : FileArgument → List ℕ → ReadFailure → Failure → Type 0
-IsFileFailure argument word reason (File named name found) = (named ≡ argument) × (string_bytes name ≡ word) × (found ≡ reason)
-IsFileFailure argument word reason Memory = Unit {0}
-IsFileFailure argument word reason failure = ⊥
-
--- why the system could not read
-abbrev pub IsSystem : ReadFailure → Type 0
-IsSystem (System error) = Unit {0}
-IsSystem (Text fault) = ⊥
-
--- the failure says that the system could not read the first line; out of memory says nothing
-abbrev pub IsUnreadLine : Failure → Type 0
-IsUnreadLine (FirstLine reason) = IsSystem reason
-IsUnreadLine Memory = Unit {0}
-IsUnreadLine failure = ⊥
-
--- the failure says that the system could not read this file; out of memory says nothing
-abbrev pub IsUnread : FileArgument → List ℕ → Failure → Type 0
-IsUnread argument word (File named name reason) = (named ≡ argument) × (string_bytes name ≡ word) × IsSystem reason
-IsUnread argument word Memory = Unit {0}
-IsUnread argument word failure = ⊥
-
 -- the failure says that the system could not read this file, or why its bytes are not a text
-abbrev pub IsNoText : FileArgument → List ℕ → Result (List ℕ) TextFault → Failure → Type 0
+abbrev pub IsNoText : List ℕ → List ℕ → Result (List ℕ) TextFault → Failure → Type 0
 IsNoText argument word (Ok text) failure = IsUnread argument word failure
 IsNoText argument word (Err fault) failure = IsUnread argument word failure ⊎ IsFileFailure argument word (Text fault) failure
 
@@ -48,12 +23,12 @@ IsContents word known bytes = word ≡ codes "-" → IfSome known (λ given. byt
 
 module _ {A : Type 0} where
   -- the text that bytes are taken as, or why there is none
-  abbrev pub TakesText : FileArgument → List ℕ → Result (List ℕ) TextFault → Result (String A) Failure → Type 0
+  abbrev pub TakesText : List ℕ → List ℕ → Result (List ℕ) TextFault → Result (String A) Failure → Type 0
   TakesText argument word read (Ok text) = read ≡ Ok (string_bytes text)
   TakesText argument word read (Err failure) = IsNoText argument word read failure
 
   -- the text of the file that a word names, or why there is none
-  pub record ReadsText (argument : FileArgument) (word : List ℕ) (known : Option (List ℕ)) (result : Result (String A) Failure) : Type 0 where
+  pub record ReadsText (argument : List ℕ) (word : List ℕ) (known : Option (List ℕ)) (result : Result (String A) Failure) : Type 0 where
     pub bytes : List ℕ
     pub contents : IsContents word known bytes
     pub text : TakesText argument word (text_of bytes) result
@@ -63,34 +38,34 @@ abbrev pub Leaves : Option (List ℕ) → Option (List ℕ) → Option (List ℕ
 Leaves word known left = word ≢ Some (codes "-") → left ≡ known
 
 -- the text of the file that a word names, or the empty one if there is no word
-pub record HasText (argument : FileArgument) (word : List ℕ) (known : Option (List ℕ)) (text : List ℕ) : Type 0 where
+pub record HasText (argument : List ℕ) (word : List ℕ) (known : Option (List ℕ)) (text : List ℕ) : Type 0 where
   pub bytes : List ℕ
   pub contents : IsContents word known bytes
   pub read : text_of bytes ≡ Ok text
 
-abbrev pub HasTextIfGiven : FileArgument → Option (List ℕ) → Option (List ℕ) → List ℕ → Type 0
+abbrev pub HasTextIfGiven : List ℕ → Option (List ℕ) → Option (List ℕ) → List ℕ → Type 0
 HasTextIfGiven argument (Some word) known text = HasText argument word known text
 HasTextIfGiven argument None known text = text ≡ []
 
 -- a file that is given has no text, and the failure says why
-pub record LacksText (argument : FileArgument) (word : List ℕ) (known : Option (List ℕ)) (failure : Failure) : Type 0 where
+pub record LacksText (argument : List ℕ) (word : List ℕ) (known : Option (List ℕ)) (failure : Failure) : Type 0 where
   pub bytes : List ℕ
   pub contents : IsContents word known bytes
   pub says : IsNoText argument word (text_of bytes) failure
 
-abbrev pub LacksTextIfGiven : FileArgument → Option (List ℕ) → Option (List ℕ) → Failure → Type 0
+abbrev pub LacksTextIfGiven : List ℕ → Option (List ℕ) → Option (List ℕ) → Failure → Type 0
 LacksTextIfGiven argument (Some word) known failure = LacksText argument word known failure
 LacksTextIfGiven argument None known failure = ⊥
 
 module _ {A : Type 0} where
   -- the text of a file that may not be given, or why it has none
-  abbrev pub ReadsIfGiven : FileArgument → Option (List ℕ) → Option (List ℕ) → Result (String A) Failure → Type 0
+  abbrev pub ReadsIfGiven : List ℕ → Option (List ℕ) → Option (List ℕ) → Result (String A) Failure → Type 0
   ReadsIfGiven argument word known (Ok text) = HasTextIfGiven argument word known (string_bytes text)
   ReadsIfGiven argument word known (Err failure) = LacksTextIfGiven argument word known failure
 
 -- The texts of files that are read in turn, each from the input that those before it leave; or why the first without a text
 -- has none.
-abbrev pub ReadsInTurn : List (FileArgument × Option (List ℕ)) → Option (List ℕ) → Result (List (List ℕ)) Failure → Type 0
+abbrev pub ReadsInTurn : List (List ℕ × Option (List ℕ)) → Option (List ℕ) → Result (List (List ℕ)) Failure → Type 0
 ReadsInTurn [] known (Ok texts) = texts ≡ []
 ReadsInTurn [] known (Err failure) = ⊥
 ReadsInTurn (file ∷ files) known (Ok []) = ⊥
@@ -106,5 +81,5 @@ is_input_if_given None = false
 is_input_if_given (Some word) = is_input word
 
 -- more than one of these files is to be standard input
-abbrev pub name_input_twice : List (FileArgument × Option (List ℕ)) → Bool
+abbrev pub name_input_twice : List (List ℕ × Option (List ℕ)) → Bool
 name_input_twice files = nat_lt 1 (count_by (λ file. is_input_if_given file.1) files)

@@ -4,8 +4,8 @@ use Rattle.std.specs.Io.BufRead.{ends_with_byte, strip_last}
 use Rattle.std.specs.List.{after_last}
 use Rattle.std.specs.Str.{is_utf8}
 use Rattle.std.specs.Str.Lossy.{utf8_valid_len}
-use Rattle.cli_files.specs.declared.input.TextFault.{TextFault}
-use Rattle.cli_files.specs.declared.input.TextFault.TheVariants.{TooLong, NotUtf8}
+use Rattle.cli_output.specs.declared.failure.TextFault.{TextFault}
+use Rattle.cli_output.specs.declared.failure.TextFault.TheVariants.{TooLong, NotUtf8}
 
 -- the most bytes of a file, and of the first line of standard input without its line end
 abbrev pub longest_input : ℕ

@@ -1,3 +1,3 @@
-pub mod BadArgument
 pub mod Files
 pub mod Input
+pub mod SiteFolder

@@ -1,63 +1,17 @@
-//! The files that words name, read whole as texts.
+//! The files that words name, read whole as texts. A failure names the argument as the usage does.
 
 ghost use Rattle.std.specs.Prelude.{◌≡◌, ◌≢◌, ◌≤◌, ◌==◌, IfErr, IfOk, IfSome, codes, length, take};
 ghost use Rattle.std.specs.String.{string_bytes};
 ghost use Rattle.cli_files.specs.Files as spec;
 ghost use Rattle.std.specs.Option.{option_map};
-ghost use Rattle.cli_files.specs.Files.{IsUnread, Leaves, ReadsIfGiven, ReadsText};
+ghost use Rattle.cli_output.specs.Failure.{IsUnread};
+ghost use Rattle.cli_files.specs.Files.{Leaves, ReadsIfGiven, ReadsText};
 
-use crate::failure::{Failure, ReadFailure};
 use crate::input::{LONGEST_INPUT, read_bytes, text_of};
+use cli_output::failure::{Failure, ReadFailure};
 use std::alloc::Global;
 use std::io::BufRead;
 use std::{fs, io};
-
-/// A file that a command is given.
-#[derive(Clone, Copy)]
-pub enum FileArgument {
-    /// The exports text.
-    File,
-    /// The exports text before a change.
-    OldFile,
-    /// The exports text after a change.
-    NewFile,
-    /// The text of the file systems.
-    FileSystems,
-    Hosts,
-    Networks,
-    Passwd,
-    Group,
-    Netgroup,
-    /// A file in the folder of a site.
-    Site,
-    /// A file in the folder of a new database's site.
-    Dir,
-    /// The file with the key of an edit.
-    KeyFile,
-    /// The file of a database.
-    Database,
-}
-
-impl FileArgument {
-    /// Names the file as the usage does.
-    pub fn name(self) -> &'static str {
-        match self {
-            FileArgument::File => "FILE",
-            FileArgument::OldFile => "OLD",
-            FileArgument::NewFile => "NEW",
-            FileArgument::FileSystems => "FILESYSTEMS",
-            FileArgument::Hosts => "--hosts",
-            FileArgument::Networks => "--networks",
-            FileArgument::Passwd => "--passwd",
-            FileArgument::Group => "--group",
-            FileArgument::Netgroup => "--netgroup",
-            FileArgument::Site => "--site",
-            FileArgument::Dir => "DIR",
-            FileArgument::KeyFile => "--key-file",
-            FileArgument::Database => "DB",
-        }
-    }
-}
 
 /// Tests whether a word names standard input.
 pub fn is_input(word: &str) -> bool
@@ -69,11 +23,11 @@ pub fn is_input(word: &str) -> bool
 /// Reads the text of the file that a word names; `-` is standard input.
 pub fn read_text<I: BufRead>(
     rt: &HostRuntime,
-    argument: FileArgument,
+    argument: &'static str,
     word: &str,
     input: &mut I,
 ) -> Result<String, Failure>
-    ensures text { ReadsText argument word.now (I.remaining input.old) result }
+    ensures text { ReadsText argument.now word.now (I.remaining input.old) result }
     ensures short { IfOk result (λ text. length (string_bytes text) ≤ 16777216) }
     ensures untouched { word.now ≢ codes "-" → input.new ≡ input.old }
 {
@@ -87,11 +41,11 @@ pub fn read_text<I: BufRead>(
 /// Reads the text of the file that a word names, or the empty text if there is no word.
 pub fn read_if_given<I: BufRead>(
     rt: &HostRuntime,
-    argument: FileArgument,
+    argument: &'static str,
     word: Option<&str>,
     input: &mut I,
 ) -> Result<String, Failure>
-    ensures text { ReadsIfGiven argument (option_map (λ word. word.now) word.entry) (I.remaining input.old) result }
+    ensures text { ReadsIfGiven argument.now (option_map (λ word. word.now) word.entry) (I.remaining input.old) result }
     ensures short { IfOk result (λ text. length (string_bytes text) ≤ 16777216) }
     ensures left { Leaves (option_map (λ word. word.now) word.entry) (I.remaining input.old) (I.remaining input.new) }
 {
@@ -104,13 +58,13 @@ pub fn read_if_given<I: BufRead>(
 /// Reads the bytes of a file.
 fn read_file<I: BufRead>(
     rt: &HostRuntime,
-    argument: FileArgument,
+    argument: &'static str,
     word: &str,
     input: &mut I,
 ) -> Result<Vec<u8>, Failure>
     ensures read { word.now ≡ codes "-" → IfSome (I.remaining input.old)
         (λ given. IfOk result (λ bytes. bytes.items ≡ take 16777217 given)) }
-    ensures unread { IfErr result (IsUnread argument word.now) }
+    ensures unread { IfErr result (IsUnread argument.now word.now) }
     ensures untouched { word.now ≢ codes "-" → input.new ≡ input.old }
 {
     match open_and_read(rt, word, input) {

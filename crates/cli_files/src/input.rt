@@ -7,21 +7,13 @@ ghost use Rattle.std.specs.Result.{result_map_both};
 ghost use Rattle.std.specs.String.{string_bytes};
 ghost use Rattle.cli_files.specs.Input as spec;
 
+use cli_output::failure::TextFault;
 use std::alloc::Global;
 use std::io;
 use std::io::{BufRead, Read};
 
 /// The most bytes of a file, and of the first line of standard input without its line end.
 pub const LONGEST_INPUT: usize = 16_777_216;
-
-/// Why bytes are not taken as a text.
-#[derive(Clone, Copy)]
-pub enum TextFault {
-    /// They are over 16,777,216.
-    TooLong,
-    /// They are not UTF-8: the line and the column, in characters from 1, of the first byte that breaks it.
-    NotUtf8 { line: usize, column: usize },
-}
 
 /// Reads what a reader gives to its end, and stops behind the most bytes of a text. Room for this many bytes is made at once;
 /// there may be more of them, or fewer.

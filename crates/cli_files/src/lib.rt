@@ -1,14 +1,13 @@
-//! The files that a command is given, read whole as texts, standard input among them; and why a command has no answer.
+//! The files that a command is given, read whole as texts: one by one, standard input among them, and those of a site's folder.
 //!
 //! Its promise: [`files::read_text`] gives the text of the bytes that a file has, or says why they are not one: they are over
 //! the limit, or not UTF-8, with the place of the first byte that breaks it. It knows no command.
 //!
 //! ```text
-//! read_text(rt, FileArgument::File, "-", input)? // all that standard input has, if that is a text
+//! read_text(rt, "FILE", "-", input)? // all that standard input has, if that is a text
 //! ```
 #![tactic(auto)]
 
-pub mod bad_argument;
-pub mod failure;
 pub mod files;
 pub mod input;
+pub mod site_folder;

@@ -1,3 +1,2 @@
-pub mod Output
-pub mod Refused
-pub mod SiteFolder
+pub mod Failure
+pub mod Printed

@@ -1,13 +1,13 @@
-//! What a command answers, and how that is printed; and the folder of a site's files, which commands on texts and on
-//! databases read.
+//! What a command prints, with its exit status; or why it has no answer.
 //!
-//! Its promise: [`output::report`] prints just an answer and returns its status, or the status 4.
+//! Its promise: [`printed::report`] prints just what a command answers and returns its status, or the status 4. It knows no
+//! command.
 //!
 //! ```text
-//! report(rt.alloc(), Origin::Arguments, Ok(Output::Done(text)), &mut out, &mut err) // 0: the text is printed
+//! report(rt.alloc(), Origin::Arguments, Ok(Printed { status: 0, text, note }), &mut out, &mut err) // 0: the text is printed
 //! ```
 #![tactic(auto)]
 
-pub mod output;
-pub mod refused;
-pub mod site_folder;
+pub mod bad_argument;
+pub mod failure;
+pub mod printed;

@@ -1,5 +1,6 @@
-pub mod ClapAnswers
+pub mod Additions
 pub mod FirstBad
 pub mod FoundNames
+pub mod FoundRows
 pub mod LineTexts
 pub mod MountWords

@@ -1,18 +1,17 @@
--- The words of mount points, for `arguments::read_mount_points`.
-use Rattle.std.proofs.Common.{◌≡◌, ℕ, ◌+◌, ◌<◌, true, false, List, [], ◌∷◌, ◌++◌, map, length, get_or, take, Some, find, Ok, Err, Result, refl, sym, subst, ap, ◌∙◌}
+-- The words of mount points, for `values::read_mount_points`.
+use Rattle.std.proofs.Common.{codes, ◌≡◌, ℕ, ◌+◌, ◌<◌, true, false, List, [], ◌∷◌, ◌++◌, map, length, get_or, take, Some, find, Ok, Err, Result, refl, sym, subst, ap, ◌∙◌}
 use Rattle.std.proofs.lemmas.List.{map_more}
 use Rattle.std.proofs.lemmas.List.Elements.{filter_map-append}
 use Rattle.std.specs.Result.{result_ok}
 use Rattle.desk_text.specs.Path.{read_path}
 use Rattle.desk_text.specs.declared.path.PathFault.{PathFault}
-use Rattle.cli_words.specs.Arguments.{AnswersArgument, IsBadMount, is_no_path, paths_of}
-use Rattle.cli_files.specs.declared.bad_argument.Argument.TheVariants as name
-use Rattle.cli_files.specs.declared.bad_argument.ArgumentFault.TheVariants as fault
-use Rattle.cli_files.specs.declared.failure.Failure.{Failure}
-use Rattle.cli_files.specs.declared.failure.Failure.TheVariants as failure
+use Rattle.cli_words.specs.Values.{AnswersArgument, IsBadMount, is_no_path, paths_of}
+use Rattle.cli_output.specs.declared.bad_argument.ArgumentFault.TheVariants as fault
+use Rattle.cli_output.specs.declared.failure.Failure.{Failure}
+use Rattle.cli_output.specs.declared.failure.Failure.TheVariants as failure
 
 -- a refused word that is the first that is not a path
-pub bad_mount : (words : List (List ℕ)) (w : List ℕ) (r : Result (List (List ℕ)) PathFault) (other : Failure) → read_path w ≡ r → (is_no_path w ≡ true → find is_no_path words ≡ Some w) → AnswersArgument {T = List (List ℕ)} (λ path. path) fault.Path name.Mount w r (Err other) → IsBadMount words other
+pub bad_mount : (words : List (List ℕ)) (w : List ℕ) (r : Result (List (List ℕ)) PathFault) (other : Failure) → read_path w ≡ r → (is_no_path w ≡ true → find is_no_path words ≡ Some w) → AnswersArgument {T = List (List ℕ)} (λ path. path) fault.Path (codes "MOUNT") w r (Err other) → IsBadMount words other
 bad_mount words w (Ok x) other is found answer = subst (IsBadMount words) (sym answer) tt
 bad_mount words w (Err bad) (failure.Argument b) is found answer =
     (found (rw is refl) ∙ ap Some (sym answer.1), rw (answer.1, is) (answer.0, answer.2))

@@ -1,3 +1,5 @@
-pub mod Arguments
+pub mod Commands
 pub mod LineWords
+pub mod PrivateLine
+pub mod Values
 pub mod Words

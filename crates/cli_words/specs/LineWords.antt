@@ -3,8 +3,8 @@ use Rattle.std.specs.Prelude.{◌≡◌, ℕ, ◌==◌, Bool, not, List, length,
 use Rattle.std.specs.List.{position_from, slice_split}
 use Rattle.std.specs.Str.{is_utf8}
 use Rattle.desk_text.specs.Bytes.{is_blank}
-use Rattle.cli_files.specs.declared.failure.Failure.{Failure}
-use Rattle.cli_files.specs.declared.failure.Failure.TheVariants.{Memory, Word}
+use Rattle.cli_output.specs.declared.failure.Failure.{Failure}
+use Rattle.cli_output.specs.declared.failure.Failure.TheVariants.{Memory, Word}
 
 -- the words of a line: what is between its blanks, if it is not empty
 abbrev pub words_of : List ℕ → List (List ℕ)

@@ -1,17 +1,20 @@
-//! The words of a command as `clap` found them, and what those spell that are more than texts.
+//! The words of a command: the command line that `clap` parses, what it finds, and what words mean that are more than texts.
 //!
-//! Its promise: [`words::found_command`] gives the command that `clap` found with its words by value; [`arguments`] are what
-//! their words spell, or the first that cannot be parsed is named. It knows nothing of what the commands answer, so it is
-//! proved beside the crates that they stand on.
+//! Its promise: [`line::command_line`] has just the commands of the table in `specs/Commands.antt`, a row each;
+//! [`words::found_command`] gives the command that `clap` found, and its words by their names; [`values`] gives what words
+//! mean, or names the first that cannot be parsed. It knows nothing of what the commands answer.
 //!
 //! ```text
-//! let matches = cli_line::command(alloc)?.try_get_matches_from(&["exportdesk", "split", "exports", "filesystems"]);
-//! words::found_command(&matches?)? // CommandWords::Split(SplitWords { file: "exports", filesystems: "filesystems" })
+//! let matches = command_line(alloc)?.try_get_matches_from(&["exportdesk", "log", "site.db", "hosts"])?;
+//! let (command, words) = found_command(&matches)?; // Subcommand::Log
+//! required(words, "NAME")?                         // "hosts"
 //! ```
 #![tactic(auto)]
 
 pub mod arguments;
-pub mod database_words;
+pub mod commands;
+mod help;
+pub mod line;
 pub mod line_words;
-pub mod text_words;
+pub mod values;
 pub mod words;

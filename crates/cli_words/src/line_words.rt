@@ -4,7 +4,7 @@ ghost use Rattle.std.specs.Prelude.{◌≡◌, ◌∷◌, IfOk, MatchResult, cod
 ghost use Rattle.cli_words.specs.LineWords as spec;
 ghost use Rattle.cli_words.specs.LineWords.{IsBadWord};
 
-use cli_files::failure::Failure;
+use cli_output::failure::Failure;
 use desk_text::is_blank;
 use std::alloc::{AllocError, Global};
 use std::convert::AsSlice;

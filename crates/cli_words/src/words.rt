@@ -1,111 +1,70 @@
-//! The command that `clap` finds, with its words.
+//! The command that `clap` finds, and its words by their names.
 
-ghost use Rattle.std.specs.Prelude.{◌≡◌};
+ghost use Rattle.std.specs.Prelude.{◌≡◌, map};
 ghost use Rattle.std.specs.Option.{option_map};
-ghost use Rattle.clap.specs.Words.{first_of, found_of, rows_of, subcommand_rows_of};
-ghost use Rattle.cli_line.specs.CommandLine.{command_in, command_of, desk_command_in, file_command_in, is_set};
-ghost use Rattle.cli_words.specs.Words.{Finds, given};
+ghost use Rattle.clap.specs.Words.{all_of, first_of, subcommand_rows_of};
+ghost use Rattle.cli_words.specs.Commands.{command_of};
+ghost use Rattle.cli_words.specs.Words.{Finds, is_set, rows_in};
 
-use crate::database_words::{
-    AskWords, CatWords, ExportsWords, FilesWords, ImpactWords, InitWords, LogWords, ProposalWords,
-    PutWords, ServeWords, ShowWords, WhoWords, WriteWords,
-};
-use crate::text_words::{CheckWords, ClientsWords, CompareWords, SplitWords, TryWords};
+use crate::commands::{Subcommand, command_named};
 use clap::ArgMatches;
-use cli_files::failure::Failure;
+use cli_output::failure::Failure;
 
-/// A command with its words.
-#[derive(Clone, Copy)]
-pub enum CommandWords<'m, 'a> {
-    Try(TryWords<'m, 'a>),
-    Split(SplitWords<'a>),
-    Check(CheckWords<'m, 'a>),
-    Clients(ClientsWords<'m, 'a>),
-    Compare(CompareWords<'m, 'a>),
-    Init(InitWords<'a>),
-    Ask(AskWords<'a>),
-    Show(ShowWords<'a>),
-    Exports(ExportsWords<'a>),
-    Who(WhoWords<'a>),
-    Put(PutWords<'a>),
-    Impact(ImpactWords<'a>),
-    Log(LogWords<'a>),
-    Cat(CatWords<'a>),
-    Proposal(ProposalWords<'a>),
-    Files(FilesWords<'a>),
-    Write(WriteWords<'a>),
-    Serve(ServeWords<'a>),
-}
-
-/// Takes the command that `clap` found.
-pub fn found_command<'m, 'a>(matches: &'m ArgMatches<'a>) -> Result<CommandWords<'m, 'a>, Failure>
-    ensures { Finds given (command_of (subcommand_rows_of matches.now)) result }
+/// Takes the command that `clap` found, with its words.
+pub fn found_command<'m, 'a>(
+    matches: &'m ArgMatches<'a>,
+) -> Result<(Subcommand, &'m ArgMatches<'a>), Failure>
+    ensures { Finds (λ found. (found.0, rows_in found.1.now)) (command_of (subcommand_rows_of matches.now)) result }
 {
     match matches.subcommand() {
-        Some((name, words)) => match found_words(name, words) {
-            Some(found) => Ok(found),
-            None => Err(Failure::Missing("a word of the command")),
+        Some((name, words)) => match command_named(name) {
+            Some(command) => Ok((command, words)),
+            None => Err(Failure::of_missing("the command")),
         },
-        None => Err(Failure::Missing("the command")),
+        None => Err(Failure::of_missing("the command")),
     }
 }
 
-/// Takes the words of the command of this name, if there is one and none is missing.
-fn found_words<'m, 'a>(name: &str, words: &'m ArgMatches<'a>) -> Option<CommandWords<'m, 'a>>
-    ensures { option_map given result ≡ command_in name.now (rows_of (found_of words.now)) }
+/// Returns the word of an argument that has to be given.
+pub fn required<'a>(words: &ArgMatches<'a>, name: &'static str) -> Result<&'a str, Failure>
+    ensures { Finds (λ word. word.now) (first_of name.entry.now (rows_in words.now)) result }
 {
-    match name {
-        "try" => Some(CommandWords::Try(TryWords::find(words)?)),
-        "split" => Some(CommandWords::Split(SplitWords::find(words)?)),
-        "check" => Some(CommandWords::Check(CheckWords::find(words))),
-        "clients" => Some(CommandWords::Clients(ClientsWords::find(words)?)),
-        "compare" => Some(CommandWords::Compare(CompareWords::find(words)?)),
-        _ => found_desk_words(name, words),
+    match given(words, name) {
+        Some(word) => Ok(word),
+        None => Err(Failure::of_missing(name)),
     }
 }
 
-/// Takes the words of the command of this name that is on a database, if there is one and none is missing.
-fn found_desk_words<'m, 'a>(name: &str, words: &'m ArgMatches<'a>) -> Option<CommandWords<'m, 'a>>
-    ensures { option_map given result ≡ desk_command_in name.now (rows_of (found_of words.now)) }
+/// Returns the words of an argument that has to be given once or more.
+pub fn all_required<'m, 'a>(
+    words: &'m ArgMatches<'a>,
+    name: &'static str,
+) -> Result<&'m [&'a str], Failure>
+    ensures { Finds (λ found. map (λ word. word.now) found.now) (all_of name.entry.now (rows_in words.now)) result }
 {
-    match name {
-        "init" => Some(CommandWords::Init(InitWords::find(words)?)),
-        "ask" => Some(CommandWords::Ask(AskWords::find(words)?)),
-        "show" => Some(CommandWords::Show(ShowWords::find(words)?)),
-        "exports" => Some(CommandWords::Exports(ExportsWords::find(words)?)),
-        "who" => Some(CommandWords::Who(WhoWords::find(words)?)),
-        _ => found_file_words(name, words),
+    match all_given(words, name) {
+        Some(found) => Ok(found),
+        None => Err(Failure::of_missing(name)),
     }
 }
 
-/// Takes the words of the command of this name that is on the files of a database or serves it, if there is one and none is
-/// missing.
-fn found_file_words<'m, 'a>(name: &str, words: &'m ArgMatches<'a>) -> Option<CommandWords<'m, 'a>>
-    ensures { option_map given result ≡ file_command_in name.now (rows_of (found_of words.now)) }
-{
-    match name {
-        "put" => Some(CommandWords::Put(PutWords::find(words)?)),
-        "impact" => Some(CommandWords::Impact(ImpactWords::find(words)?)),
-        "log" => Some(CommandWords::Log(LogWords::find(words)?)),
-        "cat" => Some(CommandWords::Cat(CatWords::find(words)?)),
-        "proposal" => Some(CommandWords::Proposal(ProposalWords::find(words)?)),
-        "files" => Some(CommandWords::Files(FilesWords::find(words)?)),
-        "write" => Some(CommandWords::Write(WriteWords::find(words)?)),
-        "serve" => Some(CommandWords::Serve(ServeWords::find(words)?)),
-        _ => None,
-    }
-}
-
-/// Returns the word of an argument or an option, if it is given.
-pub fn word<'a>(words: &ArgMatches<'a>, name: &str) -> Option<&'a str>
-    ensures { option_map (λ word. word.now) result ≡ first_of name.now (rows_of (found_of words.now)) }
+/// Returns the word of an argument, if it is given.
+pub fn given<'a>(words: &ArgMatches<'a>, name: &str) -> Option<&'a str>
+    ensures { option_map (λ word. word.now) result ≡ first_of name.now (rows_in words.now) }
 {
     words.get_str(name)
 }
 
+/// Returns the words of an argument, if there are any.
+pub fn all_given<'m, 'a>(words: &'m ArgMatches<'a>, name: &str) -> Option<&'m [&'a str]>
+    ensures { option_map (λ found. map (λ word. word.now) found.now) result ≡ all_of name.now (rows_in words.now) }
+{
+    words.get_strs(name)
+}
+
 /// Tests whether an option without a value is given.
 pub fn is_set(words: &ArgMatches<'_>, name: &str) -> bool
-    ensures { result ≡ is_set name.now (rows_of (found_of words.now)) }
+    ensures { result ≡ is_set name.now (rows_in words.now) }
 {
     match words.get_str(name) {
         Some(value) => value == "true",

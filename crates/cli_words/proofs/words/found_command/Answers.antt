@@ -1,14 +1,21 @@
 -- The command that is found by its name is the one that clap found.
-use Rattle.std.proofs.Common.{◌≡◌, ◌∙◌, ap, sym, Some}
+use Rattle.std.proofs.Common.{◌≡◌, ◌∙◌, ap, sym, Option, Some}
 use Rattle.std.specs.Option.{option_map}
-use Rattle.clap.specs.Words.{found_of, rows_of, subcommand_rows_of}
-use Rattle.cli_line.specs.CommandLine.{command_of}
-use Rattle.cli_words.specs.Words.{given}
+use Rattle.clap.specs.Words.{subcommand_rows_of}
+use Rattle.cli_words.specs.Commands.{command_of}
+use Rattle.cli_words.specs.Words.{rows_in}
+use Rattle.cli_words.specs.declared.commands.Subcommand.{Subcommand}
 use Rattle.cli_words.proofs.FoundNames.{found_rows}
 use Rattle.cli_words.proofs.words.found_command.Goals as goal
 
-pub returns-in-Some-found_words : goal.returns-in-Some-found_words
-returns-in-Some-found_words c =
-    let rows = rows_of (found_of c.in-Some.words.now) in
+pub returns-in-Some-command_named : goal.returns-in-Some-command_named
+returns-in-Some-command_named c =
+    let rows = rows_in c.in-Some.words.now in
     let found : subcommand_rows_of c.args.matches.now ≡ Some (c.in-Some.name.now, rows) = found_rows _ c.in-Some.name.now rows c.in-Some.ensures.name c.in-Some.ensures.rows in
-    ap command_of found ∙ sym c.found_words.ensures ∙ ap (option_map given) c.in-Some-found_words.is
+    ap command_of found ∙ ap (λ (command : Option Subcommand). option_map (λ it. (it, rows)) command) (sym c.command_named.ensures ∙ c.in-Some-command_named.is)
+
+pub returns-in-None-command_named : goal.returns-in-None-command_named
+returns-in-None-command_named c =
+    let rows = rows_in c.in-Some.words.now in
+    let found : subcommand_rows_of c.args.matches.now ≡ Some (c.in-Some.name.now, rows) = found_rows _ c.in-Some.name.now rows c.in-Some.ensures.name c.in-Some.ensures.rows in
+    (ap command_of found ∙ ap (λ (command : Option Subcommand). option_map (λ it. (it, rows)) command) (sym c.command_named.ensures ∙ c.in-None-command_named.is), c.of_missing.ensures)

@@ -1,0 +1,27 @@
+-- What a command prints on standard output, and its exit status. (this project's own)
+use Rattle.std.specs.Prelude.{◌≡◌, ℕ, List, [], Result, Ok, Err}
+use Rattle.std.specs.String.{string_bytes}
+use Rattle.cli_output.specs.declared.failure.Failure.{Failure}
+use Rattle.cli_output.specs.declared.failure.Failure.TheVariants.{Memory}
+use Rattle.cli_output.specs.declared.printed.Printed.{Printed}
+
+-- this text is printed, with this exit status; what standard error says beside it is left open
+pub record Prints (status : ℕ) (text : List ℕ) (printed : Printed) : Type 0 where
+  pub status_is : printed.status ≡ status
+  pub text_is : string_bytes printed.text ≡ text
+
+-- a command prints this text, with this exit status; out of memory says nothing
+abbrev pub PrintsText : ℕ → List ℕ → Result Printed Failure → Type 0
+PrintsText status text (Ok printed) = Prints status text printed
+PrintsText status text (Err failure) = failure ≡ Memory
+
+-- the exit status of a command that is printed: that of what it prints; or 4 if memory ran out, and 2 for another failure
+abbrev pub status_of : Result Printed Failure → ℕ
+status_of (Ok printed) = printed.status
+status_of (Err Memory) = 4
+status_of (Err failure) = 2
+
+-- what is printed of an answer: of a failure nothing
+abbrev pub text_of : Result Printed Failure → List ℕ
+text_of (Ok printed) = string_bytes printed.text
+text_of (Err failure) = []

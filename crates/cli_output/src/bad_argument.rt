@@ -1,0 +1,46 @@
+//! An argument that cannot be parsed: which one, its word, and why.
+
+use desk_tables::CredFault;
+use desk_text::{AddrFault, PathFault};
+use std::fmt;
+
+/// Why an argument cannot be parsed.
+#[derive(Clone, Copy)]
+pub enum ArgumentFault {
+    Address(AddrFault),
+    Path(PathFault),
+    Credential(CredFault),
+    /// It is not a number from the first to the second.
+    Number(u32, u32),
+}
+
+/// An argument that cannot be parsed.
+#[derive(Drop)]
+pub struct BadArgument {
+    /// The argument as the usage names it, such as `HOST` or `--base`.
+    pub argument: &'static str,
+    pub word: String,
+    pub fault: ArgumentFault,
+}
+
+impl fmt::Display for BadArgument {
+    fn fmt<W: fmt::Write>(&self, f: &mut fmt::Formatter<W>) -> fmt::Result {
+        let name = self.argument;
+        let word = self.word.as_str();
+        let fault = self.fault;
+        write!(f, "{name} {word:?}: {fault}")
+    }
+}
+
+impl fmt::Display for ArgumentFault {
+    fn fmt<W: fmt::Write>(&self, f: &mut fmt::Formatter<W>) -> fmt::Result {
+        match self {
+            ArgumentFault::Address(fault) => write!(f, "{fault:?}: {fault}"),
+            ArgumentFault::Path(fault) => write!(f, "{fault:?}: {fault}"),
+            ArgumentFault::Credential(fault) => write!(f, "{fault:?}: {fault}"),
+            ArgumentFault::Number(least, most) => {
+                write!(f, "it is not a number from {least} to {most}")
+            }
+        }
+    }
+}

@@ -1,0 +1,214 @@
+//! Why a command has no answer: bad words, a file that cannot be read, or memory that ran out; and the message of it.
+
+ghost use Rattle.std.specs.Prelude.{◌≡◌, MatchResult};
+ghost use Rattle.cli_output.specs.Failure.{IsFileFailure, IsMissing, IsRefusal, IsSystem, IsUnreadLine};
+ghost use Rattle.cli_output.specs.declared.failure.Failure.TheVariants.{Memory};
+
+use crate::bad_argument::{ArgumentFault, BadArgument};
+use std::alloc::{AllocError, AllocFailed, Global};
+use std::io::ErrorKind;
+use std::{fmt, io};
+
+/// Where the words of a command come from.
+#[derive(Clone, Copy)]
+pub enum Origin {
+    Arguments,
+    /// The first line of standard input.
+    FirstLine,
+}
+
+/// Why a command has no answer.
+#[derive(Drop)]
+pub enum Failure {
+    /// The word at this place, from 1, is not UTF-8.
+    Word(usize),
+    /// The words are not a command: the message of `clap`.
+    Usage(String),
+    /// An argument that `clap` requires is missing.
+    Missing(&'static str),
+    /// This word cannot be given with `--site`.
+    BesideSite(&'static str),
+    /// FILE is given beside `--proposal`.
+    BesideProposal,
+    /// An argument cannot be parsed.
+    Argument(BadArgument),
+    /// There are more than 256 different mount points.
+    TooManyMounts,
+    /// The first line of standard input cannot be read.
+    FirstLine(ReadFailure),
+    /// Two files are both to be standard input.
+    InputTwice,
+    /// Both `--key` and `--key-file` are given.
+    KeyTwice,
+    /// Neither `--key` nor `--key-file` is given.
+    NoKey,
+    /// The file that this argument names cannot be read: the argument as the usage names it, its word, and why.
+    File(&'static str, String, ReadFailure),
+    /// The file at this path, in the folder that gets the newest texts, cannot be written.
+    Unwritten(String, io::Error),
+    /// The port cannot be bound.
+    Unbound(u16, io::Error),
+    Memory,
+}
+
+/// Why bytes are not taken as a text.
+#[derive(Clone, Copy)]
+pub enum TextFault {
+    /// They are over 16,777,216.
+    TooLong,
+    /// They are not UTF-8: the line and the column, in characters from 1, of the first byte that breaks it.
+    NotUtf8 { line: usize, column: usize },
+}
+
+/// Why a text cannot be read.
+#[derive(Drop)]
+pub enum ReadFailure {
+    System(io::Error),
+    Text(TextFault),
+}
+
+impl From<AllocError> for Failure {
+    ghost use Rattle.std.specs.Prelude.{◌≡◌};
+    ghost use Rattle.cli_output.specs.declared.failure.Failure.TheVariants.{Memory};
+
+    ghost from_gives = { λ _ e. e ≡ Memory };
+
+    fn from(_error: AllocError) -> Failure {
+        Failure::Memory
+    }
+}
+
+impl<T: Drop> From<AllocFailed<T>> for Failure {
+    ghost use Rattle.std.specs.Prelude.{◌≡◌};
+    ghost use Rattle.cli_output.specs.declared.failure.Failure.TheVariants.{Memory};
+
+    ghost from_gives = { λ _ e. e ≡ Memory };
+
+    fn from(_error: AllocFailed<T>) -> Failure {
+        Failure::Memory
+    }
+}
+
+impl Failure {
+    /// Returns the failure of an argument that cannot be parsed.
+    pub fn of_argument(
+        alloc: Global,
+        argument: &'static str,
+        word: &str,
+        fault: ArgumentFault,
+    ) -> Failure
+        ensures { IsRefusal argument.entry.now word.now fault result }
+    {
+        match String::from_str(alloc, word) {
+            Ok(word) => Failure::Argument(BadArgument {
+                argument,
+                word,
+                fault,
+            }),
+            Err(_) => Failure::Memory,
+        }
+    }
+
+    /// Returns the failure to read the file that a word names.
+    pub fn of_file(
+        alloc: Global,
+        argument: &'static str,
+        word: &str,
+        failure: ReadFailure,
+    ) -> Failure
+        ensures { IsFileFailure argument.entry.now word.now failure result }
+    {
+        match String::from_str(alloc, word) {
+            Ok(word) => Failure::File(argument, word, failure),
+            Err(_) => Failure::Memory,
+        }
+    }
+
+    /// Returns the failure of an argument, as the usage names it, that is missing.
+    pub fn of_missing(argument: &'static str) -> Failure
+        ensures { IsMissing result }
+    {
+        Failure::Missing(argument)
+    }
+
+    /// Returns the failure to read the first line of standard input.
+    pub fn of_first_line(error: io::Error) -> Failure
+        ensures { IsUnreadLine result }
+    {
+        match ReadFailure::of_error(error) {
+            Ok(failure) => Failure::FirstLine(failure),
+            Err(failure) => failure,
+        }
+    }
+}
+
+impl ReadFailure {
+    /// Returns why the system could not read, or that memory ran out.
+    pub fn of_error(error: io::Error) -> Result<ReadFailure, Failure>
+        ensures { MatchResult result IsSystem (λ failure. failure ≡ Memory) }
+    {
+        match error.kind() {
+            ErrorKind::OutOfMemory => Err(Failure::Memory),
+            _ => Ok(ReadFailure::System(error)),
+        }
+    }
+}
+
+/// Writes the message on a failure, in whole lines.
+pub fn message(alloc: Global, origin: Origin, failure: &Failure) -> Result<String, AllocError> {
+    match (origin, failure) {
+        (Origin::Arguments, Failure::Usage(text)) => text.clone(),
+        (Origin::FirstLine, Failure::Usage(text)) => {
+            format!(in alloc; "exportdesk: the first line of standard input: {text}")
+        }
+        (Origin::Arguments, _) | (_, Failure::File(..)) => {
+            format!(in alloc; "exportdesk: {failure}\n")
+        }
+        (Origin::FirstLine, _) => {
+            format!(in alloc; "exportdesk: the first line of standard input: {failure}\n")
+        }
+    }
+}
+
+impl fmt::Display for Failure {
+    fn fmt<W: fmt::Write>(&self, f: &mut fmt::Formatter<W>) -> fmt::Result {
+        match self {
+            Failure::Word(place) => write!(f, "word {place}: it is not UTF-8"),
+            Failure::Usage(text) => f.write_str(text.as_str()),
+            Failure::Missing(name) => write!(f, "{name}: it is missing"),
+            Failure::BesideSite(name) => write!(f, "{name}: it cannot be given with --site"),
+            Failure::BesideProposal => f.write_str("FILE: it cannot be given with --proposal"),
+            Failure::Argument(bad) => bad.fmt(f),
+            Failure::TooManyMounts => f.write_str("MOUNT: over 256 different mount points"),
+            Failure::FirstLine(failure) => failure.fmt(f),
+            Failure::InputTwice => f.write_str("two files cannot both be standard input"),
+            Failure::KeyTwice => f.write_str("--key and --key-file: only one of them can be given"),
+            Failure::NoKey => f.write_str("--key or --key-file: it is missing"),
+            Failure::File(argument, word, failure) => {
+                write!(f, "{argument} {word:?}: {failure}")
+            }
+            Failure::Unwritten(path, error) => {
+                write!(f, "DIR {path:?}: it cannot be written: {error}")
+            }
+            Failure::Unbound(port, error) => {
+                write!(
+                    f,
+                    "--port {port}: 127.0.0.1:{port} cannot be bound: {error}"
+                )
+            }
+            Failure::Memory => f.write_str("out of memory"),
+        }
+    }
+}
+
+impl fmt::Display for ReadFailure {
+    fn fmt<W: fmt::Write>(&self, f: &mut fmt::Formatter<W>) -> fmt::Result {
+        match self {
+            ReadFailure::System(error) => error.fmt(f),
+            ReadFailure::Text(TextFault::TooLong) => f.write_str("it is over 16777216 bytes"),
+            ReadFailure::Text(TextFault::NotUtf8 { line, column }) => {
+                write!(f, "line {line}, column {column}: it is not UTF-8")
+            }
+        }
+    }
+}

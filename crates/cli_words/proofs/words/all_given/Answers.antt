@@ -1,0 +1,8 @@
+-- The words that `clap` found are those of their row.
+use Rattle.std.proofs.Common.{◌∙◌}
+use Rattle.clap.proofs.WalkLemmas.{raw_values-rows}
+use Rattle.clap.specs.Words.{found_of}
+use Rattle.cli_words.proofs.words.all_given.Goals as goal
+
+pub returns : goal.returns
+returns c = c.get_strs.ensures ∙ raw_values-rows (found_of c.args.words.now) c.args.name.now

@@ -1,8 +1,0 @@
--- The word that `clap` found is that of its row.
-use Rattle.std.proofs.Common.{◌∙◌}
-use Rattle.clap.proofs.WalkLemmas.{first_value-rows}
-use Rattle.clap.specs.Words.{found_of}
-use Rattle.cli_words.proofs.words.word.Goals as goal
-
-pub returns : goal.returns
-returns c = c.get_str.ensures ∙ first_value-rows (found_of c.args.words.now) c.args.name.now

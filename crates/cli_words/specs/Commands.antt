@@ -1,0 +1,151 @@
+-- The commands of the program: a row for each, with its words and its options, as `clap` reads them. (this project's own)
+use Rattle.std.specs.Prelude.{◌⊎◌, ℕ, ◌++◌, Bool, true, false, List, [], ◌∷◌, Option, Some, find, map, codes, if◌then◌else◌, option_and_then, option_map}
+use Rattle.std.specs.Str.{bytes_eq}
+use Rattle.clap.specs.Lexer.{usize_max}
+use Rattle.clap.specs.Words.{App, IsAmong, Kinds, Row, Rule, fault_of, new_app, new_rule, subcommand_of, with_rule, with_subcommand}
+use Rattle.clap.specs.declared.builder.ArgAction.TheVariants.{Set, SetTrue}
+use Rattle.clap.specs.declared.error.ErrorKind.TheVariants.{DisplayHelp, DisplayVersion}
+use Rattle.cli_words.specs.declared.arguments.Argument.{Argument}
+use Rattle.cli_words.specs.declared.arguments.Kind.{Kind}
+use Rattle.cli_words.specs.declared.arguments.Kind.TheVariants as kind
+use Rattle.cli_words.specs.declared.commands.CommandRow as code
+use Rattle.cli_words.specs.declared.commands.Subcommand.{Subcommand}
+use Rattle.cli_words.specs.declared.commands.Subcommand.TheVariants.{Ask, Cat, Check, Clients, Compare, Exports, Files, Impact, Init, Log, Proposal, Put, Serve, Show, Split, Try, Who, Write}
+
+-- a word that is required, and taken as it is
+abbrev pub word : List ℕ → Rule
+word name = record (new_rule name) { required = true; action = Some Set }
+
+-- one word or more
+abbrev pub words : List ℕ → Rule
+words name = record (word name) { range = Some (record { start_inclusive = 1; end_inclusive = usize_max }) }
+
+-- a word that may be left out
+abbrev pub optional_word : List ℕ → Rule
+optional_word name = record (new_rule name) { action = Some Set }
+
+-- one word or more, or left out
+abbrev pub optional_words : List ℕ → Rule
+optional_words name = record (optional_word name) { range = Some (record { start_inclusive = 1; end_inclusive = usize_max }) }
+
+-- an option with one value
+abbrev pub option : List ℕ → Rule
+option name = record (new_rule name) { long = Some name; action = Some Set; value_names = 1 }
+
+-- an option with one value that has to be given
+abbrev pub required_option : List ℕ → Rule
+required_option name = record (option name) { required = true }
+
+-- an option without a value
+abbrev pub flag : List ℕ → Rule
+flag name = record (new_rule name) { long = Some name; action = Some SetTrue }
+
+-- a command with its name, its words, whether it takes the options of tables, and its own options, each in their order
+pub record CommandRow : Type 0 where
+  pub command : Subcommand
+  pub name : List ℕ
+  pub words : List Rule
+  pub tables : Bool
+  pub options : List Rule
+
+abbrev row : Subcommand → List ℕ → List Rule → Bool → List Rule → CommandRow
+row command name words tables options = record { command = command; name = name; words = words; tables = tables; options = options }
+
+-- the options that name the files of tables
+abbrev pub table_options : List Rule
+table_options = option (codes "hosts") ∷ option (codes "networks") ∷ option (codes "passwd") ∷ option (codes "group") ∷ option (codes "netgroup") ∷ []
+
+-- the commands, in the order of the help
+abbrev pub commands : List CommandRow
+commands =
+    row Try (codes "try") (word (codes "FILE") ∷ word (codes "HOST") ∷ word (codes "DIR") ∷ words (codes "MOUNT") ∷ []) true (option (codes "as") ∷ [])
+    ∷ row Split (codes "split") (word (codes "FILE") ∷ word (codes "FILESYSTEMS") ∷ []) false []
+    ∷ row Check (codes "check") (optional_word (codes "FILE") ∷ optional_words (codes "MOUNT") ∷ []) true (option (codes "site") ∷ flag (codes "brief") ∷ flag (codes "strict") ∷ flag (codes "json") ∷ [])
+    ∷ row Clients (codes "clients") (word (codes "FILE") ∷ word (codes "DIR") ∷ words (codes "MOUNT") ∷ []) true []
+    ∷ row Compare (codes "compare") (word (codes "OLD") ∷ word (codes "NEW") ∷ words (codes "MOUNT") ∷ []) true (flag (codes "all") ∷ [])
+    ∷ row Init (codes "init") (word (codes "DB") ∷ word (codes "DIR") ∷ []) false []
+    ∷ row Ask (codes "ask") (word (codes "DB") ∷ word (codes "HOST") ∷ word (codes "DIR") ∷ []) false (option (codes "as") ∷ [])
+    ∷ row Show (codes "show") (word (codes "DB") ∷ word (codes "HOST") ∷ []) false []
+    ∷ row Exports (codes "exports") (word (codes "DB") ∷ []) false []
+    ∷ row Who (codes "who") (word (codes "DB") ∷ word (codes "DIR") ∷ []) false []
+    ∷ row Put (codes "put") (word (codes "DB") ∷ word (codes "NAME") ∷ word (codes "FILE") ∷ []) false (required_option (codes "base") ∷ required_option (codes "caller") ∷ option (codes "key") ∷ option (codes "key-file") ∷ [])
+    ∷ row Impact (codes "impact") (word (codes "DB") ∷ word (codes "NAME") ∷ optional_word (codes "FILE") ∷ []) false (flag (codes "all") ∷ flag (codes "proposal") ∷ [])
+    ∷ row Log (codes "log") (word (codes "DB") ∷ word (codes "NAME") ∷ []) false []
+    ∷ row Cat (codes "cat") (word (codes "DB") ∷ word (codes "NAME") ∷ []) false (option (codes "rev") ∷ [])
+    ∷ row Proposal (codes "proposal") (word (codes "DB") ∷ word (codes "NAME") ∷ []) false []
+    ∷ row Files (codes "files") (word (codes "DB") ∷ []) false []
+    ∷ row Write (codes "write") (word (codes "DB") ∷ word (codes "DIR") ∷ []) false []
+    ∷ row Serve (codes "serve") (word (codes "DB") ∷ []) false (required_option (codes "port") ∷ required_option (codes "connections") ∷ option (codes "timeout") ∷ [])
+    ∷ []
+
+-- an argument of the code
+abbrev pub rule_of_kind : Kind → List ℕ → Rule
+rule_of_kind kind.Word name = word name
+rule_of_kind kind.Words name = words name
+rule_of_kind kind.MaybeWord name = optional_word name
+rule_of_kind kind.MaybeWords name = optional_words name
+rule_of_kind (kind.Valued value) name = option name
+rule_of_kind (kind.Needed value) name = required_option name
+rule_of_kind kind.Flag name = flag name
+
+abbrev pub rule_for : Argument → Rule
+rule_for argument = rule_of_kind argument.kind argument.name.now
+
+-- a row of the code
+abbrev pub row_of : code.CommandRow → CommandRow
+row_of r = row r.command r.name.now (map rule_for r.words.now) r.tables (map rule_for r.options.now)
+
+-- a command line with these arguments too, in their order
+abbrev pub with_rules : App → List Rule → App
+with_rules app [] = app
+with_rules app (rule ∷ more) = with_rules (with_rule app rule) more
+
+-- what a command takes: its words, then the options of tables, if it takes them, and then its own options
+abbrev pub rules_of : CommandRow → List Rule
+rules_of row = row.words ++ (if row.tables then table_options else []) ++ row.options
+
+-- the command line of a command
+abbrev pub app_of_row : CommandRow → App
+app_of_row row = with_rules (new_app row.name) (rules_of row)
+
+-- a program with these commands too, in their order
+abbrev pub with_commands : App → List CommandRow → App
+with_commands app [] = app
+with_commands app (row ∷ more) = with_commands (with_subcommand app (app_of_row row).top) more
+
+-- the program without its commands
+abbrev pub program : App
+program = record (new_app (codes "exportdesk")) {
+  top = record (new_app (codes "exportdesk")).top {
+    has_version = true;
+    disable_help_subcommand = true;
+    subcommand_required = true;
+  };
+}
+
+-- the program's command line
+abbrev pub command_line : App
+command_line = with_commands program commands
+
+-- the words behind the program's name, as clap is given them
+abbrev pub line_of : List (List ℕ) → List (List ℕ)
+line_of words = codes "exportdesk" ∷ words
+
+-- the kinds of error that clap may find in the words
+abbrev pub faults_of : List (List ℕ) → Kinds
+faults_of words = fault_of command_line (line_of words)
+
+-- the words ask for help or for the version
+abbrev pub AskForHelp : List (List ℕ) → Type 0
+AskForHelp words = IsAmong DisplayHelp (faults_of words) ⊎ IsAmong DisplayVersion (faults_of words)
+
+-- the command of this name
+abbrev pub command_named : List ℕ → Option Subcommand
+command_named name = option_map (λ row. row.command) (find (λ row. bytes_eq row.name name) commands)
+
+-- the command that clap finds with these rows of words, if it finds one
+abbrev pub command_of : Option (List ℕ × List Row) → Option (Subcommand × List Row)
+command_of found = option_and_then (λ named. option_map (λ command. (command, named.1)) (command_named named.0)) found
+
+abbrev pub command_found : List (List ℕ) → Option (Subcommand × List Row)
+command_found words = command_of (subcommand_of command_line (line_of words))

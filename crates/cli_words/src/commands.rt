@@ -1,0 +1,421 @@
+//! The commands of the program: a row for each, with its name, its words, its options, and what its help says.
+//!
+//! A new command is a variant and a row here, and a row of the definition.
+
+ghost use Rattle.std.specs.Prelude.{◌≡◌, find, map};
+ghost use Rattle.std.specs.Option.{option_map};
+ghost use Rattle.std.specs.Str.{bytes_eq};
+ghost use Rattle.cli_words.specs.Commands.{command_named, commands, row_of, rule_for, table_options};
+
+use crate::arguments::{Argument, Kind};
+
+/// A command of the program.
+#[derive(Clone, Copy)]
+pub enum Subcommand {
+    Try,
+    Split,
+    Check,
+    Clients,
+    Compare,
+    Init,
+    Ask,
+    Show,
+    Exports,
+    Who,
+    Put,
+    Impact,
+    Log,
+    Cat,
+    Proposal,
+    Files,
+    Write,
+    Serve,
+}
+
+/// A command with its name, and what it takes.
+#[derive(Clone, Copy)]
+pub struct CommandRow {
+    pub command: Subcommand,
+    pub name: &'static str,
+    /// Its words, in their order.
+    pub words: &'static [Argument],
+    /// Whether it takes the options that name the files of tables.
+    pub tables: bool,
+    /// Its own options, in the order of its help.
+    pub options: &'static [Argument],
+}
+
+const FILE: Argument = Argument {
+    name: "FILE",
+    kind: Kind::Word,
+    help: "The exports text; - is standard input",
+};
+
+const HOST: Argument = Argument {
+    name: "HOST",
+    kind: Kind::Word,
+    help: "The IPv4 address of the client",
+};
+
+const DIR: Argument = Argument {
+    name: "DIR",
+    kind: Kind::Word,
+    help: "The directory that it asks for",
+};
+
+const MOUNTS: Argument = Argument {
+    name: "MOUNT",
+    kind: Kind::Words,
+    help: "The mount points of the file systems",
+};
+
+const CLIENTS_DIR: Argument = Argument {
+    name: "DIR",
+    kind: Kind::Word,
+    help: "The directory that the clients ask for",
+};
+
+const ALL: Argument = Argument {
+    name: "all",
+    kind: Kind::Flag,
+    help: "Lists the ranges whose line or reason alone changes, too",
+};
+
+const DB: Argument = Argument {
+    name: "DB",
+    kind: Kind::Word,
+    help: "The file of the database",
+};
+
+const NAME: Argument = Argument {
+    name: "NAME",
+    kind: Kind::Word,
+    help: "The name of the file",
+};
+
+/// The options that name the files of tables.
+pub static TABLES: [Argument; 5] = [
+    Argument {
+        name: "hosts",
+        kind: Kind::Valued("FILE"),
+        help: "The addresses of names, as in hosts(5)",
+    },
+    Argument {
+        name: "networks",
+        kind: Kind::Valued("FILE"),
+        help: "The numbers of networks, as in networks(5)",
+    },
+    Argument {
+        name: "passwd",
+        kind: Kind::Valued("FILE"),
+        help: "The users, as in passwd(5)",
+    },
+    Argument {
+        name: "group",
+        kind: Kind::Valued("FILE"),
+        help: "The groups, as in group(5)",
+    },
+    Argument {
+        name: "netgroup",
+        kind: Kind::Valued("FILE"),
+        help: "The netgroups, as in netgroup(5)",
+    },
+];
+
+/// The commands, in the order of the help.
+pub static COMMANDS: [CommandRow; 18] = [
+    CommandRow {
+        command: Subcommand::Try,
+        name: "try",
+        words: &[FILE, HOST, DIR, MOUNTS],
+        tables: true,
+        options: &[Argument {
+            name: "as",
+            kind: Kind::Valued("CRED"),
+            help: "The client's credential, as USER or USER:GROUP:...; a granted line says as whom it acts",
+        }],
+    },
+    CommandRow {
+        command: Subcommand::Split,
+        name: "split",
+        words: &[
+            FILE,
+            Argument {
+                name: "FILESYSTEMS",
+                kind: Kind::Word,
+                help: "The file systems, each a line `MOUNT CUSTODIAN...`; - is standard input",
+            },
+        ],
+        tables: false,
+        options: &[],
+    },
+    CommandRow {
+        command: Subcommand::Check,
+        name: "check",
+        words: &[
+            Argument {
+                name: "FILE",
+                kind: Kind::MaybeWord,
+                help: "The exports text; - is standard input",
+            },
+            Argument {
+                name: "MOUNT",
+                kind: Kind::MaybeWords,
+                help: "The mount points of the file systems",
+            },
+        ],
+        tables: true,
+        options: &[
+            Argument {
+                name: "site",
+                kind: Kind::Valued("DIR"),
+                help: "The folder of a site's files: custodians, filesystems, hosts, networks, passwd, group, netgroup, exports",
+            },
+            Argument {
+                name: "brief",
+                kind: Kind::Flag,
+                help: "Leaves out the lines of the files and the marks below them",
+            },
+            Argument {
+                name: "strict",
+                kind: Kind::Flag,
+                help: "Ends with the status 3 where there is a warning, too",
+            },
+            Argument {
+                name: "json",
+                kind: Kind::Flag,
+                help: "Prints the findings as one compact JSON list",
+            },
+        ],
+    },
+    CommandRow {
+        command: Subcommand::Clients,
+        name: "clients",
+        words: &[FILE, CLIENTS_DIR, MOUNTS],
+        tables: true,
+        options: &[],
+    },
+    CommandRow {
+        command: Subcommand::Compare,
+        name: "compare",
+        words: &[
+            Argument {
+                name: "OLD",
+                kind: Kind::Word,
+                help: "The exports text before; - is standard input",
+            },
+            Argument {
+                name: "NEW",
+                kind: Kind::Word,
+                help: "The exports text after; - is standard input",
+            },
+            MOUNTS,
+        ],
+        tables: true,
+        options: &[ALL],
+    },
+    CommandRow {
+        command: Subcommand::Init,
+        name: "init",
+        words: &[
+            DB,
+            Argument {
+                name: "DIR",
+                kind: Kind::Word,
+                help: "The folder of the site's files",
+            },
+        ],
+        tables: false,
+        options: &[],
+    },
+    CommandRow {
+        command: Subcommand::Ask,
+        name: "ask",
+        words: &[DB, HOST, DIR],
+        tables: false,
+        options: &[Argument {
+            name: "as",
+            kind: Kind::Valued("CRED"),
+            help: "The client's credential in numbers, as 1001:100:5; a granted line says as whom it acts",
+        }],
+    },
+    CommandRow {
+        command: Subcommand::Show,
+        name: "show",
+        words: &[DB, HOST],
+        tables: false,
+        options: &[],
+    },
+    CommandRow {
+        command: Subcommand::Exports,
+        name: "exports",
+        words: &[DB],
+        tables: false,
+        options: &[],
+    },
+    CommandRow {
+        command: Subcommand::Who,
+        name: "who",
+        words: &[DB, CLIENTS_DIR],
+        tables: false,
+        options: &[],
+    },
+    CommandRow {
+        command: Subcommand::Put,
+        name: "put",
+        words: &[
+            DB,
+            NAME,
+            Argument {
+                name: "FILE",
+                kind: Kind::Word,
+                help: "The new text; - is standard input",
+            },
+        ],
+        tables: false,
+        options: &[
+            Argument {
+                name: "base",
+                kind: Kind::Needed("N"),
+                help: "The number of the revision that the edit follows; 0 if there is none",
+            },
+            Argument {
+                name: "caller",
+                kind: Kind::Needed("CUSTODIAN"),
+                help: "Who edits the file",
+            },
+            Argument {
+                name: "key",
+                kind: Kind::Valued("KEY"),
+                help: "The caller's key; every user of the machine can see it",
+            },
+            Argument {
+                name: "key-file",
+                kind: Kind::Valued("FILE"),
+                help: "The file whose first line is the caller's key; - is standard input",
+            },
+        ],
+    },
+    CommandRow {
+        command: Subcommand::Impact,
+        name: "impact",
+        words: &[
+            DB,
+            NAME,
+            Argument {
+                name: "FILE",
+                kind: Kind::MaybeWord,
+                help: "The new text; - is standard input",
+            },
+        ],
+        tables: false,
+        options: &[
+            ALL,
+            Argument {
+                name: "proposal",
+                kind: Kind::Flag,
+                help: "Takes the pending proposal of the file for the new text",
+            },
+        ],
+    },
+    CommandRow {
+        command: Subcommand::Log,
+        name: "log",
+        words: &[DB, NAME],
+        tables: false,
+        options: &[],
+    },
+    CommandRow {
+        command: Subcommand::Cat,
+        name: "cat",
+        words: &[DB, NAME],
+        tables: false,
+        options: &[Argument {
+            name: "rev",
+            kind: Kind::Valued("N"),
+            help: "The number of the revision; the newest without it",
+        }],
+    },
+    CommandRow {
+        command: Subcommand::Proposal,
+        name: "proposal",
+        words: &[DB, NAME],
+        tables: false,
+        options: &[],
+    },
+    CommandRow {
+        command: Subcommand::Files,
+        name: "files",
+        words: &[DB],
+        tables: false,
+        options: &[],
+    },
+    CommandRow {
+        command: Subcommand::Write,
+        name: "write",
+        words: &[
+            DB,
+            Argument {
+                name: "DIR",
+                kind: Kind::Word,
+                help: "The folder, which has to be there",
+            },
+        ],
+        tables: false,
+        options: &[],
+    },
+    CommandRow {
+        command: Subcommand::Serve,
+        name: "serve",
+        words: &[DB],
+        tables: false,
+        options: &[
+            Argument {
+                name: "port",
+                kind: Kind::Needed("N"),
+                help: "The TCP port of 127.0.0.1, from 1 to 65535",
+            },
+            Argument {
+                name: "connections",
+                kind: Kind::Needed("M"),
+                help: "How many connections are served before it ends, up to 4294967295",
+            },
+            Argument {
+                name: "timeout",
+                kind: Kind::Valued("SECONDS"),
+                help: "How long a read or a write of a connection waits before the connection ends: 30 if it is not given, 0 for no limit",
+            },
+        ],
+    },
+];
+
+/// Lends the options that name the files of tables.
+pub fn table_options() -> &'static [Argument]
+    ensures { map rule_for result.now ≡ table_options }
+{
+    &TABLES
+}
+
+/// Lends the rows of the commands.
+pub fn command_rows() -> &'static [CommandRow]
+    ensures { map row_of result.now ≡ commands }
+{
+    &COMMANDS
+}
+
+/// Finds the command of this name.
+pub fn command_named(name: &str) -> Option<Subcommand>
+    ensures { result ≡ command_named name.now }
+{
+    match first_named(command_rows(), name) {
+        Some(row) => Some(row.command),
+        None => None,
+    }
+}
+
+/// Finds the first row of this name.
+fn first_named<'a>(rows: &'a [CommandRow], name: &str) -> Option<&'a CommandRow>
+    ensures { option_map (λ row. row.now) result ≡ find (λ row. bytes_eq row.name.now name.now) rows.now }
+{
+    rows.iter().find(|row| row.name == name)
+}

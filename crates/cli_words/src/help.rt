@@ -1,0 +1,178 @@
+//! What the help says of each command, beside its words and options. Nothing is promised of it.
+//!
+//! It stands beside the table of [`crate::commands`] and not in it, since the prover would read each text there letter by letter.
+
+use crate::commands::Subcommand;
+
+/// What the help says of a command.
+#[derive(Clone, Copy)]
+pub(crate) struct Help {
+    /// What it does, in a line.
+    pub about: &'static str,
+    /// How it is used, if not as `clap` says.
+    pub usage: Option<&'static str>,
+    /// What stands at the end.
+    pub end: Option<&'static str>,
+}
+
+/// Returns what the help says of a command.
+pub(crate) fn help_of(command: Subcommand) -> Help {
+    match command {
+        Subcommand::Try => Help {
+            about: "Decides one mount request by an exports file",
+            usage: None,
+            end: Some(
+                "A table that is not given is empty: names of hosts then stand for nothing, credentials are\n\
+             written in numbers with a colon (0:0), and names of networks are unknown. One file may be -,\n\
+             standard input.",
+            ),
+        },
+        Subcommand::Split => Help {
+            about: "Splits an exports file among file systems",
+            usage: None,
+            end: Some(
+                "For each file system, in byte order of the mount points, it prints a line `== MOUNT` and the\n\
+             lines of FILE that are for it, as they are written. A line is for the file system of its first\n\
+             directory, a V4: line for the first file system. Comments are left out.",
+            ),
+        },
+        Subcommand::Check => Help {
+            about: "Reports every fault and warning of an exports file and its tables",
+            usage: Some(
+                "exportdesk check [OPTIONS] <FILE> <MOUNT>...\n       exportdesk check [OPTIONS] --site <DIR>",
+            ),
+            end: Some(
+                "Each finding is a line `PATH:LINE:COLUMN: fault RULE NAME: ...` or `.. warning ..`, behind which\n\
+             stands the line of the file with a mark below the words that it is about. Exports are looked at\n\
+             only once the tables have no fault. A table that is not given is empty. One file may be -,\n\
+             standard input.",
+            ),
+        },
+        Subcommand::Clients => Help {
+            about: "Lists who may mount a directory by an exports file",
+            usage: None,
+            end: Some(
+                "Each line is `FIRST-LAST` and the verdict on every client of that range, as try prints it; together\n\
+             they have every address once. A table that is not given is empty. One file may be -, standard input.",
+            ),
+        },
+        Subcommand::Compare => Help {
+            about: "Tells what another exports file would change",
+            usage: None,
+            end: Some(
+                "For each directory that changes it prints a line `== DIR`, or `== other directories of MOUNT` for all that\n\
+             no line writes, and below it for each range of addresses the verdict by OLD behind `- ` and that by NEW\n\
+             behind `+ `. The last line counts: a change of a line or a reason alone does not matter to a client. A\n\
+             table that is not given is empty. One file may be -, standard input. Status: 0 nothing changes for a\n\
+             client; 1 something does; 3 a text has a fault.",
+            ),
+        },
+        Subcommand::Init => Help {
+            about: "Makes a database of a site's files",
+            usage: None,
+            end: Some(
+                "DIR has the files custodians, filesystems, hosts, networks, passwd, group, netgroup and exports;\n\
+             exports is split among the file systems. Each file is stored as revision 1, by site. It prints the\n\
+             warnings of the files, and `ready`. DB is made for its owner alone; a log DB-wal stands beside it.",
+            ),
+        },
+        Subcommand::Ask => Help {
+            about: "Decides one mount request by the policy in force",
+            usage: None,
+            end: None,
+        },
+        Subcommand::Show => Help {
+            about: "Lists what a client may mount",
+            usage: None,
+            end: None,
+        },
+        Subcommand::Exports => Help {
+            about: "Lists the directories of all exports lines, and whom they are for",
+            usage: None,
+            end: None,
+        },
+        Subcommand::Who => Help {
+            about: "Lists who may mount a directory",
+            usage: None,
+            end: Some(
+                "Each line is `FIRST-LAST` and the verdict on every client of that range, as ask prints it; together\n\
+             they have every address once.",
+            ),
+        },
+        Subcommand::Put => Help {
+            about: "Puts a new text of a file in force, as its next revision",
+            usage: Some(
+                "exportdesk put <DB> <NAME> <FILE> --base <N> --caller <CUSTODIAN> --key-file <FILE>\n       exportdesk put <DB> <NAME> <FILE> --base <N> --caller <CUSTODIAN> --key <KEY>",
+            ),
+            end: Some(
+                "NAME is custodians, filesystems, hosts, networks, passwd, group or netgroup, which site keeps, or\n\
+             exports: and a mount point, as exports:/usr, which the custodians of that mount point keep. Nothing\n\
+             is stored unless the site is consistent with the new text. If the mount point is guarded, the text is\n\
+             proposed; it is put in force by another of its custodians, who puts the same text with the same base.",
+            ),
+        },
+        Subcommand::Impact => Help {
+            about: "Tells what a new text of a file would change, and stores nothing",
+            usage: Some(
+                "exportdesk impact [OPTIONS] <DB> <NAME> <FILE>\n       exportdesk impact [OPTIONS] <DB> <NAME> --proposal",
+            ),
+            end: Some(
+                "For each directory that changes it prints a line `== DIR`, or `== other directories of MOUNT` for all that\n\
+             no line writes, and below it for each range of addresses the verdict now behind `- ` and that with the new\n\
+             text behind `+ `. The last line counts: a change of a line or a reason alone does not matter to a client.\n\
+             NAME is as in put; no key is asked. Status: 0 nothing changes for a client; 1 something does, the text is\n\
+             refused, or there is no proposal; 3 the text has a fault.",
+            ),
+        },
+        Subcommand::Log => Help {
+            about: "Lists the revisions of a file with their authors",
+            usage: None,
+            end: Some(
+                "Each line is a revision with its number and its author, as `rev 2 ulf`. Behind it stands who approved it, as\n\
+             `, approved by site`, and `, profile 1` if its networks may have the masks of their classes.",
+            ),
+        },
+        Subcommand::Cat => Help {
+            about: "Prints the text of a file",
+            usage: None,
+            end: None,
+        },
+        Subcommand::Proposal => Help {
+            about: "Prints the text that is proposed for a guarded file",
+            usage: None,
+            end: Some(
+                "Standard error says who proposed it, and which revision it follows. Another custodian of the mount point\n\
+             puts it in force by a put of this text, with the number of that revision as its base.",
+            ),
+        },
+        Subcommand::Files => Help {
+            about: "Lists the files with their newest revisions and authors",
+            usage: None,
+            end: Some(
+                "Each line is a file with the number and the author of its newest revision, as `hosts rev 1 site`. An exports\n\
+             file has `guarded` behind it if its mount point is, and `unlisted` if that is not listed now. Below it stands\n\
+             its proposal, if one is pending, as `exports:/usr proposed rev 2 ulf`.",
+            ),
+        },
+        Subcommand::Write => Help {
+            about: "Writes the newest texts as the files that init reads",
+            usage: None,
+            end: Some(
+                "DIR gets custodians, filesystems, hosts, networks, passwd, group, netgroup and exports, which has the\n\
+             texts of the listed mount points, each below a comment that names its file, revision and author. A file\n\
+             that has the same bytes is left alone; another is replaced at once, by a new one that takes its name, and\n\
+             told by a line `written NAME`. A text that init could not read is refused, and nothing is written.",
+            ),
+        },
+        Subcommand::Serve => Help {
+            about: "Answers questions and takes edits over HTTP on the loopback address",
+            usage: None,
+            end: Some(
+                "It prints `listening 127.0.0.1:N`, and then serves one connection after another, until it has\n\
+             served M of them. While it runs, every other command on DB is refused: ask and edit over HTTP\n\
+             instead, as docs/HTTP.md says. There is no TLS, and a question needs no key: whoever reaches the\n\
+             port may ask.",
+            ),
+        },
+    }
+}

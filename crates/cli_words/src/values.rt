@@ -1,0 +1,195 @@
+//! Parses the words of a command that are more than texts: HOST, DIR, MOUNT, CRED, and numbers. A fault names the argument
+//! as the usage does.
+
+ghost use Rattle.std.specs.Prelude.{◌≡◌, MatchResult, None, Ok, Some, codes, map};
+ghost use Rattle.std.specs.Option.{option_map};
+ghost use Rattle.desk_text.specs.Address.{number_of, read_addr};
+ghost use Rattle.desk_text.specs.Lines.{IsReadable};
+ghost use Rattle.desk_text.specs.Path.{read_path};
+ghost use Rattle.desk_tables.specs.CredentialText.{read_credential as read_cred};
+ghost use Rattle.desk_tables.specs.FileSystems.{IsTableOf};
+ghost use Rattle.desk_tables.specs.Groups.{read_groups};
+ghost use Rattle.desk_tables.specs.Users.{read_users};
+ghost use Rattle.cli_words.specs.Values.{AnswersArgument, AnswersOwn, IsBadArgument, IsBadCount, IsBadMount, IsBadNumber, IsBadPort, IsNoTable, IsRequest, count_number, first_bad_path, own_answer, paths_of, port_number, revision_number};
+ghost use Rattle.cli_output.specs.declared.bad_argument.ArgumentFault.TheVariants as fault;
+
+use cli_output::bad_argument::ArgumentFault;
+use cli_output::failure::Failure;
+use desk_tables::{Cred, FileSystems, Groups, Users, credential};
+use desk_text::{Addr, Path, ReadError, read_decimal};
+use std::alloc::Global;
+
+/// A mount request: who asks for which directory, and the file systems that there are.
+#[derive(Drop)]
+pub struct Request {
+    pub address: Addr,
+    pub path: Path,
+    pub filesystems: FileSystems,
+}
+
+/// Parses HOST, DIR and MOUNT, from left to right.
+pub fn read_request(
+    alloc: Global,
+    host: &str,
+    dir: &str,
+    mounts: &[&str],
+) -> Result<Request, Failure>
+    ensures { let given = map (λ word. word.now) mounts.now in
+        MatchResult result (IsRequest host.now dir.now given)
+        (IsBadArgument host.now (read_addr host.now) dir.now (read_path dir.now) given) }
+{
+    let address = read_host(alloc, host)?;
+    let path = read_path(alloc, "DIR", dir)?;
+    let filesystems = read_mounts(alloc, mounts)?;
+    Ok(Request {
+        address,
+        path,
+        filesystems,
+    })
+}
+
+/// Parses HOST, the client's address.
+pub fn read_host(alloc: Global, word: &str) -> Result<Addr, Failure>
+    ensures { AnswersArgument number_of fault.Address (codes "HOST") word.now (read_addr word.now) result }
+{
+    match Addr::read(word) {
+        Ok(address) => Ok(address),
+        Err(fault) => Err(Failure::of_argument(alloc, "HOST", word, ArgumentFault::Address(fault))),
+    }
+}
+
+/// Parses a path.
+pub fn read_path(alloc: Global, argument: &'static str, word: &str) -> Result<Path, Failure>
+    ensures { AnswersArgument (λ path. path) fault.Path argument.now word.now (read_path word.now) result }
+{
+    match ReadError::split(Path::read(alloc, word))? {
+        Ok(path) => Ok(path),
+        Err(fault) => Err(Failure::of_argument(alloc, argument, word, ArgumentFault::Path(fault))),
+    }
+}
+
+/// Parses the number of a revision; that which an edit follows may be 0.
+pub fn read_number(alloc: Global, argument: &'static str, word: &str) -> Result<u32, Failure>
+    ensures { MatchResult result (λ number. revision_number word.now ≡ Some number)
+        (λ failure. (revision_number word.now ≡ None) × IsBadNumber argument.now word.now failure) }
+{
+    match read_decimal(word, 2_147_483_647) {
+        Some(number) => Ok(number),
+        None => Err(Failure::of_argument(
+            alloc,
+            argument,
+            word,
+            ArgumentFault::Number(0, 2_147_483_647),
+        )),
+    }
+}
+
+/// Parses the number of a port: from 1 to 65,535.
+pub fn read_port(alloc: Global, word: &str) -> Result<u16, Failure>
+    ensures { MatchResult result (λ number. port_number word.now ≡ Some number)
+        (λ failure. (port_number word.now ≡ None) × IsBadPort word.now failure) }
+{
+    match read_decimal(word, 65_535) {
+        Some(number) if number > 0 => Ok(number as u16),
+        _ => Err(Failure::of_argument(alloc, "--port", word, ArgumentFault::Number(1, 65_535))),
+    }
+}
+
+/// Parses how many connections or seconds there are, which may be none.
+pub fn read_count(alloc: Global, argument: &'static str, word: &str) -> Result<u32, Failure>
+    ensures { MatchResult result (λ number. count_number word.now ≡ Some number)
+        (λ failure. (count_number word.now ≡ None) × IsBadCount argument.now word.now failure) }
+{
+    match read_decimal(word, u32::MAX) {
+        Some(number) => Ok(number),
+        None => Err(Failure::of_argument(
+            alloc,
+            argument,
+            word,
+            ArgumentFault::Number(0, u32::MAX),
+        )),
+    }
+}
+
+/// Parses each MOUNT, the mount points of the file systems.
+pub fn read_mounts(alloc: Global, words: &[&str]) -> Result<FileSystems, Failure>
+    ensures { let given = map (λ word. word.now) words.now in
+        MatchResult result (λ table. (first_bad_path given ≡ None) × IsTableOf (paths_of given) table) (IsNoTable given) }
+{
+    let mount_points = read_mount_points(alloc, words)?;
+    match FileSystems::from_mounts(alloc, mount_points)? {
+        Some(filesystems) => Ok(filesystems),
+        None => Err(Failure::TooManyMounts),
+    }
+}
+
+/// Parses each MOUNT, in order.
+fn read_mount_points(alloc: Global, words: &[&str]) -> Result<Vec<Path>, Failure>
+    ensures { let given = map (λ word. word.now) words.now in
+        MatchResult result (λ paths. (first_bad_path given ≡ None) × (paths.items ≡ paths_of given)) (IsBadMount given) }
+{
+    let mut mount_points = Vec::new(alloc);
+    for word in words {
+        let path = read_path(alloc, "MOUNT", word)?;
+        mount_points.push(path)?;
+    }
+    Ok(mount_points)
+}
+
+/// Parses CRED, if it is given, with the users and groups that these texts list. If one of these texts has a fault, that is
+/// reported later, and CRED is not looked at.
+pub fn read_credential(
+    alloc: Global,
+    word: Option<&str>,
+    passwd: &str,
+    group: &str,
+) -> Result<Option<Cred>, Failure>
+    requires passwd { IsReadable passwd.now }
+    requires group { IsReadable group.now }
+    ensures { let given = option_map (λ word. word.now) word.entry in
+        AnswersOwn given (own_answer given (read_users passwd.now) (read_groups group.now)) result }
+{
+    let Some(word) = word else {
+        return Ok(None);
+    };
+    match ReadError::split(Users::read(alloc, passwd))? {
+        Ok(users) => read_with_users(alloc, word, &users, group),
+        Err(_) => Ok(None),
+    }
+}
+
+/// Parses CRED with these users and the groups that a text lists.
+fn read_with_users(
+    alloc: Global,
+    word: &str,
+    users: &Users,
+    group: &str,
+) -> Result<Option<Cred>, Failure>
+    requires { IsReadable group.now }
+    ensures { AnswersOwn (Some word.now) (own_answer (Some word.now) (Ok users.now) (read_groups group.now)) result }
+{
+    match ReadError::split(Groups::read(alloc, group))? {
+        Ok(groups) => parse_credential(alloc, word, users, &groups),
+        Err(_) => Ok(None),
+    }
+}
+
+/// Parses CRED with these users and groups.
+fn parse_credential(
+    alloc: Global,
+    word: &str,
+    users: &Users,
+    groups: &Groups,
+) -> Result<Option<Cred>, Failure>
+    ensures { AnswersOwn (Some word.now) (read_cred users.now groups.now word.now) result }
+{
+    match credential(users, groups, word) {
+        Ok(own) => Ok(Some(own)),
+        Err(fault) => Err(Failure::of_argument(
+            alloc,
+            "--as",
+            word,
+            ArgumentFault::Credential(fault),
+        )),
+    }
+}
