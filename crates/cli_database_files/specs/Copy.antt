@@ -1,20 +1,19 @@
 -- Why a database is not opened. (this project's own)
-use Rattle.std.specs.Prelude.{ℕ, Bool, true, false, List, IsTrue, if◌then◌else◌}
+use Rattle.std.specs.Prelude.{ℕ, Bool, true, false, codes, List, IsTrue, if◌then◌else◌}
 use Rattle.sqlite.specs.declared.error.Error.{Error}
 use Rattle.sqlite.specs.declared.error.Error.TheVariants.{SqliteFailure}
 use Rattle.sqlite.specs.declared.error.ErrorCode.TheVariants.{OutOfMemory, SystemIoFailure}
 use Rattle.sqlite_disk.specs.Memory.{memory_is_usable}
 use Rattle.sqlite_disk.specs.declared.Files.{Files}
 use Rattle.sqlite_disk.specs.declared.memory.Memory.{Memory}
-use Rattle.cli_files.specs.Files.{IsUnread}
-use Rattle.cli_files.specs.declared.failure.Failure.TheVariants.{Memory as NoMemory}
-use Rattle.cli_files.specs.declared.files.FileArgument.TheVariants.{Database}
+use Rattle.cli_output.specs.Failure.{IsUnread}
+use Rattle.cli_output.specs.declared.failure.Failure.TheVariants.{Memory as NoMemory}
 use Rattle.cli_database_files.specs.declared.copy.Unopened.{Unopened}
 use Rattle.cli_database_files.specs.declared.copy.Unopened.TheVariants.{Refused, Unread}
 
 -- the database at this path cannot be read, or SQLite does not open it; out of memory says nothing
 abbrev pub IsUnopened : List ℕ → Unopened → Type 0
-IsUnopened path (Unread failure) = IsUnread Database path failure
+IsUnopened path (Unread failure) = IsUnread (codes "DB") path failure
 IsUnopened path (Refused error) = Unit {0}
 
 -- An error of a copy in memory means that memory ran out. One of the disk does: a copy is made of memory alone.

@@ -1,16 +1,14 @@
 //! A copy of a database in memory, which questions read: so they change nothing, and need no right to write.
 
-ghost use Rattle.std.specs.Prelude.{◌≡◌, ℕ, false, IfErr, IfOk, IfSome, IsTrue, List};
+ghost use Rattle.std.specs.Prelude.{◌≡◌, ℕ, codes, false, IfErr, IfOk, IfSome, IsTrue, List};
 ghost use Rattle.sqlite_disk.specs.Memory.{memory_is_usable};
 ghost use Rattle.sqlite.specs.Files.{file_state};
-ghost use Rattle.cli_files.specs.Files.{IsUnread};
-ghost use Rattle.cli_files.specs.declared.files.FileArgument.TheVariants.{Database};
+ghost use Rattle.cli_output.specs.Failure.{IsUnread};
 ghost use Rattle.cli_database_files.specs.Copy.{AreUsable, IsUnopened, copy_unopened, is_out_of_memory};
 
 use crate::database_file::{CANNOT_OPEN, is_plain, lock};
 use crate::obstacles::is_settled;
-use cli_files::failure::{Failure, ReadFailure};
-use cli_files::files::FileArgument;
+use cli_output::failure::{Failure, ReadFailure};
 use os::RangeLock;
 use sqlite::{Connection, Error, ErrorCode, FileStore, Options};
 use sqlite_disk::{Disk, Files, Memory};
@@ -97,10 +95,10 @@ fn copy_files(rt: &HostRuntime, path: &str) -> Result<Files<Memory>, Unopened>
 
 /// Returns the failure to read a database.
 pub fn unread(alloc: Global, path: &str, error: io::Error) -> Failure
-    ensures { IsUnread Database path.now result }
+    ensures { IsUnread (codes "DB") path.now result }
 {
     match ReadFailure::of_error(error) {
-        Ok(failure) => Failure::of_file(alloc, FileArgument::Database, path, failure),
+        Ok(failure) => Failure::of_file(alloc, "DB", path, failure),
         Err(failure) => failure,
     }
 }
