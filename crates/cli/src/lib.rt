@@ -15,17 +15,15 @@
 
 mod commands;
 
-ghost use Rattle.std.specs.Prelude.{◌≡◌, ◌≢◌, ◌⊎◌, map};
+ghost use Rattle.std.specs.Prelude.{map};
 ghost use Rattle.std.specs.Io.KnownBytes.{Appends};
-ghost use Rattle.cli_output.specs.Output.{printed, status_of};
-ghost use Rattle.cli_serve.specs.ServeCommand.{told};
 ghost use Rattle.cli.specs.Commands.{Runs};
 
 use crate::commands::{run_first_line, run_words};
-use cli_files::failure::{Failure, Origin};
-pub use cli_output::output::print_memory;
-use cli_output::output::{Output, report};
-use cli_serve::serve_command::{Outcome, Service};
+use cli_output::failure::Origin;
+pub use cli_output::printed::print_memory;
+use cli_output::printed::report;
+use cli_serve::serve_command::Service;
 use std::convert::AsSlice;
 use std::io::{BufRead, Write};
 
@@ -40,42 +38,18 @@ where
     E: Write,
     ensures { Runs (map S.items words.now) (I.remaining input.old) result (Appends (O.contents out.old) (O.contents out.new)) }
 {
-    if words.is_empty() {
-        let outcome = run_first_line(rt, input);
-        finish(rt, Origin::FirstLine, outcome, out, err)
+    let mut service = None;
+    let status = if words.is_empty() {
+        let answer = run_first_line(rt, input, &mut service);
+        report(rt.alloc(), Origin::FirstLine, answer, out, err)
     } else {
-        let outcome = run_words(rt, words, input);
-        finish(rt, Origin::Arguments, outcome, out, err)
-    }
-}
-
-/// Reports what a command comes to, and then runs its service, if it has one; but not if its line could not be printed.
-fn finish<O: Write, E: Write>(
-    rt: &HostRuntime,
-    origin: Origin,
-    outcome: Result<Outcome, Failure>,
-    out: &mut O,
-    err: &mut E,
-) -> u8
-    ensures status { (result ≡ status_of (told outcome)) ⊎ (result ≡ 4) }
-    ensures printed { result ≢ 4 → Appends (O.contents out.old) (O.contents out.new) (printed (told outcome)) }
-{
-    let (answer, service) = parted(outcome);
-    let status = report(rt.alloc(), origin, answer, out, err);
+        let answer = run_words(rt, words, input, &mut service);
+        report(rt.alloc(), Origin::Arguments, answer, out, err)
+    };
     if let Some(service) = service {
         end(rt, service, status == 0);
     }
     status
-}
-
-/// Parts what a command comes to: what it prints, or why it has no answer, and its service, if it has one.
-fn parted(outcome: Result<Outcome, Failure>) -> (Result<Output, Failure>, Option<Service>)
-    ensures { result.0 ≡ told outcome }
-{
-    match outcome {
-        Ok(outcome) => (Ok(outcome.output), outcome.service),
-        Err(failure) => (Err(failure), None),
-    }
 }
 
 /// Runs a service, if its line is printed, and ends it.

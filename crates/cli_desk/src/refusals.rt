@@ -185,11 +185,7 @@ pub fn refusal_note(
             )
         }
         Refusal::BadKey => format!(in alloc; "exportdesk: the key is not that of {caller:?}\n"),
-        Refusal::UnknownFile => {
-            format!(in alloc;
-                "exportdesk: NAME {name:?}: it is not custodians, filesystems, hosts, networks, passwd, group or netgroup, nor exports: and a listed mount point\n"
-            )
-        }
+        Refusal::UnknownFile => unknown_file_note(alloc, name),
         Refusal::NotCustodian => {
             format!(in alloc; "exportdesk: NAME {name:?}: {caller:?} does not keep it\n")
         }
@@ -215,4 +211,11 @@ fn stale_note(alloc: Global, edit: &Edit<'_>, newest: u32) -> Result<String, All
             "exportdesk: --base {base}: the newest revision of {name:?} is {newest}: look what it changed (cat), and put on top of it\n"
         )
     }
+}
+
+/// Says that a desk has no file of this name.
+pub fn unknown_file_note(alloc: Global, name: &str) -> Result<String, AllocError> {
+    format!(in alloc;
+        "exportdesk: NAME {name:?}: it is not custodians, filesystems, hosts, networks, passwd, group or netgroup, nor exports: and a listed mount point\n"
+    )
 }

@@ -1,76 +1,106 @@
--- The output of `ask`, `show`, `exports`, `who`, `log`, `cat` and `proposal` by their words. (this project's own)
-use Rattle.std.specs.Prelude.{ℕ, List, [], Option, Some, None, Result, Ok, Err, IsErrAnd}
-use Rattle.desk_text.specs.Address.{read_addr}
+-- The answers of the commands that ask a database, by their words. (this project's own)
+use Rattle.std.specs.Prelude.{◌≡◌, ◌×◌, ℕ, Bool, true, false, codes, List, [], Option, Some, None, Result, Ok, Err, IsErrAnd}
+use Rattle.std.specs.String.{string_bytes}
+use Rattle.clap.specs.Words.{Row, first_of}
+use Rattle.desk_text.specs.Address.{number_of, read_addr}
 use Rattle.desk_text.specs.Path.{read_path}
-use Rattle.desk_text.specs.declared.address.AddrFault.{AddrFault}
-use Rattle.desk_text.specs.declared.path.PathFault.{PathFault}
+use Rattle.desk_text.specs.declared.address.Addr.{Addr}
 use Rattle.desk_tables.specs.Groups.{read_groups}
 use Rattle.desk_tables.specs.Users.{read_users}
-use Rattle.desk_tables.specs.declared.credential_text.CredFault.{CredFault}
 use Rattle.desk_tables.specs.declared.credentials.Cred.{Cred}
-use Rattle.desk_service.specs.Questions.{Exports, Listing, Mount, OnFile, OnPolicy, Proposal, Revisions, Text, Who}
-use Rattle.cli_files.specs.BadArgument.{IsRefusal}
-use Rattle.cli_words.specs.Arguments.{IsBadNumber, IsBadOwn, good_own, own_answer, revision_number}
-use Rattle.cli_line.specs.CommandLine.{AskWords, CatWords, ExportsWords, LogWords, ProposalWords, ShowWords, WhoWords}
-use Rattle.cli_files.specs.declared.bad_argument.Argument.TheVariants as name
-use Rattle.cli_files.specs.declared.bad_argument.ArgumentFault.TheVariants as fault
-use Rattle.cli_files.specs.declared.failure.Failure.{Failure}
-use Rattle.cli_output.specs.declared.output.Output.{Output}
-use Rattle.cli_database.specs.Questions.{AnswersQuestion}
+use Rattle.desk_service.specs.Questions.{Exports, Files, Foresee, ForeseeProposal, Listing, Mount, Proposal, Question, Revisions, Text, Who}
+use Rattle.cli_output.specs.declared.bad_argument.ArgumentFault.TheVariants as fault
+use Rattle.cli_output.specs.declared.failure.Failure.{Failure}
+use Rattle.cli_output.specs.declared.failure.Failure.TheVariants.{BesideProposal}
+use Rattle.cli_output.specs.declared.printed.Printed.{Printed}
+use Rattle.cli_output.specs.Failure.{IsMissing}
+use Rattle.cli_words.specs.Values.{AnswersArgument, AnswersOwn, IsBadNumber, own_answer, revision_number}
+use Rattle.cli_words.specs.Words.{After, ByWord, is_set}
+use Rattle.cli_files.specs.Files.{ReadsText}
+use Rattle.cli_questions.specs.Questions.{AnswersQuestion, Asked}
 
--- what CRED stands for without users and groups, if it is given
-abbrev pub own_of : AskWords → Option (Result Cred CredFault)
-own_of words = own_answer words.credential (read_users []) (read_groups [])
+-- HOST is parsed as an address, or refused
+abbrev pub ParsesHost : List ℕ → Result Addr Failure → Type 0
+ParsesHost word step = AnswersArgument number_of fault.Address (codes "HOST") word (read_addr word) step
 
--- the answer by what HOST, DIR and CRED are read as: to the question, or which of them cannot be parsed, from left to right
-abbrev pub AnswersAskBy : AskWords → Result ℕ AddrFault → Result (List (List ℕ)) PathFault → Option (Result Cred CredFault) → Result Output Failure → Type 0
-AnswersAskBy words (Err bad) path own result = IsErrAnd result (IsRefusal name.Host words.host (fault.Address bad))
-AnswersAskBy words (Ok address) (Err bad) own result = IsErrAnd result (IsRefusal name.Dir words.dir (fault.Path bad))
-AnswersAskBy words (Ok address) (Ok path) (Some (Err bad)) result = IsErrAnd result (IsBadOwn words.credential (Some (Err bad)))
-AnswersAskBy words (Ok address) (Ok path) own result = AnswersQuestion words.db (OnPolicy (Mount address path)) (good_own own) result
+-- DIR is parsed as a path, or refused
+abbrev pub ParsesDir : List ℕ → Result (List (List ℕ)) Failure → Type 0
+ParsesDir word step = AnswersArgument (λ path. path) fault.Path (codes "DIR") word (read_path word) step
 
--- the answer of `ask` to its words
-abbrev pub AnswersAsk : AskWords → Result Output Failure → Type 0
-AnswersAsk words result = AnswersAskBy words (read_addr words.host) (read_path words.dir) (own_of words) result
+-- CRED is parsed without users and groups, if it is given, or refused
+abbrev pub ParsesOwn : Option (List ℕ) → Result (Option Cred) Failure → Type 0
+ParsesOwn word step = AnswersOwn word (own_answer word (read_users []) (read_groups [])) step
 
-abbrev pub AnswersShowBy : ShowWords → Result ℕ AddrFault → Result Output Failure → Type 0
-AnswersShowBy words (Err bad) result = IsErrAnd result (IsRefusal name.Host words.host (fault.Address bad))
-AnswersShowBy words (Ok address) result = AnswersQuestion words.db (OnPolicy (Listing address)) None result
+-- the word writes this number of a revision
+abbrev pub IsRevision : List ℕ → Option ℕ → Type 0
+IsRevision word (Some rev) = revision_number word ≡ Some rev
+IsRevision word None = ⊥
 
--- the answer of `show` to its words: to the question, or that HOST cannot be parsed
-abbrev pub AnswersShow : ShowWords → Result Output Failure → Type 0
-AnswersShow words result = AnswersShowBy words (read_addr words.host) result
+-- the number of a revision is parsed, if it is given, or refused
+abbrev pub ParsesRevision : Option (List ℕ) → Result (Option ℕ) Failure → Type 0
+ParsesRevision None step = step ≡ Ok None
+ParsesRevision (Some word) (Ok rev) = IsRevision word rev
+ParsesRevision (Some word) (Err failure) = (revision_number word ≡ None) × IsBadNumber (codes "--rev") word failure
 
--- the answer of `exports` to its word
-abbrev pub AnswersExports : ExportsWords → Result Output Failure → Type 0
-AnswersExports words result = AnswersQuestion words.db (OnPolicy Exports) None result
+-- a question whose answer is printed plainly, or with as whom a client acts
+abbrev pub asking : Question → Option Cred → Asked
+asking question own = record { question = question; own = own; all = false }
 
--- the answer by what DIR is read as: to the question, or that it cannot be parsed
-abbrev pub AnswersWhoBy : WhoWords → Result (List (List ℕ)) PathFault → Result Output Failure → Type 0
-AnswersWhoBy words (Err bad) result = IsErrAnd result (IsRefusal name.Dir words.dir (fault.Path bad))
-AnswersWhoBy words (Ok path) result = AnswersQuestion words.db (OnPolicy (Who path)) None result
+-- a question on what would change, with the changes that matter to no client or without
+abbrev pub foreseeing : Question → Bool → Asked
+foreseeing question all = record { question = question; own = None; all = all }
 
--- the answer of `who` to its words
-abbrev pub AnswersWho : WhoWords → Result Output Failure → Type 0
-AnswersWho words result = AnswersWhoBy words (read_path words.dir) result
+-- `ask DB HOST DIR [--as CRED]`: the words are parsed from left to right
+abbrev pub AnswersAsk : List Row → Result Printed Failure → Type 0
+AnswersAsk rows =
+    ByWord (codes "DB") rows (λ db. ByWord (codes "HOST") rows (λ host. ByWord (codes "DIR") rows (λ dir.
+    After (ParsesHost host) (λ address. After (ParsesDir dir) (λ path. After (ParsesOwn (first_of (codes "as") rows)) (λ own.
+    AnswersQuestion db (asking (Mount (number_of address) path) own)))))))
 
--- the answer of `log` to its words
-abbrev pub AnswersLog : LogWords → Result Output Failure → Type 0
-AnswersLog words result = AnswersQuestion words.db (OnFile (Revisions words.name)) None result
+-- `show DB HOST`
+abbrev pub AnswersShow : List Row → Result Printed Failure → Type 0
+AnswersShow rows =
+    ByWord (codes "DB") rows (λ db. ByWord (codes "HOST") rows (λ host.
+    After (ParsesHost host) (λ address. AnswersQuestion db (asking (Listing (number_of address)) None))))
 
--- the answer of `cat` by the number that its word is read as
-abbrev pub AnswersCatAt : CatWords → List ℕ → Option ℕ → Result Output Failure → Type 0
-AnswersCatAt words word None result = IsErrAnd result (IsBadNumber name.Rev word)
-AnswersCatAt words word (Some rev) result = AnswersQuestion words.db (OnFile (Text words.name (Some rev))) None result
+-- `exports DB`
+abbrev pub AnswersExports : List Row → Result Printed Failure → Type 0
+AnswersExports rows = ByWord (codes "DB") rows (λ db. AnswersQuestion db (asking Exports None))
 
-abbrev pub AnswersCatBy : CatWords → Option (List ℕ) → Result Output Failure → Type 0
-AnswersCatBy words None result = AnswersQuestion words.db (OnFile (Text words.name None)) None result
-AnswersCatBy words (Some word) result = AnswersCatAt words word (revision_number word) result
+-- `who DB DIR`
+abbrev pub AnswersWho : List Row → Result Printed Failure → Type 0
+AnswersWho rows =
+    ByWord (codes "DB") rows (λ db. ByWord (codes "DIR") rows (λ dir.
+    After (ParsesDir dir) (λ path. AnswersQuestion db (asking (Who path) None))))
 
--- the answer of `cat` to its words: to the question, or that N cannot be parsed
-abbrev pub AnswersCat : CatWords → Result Output Failure → Type 0
-AnswersCat words result = AnswersCatBy words words.rev result
+-- `log DB NAME`
+abbrev pub AnswersLog : List Row → Result Printed Failure → Type 0
+AnswersLog rows = ByWord (codes "DB") rows (λ db. ByWord (codes "NAME") rows (λ name. AnswersQuestion db (asking (Revisions name) None)))
 
--- the answer of `proposal` to its words
-abbrev pub AnswersProposal : ProposalWords → Result Output Failure → Type 0
-AnswersProposal words result = AnswersQuestion words.db (OnFile (Proposal words.name)) None result
+-- `cat DB NAME [--rev N]`
+abbrev pub AnswersCat : List Row → Result Printed Failure → Type 0
+AnswersCat rows =
+    ByWord (codes "DB") rows (λ db. ByWord (codes "NAME") rows (λ name.
+    After (ParsesRevision (first_of (codes "rev") rows)) (λ rev. AnswersQuestion db (asking (Text name rev) None))))
+
+-- `proposal DB NAME`
+abbrev pub AnswersProposal : List Row → Result Printed Failure → Type 0
+AnswersProposal rows = ByWord (codes "DB") rows (λ db. ByWord (codes "NAME") rows (λ name. AnswersQuestion db (asking (Proposal name) None)))
+
+-- `files DB`
+abbrev pub AnswersFiles : List Row → Result Printed Failure → Type 0
+AnswersFiles rows = ByWord (codes "DB") rows (λ db. AnswersQuestion db (asking Files None))
+
+-- the answer of `impact` by FILE, and by whether the proposal stands in its place: FILE is read before the database is
+abbrev pub AnswersImpactBy : List ℕ → List ℕ → Bool → Option (List ℕ) → Bool → Option (List ℕ) → Result Printed Failure → Type 0
+AnswersImpactBy db name all (Some file) true known result = result ≡ Err BesideProposal
+AnswersImpactBy db name all (Some file) false known result =
+    After (ReadsText (codes "FILE") file known) (λ text. AnswersQuestion db (foreseeing (Foresee name (string_bytes text)) all)) result
+AnswersImpactBy db name all None true known result = AnswersQuestion db (foreseeing (ForeseeProposal name) all) result
+AnswersImpactBy db name all None false known result = IsErrAnd result IsMissing
+
+-- `impact DB NAME FILE [--all]`, or `--proposal` in the place of FILE
+abbrev pub AnswersImpact : List Row → Option (List ℕ) → Result Printed Failure → Type 0
+AnswersImpact rows known =
+    ByWord (codes "DB") rows (λ db. ByWord (codes "NAME") rows (λ name.
+    AnswersImpactBy db name (is_set (codes "all") rows) (first_of (codes "FILE") rows) (is_set (codes "proposal") rows) known))

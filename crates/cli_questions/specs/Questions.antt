@@ -1,87 +1,82 @@
 -- What is asked of a database without changing it, and what is printed of the answers. (this project's own)
-use Rattle.std.specs.Prelude.{◌≡◌, ℕ, List, [], Option, None, Result, Ok, Err}
+use Rattle.std.specs.Prelude.{◌≡◌, ◌⊎◌, ◌×◌, ℕ, ◌==◌, ◌++◌, ◌∷◌, Bool, List, [], Option, Result, Ok, Err, codes, if◌then◌else◌}
 use Rattle.std.specs.String.{string_bytes}
 use Rattle.sqlite.specs.Effect.{Database}
 use Rattle.desk_tables.specs.declared.credentials.Cred.{Cred}
 use Rattle.desk_policy.specs.ListingPrints.{all_exports, listing_text}
 use Rattle.desk_who.specs.WhoPrints.{who_text}
+use Rattle.desk_impact.specs.Report.{IsReport}
+use Rattle.desk_impact.specs.declared.report.Report.{Report}
 use Rattle.desk_store.specs.Desk.{History}
 use Rattle.desk_store.specs.Open.{IsOurs, IsProject}
-use Rattle.desk_service.specs.Questions.{Answer, AnswersByHistory, ByFile, ByPolicy, ExportsAre, FileQuestion, ListingIs, OnFile, OnPolicy, Proposal, Question, RangesAre, Revisions, Text, VerdictIs, file_question, policy_question}
-use Rattle.desk_service.specs.declared.questions.FileAnswer.TheVariants as found
-use Rattle.desk_service.specs.declared.refused.Refused.TheVariants as by_desk
-use Rattle.desk_check.specs.TryText.{answer_of, answer_on}
-use Rattle.cli_files.specs.Files.{IsUnread}
-use Rattle.cli_files.specs.declared.failure.Failure.{Failure}
-use Rattle.cli_files.specs.declared.failure.Failure.TheVariants.{Memory}
-use Rattle.cli_files.specs.declared.files.FileArgument.TheVariants.{Database as DatabaseFile}
-use Rattle.cli_output.specs.declared.output.Output.{Output}
-use Rattle.cli_output.specs.declared.output.Output.TheVariants.{Done, Noted, Refused, Tried}
-use Rattle.cli_output.specs.declared.refused.Refused.TheVariants as refused
-use Rattle.cli_database.specs.FileOutputs.{log_text}
-use Rattle.cli_database.specs.declared.questions.SiteQuestion.{SiteQuestion}
-use Rattle.cli_database.specs.declared.questions.SiteQuestion.TheVariants as site
+use Rattle.desk_service.specs.Foreseeing.{Foreseen, content_after}
+use Rattle.desk_service.specs.Questions.{Answer, AnswersByHistory, ExportsAre, FilesAre, ForeseenIs, ListingIs, NoRevision, ProposalIs, Question, RangesAre, RefusedBy, RevisionsAre, Text, TextIs, VerdictIs, Proposal, Revisions, question_of}
+use Rattle.desk_service.specs.declared.refused.Refused.TheVariants as refused
+use Rattle.desk_check.specs.TryText.{answer_on}
+use Rattle.desk_check.specs.TryText.{Answer as Tried}
+use Rattle.cli_output.specs.Failure.{IsUnread}
+use Rattle.cli_output.specs.Printed.{Prints}
+use Rattle.cli_output.specs.declared.failure.Failure.{Failure}
+use Rattle.cli_output.specs.declared.failure.Failure.TheVariants.{Memory}
+use Rattle.cli_output.specs.declared.printed.Printed.{Printed}
+use Rattle.cli_desk.specs.Refused.{Says}
+use Rattle.cli_questions.specs.FileLines.{files_text}
+use Rattle.cli_questions.specs.RevisionLines.{log_text}
+use Rattle.cli_questions.specs.declared.answering.Asked.{Asked as LentAsked}
 
--- a question by value
-abbrev pub question_in : SiteQuestion → Question
-question_in (site.OnPolicy question own) = OnPolicy (policy_question question)
-question_in (site.OnFile question) = OnFile (file_question question)
+-- a question with how its answer is printed: a verdict with as whom the client acts, if its credential is given; and what would change
+-- with the changes that matter to no client, too
+pub record Asked : Type 0 where
+  pub question : Question
+  pub own : Option Cred
+  pub all : Bool
 
--- the client's credential beside it, if that is given
-abbrev pub credential_in : SiteQuestion → Option Cred
-credential_in (site.OnPolicy question own) = own.now
-credential_in (site.OnFile question) = None
+-- the same by value
+abbrev pub asked_of : LentAsked → Asked
+asked_of asked = record { question = question_of asked.question; own = asked.own.now; all = asked.all }
 
--- the file that is asked for
-abbrev pub file_asked : FileQuestion → List ℕ
-file_asked (Text file rev) = file
-file_asked (Revisions file) = file
-file_asked (Proposal file) = file
-
--- the file that a question is on; one on the policy in force is on none
+-- the file that a question is on; empty if it is on none
 abbrev pub file_in : Question → List ℕ
-file_in (OnPolicy question) = []
-file_in (OnFile question) = file_asked question
+file_in (Text file rev) = file
+file_in (Revisions file) = file
+file_in (Proposal file) = file
+file_in question = []
 
--- The output prints an answer on a file: a verdict as `try` does, with as whom the client acts if its credential is given; a text as it
--- is, of a revision or of a proposal; and lists of revisions and of ranges in lines.
-abbrev pub Prints : Option Cred → List ℕ → Answer → Output → Type 0
-Prints own file (ByPolicy (VerdictIs content verdict)) (Tried tried) = answer_of tried ≡ answer_on content own verdict
-Prints own file (ByPolicy (ListingIs content listing)) (Done text) = string_bytes text ≡ listing_text content listing
-Prints own file (ByPolicy (ExportsAre content)) (Done text) = string_bytes text ≡ all_exports content
-Prints own file (ByPolicy (RangesAre content ranges)) (Done text) = string_bytes text ≡ who_text content ranges
-Prints own file (ByFile (found.Text stored)) (Noted text told) = string_bytes text ≡ stored.body
-Prints own file (ByFile (found.Revisions revisions)) (Done text) = string_bytes text ≡ log_text file revisions
-Prints own file (ByFile (found.Proposal proposal)) (Noted text told) = string_bytes text ≡ proposal.body
-Prints own file (ByFile found.NoRevision) (Refused (refused.Desk by_desk.NoRevision) told) = Unit {0}
-Prints own file answer output = ⊥
+-- a verdict is printed in a line: status 0 if it grants the mount, else 1
+abbrev pub PrintsVerdict : Tried → Printed → Type 0
+PrintsVerdict tried printed = Prints (if tried.granted then 0 else 1) (tried.line ++ 10 ∷ []) printed
 
--- an answer is printed, or memory ran out
-abbrev pub PrintsAnswer : Option Cred → List ℕ → Answer → Result Output Failure → Type 0
-PrintsAnswer own file answer (Ok output) = Prints own file answer output
-PrintsAnswer own file answer (Err failure) = failure ≡ Memory
+-- a report of what would change is printed: status 0 if nothing changes for a client, else 1
+pub record PrintsChanges (asked : Asked) (foreseen : Foreseen) (printed : Printed) : Type 0 where
+  pub report : Report
+  pub is : IsReport foreseen.before (content_after foreseen) asked.all report
+  pub prints : Prints (if report.mattering == 0 then 0 else 1) (string_bytes report.text) printed
 
--- the output prints the answer to a question by a history
-abbrev pub OutputByHistory : History → Question → Option Cred → Output → Type 0
-OutputByHistory history question own output = (answer : Answer) × AnswersByHistory history question answer × Prints own (file_in question) answer output
+-- An answer is printed: a verdict as `try` does; a text as it is, of a revision or of a proposal; lists of revisions, of ranges and of
+-- files in lines; what would change as a report; and a refusal as its line.
+abbrev pub PrintsAnswer : Asked → Answer → Printed → Type 0
+PrintsAnswer asked (VerdictIs content verdict) printed = PrintsVerdict (answer_on content asked.own verdict) printed
+PrintsAnswer asked (ListingIs content listing) printed = Prints 0 (listing_text content listing) printed
+PrintsAnswer asked (ExportsAre content) printed = Prints 0 (all_exports content) printed
+PrintsAnswer asked (RangesAre content ranges) printed = Prints 0 (who_text content ranges) printed
+PrintsAnswer asked (TextIs stored) printed = Prints 0 stored.body printed
+PrintsAnswer asked (RevisionsAre revisions) printed = Prints 0 (log_text (file_in asked.question) revisions) printed
+PrintsAnswer asked (ProposalIs proposal) printed = Prints 0 proposal.body printed
+PrintsAnswer asked NoRevision printed = Says refused.NoRevision printed
+PrintsAnswer asked (FilesAre listed) printed = Prints 0 (files_text listed) printed
+PrintsAnswer asked (ForeseenIs foreseen) printed = PrintsChanges asked foreseen printed
+PrintsAnswer asked (RefusedBy refusal) printed = Says (refused.Edit refusal) printed
 
--- What is told of a question by a history. That a statement was refused, and that there is no memory, say nothing.
-abbrev pub TellsByHistory : History → Question → Option Cred → Result Output Failure → Type 0
-TellsByHistory history question own (Ok (Refused (refused.Desk by_desk.Store) told)) = Unit {0}
-TellsByHistory history question own (Ok output) = OutputByHistory history question own output
-TellsByHistory history question own (Err failure) = failure ≡ Memory
+-- what is printed of a question by a history: its answer
+abbrev pub PrintsByHistory : History → Asked → Printed → Type 0
+PrintsByHistory history asked printed = (answer : Answer) × AnswersByHistory history asked.question answer × PrintsAnswer asked answer printed
 
--- The answer to a question on a database: by each history that it holds, or that it is not one of this project. That a statement
--- was refused, and that there is no memory, say nothing.
-abbrev pub AnswersByDatabase : Database → Question → Option Cred → Result Output Failure → Type 0
-AnswersByDatabase db question own (Ok (Refused (refused.Desk by_desk.Schema) told)) = IsOurs db → ⊥
-AnswersByDatabase db question own (Ok (Refused (refused.Desk by_desk.Store) told)) = Unit {0}
-AnswersByDatabase db question own (Ok output) = IsOurs db × ((history : History) → IsProject db history → OutputByHistory history question own output)
-AnswersByDatabase db question own (Err failure) = failure ≡ Memory
+-- what is printed of a question on a database: that it is not one of this project, or the answer by each history that it holds
+abbrev pub PrintsByDatabase : Database → Asked → Printed → Type 0
+PrintsByDatabase db asked printed = (Says refused.Schema printed × (IsOurs db → ⊥)) ⊎ (IsOurs db × ((history : History) → IsProject db history → PrintsByHistory history asked printed))
 
--- The answer to a question on the database at a path: by what it holds; or that it cannot be read, or that SQLite does not open
--- it. Out of memory says nothing.
-abbrev pub AnswersQuestion : List ℕ → Question → Option Cred → Result Output Failure → Type 0
-AnswersQuestion path question own (Err failure) = IsUnread DatabaseFile path failure
-AnswersQuestion path question own (Ok (Refused (refused.Desk by_desk.Store) told)) = Unit {0}
-AnswersQuestion path question own (Ok output) = (db : Database) × AnswersByDatabase db question own (Ok output)
+-- The answer to a question on the database at a path: by what it holds; or that SQLite does not open it or refused a statement, or
+-- that it cannot be read. Out of memory says nothing.
+abbrev pub AnswersQuestion : List ℕ → Asked → Result Printed Failure → Type 0
+AnswersQuestion path asked (Ok printed) = Says refused.Store printed ⊎ ((db : Database) × PrintsByDatabase db asked printed)
+AnswersQuestion path asked (Err failure) = IsUnread (codes "DB") path failure

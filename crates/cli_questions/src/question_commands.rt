@@ -1,82 +1,178 @@
-//! The commands that ask a database: `ask`, `show`, `exports` and `who` by the policy in force, `log` and `cat` by the revisions of a
-//! file, and `proposal` by its proposal.
+//! The commands that ask a database: `ask`, `show`, `exports` and `who` by the policy in force, `log`, `cat`, `proposal` and `files` by
+//! its files, and `impact` by what would be in force.
 
-ghost use Rattle.std.specs.Prelude.{◌≡◌};
-ghost use Rattle.cli_words.specs.Words.{given_ask, given_cat, given_exports, given_log, given_proposal, given_show, given_who};
-ghost use Rattle.cli_database.specs.QuestionCommands.{AnswersAsk, AnswersCat, AnswersExports, AnswersLog, AnswersProposal, AnswersShow, AnswersWho};
+ghost use Rattle.std.specs.Prelude.{◌≡◌, None, Some, false};
+ghost use Rattle.std.specs.Option.{option_map};
+ghost use Rattle.desk_service.specs.Questions.{question_of};
+ghost use Rattle.cli_words.specs.Words.{rows_in};
+ghost use Rattle.cli_questions.specs.QuestionCommands as spec;
+ghost use Rattle.cli_questions.specs.Questions.{asked_of};
 
-use crate::questions::{SiteQuestion, answer_question};
-use cli_files::bad_argument::Argument;
-use cli_files::failure::Failure;
-use cli_output::output::Output;
-use cli_words::arguments::{read_credential, read_host, read_number, read_path};
-use cli_words::database_words::{
-    AskWords, CatWords, ExportsWords, LogWords, ProposalWords, ShowWords, WhoWords,
-};
-use desk_service::{FileQuestion, PolicyQuestion};
+use crate::answering::{Asked, answer_question};
+use clap::ArgMatches;
+use cli_files::files::read_text;
+use cli_output::failure::Failure;
+use cli_output::printed::Printed;
+use cli_words::values::{read_credential, read_host, read_number, read_path};
+use cli_words::words::{given, is_set, required};
+use desk_service::Question;
+use desk_tables::Cred;
+use std::alloc::Global;
+use std::io::BufRead;
 
 /// Answers `ask DB HOST DIR [--as CRED]`. The arguments are parsed from left to right, CRED without users and groups.
-pub fn run_ask(rt: &HostRuntime, words: AskWords<'_>) -> Result<Output, Failure>
-    ensures { AnswersAsk (given_ask words.entry) result }
+pub fn run_ask(rt: &HostRuntime, words: &ArgMatches<'_>) -> Result<Printed, Failure>
+    ensures { spec.AnswersAsk (rows_in words.now) result }
 {
     let alloc = rt.alloc();
-    let address = read_host(alloc, words.host)?;
-    let path = read_path(alloc, Argument::Dir, words.dir)?;
-    let own = read_credential(alloc, words.credential, "", "")?;
-    let question = PolicyQuestion::Mount(address, &path);
-    answer_question(rt, words.db, SiteQuestion::OnPolicy(question, &own))
+    let db = required(words, "DB")?;
+    let host = required(words, "HOST")?;
+    let dir = required(words, "DIR")?;
+    let address = read_host(alloc, host)?;
+    let path = read_path(alloc, "DIR", dir)?;
+    let own = read_credential(alloc, given(words, "as"), "", "")?;
+    answer_question(rt, db, asking(Question::Mount(address, &path), &own))
 }
 
 /// Answers `show DB HOST`.
-pub fn run_show(rt: &HostRuntime, words: ShowWords<'_>) -> Result<Output, Failure>
-    ensures { AnswersShow (given_show words.entry) result }
+pub fn run_show(rt: &HostRuntime, words: &ArgMatches<'_>) -> Result<Printed, Failure>
+    ensures { spec.AnswersShow (rows_in words.now) result }
 {
-    let address = read_host(rt.alloc(), words.host)?;
-    let question = PolicyQuestion::Listing(address);
-    answer_question(rt, words.db, SiteQuestion::OnPolicy(question, &None))
+    let db = required(words, "DB")?;
+    let host = required(words, "HOST")?;
+    let address = read_host(rt.alloc(), host)?;
+    answer_question(rt, db, asking(Question::Listing(address), &None))
 }
 
 /// Answers `exports DB`.
-pub fn run_exports(rt: &HostRuntime, words: ExportsWords<'_>) -> Result<Output, Failure>
-    ensures { AnswersExports (given_exports words.entry) result }
+pub fn run_exports(rt: &HostRuntime, words: &ArgMatches<'_>) -> Result<Printed, Failure>
+    ensures { spec.AnswersExports (rows_in words.now) result }
 {
-    let question = PolicyQuestion::Exports;
-    answer_question(rt, words.db, SiteQuestion::OnPolicy(question, &None))
+    let db = required(words, "DB")?;
+    answer_question(rt, db, asking(Question::Exports, &None))
 }
 
 /// Answers `who DB DIR`.
-pub fn run_who(rt: &HostRuntime, words: WhoWords<'_>) -> Result<Output, Failure>
-    ensures { AnswersWho (given_who words.entry) result }
+pub fn run_who(rt: &HostRuntime, words: &ArgMatches<'_>) -> Result<Printed, Failure>
+    ensures { spec.AnswersWho (rows_in words.now) result }
 {
-    let path = read_path(rt.alloc(), Argument::Dir, words.dir)?;
-    let question = PolicyQuestion::Who(&path);
-    answer_question(rt, words.db, SiteQuestion::OnPolicy(question, &None))
+    let db = required(words, "DB")?;
+    let dir = required(words, "DIR")?;
+    let path = read_path(rt.alloc(), "DIR", dir)?;
+    answer_question(rt, db, asking(Question::Who(&path), &None))
 }
 
 /// Answers `log DB NAME`.
-pub fn run_log(rt: &HostRuntime, words: LogWords<'_>) -> Result<Output, Failure>
-    ensures { AnswersLog (given_log words.entry) result }
+pub fn run_log(rt: &HostRuntime, words: &ArgMatches<'_>) -> Result<Printed, Failure>
+    ensures { spec.AnswersLog (rows_in words.now) result }
 {
-    let question = FileQuestion::Revisions(words.name);
-    answer_question(rt, words.db, SiteQuestion::OnFile(question))
+    let db = required(words, "DB")?;
+    let name = required(words, "NAME")?;
+    answer_question(rt, db, asking(Question::Revisions(name), &None))
 }
 
 /// Answers `cat DB NAME [--rev N]`.
-pub fn run_cat(rt: &HostRuntime, words: CatWords<'_>) -> Result<Output, Failure>
-    ensures { AnswersCat (given_cat words.entry) result }
+pub fn run_cat(rt: &HostRuntime, words: &ArgMatches<'_>) -> Result<Printed, Failure>
+    ensures { spec.AnswersCat (rows_in words.now) result }
 {
-    let rev = match words.rev {
-        Some(word) => Some(read_number(rt.alloc(), Argument::Rev, word)?),
-        None => None,
-    };
-    let question = FileQuestion::Text(words.name, rev);
-    answer_question(rt, words.db, SiteQuestion::OnFile(question))
+    let db = required(words, "DB")?;
+    let name = required(words, "NAME")?;
+    let rev = read_revision(rt.alloc(), given(words, "rev"))?;
+    answer_question(rt, db, asking(Question::Text(name, rev), &None))
+}
+
+/// Parses the number of a revision, if it is given.
+fn read_revision(alloc: Global, word: Option<&str>) -> Result<Option<u32>, Failure>
+    ensures { spec.ParsesRevision (option_map (λ word. word.now) word.entry) result }
+{
+    match word {
+        Some(word) => Ok(Some(read_number(alloc, "--rev", word)?)),
+        None => Ok(None),
+    }
 }
 
 /// Answers `proposal DB NAME`.
-pub fn run_proposal(rt: &HostRuntime, words: ProposalWords<'_>) -> Result<Output, Failure>
-    ensures { AnswersProposal (given_proposal words.entry) result }
+pub fn run_proposal(rt: &HostRuntime, words: &ArgMatches<'_>) -> Result<Printed, Failure>
+    ensures { spec.AnswersProposal (rows_in words.now) result }
 {
-    let question = FileQuestion::Proposal(words.name);
-    answer_question(rt, words.db, SiteQuestion::OnFile(question))
+    let db = required(words, "DB")?;
+    let name = required(words, "NAME")?;
+    answer_question(rt, db, asking(Question::Proposal(name), &None))
+}
+
+/// Answers `files DB`.
+pub fn run_files(rt: &HostRuntime, words: &ArgMatches<'_>) -> Result<Printed, Failure>
+    ensures { spec.AnswersFiles (rows_in words.now) result }
+{
+    let db = required(words, "DB")?;
+    answer_question(rt, db, asking(Question::Files, &None))
+}
+
+/// Returns a question whose answer is printed with as whom a client acts, if its credential is given.
+fn asking<'a>(question: Question<'a>, own: &'a Option<Cred>) -> Asked<'a>
+    ensures { asked_of result ≡ spec.asking (question_of question.entry) own.now }
+{
+    Asked {
+        question,
+        own,
+        all: false,
+        file: "",
+    }
+}
+
+/// Answers `impact DB NAME FILE [--all]`, or with `--proposal` in the place of FILE.
+pub fn run_impact<I: BufRead>(
+    rt: &HostRuntime,
+    words: &ArgMatches<'_>,
+    input: &mut I,
+) -> Result<Printed, Failure>
+    ensures { spec.AnswersImpact (rows_in words.now) (I.remaining input.old) result }
+{
+    let db = required(words, "DB")?;
+    let name = required(words, "NAME")?;
+    let all = is_set(words, "all");
+    match (given(words, "FILE"), is_set(words, "proposal")) {
+        (Some(_), true) => Err(Failure::BesideProposal),
+        (Some(file), false) => foresee_file(rt, db, name, file, all, input),
+        (None, true) => answer_question(
+            rt,
+            db,
+            foreseeing(Question::ForeseeProposal(name), "", &None, all),
+        ),
+        (None, false) => Err(Failure::of_missing("FILE")),
+    }
+}
+
+/// Answers `impact` by the text of FILE, which is read before the database is.
+fn foresee_file<I: BufRead>(
+    rt: &HostRuntime,
+    db: &str,
+    name: &str,
+    file: &str,
+    all: bool,
+    input: &mut I,
+) -> Result<Printed, Failure>
+    ensures { spec.AnswersImpactBy db.now name.now all (Some file.now) false (I.remaining input.old) result }
+{
+    let text = read_text(rt, "FILE", file, input)?;
+    let question = Question::Foresee(name, text.as_str());
+    answer_question(rt, db, foreseeing(question, file, &None, all))
+}
+
+/// Returns a question on what would change, with whether changes that matter to no client are printed, too.
+fn foreseeing<'a>(
+    question: Question<'a>,
+    file: &'a str,
+    own: &'a Option<Cred>,
+    all: bool,
+) -> Asked<'a>
+    requires { own.now ≡ None }
+    ensures { asked_of result ≡ spec.foreseeing (question_of question.entry) all }
+{
+    Asked {
+        question,
+        own,
+        all,
+        file,
+    }
 }

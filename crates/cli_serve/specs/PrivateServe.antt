@@ -1,11 +1,12 @@
--- What `serve` comes to. (this project's own)
-use Rattle.std.specs.Prelude.{◌≡◌, ℕ, List, Result}
-use Rattle.cli_files.specs.declared.failure.Failure.{Failure}
-use Rattle.cli_serve.specs.ServeCommand.{AnswersService, RunsAs, told}
+-- What `serve` comes to once its words are parsed. (this project's own)
+use Rattle.std.specs.Prelude.{IfOk, Result}
+use Rattle.cli_output.specs.declared.failure.Failure.{Failure}
+use Rattle.cli_output.specs.declared.printed.Printed.{Printed}
+use Rattle.cli_serve.specs.ServeCommand.{AnswersService, Serves, told}
 use Rattle.cli_serve.specs.declared.serve_command.Asked.{Asked}
-use Rattle.cli_serve.specs.declared.serve_command.Outcome.{Outcome}
+use Rattle.cli_serve.specs.declared.serve_command.Started.{Started}
 
--- what is printed of a service that is asked so, and the service behind it
-pub record Starts (path : List ℕ) (asked : Asked) (result : Result Outcome Failure) : Type 0 where
-  pub answered : AnswersService path asked.port (told result)
-  pub runs : RunsAs (λ found. found ≡ asked) result
+-- what is printed of a service that is asked so, and that the service serves it
+pub record Starts (asked : Asked) (result : Result Started (Result Printed Failure)) : Type 0 where
+  pub answered : AnswersService asked.db.now asked.port (told result)
+  pub serves : IfOk result (Serves asked)

@@ -1,20 +1,18 @@
--- The output of `serve` by its words, and the service that runs behind it. (this project's own)
-use Rattle.std.specs.Prelude.{◌≡◌, ◌⊎◌, ℕ, ◌++◌, ◌∷◌, List, [], Option, Some, None, Result, Ok, Err, IsErrAnd, codes}
+-- The answer of `serve` by its words, and the service that runs after it. (this project's own)
+use Rattle.std.specs.Prelude.{◌≡◌, ◌⊎◌, ◌×◌, ℕ, ◌++◌, ◌∷◌, List, [], Option, Some, None, Result, Ok, Err, codes}
 use Rattle.std.specs.Fmt.{decimal}
 use Rattle.std.specs.String.{string_bytes}
-use Rattle.cli_line.specs.CommandLine.{ServeWords}
-use Rattle.cli_files.specs.Files.{IsUnread}
-use Rattle.cli_files.specs.declared.bad_argument.Argument.TheVariants as name
-use Rattle.cli_files.specs.declared.failure.Failure.{Failure}
-use Rattle.cli_files.specs.declared.failure.Failure.TheVariants.{Memory, Unbound}
-use Rattle.cli_files.specs.declared.files.FileArgument.TheVariants.{Database}
-use Rattle.cli_words.specs.Arguments.{IsBadCount, IsBadPort, count_number, port_number}
-use Rattle.cli_output.specs.declared.output.Output.{Output}
-use Rattle.cli_output.specs.declared.output.Output.TheVariants.{Done}
-use Rattle.cli_database.specs.Opening.{TellsNoDesk}
+use Rattle.clap.specs.Words.{Row, first_of}
+use Rattle.cli_output.specs.Failure.{IsUnread}
+use Rattle.cli_output.specs.Printed.{Prints}
+use Rattle.cli_output.specs.declared.failure.Failure.{Failure}
+use Rattle.cli_output.specs.declared.failure.Failure.TheVariants.{Memory, Unbound}
+use Rattle.cli_output.specs.declared.printed.Printed.{Printed}
+use Rattle.cli_words.specs.Values.{IsBadCount, IsBadPort, count_number, port_number}
+use Rattle.cli_words.specs.Words.{After, ByWord}
+use Rattle.cli_desk.specs.Desks.{HasNoDesk}
 use Rattle.cli_serve.specs.declared.serve_command.Asked.{Asked}
-use Rattle.cli_serve.specs.declared.serve_command.Outcome.{Outcome}
-use Rattle.cli_serve.specs.declared.serve_command.Service.{Service}
+use Rattle.cli_serve.specs.declared.serve_command.Started.{Started}
 
 -- the limit of time that SECONDS writes, in seconds; 30 if it is not given
 abbrev pub limit_number : Option (List ℕ) → Option ℕ
@@ -23,28 +21,35 @@ limit_number None = Some 30
 
 -- the failure names SECONDS; out of memory says nothing
 abbrev pub IsBadLimit : Option (List ℕ) → Failure → Type 0
-IsBadLimit (Some word) failure = IsBadCount name.Timeout word failure
+IsBadLimit (Some word) failure = IsBadCount (codes "--timeout") word failure
 IsBadLimit None failure = ⊥
 
--- the words ask for this port, this number of connections, and this limit of time
-pub record IsAsked (words : ServeWords) (asked : Asked) : Type 0 where
-  pub port : port_number words.port ≡ Some asked.port
-  pub connections : count_number words.connections ≡ Some asked.connections
-  pub seconds : limit_number words.timeout ≡ Some asked.seconds
+-- the words of N, M and SECONDS ask for this database, this port, this number of connections, and this limit of time
+pub record IsAsked (db port connections : List ℕ) (timeout : Option (List ℕ)) (asked : Asked) : Type 0 where
+  pub db_is : asked.db.now ≡ db
+  pub port_is : port_number port ≡ Some asked.port
+  pub connections_are : count_number connections ≡ Some asked.connections
+  pub seconds_are : limit_number timeout ≡ Some asked.seconds
 
 -- the failure names the first number, by what N, M and SECONDS are read as, that cannot be parsed
-abbrev pub IsBadAsked : ServeWords → Option ℕ → Option ℕ → Option ℕ → Failure → Type 0
-IsBadAsked words None connections seconds failure = IsBadPort words.port failure
-IsBadAsked words (Some port) None seconds failure = IsBadCount name.Connections words.connections failure
-IsBadAsked words (Some port) (Some connections) None failure = IsBadLimit words.timeout failure
-IsBadAsked words (Some port) (Some connections) (Some seconds) failure = ⊥
+abbrev pub IsBadNumber : List ℕ → List ℕ → Option (List ℕ) → Option ℕ → Option ℕ → Option ℕ → Failure → Type 0
+IsBadNumber port connections timeout None read_connections read_seconds failure = IsBadPort port failure
+IsBadNumber port connections timeout (Some number) None read_seconds failure = IsBadCount (codes "--connections") connections failure
+IsBadNumber port connections timeout (Some number) (Some count) None failure = IsBadLimit timeout failure
+IsBadNumber port connections timeout (Some number) (Some count) (Some seconds) failure = ⊥
 
 -- what the words ask, or which number cannot be parsed
-abbrev pub ReadsAsked : ServeWords → Result Asked Failure → Type 0
-ReadsAsked words (Ok asked) = IsAsked words asked
-ReadsAsked words (Err failure) = IsBadAsked words (port_number words.port) (count_number words.connections) (limit_number words.timeout) failure
+abbrev pub ReadsNumbers : List ℕ → List ℕ → List ℕ → Option (List ℕ) → Result Asked Failure → Type 0
+ReadsNumbers db port connections timeout (Ok asked) = IsAsked db port connections timeout asked
+ReadsNumbers db port connections timeout (Err failure) = IsBadNumber port connections timeout (port_number port) (count_number connections) (limit_number timeout) failure
 
--- the line that tells where a service is
+-- what `serve DB --port N --connections M [--timeout SECONDS]` asks
+abbrev pub ReadsAsked : List Row → Result Asked Failure → Type 0
+ReadsAsked rows =
+    ByWord (codes "DB") rows (λ db. ByWord (codes "port") rows (λ port. ByWord (codes "connections") rows (λ connections.
+    ReadsNumbers db port connections (first_of (codes "timeout") rows))))
+
+-- the line that says where a service is
 abbrev pub listening_line : ℕ → List ℕ
 listening_line port = codes "listening 127.0.0.1:" ++ decimal port ++ 10 ∷ []
 
@@ -54,35 +59,27 @@ IsUnbound port (Unbound found error) = found ≡ port
 IsUnbound port Memory = Unit {0}
 IsUnbound port failure = ⊥
 
--- The output of a service of the database at this path, at this port: where it is; or that there is no desk, or the database cannot be
--- read, or the port not be bound. Out of memory says nothing.
-abbrev pub AnswersService : List ℕ → ℕ → Result Output Failure → Type 0
-AnswersService path port (Ok (Done text)) = string_bytes text ≡ listening_line port
-AnswersService path port (Ok output) = TellsNoDesk path (Ok output)
-AnswersService path port (Err failure) = IsUnread Database path failure ⊎ IsUnbound port failure
+-- The answer of a service of the database at this path, at this port: where it is; or that there is no desk, that the database cannot
+-- be read, or that the port cannot be bound. Out of memory says nothing.
+abbrev pub AnswersService : List ℕ → ℕ → Result Printed Failure → Type 0
+AnswersService path port (Ok printed) = Prints 0 (listening_line port) printed ⊎ HasNoDesk path (Ok printed)
+AnswersService path port (Err failure) = IsUnread (codes "DB") path failure ⊎ IsUnbound port failure
 
--- the output by what N, M and SECONDS are read as
-abbrev pub AnswersServeBy : ServeWords → Option ℕ → Option ℕ → Option ℕ → Result Output Failure → Type 0
-AnswersServeBy words (Some port) (Some connections) (Some seconds) result = AnswersService words.db port result
-AnswersServeBy words port connections seconds result = IsErrAnd result (IsBadAsked words port connections seconds)
+-- the answer of `serve` by its words: what they ask is read first
+abbrev pub AnswersServe : List Row → Result Printed Failure → Type 0
+AnswersServe rows = After (ReadsAsked rows) (λ asked. AnswersService asked.db.now asked.port)
 
--- the output of `serve` by its words
-abbrev pub AnswersServe : ServeWords → Result Output Failure → Type 0
-AnswersServe words result = AnswersServeBy words (port_number words.port) (count_number words.connections) (limit_number words.timeout) result
+-- what is printed of a service that starts, or in its place
+abbrev pub told : Result Started (Result Printed Failure) → Result Printed Failure
+told (Ok started) = Ok started.printed
+told (Err answer) = answer
 
--- what a command that comes to this prints, or why it has no answer
-abbrev pub told : Result Outcome Failure → Result Output Failure
-told (Ok outcome) = Ok outcome.output
-told (Err failure) = Err failure
+-- a service serves what is asked, and its line is printed before
+pub record Serves (asked : Asked) (started : Started) : Type 0 where
+  pub prints : Prints 0 (listening_line asked.port) started.printed
+  pub connections_are : started.service.connections ≡ asked.connections
+  pub seconds_are : started.service.seconds ≡ asked.seconds
 
--- a service that is asked so stands behind a text that is printed, and none behind another output
-abbrev pub RunsBehind : (Asked → Type 0) → Output → Option Service → Type 0
-RunsBehind Asks (Done text) (Some service) = Asks service.asked
-RunsBehind Asks (Done text) None = ⊥
-RunsBehind Asks output (Some service) = ⊥
-RunsBehind Asks output None = Unit {0}
-
--- behind the line that tells where a service is runs just the service that is asked for
-abbrev pub RunsAs : (Asked → Type 0) → Result Outcome Failure → Type 0
-RunsAs Asks (Ok outcome) = RunsBehind Asks outcome.output outcome.service
-RunsAs Asks (Err failure) = Unit {0}
+-- a service serves what the words ask
+abbrev pub IsStartedBy : List Row → Started → Type 0
+IsStartedBy rows started = (asked : Asked) × ReadsAsked rows (Ok asked) × Serves asked started

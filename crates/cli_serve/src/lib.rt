@@ -1,5 +1,4 @@
-//! A desk behind a TCP listener: connections are accepted and served one after another. And the command `serve`, which does so with
-//! the desk of a database.
+//! The command `serve`: the desk of a database behind a TCP listener, which accepts and serves one connection after another.
 //!
 //! Its promise: whatever the peers and the network did, the desk is one after a run over some messages. How long a peer is waited
 //! for is not promised.

@@ -2,23 +2,23 @@
 //!
 //! It ends in two steps: what it prints is known once its port is bound, and nothing is accepted before that is printed.
 
-ghost use Rattle.std.specs.Prelude.{◌≡◌, ℕ, IfOk, List, MatchResult, None, Some};
+ghost use Rattle.std.specs.Prelude.{◌≡◌, ℕ, IfErr, IfOk, List, MatchResult, None, Some};
 ghost use Rattle.std.specs.Option.{option_map};
 ghost use Rattle.std.specs.String.{string_bytes};
-ghost use Rattle.cli_words.specs.Words.{given_serve};
+ghost use Rattle.cli_words.specs.Words.{rows_in};
 ghost use Rattle.cli_serve.specs.PrivateServe.{Starts};
-ghost use Rattle.cli_serve.specs.ServeCommand.{AnswersServe, IsAsked, IsBadLimit, IsUnbound, ReadsAsked, RunsAs, limit_number, listening_line, told};
+ghost use Rattle.cli_serve.specs.ServeCommand.{AnswersServe, IsBadLimit, IsStartedBy, IsUnbound, ReadsAsked, limit_number, listening_line, told};
 
 use crate::serving::serve_on;
-use cli_database::View;
-use cli_database::opening::{check_file, open_desk};
+use clap::ArgMatches;
 use cli_database_files::database_file::plain_path;
 use cli_database_files::log_file::{log_to_make, remove_log};
-use cli_files::bad_argument::Argument;
-use cli_files::failure::Failure;
-use cli_output::output::Output;
-use cli_words::arguments::{read_count, read_port};
-use cli_words::database_words::ServeWords;
+use cli_desk::View;
+use cli_desk::desks::{check_file, open_desk};
+use cli_output::failure::Failure;
+use cli_output::printed::Printed;
+use cli_words::values::{read_count, read_port};
+use cli_words::words::{given, required};
 use desk_store::Desk;
 use sqlite::{FileFrom, FileStore, Wary};
 use std::alloc::{AllocError, Global};
@@ -32,7 +32,8 @@ const DEFAULT_SECONDS: u32 = 30;
 
 /// What `serve` is asked.
 #[derive(Clone, Copy)]
-pub struct Asked {
+pub struct Asked<'a> {
+    pub db: &'a str,
     /// The TCP port of 127.0.0.1.
     pub port: u16,
     /// How many connections are served.
@@ -41,11 +42,11 @@ pub struct Asked {
     pub seconds: u32,
 }
 
-/// What a command comes to: what it prints, and the service that runs behind it, if it has one.
+/// A service that can run, with what is printed of it before it does.
 #[derive(Drop)]
-pub struct Outcome {
-    pub output: Output,
-    pub service: Option<Service>,
+pub struct Started {
+    pub printed: Printed,
+    pub service: Service,
 }
 
 /// A service whose desk is open and whose port is bound. Nothing is accepted yet.
@@ -53,58 +54,57 @@ pub struct Outcome {
 pub struct Service {
     desk: Desk<FileStore<FileFrom<Wary>>, View>,
     listener: TcpListener,
-    asked: Asked,
+    /// How many connections are served.
+    pub connections: u32,
+    /// How long a read or a write of a connection waits, in seconds; 0 for no limit.
+    pub seconds: u32,
     /// The path of the log of its database, if the log was made for it.
     log: Option<String>,
-}
-
-impl Outcome {
-    /// Returns the outcome of a command that only prints.
-    pub fn printed(output: Output) -> Outcome
-        ensures { (result.output ≡ output) × (result.service ≡ None) }
-    {
-        Outcome {
-            output,
-            service: None,
-        }
-    }
 }
 
 impl Service {
     /// Serves its connections, one after another.
     pub fn run(&mut self, rt: &HostRuntime) {
-        let limit = Duration::from_secs(u64::from(self.asked.seconds));
-        let connections = self.asked.connections;
+        let limit = Duration::from_secs(u64::from(self.seconds));
+        let connections = self.connections;
         serve_on(rt, &mut self.desk, &self.listener, connections, Some(limit));
     }
 
-    /// Ends. A log that was made for nothing goes before the lock goes with the desk: behind that, another process may write it.
+    /// Ends. A log that was made for nothing goes before the lock goes with the desk: after that, another process may write it.
     pub fn close(self, rt: &HostRuntime) {
         remove_log(rt, &self.log);
         drop(self);
     }
 }
 
-/// Answers `serve DB --port N --connections M [--timeout SECONDS]`. The numbers are parsed from left to right, then the database
-/// is opened, and then the port is bound.
-pub fn run_serve(rt: &HostRuntime, words: ServeWords<'_>) -> Result<Outcome, Failure>
-    ensures answered { AnswersServe (given_serve words.entry) (told result) }
-    ensures asked { RunsAs (IsAsked (given_serve words.entry)) result }
+/// Answers `serve DB --port N --connections M [--timeout SECONDS]`: with the service that is to run once its line is printed, or
+/// with what is printed in its place. The numbers are parsed from left to right, then the database is opened, and then the port is
+/// bound.
+pub fn run_serve(
+    rt: &HostRuntime,
+    words: &ArgMatches<'_>,
+) -> Result<Started, Result<Printed, Failure>>
+    ensures answered { AnswersServe (rows_in words.now) (told result) }
+    ensures asked { IfOk result (IsStartedBy (rows_in words.now)) }
 {
     match read_asked(rt.alloc(), words) {
-        Ok(asked) => start(rt, words.db, asked),
-        Err(failure) => Err(failure),
+        Ok(asked) => start(rt, asked),
+        Err(failure) => Err(Err(failure)),
     }
 }
 
-/// Parses the numbers, from left to right.
-fn read_asked(alloc: Global, words: ServeWords<'_>) -> Result<Asked, Failure>
-    ensures { ReadsAsked (given_serve words.entry) result }
+/// Parses the words, the numbers from left to right.
+fn read_asked<'a>(alloc: Global, words: &ArgMatches<'a>) -> Result<Asked<'a>, Failure>
+    ensures { ReadsAsked (rows_in words.now) result }
 {
-    let port = read_port(alloc, words.port)?;
-    let connections = read_count(alloc, Argument::Connections, words.connections)?;
-    let seconds = read_limit(alloc, words.timeout)?;
+    let db = required(words, "DB")?;
+    let port_word = required(words, "port")?;
+    let connections_word = required(words, "connections")?;
+    let port = read_port(alloc, port_word)?;
+    let connections = read_count(alloc, "--connections", connections_word)?;
+    let seconds = read_limit(alloc, given(words, "timeout"))?;
     Ok(Asked {
+        db,
         port,
         connections,
         seconds,
@@ -117,46 +117,41 @@ fn read_limit(alloc: Global, word: Option<&str>) -> Result<u32, Failure>
         MatchResult result (λ number. limit_number given ≡ Some number) (λ failure. (limit_number given ≡ None) × IsBadLimit given failure) }
 {
     match word {
-        Some(word) => read_count(alloc, Argument::Timeout, word),
+        Some(word) => read_count(alloc, "--timeout", word),
         None => Ok(DEFAULT_SECONDS),
     }
 }
 
 /// Opens the database and binds the port, if its file can be opened for edits.
-fn start(rt: &HostRuntime, db: &str, asked: Asked) -> Result<Outcome, Failure>
-    ensures { Starts db.now asked result }
+fn start(rt: &HostRuntime, asked: Asked<'_>) -> Result<Started, Result<Printed, Failure>>
+    ensures { Starts asked.entry result }
 {
-    match check_file(rt, db) {
-        Ok(()) => start_on(rt, db, asked),
-        Err(answer) => printing(answer),
+    match check_file(rt, asked.db) {
+        Ok(()) => start_on(rt, asked),
+        Err(answer) => Err(answer),
     }
 }
 
 /// Opens the database and binds the port. What allocates comes before the log is made.
-fn start_on(rt: &HostRuntime, db: &str, asked: Asked) -> Result<Outcome, Failure>
-    ensures { Starts db.now asked result }
+fn start_on(rt: &HostRuntime, asked: Asked<'_>) -> Result<Started, Result<Printed, Failure>>
+    ensures { Starts asked.entry result }
 {
-    let line = listening_line(rt.alloc(), asked.port)?;
-    let path = plain_path(rt.alloc(), db)?;
-    let log = log_to_make(rt, db)?;
-    match open_desk(rt, db, path.as_str(), &log, Wary) {
+    let Ok(line) = listening_line(rt.alloc(), asked.port) else {
+        return Err(Err(Failure::Memory));
+    };
+    let Ok(path) = plain_path(rt.alloc(), asked.db) else {
+        return Err(Err(Failure::Memory));
+    };
+    let Ok(log) = log_to_make(rt, asked.db) else {
+        return Err(Err(Failure::Memory));
+    };
+    match open_desk(rt, asked.db, path.as_str(), &log, Wary) {
         Ok(desk) => listen(rt, desk, asked, log, line),
-        Err(answer) => printing(answer),
+        Err(answer) => Err(answer),
     }
 }
 
-/// Returns the outcome of a command that only prints, or why it has no answer.
-pub fn printing(answer: Result<Output, Failure>) -> Result<Outcome, Failure>
-    ensures told { told result ≡ answer }
-    ensures nothing_runs { IfOk result (λ outcome. outcome.service ≡ None) }
-{
-    match answer {
-        Ok(output) => Ok(Outcome::printed(output)),
-        Err(failure) => Err(failure),
-    }
-}
-
-/// Writes the line that tells where the service is.
+/// Writes the line that says where the service is.
 fn listening_line(alloc: Global, port: u16) -> Result<String, AllocError>
     ensures { IfOk result (λ text. string_bytes text ≡ listening_line port) }
 {
@@ -167,30 +162,32 @@ fn listening_line(alloc: Global, port: u16) -> Result<String, AllocError>
 fn listen(
     rt: &HostRuntime,
     desk: Desk<FileStore<FileFrom<Wary>>, View>,
-    asked: Asked,
+    asked: Asked<'_>,
     log: Option<String>,
     line: String,
-) -> Result<Outcome, Failure>
+) -> Result<Started, Result<Printed, Failure>>
     requires { string_bytes line ≡ listening_line asked.port }
-    ensures { (path : List ℕ) → Starts path asked result }
+    ensures { Starts asked.entry result }
 {
     match TcpListener::bind(rt, (Ipv4Addr::LOCALHOST, asked.port)) {
-        Ok(listener) => {
-            let service = Service {
+        Ok(listener) => Ok(Started {
+            printed: Printed {
+                status: 0,
+                text: line,
+                note: String::new(rt.alloc()),
+            },
+            service: Service {
                 desk,
                 listener,
-                asked,
+                connections: asked.connections,
+                seconds: asked.seconds,
                 log,
-            };
-            Ok(Outcome {
-                output: Output::Done(line),
-                service: Some(service),
-            })
-        }
+            },
+        }),
         Err(error) => {
             remove_log(rt, &log);
             drop(desk);
-            Err(unbound(asked.port, error))
+            Err(Err(unbound(asked.port, error)))
         }
     }
 }

@@ -35,3 +35,15 @@ module _ {T : Type 0} where
   -- the answer by the words of an argument that has to be given once or more
   abbrev pub ByWords : List ℕ → List Row → (List (List ℕ) → Result T Failure → Type 0) → Result T Failure → Type 0
   ByWords name rows Answers result = AnswersBy (all_of name rows) Answers result
+
+module _ {A T : Type 0} where
+  -- what comes after a step: the answer of what it gives, or its failure
+  abbrev pub Continues : Result A Failure → (A → Result T Failure → Type 0) → Result T Failure → Type 0
+  Continues (Ok value) Next result = Next value result
+  Continues (Err failure) Next result = result ≡ Err failure
+
+  -- a step is taken first, and then what comes after it
+  pub record After (IsStep : Result A Failure → Type 0) (Next : A → Result T Failure → Type 0) (result : Result T Failure) : Type 0 where
+    pub step : Result A Failure
+    pub is : IsStep step
+    pub next : Continues step Next result

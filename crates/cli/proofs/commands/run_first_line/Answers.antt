@@ -1,7 +1,6 @@
 -- The line that was read is answered, or it could not be read.
 use Rattle.std.proofs.Common.{inl, inr, subst, List, ℕ}
 use Rattle.cli_files.specs.Input.{first_line}
-use Rattle.cli_serve.specs.ServeCommand.{told}
 use Rattle.cli.specs.Commands.{AnswersLine}
 use Rattle.cli.proofs.commands.run_first_line.Goals as goal
 
@@ -10,7 +9,7 @@ returns-in-Ok g c = inr (record {
   line = c.in-Ok.bytes.items;
   first = c.in-Ok.ensures;
   rest = g.I.Read.remaining c.read_line.new.input;
-  answers = subst (λ (line : List ℕ). AnswersLine (first_line line) (g.I.Read.remaining c.read_line.new.input) (told c.run_line.result)) c.as_slice.ensures.value c.run_line.ensures;
+  answers = subst (λ (line : List ℕ). AnswersLine (first_line line) (g.I.Read.remaining c.read_line.new.input) c.run_line.result) c.as_slice.ensures.value c.run_line.ensures;
 })
 
 pub returns-in-Err : goal.returns-in-Err

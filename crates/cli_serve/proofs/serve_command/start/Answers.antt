@@ -3,4 +3,4 @@ use Rattle.cli_serve.proofs.ServeAnswers.{starts_nothing}
 use Rattle.cli_serve.proofs.serve_command.start.Goals as goal
 
 pub returns-in-Err : goal.returns-in-Err
-returns-in-Err c = starts_nothing c.args.db.now c.args.asked c.in-Err.answer c.printing.result c.in-Err.ensures c.printing.ensures.told c.printing.ensures.nothing_runs
+returns-in-Err c = starts_nothing c.args.asked c.in-Err.answer c.in-Err.ensures

@@ -1,0 +1,2 @@
+pub mod DeskAnswers
+pub mod Writing

@@ -1,8 +1,0 @@
--- The lines so far are written.
-use Rattle.std.proofs.Common.{◌≡◌, take}
-use Rattle.std.specs.String.{string_bytes}
-use Rattle.cli_database.specs.FileOutputs.{log_text}
-use Rattle.cli_database.proofs.file_outputs.log_text.Given as goal
-
-abbrev pub invariant-loop-revision : goal.invariant-loop-revision
-invariant-loop-revision l = string_bytes l.text ≡ log_text l.name (take l.revision-index l.revisions)

@@ -1,0 +1,5 @@
+pub mod FileLines
+pub mod PrivateAnswering
+pub mod QuestionCommands
+pub mod Questions
+pub mod RevisionLines

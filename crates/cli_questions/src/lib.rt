@@ -1,0 +1,16 @@
+//! The commands that ask a database: what may be mounted, what its files say, which files there are, and what a text would change.
+//!
+//! Its promise: each answers by the history that a copy of the database holds, and stores nothing: of version 1, the copy alone
+//! is migrated. What is asked, and the answers as data, are desk_service's; this crate parses the words and prints the answers.
+//!
+//! ```text
+//! run_exports(&rt, words) // prints the directories of all exports lines
+//! ```
+#![tactic(auto)]
+
+mod answering;
+mod file_lines;
+mod notes;
+mod printing;
+pub mod question_commands;
+mod revision_lines;

@@ -1,0 +1,135 @@
+//! What standard error says beside the answer to a question. Nothing is promised of it.
+
+use crate::answering::Asked;
+use crate::revision_lines::counts_classes;
+use cli_desk::View;
+use cli_desk::desks::CopiedDesk;
+use cli_desk::refusals::{too_large_note, unknown_file_note};
+use cli_desk::site_notes::{NewText, edit_fault_note};
+use desk_core::Refusal;
+use desk_policy::SiteFault;
+use desk_service::{Answer, FileText, Foreseen, Looked, Question, answer};
+use std::alloc::{AllocError, Global};
+
+/// Says that the file of a question, its revision of the number that is asked for, or its proposal is not there.
+pub(crate) fn no_revision_note(
+    alloc: Global,
+    question: Question<'_>,
+) -> Result<String, AllocError> {
+    match question {
+        Question::Text(name, Some(rev)) => {
+            format!(in alloc; "exportdesk: NAME {name:?}: it has no revision {rev}\n")
+        }
+        Question::Text(name, None) | Question::Revisions(name) => {
+            format!(in alloc; "exportdesk: NAME {name:?}: it has no revision\n")
+        }
+        Question::Proposal(name) | Question::ForeseeProposal(name) => {
+            format!(in alloc; "exportdesk: NAME {name:?}: it has no proposal\n")
+        }
+        _ => Ok(String::new(alloc)),
+    }
+}
+
+/// Says who approved a revision of a file, or that it is read by profile 1; of another revision nothing.
+pub(crate) fn text_note(alloc: Global, name: &str, text: &FileText) -> Result<String, AllocError> {
+    let rev = text.rev;
+    if let Some(approver) = &text.approver {
+        let author = text.author.as_str();
+        let approver = approver.as_str();
+        return format!(in alloc;
+            "exportdesk: NAME {name:?}: revision {rev} is by {author:?}, approved by {approver:?}\n"
+        );
+    }
+    if counts_classes(name, text.profile) {
+        return format!(in alloc;
+            "exportdesk: NAME {name:?}: revision {rev} is read by profile 1: a -network without a prefix and a mask has that of its class\n"
+        );
+    }
+    Ok(String::new(alloc))
+}
+
+/// Says who proposes a text for a file, and on which revision.
+pub(crate) fn proposal_note(
+    alloc: Global,
+    name: &str,
+    author: &str,
+    base: u32,
+) -> Result<String, AllocError> {
+    format!(in alloc;
+        "exportdesk: NAME {name:?}: it is proposed by {author:?}, with --base {base}\n"
+    )
+}
+
+/// Says who proposes the text that is foreseen; or, if its file is guarded, that it would be proposed; and else nothing.
+pub(crate) fn foreseen_note(
+    alloc: Global,
+    question: Question<'_>,
+    foreseen: &Foreseen<'_, View>,
+) -> Result<String, AllocError> {
+    let name = foreseen_name(question);
+    if let Some(proposal) = foreseen.proposal {
+        return proposal_note(alloc, name, proposal.author.as_str(), proposal.base);
+    }
+    if foreseen.guarded {
+        return format!(in alloc;
+            "exportdesk: NAME {name:?}: it is guarded: put would propose this text, unless another custodian has proposed it\n"
+        );
+    }
+    Ok(String::new(alloc))
+}
+
+/// Returns the name of the file whose text is foreseen.
+fn foreseen_name<'a>(question: Question<'a>) -> &'a str {
+    match question {
+        Question::Foresee(name, _) | Question::ForeseeProposal(name) => name,
+        _ => "",
+    }
+}
+
+/// Says why a file cannot have a text.
+pub(crate) fn refusal_note(
+    alloc: Global,
+    desk: &CopiedDesk,
+    asked: Asked<'_>,
+    refusal: &Refusal,
+) -> Result<String, AllocError> {
+    match refusal {
+        Refusal::UnknownFile => unknown_file_note(alloc, foreseen_name(asked.question)),
+        Refusal::TooLarge => too_large_note(alloc, "FILE", asked.file),
+        Refusal::Fault(fault) => fault_note(alloc, desk, asked.question, fault),
+        _ => Ok(String::new(alloc)),
+    }
+}
+
+/// Says the fault that the site of a desk has with the text that is foreseen.
+fn fault_note(
+    alloc: Global,
+    desk: &CopiedDesk,
+    question: Question<'_>,
+    fault: &SiteFault,
+) -> Result<String, AllocError> {
+    match question {
+        Question::Foresee(file, text) => edit_fault_note(alloc, desk, NewText { file, text }, fault),
+        Question::ForeseeProposal(file) => proposal_fault_note(alloc, desk, file, fault),
+        _ => Ok(String::new(alloc)),
+    }
+}
+
+/// Says the fault that the site of a desk has with the proposal of a file.
+fn proposal_fault_note(
+    alloc: Global,
+    desk: &CopiedDesk,
+    file: &str,
+    fault: &SiteFault,
+) -> Result<String, AllocError> {
+    match answer(alloc, desk, Question::Proposal(file), Looked::Nothing)? {
+        Answer::Proposal(proposal) => {
+            let text = proposal.body.as_str();
+            edit_fault_note(alloc, desk, NewText { file, text }, fault)
+        }
+        other => {
+            drop(other);
+            Ok(String::new(alloc))
+        }
+    }
+}

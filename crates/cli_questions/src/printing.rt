@@ -1,0 +1,169 @@
+//! How the answer to a question is printed, with what standard error says beside it.
+
+ghost use Rattle.std.specs.Prelude.{◌≡◌, ℕ, IfOk, List};
+ghost use Rattle.std.specs.String.{string_bytes};
+ghost use Rattle.desk_check.specs.TryText.{answer_on};
+ghost use Rattle.desk_impact.specs.Report.{IsReport};
+ghost use Rattle.desk_policy.specs.Verdict.{verdict_result};
+ghost use Rattle.desk_service.specs.Foreseeing.{content_after, foreseen_of};
+ghost use Rattle.desk_service.specs.Questions.{ForeseenIs, answer_of, question_of};
+ghost use Rattle.cli_output.specs.Printed.{PrintsText};
+ghost use Rattle.cli_questions.specs.PrivateAnswering.{IsSound, TriesToPrint, TriesToPrintVerdict};
+ghost use Rattle.cli_questions.specs.Questions.{asked_of, file_in};
+
+use crate::answering::Asked;
+use crate::file_lines::files_text;
+use crate::notes::{foreseen_note, no_revision_note, proposal_note, refusal_note, text_note};
+use crate::revision_lines::log_text;
+use cli_desk::View;
+use cli_desk::desks::CopiedDesk;
+use cli_desk::refused::refused;
+use cli_output::failure::Failure;
+use cli_output::printed::Printed;
+use desk_check::try_text::printed_verdict;
+use desk_core::Foresight;
+use desk_impact::{Report, impact_report, lines_report};
+use desk_policy::{Policy, Verdict, all_exports, listing_text};
+use desk_service::{Answer, FileText, Foreseen, ProposalText, Question, Refused};
+use desk_tables::Cred;
+use desk_who::who_text;
+use std::alloc::{AllocError, Global};
+
+/// Prints the answer of a desk to a question.
+pub(crate) fn print_answer(
+    alloc: Global,
+    desk: &CopiedDesk,
+    asked: Asked<'_>,
+    answer: Answer<'_, View>,
+) -> Result<Printed, Failure>
+    requires { IsSound (answer_of (λ content. content) answer) }
+    ensures { TriesToPrint (asked_of asked.entry) (answer_of (λ content. content) answer.entry) result }
+{
+    match answer {
+        Answer::Verdict(policy, verdict) => print_verdict(alloc, policy, &verdict, asked.own),
+        Answer::Listing(policy, listing) => {
+            print_text(alloc, listing_text(alloc, policy, listing.as_slice()))
+        }
+        Answer::Exports(policy) => print_text(alloc, all_exports(alloc, policy)),
+        Answer::Who(policy, ranges) => {
+            print_text(alloc, who_text(alloc, policy, ranges.as_slice()))
+        }
+        Answer::Text(text) => print_revision(alloc, name_in(asked.question), &text),
+        Answer::Revisions(revisions) => print_text(
+            alloc,
+            log_text(alloc, name_in(asked.question), revisions.as_slice()),
+        ),
+        Answer::Proposal(proposal) => print_proposal(alloc, name_in(asked.question), &proposal),
+        Answer::NoRevision => {
+            let note = no_revision_note(alloc, asked.question)?;
+            refused(alloc, Refused::NoRevision, note)
+        }
+        Answer::Files(files) => print_text(alloc, files_text(alloc, &files)),
+        Answer::Foreseen(foreseen) => print_changes(alloc, asked, &foreseen),
+        Answer::Refused(refusal) => {
+            let note = refusal_note(alloc, desk, asked, &refusal)?;
+            refused(alloc, Refused::Edit(refusal), note)
+        }
+    }
+}
+
+/// Returns the name of the file that a question is on; empty if it is on none.
+fn name_in<'a>(question: Question<'a>) -> &'a str
+    ensures { result.now ≡ file_in (question_of question.entry) }
+{
+    match question {
+        Question::Text(name, _) | Question::Revisions(name) | Question::Proposal(name) => name,
+        _ => "",
+    }
+}
+
+/// Prints a text as it is, unless memory ran out for it.
+fn print_text(alloc: Global, text: Result<String, AllocError>) -> Result<Printed, Failure>
+    ensures { (bytes : List ℕ) → IfOk text (λ text. string_bytes text ≡ bytes) → PrintsText 0 bytes result }
+{
+    match text {
+        Ok(text) => Ok(Printed {
+            status: 0,
+            text,
+            note: String::new(alloc),
+        }),
+        Err(_) => Err(Failure::Memory),
+    }
+}
+
+/// Prints a verdict in a line, as `try` does, with as whom the client acts if its credential is given.
+fn print_verdict(
+    alloc: Global,
+    policy: &Policy,
+    verdict: &Verdict<'_>,
+    own: &Option<Cred>,
+) -> Result<Printed, Failure>
+    ensures { TriesToPrintVerdict (answer_on policy.now own.now (verdict_result verdict.now)) result }
+{
+    let mut tried = printed_verdict(alloc, policy, verdict, own)?;
+    tried.line.push('\n')?;
+    Ok(Printed {
+        status: if tried.granted { 0 } else { 1 },
+        text: tried.line,
+        note: String::new(alloc),
+    })
+}
+
+/// Prints the text of a revision. Standard error says who approved it, or that it is read by profile 1.
+fn print_revision(alloc: Global, name: &str, text: &FileText) -> Result<Printed, Failure>
+    ensures { PrintsText 0 text.now.body result }
+{
+    let note = text_note(alloc, name, text)?;
+    let body = String::from_str(alloc, text.body.as_str())?;
+    Ok(Printed {
+        status: 0,
+        text: body,
+        note,
+    })
+}
+
+/// Prints the text of a proposal. Standard error says who proposes it, and on which revision.
+fn print_proposal(alloc: Global, name: &str, proposal: &ProposalText) -> Result<Printed, Failure>
+    ensures { PrintsText 0 proposal.now.body result }
+{
+    let note = proposal_note(alloc, name, proposal.author.as_str(), proposal.base)?;
+    let body = String::from_str(alloc, proposal.body.as_str())?;
+    Ok(Printed {
+        status: 0,
+        text: body,
+        note,
+    })
+}
+
+/// Prints what would change. Standard error says who proposes the text, or that it would be proposed.
+fn print_changes(
+    alloc: Global,
+    asked: Asked<'_>,
+    foreseen: &Foreseen<'_, View>,
+) -> Result<Printed, Failure>
+    requires { IsSound (ForeseenIs (foreseen_of (λ content. content) foreseen.now)) }
+    ensures { TriesToPrint (asked_of asked.entry) (ForeseenIs (foreseen_of (λ content. content) foreseen.now)) result }
+{
+    let note = foreseen_note(alloc, asked.question, foreseen)?;
+    let report = report_of(alloc, foreseen, asked.all)?;
+    Ok(Printed {
+        status: if report.mattering == 0 { 0 } else { 1 },
+        text: report.text,
+        note,
+    })
+}
+
+/// Reports what would change.
+fn report_of(
+    alloc: Global,
+    foreseen: &Foreseen<'_, View>,
+    all: bool,
+) -> Result<Report, AllocError>
+    requires { IsSound (ForeseenIs (foreseen_of (λ content. content) foreseen.now)) }
+    ensures { let given = foreseen_of (λ content. content) foreseen.now in IfOk result (IsReport given.before (content_after given) all) }
+{
+    match &foreseen.foresight {
+        Foresight::Whole(after) => impact_report(alloc, foreseen.before, after, all),
+        Foresight::Lines(fs, lines) => lines_report(alloc, foreseen.before, lines, *fs, all),
+    }
+}

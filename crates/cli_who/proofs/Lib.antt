@@ -1,2 +1,0 @@
-pub mod CopyAnswers
-pub mod Telling
