@@ -1,12 +1,11 @@
-# Completes the words of exportdesk in bash.
+# Completes the words of exportdesk in bash. (Printed by docs/commands.)
 _exportdesk()
 {
     local word=${COMP_WORDS[COMP_CWORD]} before=${COMP_WORDS[COMP_CWORD - 1]} choices=--help
     local command=${COMP_WORDS[1]} count=0 is_value=no place
     COMPREPLY=()
     if [ "$COMP_CWORD" -eq 1 ]; then
-        choices='try split check clients compare init ask show exports who put impact log cat proposal files
-            write serve --help --version'
+        choices='try split check clients compare init ask show exports who put impact log cat proposal files write serve --help --version'
         mapfile -t COMPREPLY < <(compgen -W "$choices" -- "$word")
         return
     fi
@@ -14,9 +13,10 @@ _exportdesk()
     for ((place = 2; place < COMP_CWORD; place++)); do
         # (readline takes `=` and `:` for words of their own, so that `exports:/usr` is three)
         case $is_value:${COMP_WORDS[place]} in
-        no:--hosts | no:--networks | no:--passwd | no:--group | no:--netgroup | no:--site | no:--as) is_value=yes ;;
-        no:--base | no:--caller | no:--key | no:--key-file | no:--rev) is_value=yes ;;
-        no:--port | no:--connections | no:--timeout) is_value=yes ;;
+        no:--as | no:--base | no:--caller | no:--connections | \
+            no:--group | no:--hosts | no:--key | no:--key-file | \
+            no:--netgroup | no:--networks | no:--passwd | no:--port | \
+            no:--rev | no:--site | no:--timeout) is_value=yes ;;
         yes:=) ;;
         yes:*) is_value=no ;;
         no::) count=$((count - 1)) ;;
@@ -30,12 +30,12 @@ _exportdesk()
     clients) choices='--hosts --networks --passwd --group --netgroup --help' ;;
     compare) choices='--hosts --networks --passwd --group --netgroup --all --help' ;;
     ask) choices='--as --help' ;;
+    put) choices='--base --caller --key --key-file --help' ;;
     impact) choices='--all --proposal --help' ;;
-    put) choices='--base --caller --key-file --key --help' ;;
     cat) choices='--rev --help' ;;
     serve) choices='--port --connections --timeout --help' ;;
     esac
-    # Behind `exports:` stands a mount point.
+    # A mount point follows `exports:`.
     if [ "$word" = : ] || [ "$before" = : ]; then
         compopt -o filenames
         mapfile -t COMPREPLY < <(compgen -d -- "${word#:}")
@@ -47,7 +47,12 @@ _exportdesk()
         before=${COMP_WORDS[COMP_CWORD - 2]}
     fi
     case $command:$before:$word in
-    *:--hosts:* | *:--networks:* | *:--passwd:* | *:--group:* | *:--netgroup:* | put:--key-file:*)
+    check:--group:* | check:--hosts:* | check:--netgroup:* | check:--networks:* | \
+        check:--passwd:* | clients:--group:* | clients:--hosts:* | clients:--netgroup:* | \
+        clients:--networks:* | clients:--passwd:* | compare:--group:* | compare:--hosts:* | \
+        compare:--netgroup:* | compare:--networks:* | compare:--passwd:* | put:--key-file:* | \
+        try:--group:* | try:--hosts:* | try:--netgroup:* | try:--networks:* | \
+        try:--passwd:*)
         compopt -o filenames
         mapfile -t COMPREPLY < <(compgen -f -- "$word")
         ;;
@@ -55,8 +60,9 @@ _exportdesk()
         compopt -o filenames
         mapfile -t COMPREPLY < <(compgen -d -- "$word")
         ;;
-    try:--as:* | ask:--as:* | put:--base:* | put:--caller:* | put:--key:* | cat:--rev:*) ;;
-    serve:--port:* | serve:--connections:* | serve:--timeout:*) ;;
+    ask:--as:* | cat:--rev:* | put:--base:* | put:--caller:* | \
+        put:--key:* | serve:--connections:* | serve:--port:* | serve:--timeout:* | \
+        try:--as:*) ;;
     *:-?*) mapfile -t COMPREPLY < <(compgen -W "$choices" -- "$word") ;;
     *)
         case $command:$count in
@@ -69,13 +75,14 @@ _exportdesk()
         esac
         compopt -o filenames
         case $command:$count in
-        try:0 | check:0 | clients:0 | compare:[01] | split:[01]) mapfile -t COMPREPLY < <(compgen -f -- "$word") ;;
-        files:0 | write:0 | serve:0) mapfile -t COMPREPLY < <(compgen -f -- "$word") ;;
-        init:0 | ask:0 | show:0 | exports:0 | who:0 | put:[02] | impact:[02] | log:0 | cat:0 | proposal:0)
+        try:0 | split:0 | split:1 | check:0 | clients:0 | compare:0 | compare:1 | init:0 | \
+            ask:0 | show:0 | exports:0 | who:0 | put:0 | put:2 | impact:0 | impact:2 | \
+            log:0 | cat:0 | proposal:0 | files:0 | write:0 | serve:0)
             mapfile -t COMPREPLY < <(compgen -f -- "$word")
             ;;
-        try:1 | ask:1) ;;
-        try:* | check:* | clients:* | compare:* | init:1 | ask:2 | who:1 | write:1)
+        try:1 | ask:1 | show:1) ;;
+        try:2 | clients:1 | init:1 | ask:2 | who:1 | write:1 | try:* | check:* | \
+            clients:* | compare:*)
             mapfile -t COMPREPLY < <(compgen -d -- "$word")
             ;;
         esac
