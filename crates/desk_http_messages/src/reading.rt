@@ -64,13 +64,13 @@ pub fn read_on<R: Source>(
 /// Tests whether bytes wait as their first ones did, at which was looked.
 #[tactic(auto, using(crate::proofs::WaitLemmas::waits_without, crate::proofs::WaitLemmas::waits_body))]
 fn waits_still(bytes: &[u8], seen: usize, pending: Pending) -> bool
-    requires seen { seen < length bytes.now }
+    requires seen { seen ≤ length bytes.now }
     requires waiting { IsWaiting (take seen bytes.now) pending }
     ensures still { result ≡ true → IsWaiting bytes.now pending }
     ensures due { result ≡ false → IsDue pending seen bytes.now }
 {
     match pending {
-        Pending::Message | Pending::Head => false,
+        Pending::Message | Pending::Head => bytes.len() == seen,
         Pending::NoHead => bytes.len() < HEAD_LIMIT,
         Pending::Body(whole) => bytes.len() < whole,
     }

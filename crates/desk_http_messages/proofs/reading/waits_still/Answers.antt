@@ -1,8 +1,15 @@
-use Rattle.std.proofs.Common.{sym, subst, take}
+use Rattle.std.proofs.Common.{ℕ, List, arith, eqb-true, length, sym, subst, take}
 use Rattle.std.proofs.lemmas.Bool.{ltb-true}
+use Rattle.std.proofs.lemmas.List.{take_all}
 use Rattle.desk_http_messages.specs.Front.{IsWaiting}
 use Rattle.desk_http_messages.proofs.WaitLemmas.{waits_body, waits_without}
 use Rattle.desk_http_messages.proofs.reading.waits_still.Goals as goal
+
+pub returns-in-Message-clause-still : goal.returns-in-Message-clause-still
+returns-in-Message-clause-still c = λ same.
+    let bytes = c.args.bytes.now in
+    let all = eqb-true (length bytes) c.args.seen same in
+    subst (λ (l : List ℕ). IsWaiting l c.args.pending) (take_all c.args.seen bytes (omega (arith, all))) c.requires.waiting
 
 pub returns-in-NoHead-clause-still : goal.returns-in-NoHead-clause-still
 returns-in-NoHead-clause-still c = λ yes.
