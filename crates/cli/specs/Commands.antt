@@ -1,5 +1,5 @@
 -- What the program answers to the words of a command, and how it ends. (this project's own)
-use Rattle.std.specs.Prelude.{◌≡◌, ◌≢◌, ◌⊎◌, ◌×◌, ℕ, List, [], ◌∷◌, take, Option, Some, None, IfSome, Result, Ok, Err, IsErrAnd}
+use Rattle.std.specs.Prelude.{◌≡◌, ◌≢◌, ◌⊎◌, ℕ, List, [], ◌∷◌, take, Option, Some, None, IfSome, Result, Ok, Err, IsErrAnd}
 use Rattle.std.specs.Io.BufRead.{take_through}
 use Rattle.clap.specs.Words.{Row}
 use Rattle.clap.specs.declared.error.ErrorKind.{ErrorKind}

@@ -1,6 +1,5 @@
 -- The answers of the commands that ask a database, by their words. (this project's own)
-use Rattle.std.specs.Prelude.{◌≡◌, ◌×◌, ℕ, Bool, true, false, codes, List, [], Option, Some, None, Result, Ok, Err, IsErrAnd}
-use Rattle.std.specs.String.{string_bytes}
+use Rattle.std.specs.Prelude.{◌≡◌, ℕ, Bool, true, false, codes, List, [], Option, Some, None, Result, Ok, Err, IsErrAnd}
 use Rattle.clap.specs.Words.{Row, first_of}
 use Rattle.desk_text.specs.Address.{number_of, read_addr}
 use Rattle.desk_text.specs.Path.{read_path}
@@ -16,7 +15,7 @@ use Rattle.cli_output.specs.declared.printed.Printed.{Printed}
 use Rattle.cli_output.specs.Failure.{IsMissing}
 use Rattle.cli_words.specs.Values.{AnswersArgument, AnswersOwn, IsBadNumber, own_answer, revision_number}
 use Rattle.cli_words.specs.Words.{After, ByWord, is_set}
-use Rattle.cli_files.specs.Files.{ReadsText}
+use Rattle.cli_files.specs.Files.{HasText, LacksText}
 use Rattle.cli_questions.specs.Questions.{AnswersQuestion, Asked}
 
 -- HOST is parsed as an address, or refused
@@ -91,11 +90,16 @@ AnswersProposal rows = ByWord (codes "DB") rows (λ db. ByWord (codes "NAME") ro
 abbrev pub AnswersFiles : List Row → Result Printed Failure → Type 0
 AnswersFiles rows = ByWord (codes "DB") rows (λ db. AnswersQuestion db (asking Files None))
 
+-- FILE has this text, or it is said why it has none
+abbrev pub ReadsFile : List ℕ → Option (List ℕ) → Result (List ℕ) Failure → Type 0
+ReadsFile file known (Ok text) = HasText (codes "FILE") file known text
+ReadsFile file known (Err failure) = LacksText (codes "FILE") file known failure
+
 -- the answer of `impact` by FILE, and by whether the proposal stands in its place: FILE is read before the database is
 abbrev pub AnswersImpactBy : List ℕ → List ℕ → Bool → Option (List ℕ) → Bool → Option (List ℕ) → Result Printed Failure → Type 0
 AnswersImpactBy db name all (Some file) true known result = result ≡ Err BesideProposal
 AnswersImpactBy db name all (Some file) false known result =
-    After (ReadsText (codes "FILE") file known) (λ text. AnswersQuestion db (foreseeing (Foresee name (string_bytes text)) all)) result
+    After (ReadsFile file known) (λ text. AnswersQuestion db (foreseeing (Foresee name text) all)) result
 AnswersImpactBy db name all None true known result = AnswersQuestion db (foreseeing (ForeseeProposal name) all) result
 AnswersImpactBy db name all None false known result = IsErrAnd result IsMissing
 

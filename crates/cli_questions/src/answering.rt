@@ -27,11 +27,7 @@ pub struct Asked<'a> {
 }
 
 /// Answers a question by the database at a path.
-pub fn answer_question(
-    rt: &HostRuntime,
-    db: &str,
-    asked: Asked<'_>,
-) -> Result<Printed, Failure>
+pub fn answer_question(rt: &HostRuntime, db: &str, asked: Asked<'_>) -> Result<Printed, Failure>
     ensures { AnswersQuestion db.now (asked_of asked.entry) result }
 {
     match open_copied_desk(rt, db) {

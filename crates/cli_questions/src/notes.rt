@@ -109,7 +109,12 @@ fn fault_note(
     fault: &SiteFault,
 ) -> Result<String, AllocError> {
     match question {
-        Question::Foresee(file, text) => edit_fault_note(alloc, desk, NewText { file, text }, fault),
+        Question::Foresee(file, text) => edit_fault_note(
+            alloc,
+            desk,
+            NewText { file, text },
+            fault,
+        ),
         Question::ForeseeProposal(file) => proposal_fault_note(alloc, desk, file, fault),
         _ => Ok(String::new(alloc)),
     }

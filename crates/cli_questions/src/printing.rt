@@ -154,11 +154,7 @@ fn print_changes(
 }
 
 /// Reports what would change.
-fn report_of(
-    alloc: Global,
-    foreseen: &Foreseen<'_, View>,
-    all: bool,
-) -> Result<Report, AllocError>
+fn report_of(alloc: Global, foreseen: &Foreseen<'_, View>, all: bool) -> Result<Report, AllocError>
     requires { IsSound (ForeseenIs (foreseen_of (λ content. content) foreseen.now)) }
     ensures { let given = foreseen_of (λ content. content) foreseen.now in IfOk result (IsReport given.before (content_after given) all) }
 {

@@ -10,7 +10,7 @@ ghost use Rattle.cli_questions.specs.Questions.{asked_of};
 
 use crate::answering::{Asked, answer_question};
 use clap::ArgMatches;
-use cli_files::files::read_text;
+use cli_files::files::read_if_given;
 use cli_output::failure::Failure;
 use cli_output::printed::Printed;
 use cli_words::values::{read_credential, read_host, read_number, read_path};
@@ -154,7 +154,7 @@ fn foresee_file<I: BufRead>(
 ) -> Result<Printed, Failure>
     ensures { spec.AnswersImpactBy db.now name.now all (Some file.now) false (I.remaining input.old) result }
 {
-    let text = read_text(rt, "FILE", file, input)?;
+    let text = read_if_given(rt, "FILE", Some(file), input)?;
     let question = Question::Foresee(name, text.as_str());
     answer_question(rt, db, foreseeing(question, file, &None, all))
 }

@@ -10,7 +10,11 @@ use desk_store::Signature;
 use std::alloc::{AllocError, Global};
 
 /// Writes a line for each revision of a file.
-pub(crate) fn log_text(alloc: Global, name: &str, revisions: &[Signature]) -> Result<String, AllocError>
+pub(crate) fn log_text(
+    alloc: Global,
+    name: &str,
+    revisions: &[Signature],
+) -> Result<String, AllocError>
     ensures { IfOk result (λ text. string_bytes text ≡ spec.log_text name.now revisions.now) }
 {
     let mut text = String::new(alloc);

@@ -1,5 +1,5 @@
 -- The answer of `serve` by its words, and the service that runs after it. (this project's own)
-use Rattle.std.specs.Prelude.{◌≡◌, ◌⊎◌, ◌×◌, ℕ, ◌++◌, ◌∷◌, List, [], Option, Some, None, Result, Ok, Err, codes}
+use Rattle.std.specs.Prelude.{◌≡◌, ◌⊎◌, ℕ, ◌++◌, ◌∷◌, List, [], Option, Some, None, Result, Ok, Err, codes}
 use Rattle.std.specs.Fmt.{decimal}
 use Rattle.std.specs.String.{string_bytes}
 use Rattle.clap.specs.Words.{Row, first_of}
@@ -59,20 +59,11 @@ IsUnbound port (Unbound found error) = found ≡ port
 IsUnbound port Memory = Unit {0}
 IsUnbound port failure = ⊥
 
--- The answer of a service of the database at this path, at this port: where it is; or that there is no desk, that the database cannot
--- be read, or that the port cannot be bound. Out of memory says nothing.
-abbrev pub AnswersService : List ℕ → ℕ → Result Printed Failure → Type 0
-AnswersService path port (Ok printed) = Prints 0 (listening_line port) printed ⊎ HasNoDesk path (Ok printed)
-AnswersService path port (Err failure) = IsUnread (codes "DB") path failure ⊎ IsUnbound port failure
-
--- the answer of `serve` by its words: what they ask is read first
-abbrev pub AnswersServe : List Row → Result Printed Failure → Type 0
-AnswersServe rows = After (ReadsAsked rows) (λ asked. AnswersService asked.db.now asked.port)
-
--- what is printed of a service that starts, or in its place
-abbrev pub told : Result Started (Result Printed Failure) → Result Printed Failure
-told (Ok started) = Ok started.printed
-told (Err answer) = answer
+-- A service of the database at this path, at this port, does not start: there is no desk, the database cannot be read, or the port
+-- cannot be bound. Out of memory says nothing.
+abbrev pub RefusesService : List ℕ → ℕ → Result Printed Failure → Type 0
+RefusesService path port (Ok printed) = HasNoDesk path (Ok printed)
+RefusesService path port (Err failure) = IsUnread (codes "DB") path failure ⊎ IsUnbound port failure
 
 -- a service serves what is asked, and its line is printed before
 pub record Serves (asked : Asked) (started : Started) : Type 0 where
@@ -81,5 +72,18 @@ pub record Serves (asked : Asked) (started : Started) : Type 0 where
   pub seconds_are : started.service.seconds ≡ asked.seconds
 
 -- a service serves what the words ask
-abbrev pub IsStartedBy : List Row → Started → Type 0
-IsStartedBy rows started = (asked : Asked) × ReadsAsked rows (Ok asked) × Serves asked started
+abbrev pub StartsServe : List Row → Started → Type 0
+StartsServe rows started = (asked : Asked) × ReadsAsked rows (Ok asked) × Serves asked started
+
+-- in the place of a service stands why none starts that the words ask, or which of them cannot be parsed
+abbrev pub RefusesServe : List Row → Result Printed Failure → Type 0
+RefusesServe rows = After (ReadsAsked rows) (λ asked. RefusesService asked.db.now asked.port)
+
+-- the line of a service that the words ask is printed
+abbrev pub PrintsLine : List Row → Result Printed Failure → Type 0
+PrintsLine rows (Ok printed) = (asked : Asked) × ReadsAsked rows (Ok asked) × Prints 0 (listening_line asked.port) printed
+PrintsLine rows (Err failure) = ⊥
+
+-- the answer of `serve DB --port N --connections M [--timeout SECONDS]`: the line of a service, or why there is none
+abbrev pub AnswersServe : List Row → Result Printed Failure → Type 0
+AnswersServe rows result = PrintsLine rows result ⊎ RefusesServe rows result

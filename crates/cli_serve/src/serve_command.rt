@@ -2,12 +2,12 @@
 //!
 //! It ends in two steps: what it prints is known once its port is bound, and nothing is accepted before that is printed.
 
-ghost use Rattle.std.specs.Prelude.{◌≡◌, ℕ, IfErr, IfOk, List, MatchResult, None, Some};
+ghost use Rattle.std.specs.Prelude.{◌≡◌, IfErr, IfOk, MatchResult, None, Some};
 ghost use Rattle.std.specs.Option.{option_map};
 ghost use Rattle.std.specs.String.{string_bytes};
 ghost use Rattle.cli_words.specs.Words.{rows_in};
 ghost use Rattle.cli_serve.specs.PrivateServe.{Starts};
-ghost use Rattle.cli_serve.specs.ServeCommand.{AnswersServe, IsBadLimit, IsStartedBy, IsUnbound, ReadsAsked, limit_number, listening_line, told};
+ghost use Rattle.cli_serve.specs.ServeCommand.{IsBadLimit, IsUnbound, ReadsAsked, RefusesServe, StartsServe, limit_number, listening_line};
 
 use crate::serving::serve_on;
 use clap::ArgMatches;
@@ -84,8 +84,8 @@ pub fn run_serve(
     rt: &HostRuntime,
     words: &ArgMatches<'_>,
 ) -> Result<Started, Result<Printed, Failure>>
-    ensures answered { AnswersServe (rows_in words.now) (told result) }
-    ensures asked { IfOk result (IsStartedBy (rows_in words.now)) }
+    ensures started { IfOk result (StartsServe (rows_in words.now)) }
+    ensures refused { IfErr result (RefusesServe (rows_in words.now)) }
 {
     match read_asked(rt.alloc(), words) {
         Ok(asked) => start(rt, asked),
