@@ -19,6 +19,8 @@ use Rattle.desk_text.specs.Address.{addr_text, number_of}
 use Rattle.desk_who.specs.Runs.{Run}
 use Rattle.desk_core.specs.declared.edit.Refusal.{Refusal}
 use Rattle.desk_core.specs.declared.edit.Refusal.TheVariants as refusal
+use Rattle.desk_store.specs.declared.desk.Signature.{Signature}
+use Rattle.desk_service.specs.declared.questions.FileText.{FileText}
 use Rattle.desk_http_bodies.specs.Edits.{refused_data}
 use Rattle.desk_http_bodies.specs.Exports.{dir_data, exports_data, system_data}
 use Rattle.desk_http_bodies.specs.Json.{count, entries, member_if}
@@ -34,11 +36,16 @@ list_has_none write each (x ∷ xs) = rw (each x, list_has_none write each xs) r
 flavours_have_none : (flavours : List Flavour) → items_have_float (items_of (map flavour_data flavours)) ≡ false
 flavours_have_none flavours = list_has_none flavour_data (λ f. refl) flavours
 
-pub file_has_none : (name : List ℕ) (rev : ℕ) (author : List ℕ) (approver : Option (List ℕ)) (body : List ℕ) → has_float (file_data name rev author approver body) ≡ false
-file_has_none name rev author None body = refl
-file_has_none name rev author (Some approver) body = refl
+text_has_none : (name : List ℕ) (rev : ℕ) (author : List ℕ) (approver : Option (List ℕ)) (body : List ℕ) → has_float (entries (
+    member_if (codes "approver") string approver
+    ++ ((codes "author", string author) ∷ (codes "body", string body) ∷ (codes "name", string name) ∷ (codes "rev", count rev) ∷ []))) ≡ false
+text_has_none name rev author None body = refl
+text_has_none name rev author (Some approver) body = refl
 
-pub revisions_have_none : (name : List ℕ) (revisions : List (ℕ × List ℕ)) → has_float (revisions_data name revisions) ≡ false
+pub file_has_none : (name : List ℕ) (text : FileText) → has_float (file_data name text) ≡ false
+file_has_none name text = text_has_none name text.rev text.author text.approver text.body
+
+pub revisions_have_none : (name : List ℕ) (revisions : List Signature) → has_float (revisions_data name revisions) ≡ false
 revisions_have_none name revisions = rw (list_has_none revision_data (λ r. refl) revisions) refl
 
 pub verdict_has_none : (content : Content) (own : Option Cred) (verdict : Result Grant Denial) → has_float (verdict_data content own verdict) ≡ false

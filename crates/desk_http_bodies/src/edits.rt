@@ -1,14 +1,19 @@
 //! The bodies of replies to an edit.
 
-ghost use Rattle.std.specs.Prelude.{◌≡◌, IfOk, None, Some};
+ghost use Rattle.std.specs.Prelude.{◌≡◌, [], IfOk, OnOk};
+ghost use Rattle.std.specs.Option.{option_map};
 ghost use Rattle.std.specs.String.{string_bytes};
-ghost use Rattle.serde_json.specs.View.{view};
+ghost use Rattle.serde_json.specs.Data.{object};
+ghost use Rattle.serde_json.specs.View.{members_view, view};
 ghost use Rattle.serde_json.specs.Written.{compact_text};
+ghost use Rattle.desk_text.specs.Address.{addr_text, number_of};
 ghost use Rattle.desk_http_bodies.specs.Edits.{done_data, fault_data, fault_entries, plain_data, proposed_data, refused_data, stale_data};
 
+use crate::members::{put_number, put_number_if, put_text, put_text_if};
 use desk_core::Refusal;
 use desk_policy::SiteFault;
-use serde_json::{Value, json};
+use desk_text::{Addr, Text};
+use serde_json::{Map, Value, json};
 use std::alloc::{AllocError, Global};
 
 /// Writes the body for an edit that was stored as a revision, or that is the newest revision already.
@@ -83,52 +88,41 @@ fn stale_value(alloc: Global, refusal: &Refusal, current: u32) -> Result<Value, 
 fn fault_value(alloc: Global, refusal: &Refusal, fault: &SiteFault) -> Result<Value, AllocError>
     ensures { IfOk result (λ value. view value ≡ fault_data refusal.now fault.now) }
 {
-    match fault.address {
-        None => plain_fault(alloc, refusal, fault),
+    let address = address_text(alloc, fault.address)?;
+    let mut members = Map::new(alloc);
+    put_fault(alloc, refusal, fault, &address, &mut members)?;
+    Ok(Value::Object(members))
+}
+
+/// Writes the address of a fault, if it has one.
+fn address_text(alloc: Global, address: Option<Addr>) -> Result<Option<Text>, AllocError>
+    ensures { IfOk result (λ text. text ≡ option_map (λ a. addr_text (number_of a)) address) }
+{
+    match address {
         Some(address) => {
-            let address = format!(in alloc; "{address}")?;
-            located_fault(alloc, refusal, fault, address.as_str())
+            let text = format!(in alloc; "{address}")?;
+            Ok(Some(Text::from_string(text)))
         }
+        None => Ok(None),
     }
 }
 
-/// Makes the value of a fault with an address.
-fn located_fault(
+/// Adds the members of a refusal with the fault of the site. (The map is lent, so that its proof is cheap.)
+fn put_fault(
     alloc: Global,
     refusal: &Refusal,
     fault: &SiteFault,
-    address: &str,
-) -> Result<Value, AllocError>
-    ensures { IfOk result (λ value. view value ≡ fault_entries refusal.now fault.now (Some address.now)) }
+    address: &Option<Text>,
+    members: &mut Map<String, Value>,
+) -> Result<(), AllocError>
+    requires { members.old.entries ≡ [] }
+    ensures { OnOk result (object (members_view members.new.entries) ≡ fault_entries refusal.now fault.now address.now) }
 {
-    let error = refusal.name();
-    let number = refusal.number();
-    let file = fault.file.as_str();
-    let rule = fault.rule.number();
-    match fault.other {
-        None => {
-            json!(in alloc; {"address": address, "error": error, "file": file, "line": fault.line, "number": number, "rule": rule})
-        }
-        Some(other) => {
-            json!(in alloc; {"address": address, "error": error, "file": file, "line": fault.line, "number": number, "other": other, "rule": rule})
-        }
-    }
-}
-
-/// Makes the value of a fault without an address.
-fn plain_fault(alloc: Global, refusal: &Refusal, fault: &SiteFault) -> Result<Value, AllocError>
-    ensures { IfOk result (λ value. view value ≡ fault_entries refusal.now fault.now None) }
-{
-    let error = refusal.name();
-    let number = refusal.number();
-    let file = fault.file.as_str();
-    let rule = fault.rule.number();
-    match fault.other {
-        None => {
-            json!(in alloc; {"error": error, "file": file, "line": fault.line, "number": number, "rule": rule})
-        }
-        Some(other) => {
-            json!(in alloc; {"error": error, "file": file, "line": fault.line, "number": number, "other": other, "rule": rule})
-        }
-    }
+    put_text_if(alloc, "address", address, members)?;
+    put_text(alloc, "error", refusal.name(), members)?;
+    put_text(alloc, "file", fault.file.as_str(), members)?;
+    put_number(alloc, "line", fault.line, members)?;
+    put_number(alloc, "number", refusal.number(), members)?;
+    put_number_if(alloc, "other", fault.other, members)?;
+    put_number(alloc, "rule", fault.rule.number(), members)
 }

@@ -12,6 +12,7 @@
 
 pub mod edits;
 pub mod exports;
+mod members;
 pub mod ranges;
 pub mod revisions;
 pub mod verdicts;

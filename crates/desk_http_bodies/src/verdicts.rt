@@ -1,9 +1,10 @@
 //! The bodies of replies to a mount request.
 
-ghost use Rattle.std.specs.Prelude.{◌≡◌, IfOk, None, Some, map};
+ghost use Rattle.std.specs.Prelude.{◌≡◌, [], IfOk, OnOk, codes, map};
 ghost use Rattle.std.specs.Option.{option_map};
 ghost use Rattle.std.specs.String.{string_bytes};
-ghost use Rattle.serde_json.specs.View.{view as data_of};
+ghost use Rattle.serde_json.specs.Data.{object, put as put_member, string};
+ghost use Rattle.serde_json.specs.View.{members_view, view as data_of};
 ghost use Rattle.serde_json.specs.Written.{compact_text};
 ghost use Rattle.desk_tables.specs.Credentials.{cred_text};
 ghost use Rattle.desk_policy.specs.Acting as acting;
@@ -11,10 +12,12 @@ ghost use Rattle.desk_policy.specs.Verdict.{verdict_result};
 ghost use Rattle.desk_http_bodies.specs.Verdicts as spec;
 ghost use Rattle.desk_http_bodies.specs.Verdicts.{denied_data, flavour_data, flavours_data, grant_data, mapped_cred, map_word, verdict_data};
 
+use crate::members::{put_flag, put_number, put_text, put_text_if};
 use desk_exports::{Flavour, Mapping, Terms};
 use desk_policy::{Denial, Policy, Verdict, act_as, mount_text};
 use desk_tables::Cred;
-use serde_json::{Value, json};
+use desk_text::Text;
+use serde_json::{Map, Value, json, put};
 use std::alloc::{AllocError, Global};
 
 /// Writes the body of a verdict under the policy, for a client with this credential of its own, if it told one.
@@ -76,33 +79,70 @@ fn granted_value(
     ensures { IfOk result (λ value. data_of value
         ≡ grant_data fs.now line terms.now (option_map (λ cred. cred_text (acting.act_as terms.now cred)) own.now)) }
 {
-    let flavours = flavours_value(alloc, terms.flavours.as_slice())?;
-    let map = terms.map.get();
-    let mapped = cred_text(alloc, mapped_cred(&map))?;
+    let acts = acts_text(alloc, terms, own)?;
+    let mut members = Map::new(alloc);
+    put_grant(alloc, fs, line, terms, &acts, &mut members)?;
+    Ok(Value::Object(members))
+}
+
+/// Writes the credential as which a client acts that told its own.
+fn acts_text(alloc: Global, terms: &Terms, own: &Option<Cred>) -> Result<Option<Text>, AllocError>
+    ensures { IfOk result (λ acts. acts ≡ option_map (λ cred. cred_text (acting.act_as terms.now cred)) own.now) }
+{
     match own {
-        None => plain_grant(
-            alloc,
-            fs,
-            line,
-            terms,
-            flavours,
-            map_word(&map),
-            mapped.as_str(),
-        ),
         Some(own) => {
             let acts = cred_text(alloc, &act_as(terms, own))?;
-            acting_grant(
-                alloc,
-                fs,
-                line,
-                terms,
-                flavours,
-                map_word(&map),
-                mapped.as_str(),
-                acts.as_str(),
-            )
+            Ok(Some(Text::from_string(acts)))
         }
+        None => Ok(None),
     }
+}
+
+/// Adds the members of a granted mount, of which the client acts as this, if it told a credential. (The map is lent, so that its proof is
+/// cheap.)
+fn put_grant(
+    alloc: Global,
+    fs: &str,
+    line: u32,
+    terms: &Terms,
+    acts: &Option<Text>,
+    members: &mut Map<String, Value>,
+) -> Result<(), AllocError>
+    requires { members.old.entries ≡ [] }
+    ensures { OnOk result (object (members_view members.new.entries) ≡ grant_data fs.now line terms.now acts.now) }
+{
+    put_text_if(alloc, "acts", acts, members)?;
+    put_flavours(alloc, terms.flavours.as_slice(), members)?;
+    put_text(alloc, "fs", fs, members)?;
+    put_number(alloc, "line", line, members)?;
+    put_text(alloc, "map", map_word(&terms.map.get()), members)?;
+    put_mapped(alloc, &terms.map.get(), members)?;
+    put_flag(alloc, "ro", terms.ro, members)?;
+    put_text(alloc, "verdict", "granted", members)
+}
+
+/// Adds the flavours.
+fn put_flavours(
+    alloc: Global,
+    flavours: &[Flavour],
+    members: &mut Map<String, Value>,
+) -> Result<(), AllocError>
+    ensures { OnOk result (members_view members.new.entries ≡ put_member (codes "flavours") (flavours_data flavours.now) (members_view members.old.entries)) }
+{
+    let value = flavours_value(alloc, flavours)?;
+    put(members, alloc, "flavours", value)
+}
+
+/// Adds the credential as which the mapped clients act.
+fn put_mapped(
+    alloc: Global,
+    map: &Mapping,
+    members: &mut Map<String, Value>,
+) -> Result<(), AllocError>
+    ensures { OnOk result (members_view members.new.entries ≡ put_member (codes "mapped") (string (cred_text (spec.mapped_cred map.now))) (members_view members.old.entries)) }
+{
+    let text = cred_text(alloc, mapped_cred(map))?;
+    put_text(alloc, "mapped", text.as_str(), members)
 }
 
 /// Writes a credential as text.
@@ -110,43 +150,6 @@ pub(crate) fn cred_text(alloc: Global, cred: &Cred) -> Result<String, AllocError
     ensures { IfOk result (λ text. string_bytes text ≡ cred_text cred.now) }
 {
     format!(in alloc; "{cred}")
-}
-
-/// Makes the value of a mount that is granted to a client that told no credential.
-fn plain_grant(
-    alloc: Global,
-    fs: &str,
-    line: u32,
-    terms: &Terms,
-    flavours: Value,
-    map: &str,
-    mapped: &str,
-) -> Result<Value, AllocError>
-    requires flavours { data_of flavours ≡ flavours_data terms.now.flavours }
-    requires map { map.now ≡ spec.map_word terms.now.map }
-    requires mapped { mapped.now ≡ cred_text (spec.mapped_cred terms.now.map) }
-    ensures { IfOk result (λ value. data_of value ≡ grant_data fs.now line terms.now None) }
-{
-    json!(in alloc; {"flavours": flavours, "fs": fs, "line": line, "map": map, "mapped": mapped, "ro": terms.ro, "verdict": "granted"})
-}
-
-/// Makes the value of a mount that is granted to a client that acts as this.
-fn acting_grant(
-    alloc: Global,
-    fs: &str,
-    line: u32,
-    terms: &Terms,
-    flavours: Value,
-    map: &str,
-    mapped: &str,
-    acts: &str,
-) -> Result<Value, AllocError>
-    requires flavours { data_of flavours ≡ flavours_data terms.now.flavours }
-    requires map { map.now ≡ spec.map_word terms.now.map }
-    requires mapped { mapped.now ≡ cred_text (spec.mapped_cred terms.now.map) }
-    ensures { IfOk result (λ value. data_of value ≡ grant_data fs.now line terms.now (Some acts.now)) }
-{
-    json!(in alloc; {"acts": acts, "flavours": flavours, "fs": fs, "line": line, "map": map, "mapped": mapped, "ro": terms.ro, "verdict": "granted"})
 }
 
 /// Makes the list of flavours.

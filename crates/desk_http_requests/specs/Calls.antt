@@ -3,57 +3,36 @@ use Rattle.std.specs.Prelude.{◌≡◌, ℕ, ◌≤◌, ◌&&◌, ◌||◌, Boo
 use Rattle.std.specs.List.{list_any, list_all}
 use Rattle.std.specs.Option.{option_map}
 use Rattle.std.specs.Str.{bytes_eq, is_utf8}
-use Rattle.desk_text.specs.Address.{number_of, read_addr}
+use Rattle.desk_text.specs.Address.{read_addr}
 use Rattle.desk_text.specs.Bytes.{read_decimal}
 use Rattle.desk_text.specs.Path.{read_path}
 use Rattle.desk_tables.specs.Credentials.{at_most_16}
 use Rattle.desk_tables.specs.declared.credentials.Cred.{Cred}
 use Rattle.desk_core.specs.Edit.{Edit, asked}
 use Rattle.desk_core.specs.Head.{last_revision}
+use Rattle.desk_service.specs.Questions.{Listing, Mount, Proposal, Question, Revisions, Text, Who, question_of}
 use Rattle.desk_http_messages.specs.Asked.{Asked}
 use Rattle.desk_http_messages.specs.Head.{Header, header_values}
 use Rattle.desk_http_requests.specs.Parameters.{Parameter, at_most_one, each_read, one, parameters_of, values_of}
-use Rattle.desk_http_requests.specs.Routes.{action_at, route_of}
+use Rattle.desk_http_requests.specs.Routes.{Action, action_at, place_of}
 use Rattle.desk_http_requests.specs.Target.{path_of, query_of}
 use Rattle.desk_http_requests.specs.declared.calls.Call.{Call as Made}
 use Rattle.desk_http_requests.specs.declared.calls.Call.TheVariants as made
 use Rattle.desk_http_requests.specs.declared.queries.Query.{Query as Lent}
 use Rattle.desk_http_requests.specs.declared.queries.Query.TheVariants as lent
-use Rattle.desk_http_requests.specs.declared.queries.Question.{Question as LentQuestion}
-use Rattle.desk_http_requests.specs.declared.queries.Question.TheVariants as question
-use Rattle.desk_http_requests.specs.declared.routes.Action.{Action}
-use Rattle.desk_http_requests.specs.declared.routes.Action.TheVariants as action
+use Rattle.desk_http_requests.specs.declared.routes.Reader.{Reader}
+use Rattle.desk_http_requests.specs.declared.routes.Reader.TheVariants as reader
 use Rattle.desk_http_requests.specs.declared.faults.RequestFault.{RequestFault}
 use Rattle.desk_http_requests.specs.declared.faults.RequestFault.TheVariants as fault
 
--- what is asked without changing anything: a verdict for an address, a path and the client's credential, if it is given; what an
--- address may mount; a file as of a revision, or else the newest; the proposal of a file; the revisions of a file; who may mount
--- a path
-pub data Question : Type 0 where
-  Mount : ℕ → List (List ℕ) → Option Cred → Question
-  Exports : ℕ → Question
-  File : List ℕ → Option ℕ → Question
-  Proposal : List ℕ → Question
-  Revisions : List ℕ → Question
-  Who : List (List ℕ) → Question
-
--- what the query says: a question, or the file and the base of an edit
+-- what the query says: a question, and the client's credential, if that is told with a mount; or the file and the base of an edit
 pub data Query : Type 0 where
-  Asks : Question → Query
+  Asks : Question → Option Cred → Query
   Puts : List ℕ → ℕ → Query
-
--- a question, by value
-abbrev pub question_of : LentQuestion → Question
-question_of (question.Mount address path own) = Mount (number_of address) path own
-question_of (question.Exports address) = Exports (number_of address)
-question_of (question.File name rev) = File name.now rev
-question_of (question.Proposal name) = Proposal name.now
-question_of (question.Revisions name) = Revisions name.now
-question_of (question.Who path) = Who path
 
 -- what a query says, by value
 abbrev pub query_by_value : Lent → Query
-query_by_value (lent.Asks asked) = Asks (question_of asked)
+query_by_value (lent.Asks question own) = Asks (question_of question) own
 query_by_value (lent.Puts name base) = Puts name.now base
 
 -- the value of a reading, if it is not refused
@@ -92,52 +71,42 @@ address_in parameters = option_and_then (λ text. if_ok (read_addr text)) (one_o
 abbrev pub path_in : List Parameter → Option (List (List ℕ))
 path_in parameters = option_and_then (λ text. if_ok (read_path text)) (one_of (codes "dir") parameters)
 
--- the names of an action's parameters
-abbrev pub names_of : Action → List (List ℕ)
-names_of action.Mount = codes "host" ∷ codes "dir" ∷ codes "uid" ∷ codes "gid" ∷ []
-names_of action.Exports = codes "host" ∷ []
-names_of action.File = codes "name" ∷ codes "rev" ∷ []
-names_of action.Proposal = codes "name" ∷ []
-names_of action.Revisions = codes "name" ∷ []
-names_of action.Who = codes "dir" ∷ []
-names_of action.Put = codes "name" ∷ codes "base" ∷ []
-
 -- each parameter has one of these names
 abbrev pub are_named : List (List ℕ) → List Parameter → Bool
 are_named names parameters = list_all (λ p. list_any (bytes_eq p.0) names) parameters
 
 -- the mount that a query asks about: an address, a path and the client's credential, if it tells one
-abbrev pub mount_in : List Parameter → Option Question
+abbrev pub mount_in : List Parameter → Option Query
 mount_in parameters =
-    option_and_then (λ address. option_and_then (λ path. option_map (Mount address path) (credential_in parameters)) (path_in parameters)) (address_in parameters)
+    option_and_then (λ address. option_and_then (λ path. option_map (Asks (Mount address path)) (credential_in parameters)) (path_in parameters)) (address_in parameters)
 
 -- the file that a query names, and the revision of it, if it tells one
-abbrev pub file_in : List Parameter → Option Question
-file_in parameters =
-    option_and_then (λ name. option_map (File name) (at_most_one (read_decimal last_revision) (values_of (codes "rev") parameters))) (one_of (codes "name") parameters)
+abbrev pub text_in : List Parameter → Option Query
+text_in parameters =
+    option_and_then (λ name. option_map (λ rev. Asks (Text name rev) None) (at_most_one (read_decimal last_revision) (values_of (codes "rev") parameters))) (one_of (codes "name") parameters)
 
 -- the file that the query of an edit names, and its base
 abbrev pub put_in : List Parameter → Option Query
 put_in parameters =
     option_and_then (λ name. option_map (Puts name) (option_and_then (read_decimal last_revision) (one_of (codes "base") parameters))) (one_of (codes "name") parameters)
 
--- what parameters say to an action, if each is there as often as it may, and can be read
-abbrev pub query_read : Action → List Parameter → Option Query
-query_read action.Mount parameters = option_map Asks (mount_in parameters)
-query_read action.Exports parameters = option_map (λ address. Asks (Exports address)) (address_in parameters)
-query_read action.File parameters = option_map Asks (file_in parameters)
-query_read action.Proposal parameters = option_map (λ name. Asks (Proposal name)) (one_of (codes "name") parameters)
-query_read action.Revisions parameters = option_map (λ name. Asks (Revisions name)) (one_of (codes "name") parameters)
-query_read action.Who parameters = option_map (λ path. Asks (Who path)) (path_in parameters)
-query_read action.Put parameters = put_in parameters
+-- what parameters say to a reader, if each is there as often as it may, and can be read
+abbrev pub query_read : Reader → List Parameter → Option Query
+query_read reader.Mount parameters = mount_in parameters
+query_read reader.Listing parameters = option_map (λ address. Asks (Listing address) None) (address_in parameters)
+query_read reader.Text parameters = text_in parameters
+query_read reader.Proposal parameters = option_map (λ name. Asks (Proposal name) None) (one_of (codes "name") parameters)
+query_read reader.Revisions parameters = option_map (λ name. Asks (Revisions name) None) (one_of (codes "name") parameters)
+query_read reader.Who parameters = option_map (λ path. Asks (Who path) None) (path_in parameters)
+query_read reader.Put parameters = put_in parameters
 
--- the same, if no parameter has another name
+-- the same, if no parameter has another name than those of the action
 abbrev pub query_for : Action → List Parameter → Option Query
-query_for action parameters = if are_named (names_of action) parameters then query_read action parameters else None
+query_for action parameters = if are_named action.names parameters then query_read action.reader parameters else None
 
 -- what a request does, by its path and method
 abbrev pub action_of : Asked → Option Action
-action_of asked = option_and_then (action_at asked.method) (route_of (path_of asked.target))
+action_of asked = option_and_then (action_at asked.method) (place_of (path_of asked.target))
 
 -- what a request asks
 abbrev pub query_asked : Asked → Option Query
@@ -158,21 +127,25 @@ caller_in headers = header_text (codes "x-custodian") headers
 abbrev pub key_in : List Header → Option (List ℕ)
 key_in headers = header_text (codes "x-key") headers
 
+-- the parameters are those of an edit
+abbrev pub reads_put : Reader → Bool
+reads_put reader.Mount = false
+reads_put reader.Listing = false
+reads_put reader.Text = false
+reads_put reader.Proposal = false
+reads_put reader.Revisions = false
+reads_put reader.Who = false
+reads_put reader.Put = true
+
 -- the action is an edit
 abbrev pub is_put : Option Action → Bool
 is_put None = false
-is_put (Some action.Mount) = false
-is_put (Some action.Exports) = false
-is_put (Some action.File) = false
-is_put (Some action.Proposal) = false
-is_put (Some action.Revisions) = false
-is_put (Some action.Who) = false
-is_put (Some action.Put) = true
+is_put (Some action) = reads_put action.reader
 
 -- Why a request calls for nothing: there is no such path; no such method there; its query cannot be read; of an edit, a header is
 -- not there once or is not UTF-8, or the body is not UTF-8.
 abbrev pub has_fault : Asked → RequestFault → Bool
-has_fault asked fault.NoRoute = is_none (route_of (path_of asked.target))
+has_fault asked fault.NoRoute = is_none (place_of (path_of asked.target))
 has_fault asked fault.BadMethod = is_none (action_of asked)
 has_fault asked fault.BadQuery = is_none (query_asked asked)
 has_fault asked fault.BadHeader = is_put (action_of asked) && (is_none (caller_in asked.headers) || is_none (key_in asked.headers))
@@ -195,7 +168,7 @@ edit_in asked file base =
 -- A call is what a request calls for: its first fault; or it has none, and this is the question or the edit.
 abbrev pub IsCall : Asked → Made → Type 0
 IsCall request (made.Refused fault) = first_fault request ≡ Some fault
-IsCall request (made.Asks question) = (first_fault request ≡ None) × (query_asked request ≡ Some (Asks (question_of question)))
+IsCall request (made.Asks question own) = (first_fault request ≡ None) × (query_asked request ≡ Some (Asks (question_of question) own))
 IsCall request (made.Edits edit) =
     (first_fault request ≡ None) × (edit.base ≤ last_revision)
     × (query_asked request ≡ Some (Puts edit.file.now edit.base)) × (edit_in request edit.file.now edit.base ≡ Some (asked edit))

@@ -1,34 +1,63 @@
--- What a path names, and what a method does there. (this project's own)
-use Rattle.std.specs.Prelude.{◌≡◌, ℕ, List, codes, Option, Some, None, option_map, if◌then◌else◌}
+-- The routes of the service: what each method does at each path, and with which parameters. (this project's own)
+use Rattle.std.specs.Prelude.{◌≡◌, ℕ, List, [], ◌∷◌, codes, find, map, position, slice_get, Option, option_and_then, option_map}
 use Rattle.std.specs.Str.{bytes_eq}
 use Rattle.matchit.specs.Rows.{RowsOf}
 use Rattle.matchit.specs.Router.{RouteOf}
 use Rattle.matchit.specs.Seek.{first}
-use Rattle.desk_http_requests.specs.declared.routes.Action.{Action}
-use Rattle.desk_http_requests.specs.declared.routes.Action.TheVariants as action
-use Rattle.desk_http_requests.specs.declared.routes.Route.{Route}
-use Rattle.desk_http_requests.specs.declared.routes.Route.TheVariants as route
+use Rattle.desk_http_requests.specs.declared.routes.Action.{Action as LentAction}
+use Rattle.desk_http_requests.specs.declared.routes.Reader.{Reader}
+use Rattle.desk_http_requests.specs.declared.routes.Reader.TheVariants as reader
+use Rattle.desk_http_requests.specs.declared.routes.Route.{Route as LentRoute}
 
--- what a path names
-abbrev pub route_of : List ℕ → Option Route
-route_of path =
-    if bytes_eq (codes "/v1/exports") path then Some route.Exports else
-    (if bytes_eq (codes "/v1/file") path then Some route.File else
-    (if bytes_eq (codes "/v1/mount") path then Some route.Mount else
-    (if bytes_eq (codes "/v1/proposal") path then Some route.Proposal else
-    (if bytes_eq (codes "/v1/revisions") path then Some route.Revisions else
-    (if bytes_eq (codes "/v1/who") path then Some route.Who else None)))))
+-- what a method does at a path: the names of its parameters, and how they are read
+pub record Action : Type 0 where
+  pub method : List ℕ
+  pub names : List (List ℕ)
+  pub reader : Reader
 
--- what a method does there
-abbrev pub action_at : List ℕ → Route → Option Action
-action_at method route.Mount = if bytes_eq method (codes "GET") then Some action.Mount else None
-action_at method route.Exports = if bytes_eq method (codes "GET") then Some action.Exports else None
-action_at method route.File =
-    if bytes_eq method (codes "GET") then Some action.File else (if bytes_eq method (codes "PUT") then Some action.Put else None)
-action_at method route.Proposal = if bytes_eq method (codes "GET") then Some action.Proposal else None
-action_at method route.Revisions = if bytes_eq method (codes "GET") then Some action.Revisions else None
-action_at method route.Who = if bytes_eq method (codes "GET") then Some action.Who else None
+-- a path, and what each method does there
+pub record Route : Type 0 where
+  pub path : List ℕ
+  pub actions : List Action
 
--- a router finds what each path names
-abbrev pub IsRouter : RowsOf (RouteOf Route) → Type 0
-IsRouter rows = (path : List ℕ) → option_map (λ r. r.value) (first rows path) ≡ route_of path
+-- the same by value
+abbrev pub action_in : LentAction → Action
+action_in action = record { method = action.method.now; names = map (λ name. name.now) action.names.now; reader = action.reader }
+
+abbrev pub route_in : LentRoute → Route
+route_in route = record { path = route.path.now; actions = map action_in route.actions.now }
+
+-- a question, by these parameters
+abbrev pub get : List (List ℕ) → Reader → Action
+get names how = record { method = codes "GET"; names = names; reader = how }
+
+-- an edit, by these parameters
+abbrev pub put : List (List ℕ) → Reader → Action
+put names how = record { method = codes "PUT"; names = names; reader = how }
+
+-- the routes
+abbrev pub routes : List Route
+routes =
+    record { path = codes "/v1/exports"; actions = get (codes "host" ∷ []) reader.Listing ∷ [] }
+    ∷ record { path = codes "/v1/file"; actions = get (codes "name" ∷ codes "rev" ∷ []) reader.Text ∷ put (codes "name" ∷ codes "base" ∷ []) reader.Put ∷ [] }
+    ∷ record { path = codes "/v1/mount"; actions = get (codes "host" ∷ codes "dir" ∷ codes "uid" ∷ codes "gid" ∷ []) reader.Mount ∷ [] }
+    ∷ record { path = codes "/v1/proposal"; actions = get (codes "name" ∷ []) reader.Proposal ∷ [] }
+    ∷ record { path = codes "/v1/revisions"; actions = get (codes "name" ∷ []) reader.Revisions ∷ [] }
+    ∷ record { path = codes "/v1/who"; actions = get (codes "dir" ∷ []) reader.Who ∷ [] }
+    ∷ []
+
+-- the place of a path among them
+abbrev pub place_of : List ℕ → Option ℕ
+place_of path = position (λ route. bytes_eq route.path path) routes
+
+-- what a method does among these
+abbrev pub action_among : List ℕ → List Action → Option Action
+action_among method actions = find (λ action. bytes_eq action.method method) actions
+
+-- what a method does at the path of a place
+abbrev pub action_at : List ℕ → ℕ → Option Action
+action_at method place = option_and_then (λ route. action_among method route.actions) (slice_get routes place)
+
+-- a router finds the place of each path
+abbrev pub IsRouter : RowsOf (RouteOf ℕ) → Type 0
+IsRouter rows = (path : List ℕ) → option_map (λ r. r.value) (first rows path) ≡ place_of path

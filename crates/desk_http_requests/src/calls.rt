@@ -1,22 +1,26 @@
 //! What a request calls for.
 
-ghost use Rattle.std.specs.Prelude.{◌≡◌, ◌≤◌, All, IfOk, IfSome, Some, is_some, length};
+ghost use Rattle.std.specs.Prelude.{◌≡◌, ◌≤◌, All, IfOk, IfSome, Some, is_some, length, true};
 ghost use Rattle.std.specs.Option.{option_map};
 ghost use Rattle.std.specs.Str.{is_utf8};
 ghost use Rattle.httparse.specs.Spans.{IsHeaderWithin};
 ghost use Rattle.desk_core.specs.Head.{last_revision};
 ghost use Rattle.desk_http_messages.specs.Asked.{asked_of};
-ghost use Rattle.desk_http_requests.specs.Calls.{IsCall, Puts, action_of, header_text, query_asked, utf8_text};
+ghost use Rattle.desk_http_requests.specs.Calls.{IsCall, Puts, action_of, header_text, is_put, path_in, query_asked, utf8_text};
 ghost use Rattle.desk_http_requests.specs.Parameters.{pairs};
 ghost use Rattle.desk_http_requests.specs.Parameters as spec;
+ghost use Rattle.desk_http_requests.specs.Routes.{action_in};
 ghost use Rattle.desk_http_requests.specs.Target.{query_of};
 
 use crate::faults::RequestFault;
 use crate::parameters::Parameter;
-use crate::queries::{Query, Question, query_for};
+use crate::queries::{Query, query_for};
 use crate::routes::Action;
 use desk_core::Edit;
 use desk_http_messages::{Request, Values, values_of};
+use desk_service::Question;
+use desk_tables::Cred;
+use desk_text::Path;
 use std::alloc::{AllocError, Global};
 
 /// What a request calls for.
@@ -24,7 +28,8 @@ use std::alloc::{AllocError, Global};
 pub enum Call<'a> {
     /// Nothing: it has this fault.
     Refused(RequestFault),
-    Asks(Question<'a>),
+    /// A question, and the client's credential, if it is told with a mount.
+    Asks(Question<'a>, Option<Cred>),
     Edits(Edit<'a>),
 }
 
@@ -51,21 +56,23 @@ fn utf8_text(bytes: &[u8]) -> Option<&str>
     }
 }
 
-/// Reads what a request calls for that does this, by its parameters.
+/// Reads what a request calls for that does this, by its parameters, and by the path that they tell, which a question lends.
 pub fn read_call<'a>(
     alloc: Global,
     action: Action,
     request: &Request<'a>,
     parameters: &'a [Parameter],
+    path: &'a Option<Path>,
 ) -> Result<Call<'a>, AllocError>
     requires headers { All (IsHeaderWithin (length request.now.head.now)) request.now.headers.now }
-    requires action { action_of (asked_of request.now) ≡ Some action }
+    requires action { action_of (asked_of request.now) ≡ Some (action_in action) }
+    requires path { path.now ≡ path_in (pairs parameters.now) }
     requires parameters { pairs parameters.now ≡ spec.parameters_of (query_of request.now.target.now) }
     ensures { IfOk result (IsCall (asked_of request.now)) }
 {
-    match query_for(alloc, action, parameters)? {
+    match query_for(alloc, action, parameters, path)? {
         None => Ok(Call::Refused(RequestFault::BadQuery)),
-        Some(Query::Asks(question)) => Ok(Call::Asks(question)),
+        Some(Query::Asks(question, own)) => Ok(Call::Asks(question, own)),
         Some(Query::Puts(file, base)) => Ok(edit_of(request, file, base)),
     }
 }
@@ -73,7 +80,7 @@ pub fn read_call<'a>(
 /// Makes the edit of a file that a request asks for.
 fn edit_of<'a>(request: &Request<'a>, file: &'a str, base: u32) -> Call<'a>
     requires headers { All (IsHeaderWithin (length request.now.head.now)) request.now.headers.now }
-    requires action { action_of (asked_of request.now) ≡ Some Action.Put }
+    requires action { is_put (action_of (asked_of request.now)) ≡ true }
     requires query { query_asked (asked_of request.now) ≡ Some (Puts file.now base) }
     requires base { base ≤ last_revision }
     ensures { IsCall (asked_of request.now) result }

@@ -7,12 +7,14 @@ ghost use Rattle.std.specs.Str.{bytes_eq};
 ghost use Rattle.desk_text.specs.Address.{number_of};
 ghost use Rattle.desk_tables.specs.Credentials.{at_most_16};
 ghost use Rattle.desk_http_requests.specs.Calls as spec;
-ghost use Rattle.desk_http_requests.specs.Calls.{query_by_value, question_of};
+ghost use Rattle.desk_http_requests.specs.Calls.{query_by_value};
 ghost use Rattle.desk_http_requests.specs.Parameters.{pairs};
+ghost use Rattle.desk_http_requests.specs.Routes.{action_in};
 
 use crate::parameters::{Parameter, number_if_given, number_in, numbers_in, one_of};
-use crate::routes::Action;
+use crate::routes::{Action, Reader};
 use desk_core::LAST_REVISION;
+use desk_service::Question;
 use desk_tables::Cred;
 use desk_text::{Addr, Path, ReadError};
 use std::alloc::{AllocError, Global};
@@ -20,27 +22,11 @@ use std::alloc::{AllocError, Global};
 /// The largest number of a user or a group.
 const LARGEST_ID: u32 = 4_294_967_295;
 
-/// What is asked without changing anything.
-#[derive(Drop)]
-pub enum Question<'a> {
-    /// Whether the client of this address may mount this directory, and as whom it acts, if its credential is given.
-    Mount(Addr, Path, Option<Cred>),
-    /// What the client of this address may mount.
-    Exports(Addr),
-    /// This file, as of this revision or else the newest.
-    File(&'a str, Option<u32>),
-    /// The proposal of this file.
-    Proposal(&'a str),
-    /// The revisions of this file.
-    Revisions(&'a str),
-    /// Who may mount this directory.
-    Who(Path),
-}
-
 /// What a query says.
 #[derive(Drop)]
-pub enum Query<'a> {
-    Asks(Question<'a>),
+pub(crate) enum Query<'a> {
+    /// A question, and the client's credential, if it is told with a mount.
+    Asks(Question<'a>, Option<Cred>),
     /// An edit of this file, which follows the revision of this number.
     Puts(&'a str, u32),
 }
@@ -55,8 +41,8 @@ fn address_in(parameters: &[Parameter]) -> Option<Addr>
     }
 }
 
-/// Reads the path that is asked about.
-fn path_in(alloc: Global, parameters: &[Parameter]) -> Result<Option<Path>, AllocError>
+/// Reads the path that is asked about, which a question lends.
+pub fn path_in(alloc: Global, parameters: &[Parameter]) -> Result<Option<Path>, AllocError>
     ensures { IfOk result (λ path. path ≡ spec.path_in (pairs parameters.now)) }
 {
     match one_of(parameters, "dir") {
@@ -99,32 +85,34 @@ fn credential_in(
     }
 }
 
-/// Reads a question on a mount.
+/// Reads a question on a mount of this path.
 fn mount_in<'a>(
     alloc: Global,
     parameters: &'a [Parameter],
-) -> Result<Option<Question<'a>>, AllocError>
-    ensures { IfOk result (λ asked. option_map question_of asked ≡ spec.mount_in (pairs parameters.now)) }
+    path: &'a Option<Path>,
+) -> Result<Option<Query<'a>>, AllocError>
+    requires { path.now ≡ spec.path_in (pairs parameters.now) }
+    ensures { IfOk result (λ query. option_map query_by_value query ≡ spec.mount_in (pairs parameters.now)) }
 {
     let Some(address) = address_in(parameters) else {
         return Ok(None);
     };
-    let Some(path) = path_in(alloc, parameters)? else {
+    let Some(path) = path else {
         return Ok(None);
     };
     match credential_in(alloc, parameters)? {
-        Some(own) => Ok(Some(Question::Mount(address, path, own))),
+        Some(own) => Ok(Some(Query::Asks(Question::Mount(address, path), own))),
         None => Ok(None),
     }
 }
 
-/// Reads a question on a file.
-fn file_in<'a>(parameters: &'a [Parameter]) -> Option<Question<'a>>
-    ensures { option_map question_of result ≡ spec.file_in (pairs parameters.now) }
+/// Reads a question on the text of a file.
+fn text_in<'a>(parameters: &'a [Parameter]) -> Option<Query<'a>>
+    ensures { option_map query_by_value result ≡ spec.text_in (pairs parameters.now) }
 {
     let name = one_of(parameters, "name")?;
     let rev = number_if_given(parameters, "rev", LAST_REVISION)?;
-    Some(Question::File(name, rev))
+    Some(Query::Asks(Question::Text(name, rev), None))
 }
 
 /// Reads what is asked of an edit.
@@ -136,62 +124,59 @@ fn put_in<'a>(parameters: &'a [Parameter]) -> Option<Query<'a>>
     Some(Query::Puts(name, base))
 }
 
-/// Reads what the parameters say to an action.
+/// Reads what the parameters say to a reader.
 fn query_read<'a>(
     alloc: Global,
-    action: Action,
+    reader: Reader,
     parameters: &'a [Parameter],
+    path: &'a Option<Path>,
 ) -> Result<Option<Query<'a>>, AllocError>
-    ensures { IfOk result (λ query. option_map query_by_value query ≡ spec.query_read action (pairs parameters.now)) }
+    requires { path.now ≡ spec.path_in (pairs parameters.now) }
+    ensures { IfOk result (λ query. option_map query_by_value query ≡ spec.query_read reader (pairs parameters.now)) }
 {
-    Ok(match action {
-        Action::Mount => mount_in(alloc, parameters)?.map(Query::Asks),
-        Action::Exports => match address_in(parameters) {
-            Some(address) => Some(Query::Asks(Question::Exports(address))),
+    Ok(match reader {
+        Reader::Mount => mount_in(alloc, parameters, path)?,
+        Reader::Listing => match address_in(parameters) {
+            Some(address) => Some(Query::Asks(Question::Listing(address), None)),
             None => None,
         },
-        Action::File => match file_in(parameters) {
-            Some(asked) => Some(Query::Asks(asked)),
+        Reader::Text => text_in(parameters),
+        Reader::Proposal => match one_of(parameters, "name") {
+            Some(name) => Some(Query::Asks(Question::Proposal(name), None)),
             None => None,
         },
-        Action::Proposal => match one_of(parameters, "name") {
-            Some(name) => Some(Query::Asks(Question::Proposal(name))),
+        Reader::Revisions => match one_of(parameters, "name") {
+            Some(name) => Some(Query::Asks(Question::Revisions(name), None)),
             None => None,
         },
-        Action::Revisions => match one_of(parameters, "name") {
-            Some(name) => Some(Query::Asks(Question::Revisions(name))),
+        Reader::Who => match path {
+            Some(path) => Some(Query::Asks(Question::Who(path), None)),
             None => None,
         },
-        Action::Who => match path_in(alloc, parameters)? {
-            Some(path) => Some(Query::Asks(Question::Who(path))),
-            None => None,
-        },
-        Action::Put => put_in(parameters),
+        Reader::Put => put_in(parameters),
     })
 }
 
-/// Tests whether an action has a parameter of this name.
-fn is_named(action: Action, name: &str) -> bool
-    ensures { result ≡ list_any (bytes_eq name.now) (spec.names_of action) }
+/// Tests whether this is one of these names.
+fn is_named(names: &[&str], name: &str) -> bool
+    ensures { result ≡ list_any (bytes_eq name.now) (map (λ other. other.now) names.now) }
 {
-    match action {
-        Action::Mount => name == "host" || name == "dir" || name == "uid" || name == "gid",
-        Action::Exports => name == "host",
-        Action::File => name == "name" || name == "rev",
-        Action::Proposal => name == "name",
-        Action::Revisions => name == "name",
-        Action::Who => name == "dir",
-        Action::Put => name == "name" || name == "base",
+    let mut named = false;
+    for other in names {
+        if name == *other {
+            named = true;
+        }
     }
+    named
 }
 
-/// Tests whether an action has all of these parameters.
-fn are_named(action: Action, parameters: &[Parameter]) -> bool
-    ensures { result ≡ spec.are_named (spec.names_of action) (pairs parameters.now) }
+/// Tests whether all parameters have one of these names.
+fn are_named(names: &[&str], parameters: &[Parameter]) -> bool
+    ensures { result ≡ spec.are_named (map (λ name. name.now) names.now) (pairs parameters.now) }
 {
     let mut named = true;
     for parameter in parameters {
-        if !is_named(action, parameter.name.as_str()) {
+        if !is_named(names, parameter.name.as_str()) {
             named = false;
         }
     }
@@ -203,11 +188,13 @@ pub(crate) fn query_for<'a>(
     alloc: Global,
     action: Action,
     parameters: &'a [Parameter],
+    path: &'a Option<Path>,
 ) -> Result<Option<Query<'a>>, AllocError>
-    ensures { IfOk result (λ query. option_map query_by_value query ≡ spec.query_for action (pairs parameters.now)) }
+    requires { path.now ≡ spec.path_in (pairs parameters.now) }
+    ensures { IfOk result (λ query. option_map query_by_value query ≡ spec.query_for (action_in action) (pairs parameters.now)) }
 {
-    if are_named(action, parameters) {
-        query_read(alloc, action, parameters)
+    if are_named(action.names, parameters) {
+        query_read(alloc, action.reader, parameters, path)
     } else {
         Ok(None)
     }

@@ -1,47 +1,112 @@
-//! Paths and methods.
+//! The routes of the service: what each method does at each path, and with which parameters.
+//!
+//! A further route is a row of [`ROUTES`], and one of the definition `routes`.
 
-ghost use Rattle.std.specs.Prelude.{◌≡◌, IfOk, MatchResult, Some};
+ghost use Rattle.std.specs.Prelude.{◌≡◌, IfOk, MatchResult, Some, find, map, slice_get};
+ghost use Rattle.std.specs.Option.{option_map};
 ghost use Rattle.std.specs.Str.{bytes_eq};
 ghost use Rattle.desk_http_messages.specs.Asked.{asked_of};
 ghost use Rattle.desk_http_requests.specs.Calls as calls;
 ghost use Rattle.desk_http_requests.specs.Calls.{first_fault};
 ghost use Rattle.desk_http_requests.specs.Routes as spec;
-ghost use Rattle.desk_http_requests.specs.Routes.{IsRouter, route_of};
+ghost use Rattle.desk_http_requests.specs.Routes.{IsRouter, action_in, place_of};
 
 use crate::faults::RequestFault;
 use crate::target::path_of;
 use desk_http_messages::Request;
-use http::Method;
 use matchit::{InsertError, Router};
 use std::alloc::{AllocError, Global};
 
-/// What a path names.
+/// How the parameters of a request are read: as one of the questions of desk_service, or as an edit.
 #[derive(Clone, Copy)]
-pub enum Route {
+pub enum Reader {
     Mount,
-    Exports,
-    File,
-    Proposal,
-    Revisions,
-    Who,
-}
-
-/// What a method does at a path.
-#[derive(Clone, Copy)]
-pub enum Action {
-    Mount,
-    Exports,
-    File,
+    Listing,
+    Text,
     Proposal,
     Revisions,
     Who,
     Put,
 }
 
-/// The paths of the service.
+/// What a method does at a path: the names of its parameters, and how they are read.
+#[derive(Clone, Copy)]
+pub struct Action {
+    pub method: &'static str,
+    pub names: &'static [&'static str],
+    pub reader: Reader,
+}
+
+/// A path, and what each method does there.
+#[derive(Clone, Copy)]
+pub struct Route {
+    pub path: &'static str,
+    pub actions: &'static [Action],
+}
+
+/// The routes, by path.
+const ROUTES: [Route; 6] = [
+    Route {
+        path: "/v1/exports",
+        actions: &[Action {
+            method: "GET",
+            names: &["host"],
+            reader: Reader::Listing,
+        }],
+    },
+    Route {
+        path: "/v1/file",
+        actions: &[
+            Action {
+                method: "GET",
+                names: &["name", "rev"],
+                reader: Reader::Text,
+            },
+            Action {
+                method: "PUT",
+                names: &["name", "base"],
+                reader: Reader::Put,
+            },
+        ],
+    },
+    Route {
+        path: "/v1/mount",
+        actions: &[Action {
+            method: "GET",
+            names: &["host", "dir", "uid", "gid"],
+            reader: Reader::Mount,
+        }],
+    },
+    Route {
+        path: "/v1/proposal",
+        actions: &[Action {
+            method: "GET",
+            names: &["name"],
+            reader: Reader::Proposal,
+        }],
+    },
+    Route {
+        path: "/v1/revisions",
+        actions: &[Action {
+            method: "GET",
+            names: &["name"],
+            reader: Reader::Revisions,
+        }],
+    },
+    Route {
+        path: "/v1/who",
+        actions: &[Action {
+            method: "GET",
+            names: &["dir"],
+            reader: Reader::Who,
+        }],
+    },
+];
+
+/// The paths of the service, each with its place among the routes.
 #[derive(Drop)]
 pub struct Routes {
-    router: Router<Route>,
+    router: Router<usize>,
     ghost finds: { IsRouter router },
 }
 
@@ -54,9 +119,9 @@ impl Routes {
         }
     }
 
-    /// Finds what a path names. Bytes that are not text name nothing.
-    fn find(&self, path: &[u8]) -> Option<Route>
-        ensures { result ≡ route_of path.now }
+    /// Finds the place of a path. Bytes that are not text have none.
+    fn find(&self, path: &[u8]) -> Option<usize>
+        ensures { result ≡ place_of path.now }
     {
         match std::str::from_utf8(path) {
             Ok(text) => find(&self.router, text),
@@ -65,24 +130,29 @@ impl Routes {
     }
 }
 
-/// Makes the router of the service.
-fn router(alloc: Global) -> Result<Router<Route>, InsertError>
+/// Lends the routes.
+fn table() -> &'static [Route]
+    ensures { map spec.route_in result.now ≡ spec.routes }
+{
+    &ROUTES
+}
+
+/// Makes the router of the service, which finds the place of a path.
+fn router(alloc: Global) -> Result<Router<usize>, InsertError>
     ensures { IfOk result IsRouter }
 {
     let mut router = Router::new(alloc);
-    router.insert("/v1/mount", Route::Mount)?;
-    router.insert("/v1/exports", Route::Exports)?;
-    router.insert("/v1/file", Route::File)?;
-    router.insert("/v1/proposal", Route::Proposal)?;
-    router.insert("/v1/revisions", Route::Revisions)?;
-    router.insert("/v1/who", Route::Who)?;
+    let routes = table();
+    for place in 0..routes.len() {
+        router.insert(routes[place].path, place)?;
+    }
     Ok(router)
 }
 
-/// Finds what a path names.
-fn find(router: &Router<Route>, path: &str) -> Option<Route>
+/// Finds the place of a path.
+fn find(router: &Router<usize>, path: &str) -> Option<usize>
     requires { IsRouter router.now }
-    ensures { result ≡ route_of path.now }
+    ensures { result ≡ place_of path.now }
 {
     match router.at(path) {
         Ok(found) => Some(*found.value),
@@ -90,39 +160,45 @@ fn find(router: &Router<Route>, path: &str) -> Option<Route>
     }
 }
 
-/// Finds what a method does at a path.
-fn action_at(method: &[u8], route: Route) -> Option<Action>
-    ensures { result ≡ spec.action_at method.now route }
+/// Finds what a method does at the path of a place.
+fn action_at(method: &[u8], place: usize) -> Option<Action>
+    ensures { option_map action_in result ≡ spec.action_at method.now place }
 {
-    let gets = is_method(method, Method::GET);
-    match route {
-        Route::Mount if gets => Some(Action::Mount),
-        Route::Exports if gets => Some(Action::Exports),
-        Route::File if gets => Some(Action::File),
-        Route::File if is_method(method, Method::PUT) => Some(Action::Put),
-        Route::Proposal if gets => Some(Action::Proposal),
-        Route::Revisions if gets => Some(Action::Revisions),
-        Route::Who if gets => Some(Action::Who),
-        _ => None,
+    match route_at(place) {
+        Some(route) => action_among(method, route.actions),
+        None => None,
     }
 }
 
-/// Tests whether a request's method is this one.
-fn is_method(method: &[u8], other: Method) -> bool
-    ensures { result ≡ bytes_eq method.now other }
+/// Finds the route of a place.
+fn route_at(place: usize) -> Option<Route>
+    ensures { option_map spec.route_in result ≡ slice_get spec.routes place }
 {
-    method == other.as_str().as_bytes()
+    match table().get(place) {
+        Some(route) => Some(*route),
+        None => None,
+    }
+}
+
+/// Finds what a method does among these.
+fn action_among(method: &[u8], actions: &[Action]) -> Option<Action>
+    ensures { result ≡ find (λ action. bytes_eq action.method.now method.now) actions.now }
+{
+    actions
+        .iter()
+        .copied()
+        .find(|action| action.method.as_bytes() == method)
 }
 
 /// Finds what a request does, by its path and method. It takes no memory.
 pub fn action_of(routes: &Routes, request: &Request<'_>) -> Result<Action, RequestFault>
-    ensures { MatchResult result (λ action. calls.action_of (asked_of request.now) ≡ Some action)
+    ensures { MatchResult result (λ action. calls.action_of (asked_of request.now) ≡ Some (action_in action))
         (λ fault. first_fault (asked_of request.now) ≡ Some fault) }
 {
-    let Some(route) = routes.find(path_of(request.target)) else {
+    let Some(place) = routes.find(path_of(request.target)) else {
         return Err(RequestFault::NoRoute);
     };
-    match action_at(request.method, route) {
+    match action_at(request.method, place) {
         Some(action) => Ok(action),
         None => Err(RequestFault::BadMethod),
     }

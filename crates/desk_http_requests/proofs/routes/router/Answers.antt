@@ -1,19 +1,19 @@
-use Rattle.std.proofs.Common.{◌≡◌, subst, sym, refl, rules}
-use Rattle.matchit.proofs.OnLiterals.{matchit_on_literals}
+-- The routes so far are found, each by its place.
+use Rattle.std.proofs.Common.{◌≤◌, ◌∙◌, arith, length, rules, subst, sym}
+use Rattle.std.proofs.lemmas.List.{take_all}
 use Rattle.desk_http_requests.specs.Routes.{IsRouter}
 use Rattle.desk_http_requests.proofs.RouteLemmas.{ArePlain}
-use Rattle.desk_http_requests.proofs.TheRoutes.{the_rows, finds_routes}
+use Rattle.desk_http_requests.proofs.TheRoutes.{finds_routes, inserted, path_in, six, the_rows}
 use Rattle.desk_http_requests.proofs.routes.router.Goals as goal
 
+pub loop-place-preserved : goal.loop-place-preserved
+loop-place-preserved c =
+    let items = c.table-routes.result.now in
+    inserted c.loop-place.place (omega (arith, c.loop-place-test.true, six items c.table-routes.ensures)) _ (path_in items c.table-routes.ensures c.loop-place.place _ c.loop-place-test.true)
+    c.loop-place.router c.insert.new.self c.loop-place.invariant c.in_ok-insert.ensures
+
 pub returns : goal.returns
-unfolding matchit_on_literals
 returns c =
-    let a = c.in_ok-insert.ensures in
-    let b = c.in_ok-insert-2.ensures in
-    let d = c.in_ok-insert-3.ensures in
-    let e = c.in_ok-insert-4.ensures in
-    let f = c.in_ok-insert-5.ensures in
-    let h = c.in_ok-insert-6.ensures in
-    let rows : c.insert-6.new.self ≡ the_rows = rw (h.1, f.1, e.1, d.1, b.1, a.1, c.new-router.ensures) refl in
     let plain : ArePlain the_rows = search rules in
-    subst IsRouter (sym rows) (finds_routes plain)
+    let all : length the_rows ≤ c.loop-place.place = omega (arith, c.loop-place-test.false, six c.table-routes.result.now c.table-routes.ensures) in
+    subst IsRouter (sym (c.loop-place.invariant ∙ take_all c.loop-place.place the_rows all)) (finds_routes plain)
