@@ -1,6 +1,3 @@
-pub mod CheckAnswers
-pub mod ClientsAnswers
-pub mod CompareAnswers
-pub mod SplitAnswers
-pub mod ToldFindings
+pub mod FilesInTurn
+pub mod FoundWords
 pub mod Viewed

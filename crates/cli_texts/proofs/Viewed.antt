@@ -1,13 +1,18 @@
 -- A view of a policy without its warnings is one of the text that it was read from, for `whole_tables`.
-use Rattle.std.proofs.Common.{◌≡◌, ◌∙◌, [], Result, Ok, Err, ap, sym, subst}
+use Rattle.std.proofs.Common.{◌≡◌, ◌∙◌, [], List, Result, Ok, Err, ap, sym, subst}
 use Rattle.desk_text.specs.declared.reading.ReadError.{ReadError}
 use Rattle.desk_text.specs.declared.reading.ReadError.TheVariants.{Fault, Memory}
+use Rattle.desk_tables.specs.declared.filesystems.Mount.{Mount}
+use Rattle.desk_exports.specs.declared.profile.Profile.TheVariants.{Two}
 use Rattle.desk_policy.specs.Contradiction.{HasNoContradiction}
-use Rattle.desk_policy.specs.Parsing.{without_warnings}
+use Rattle.desk_policy.specs.Parsing.{read_whole_with, without_warnings}
 use Rattle.desk_policy.specs.Policy.{Content, with_warnings}
 use Rattle.desk_policy.specs.View.{Builds, IsFaultOf, IsLeastContradiction, WarningsChangeNoAnswer}
+use Rattle.desk_policy.specs.declared.parsing.SiteTables.{SiteTables}
 use Rattle.desk_policy.specs.declared.site_fault.SiteFault.{SiteFault}
-use Rattle.cli_texts.specs.WholeTables.{Views}
+use Rattle.desk_check.specs.CheckText.{tables_of}
+use Rattle.desk_check.specs.declared.check_text.WholeSources.{WholeSources}
+use Rattle.cli_texts.specs.WholeTables.{GivesOrFault, Writes, policy_of, policy_with}
 
 -- a fault of what is read without warnings is one of what is read with them
 pub faulty_read : (read : Result Content SiteFault) (fault : SiteFault) → without_warnings read ≡ Err fault → IsFaultOf read fault
@@ -20,10 +25,15 @@ least_too law (Ok content) policy fault is least =
     ((law content []).least fault).0 (subst (λ (p : Content). IsLeastContradiction p fault) same least)
 least_too law (Err first) policy fault is least = cc
 
-module _ {V : Type 0} where
-  pub viewed : (law : WarningsChangeNoAnswer) (in_force : V → Content) (read : Result Content SiteFault) (policy : Content) (result : Result V (ReadError SiteFault)) → without_warnings read ≡ Ok policy → Builds in_force policy result → Views in_force read result
-  viewed law in_force read policy (Ok view) is builds =
-      let ok : Content → Result Content SiteFault = λ content. Ok content in
-      (is ∙ ap ok (sym builds.0), subst HasNoContradiction (sym builds.0) builds.1)
-  viewed law in_force read policy (Err (Fault fault)) is least = least_too law read policy fault is least
-  viewed law in_force read policy (Err Memory) is builds = tt
+pub viewed : {V : Type 0} (law : WarningsChangeNoAnswer) (in_force : V → Content) (read : Result Content SiteFault) (policy : Content) (result : Result V (ReadError SiteFault)) → without_warnings read ≡ Ok policy → Builds in_force policy result → GivesOrFault (λ (view : V). Writes read (in_force view)) read result
+viewed law in_force read policy (Ok view) is builds =
+    let ok : Content → Result Content SiteFault = λ content. Ok content in
+    (is ∙ ap ok (sym builds.0), subst HasNoContradiction (sym builds.0) builds.1)
+viewed law in_force read policy (Err (Fault fault)) is least = least_too law read policy fault is least
+viewed law in_force read policy (Err Memory) is builds = tt
+
+-- what is read of these texts, by their tables, which were read before, and a copy of the file systems
+pub read_known : (sources : WholeSources) (table own : List Mount) (tables : SiteTables) → tables_of sources.tables ≡ Ok tables → own ≡ table → policy_of sources table ≡ read_whole_with Two tables own sources.exports.text.now
+read_known sources table own tables known same =
+    ap (λ (read : Result SiteTables SiteFault). policy_with read table sources.exports.text.now) known
+    ∙ ap (λ (mounts : List Mount). read_whole_with Two tables mounts sources.exports.text.now) (sym same)

@@ -1,142 +1,99 @@
--- The output of `check` by its words and files. (this project's own)
-use Rattle.std.specs.Prelude.{◌≡◌, ◌⊎◌, ℕ, Bool, true, false, List, [], ◌∷◌, Option, Some, None, Result, Ok, Err, IsErrAnd, codes, is_some, map, unwrap_or, if◌then◌else◌}
-use Rattle.desk_tables.specs.FileSystems.{IsTableOf}
+-- What `check` prints, by its words and files. (this project's own)
+use Rattle.std.specs.Prelude.{◌≡◌, ◌⊎◌, ◌++◌, ℕ, List, [], ◌∷◌, Option, Some, None, Result, Ok, Err, IsErrAnd, MatchResult, codes, find, is_some, option_map, if◌then◌else◌}
+use Rattle.std.specs.String.{string_bytes}
+use Rattle.clap.specs.Words.{Row, all_of, first_of}
 use Rattle.desk_tables.specs.declared.filesystems.Mount.{Mount}
 use Rattle.desk_check.specs.CheckReport.{Reports}
 use Rattle.desk_check.specs.CheckSite.{GathersSite}
 use Rattle.desk_check.specs.CheckText.{Gathers}
 use Rattle.desk_check.specs.declared.check_report.CheckForm.{CheckForm}
+use Rattle.desk_check.specs.declared.check_report.Checked.{Checked}
 use Rattle.desk_check.specs.declared.check_site.SiteSources.{SiteSources}
 use Rattle.desk_check.specs.declared.check_text.Gathered.{Gathered}
 use Rattle.desk_check.specs.declared.check_text.WholeSources.{WholeSources}
-use Rattle.cli_words.specs.Arguments.{IsNoTable, first_bad_path, paths_of}
-use Rattle.cli_line.specs.CommandLine.{CheckWords, TableWords}
-use Rattle.cli_files.specs.Files.{ReadsInTurn, name_input_twice}
-use Rattle.cli_files.specs.declared.failure.Failure.{Failure}
-use Rattle.cli_files.specs.declared.failure.Failure.TheVariants.{BesideSite, InputTwice, Memory, Missing}
-use Rattle.cli_files.specs.declared.files.FileArgument.{FileArgument}
-use Rattle.cli_files.specs.declared.files.FileArgument.TheVariants.{Site}
-use Rattle.cli_output.specs.SiteFolder.{site_paths, site_paths_in, site_words, site_texts_in}
-use Rattle.cli_texts.specs.TableFiles.{whole_files}
-use Rattle.cli_output.specs.declared.output.Output.{Output}
-use Rattle.cli_output.specs.declared.output.Output.TheVariants.{Checked}
+use Rattle.cli_output.specs.Printed.{Prints}
+use Rattle.cli_output.specs.declared.failure.Failure.{Failure}
+use Rattle.cli_output.specs.declared.failure.Failure.TheVariants.{BesideSite, Memory, Missing}
+use Rattle.cli_output.specs.declared.printed.Printed.{Printed}
+use Rattle.cli_files.specs.Files.{ReadsInTurn}
+use Rattle.cli_files.specs.SiteFolder.{site_paths, site_paths_in, site_texts_in, site_words}
+use Rattle.cli_words.specs.Words.{After, is_set}
+use Rattle.cli_texts.specs.MountWords.{ReadsTable}
+use Rattle.cli_texts.specs.TableFiles.{ReadsSources, table_files}
+use Rattle.cli_texts.specs.WholeFiles.{whole_files, whole_list}
 
 -- the form in which the words ask for the findings
-abbrev pub form_of : CheckWords → CheckForm
-form_of words = record { brief = words.brief; strict = words.strict; json = words.json }
+abbrev pub form_of : List Row → CheckForm
+form_of rows = record { brief = is_set (codes "brief") rows; strict = is_set (codes "strict") rows; json = is_set (codes "json") rows }
 
--- the output tells what was found in this form; out of memory says nothing
-abbrev pub ReportsThis : CheckForm → Gathered → Result Output Failure → Type 0
-ReportsThis form gathered (Ok (Checked checked)) = Reports form gathered checked
-ReportsThis form gathered (Err Memory) = Unit {0}
-ReportsThis form gathered result = ⊥
+-- a report is printed; standard error says if the exports text was not looked at
+pub record PrintsChecked (checked : Checked) (printed : Printed) : Type 0 where
+  pub prints : Prints (if checked.passes then 0 else 3) (string_bytes checked.text) printed
+  pub says : string_bytes printed.note ≡ (if checked.read_exports then [] else codes "exportdesk: the exports were not looked at, since a table has a fault" ++ 10 ∷ [])
 
--- the output tells something that was so found; out of memory says nothing
-abbrev pub ReportsFound : (Gathered → Type 0) → CheckForm → Result Output Failure → Type 0
-ReportsFound IsFound form (Ok (Checked checked)) = (gathered : Gathered) × (IsFound gathered × Reports form gathered checked)
-ReportsFound IsFound form (Err Memory) = Unit {0}
-ReportsFound IsFound form result = ⊥
+-- the report in this form of what was found is printed
+pub record PrintsFindings (form : CheckForm) (gathered : Gathered) (printed : Printed) : Type 0 where
+  pub checked : Checked
+  pub reports : Reports form gathered checked
+  pub prints : PrintsChecked checked printed
 
--- the paths of an exports text and its tables, and the texts, in the order in which they are read
-abbrev pub paths_in : WholeSources → List (List ℕ)
-paths_in sources =
-    sources.tables.hosts.path.now ∷ sources.tables.networks.path.now ∷ sources.tables.passwd.path.now ∷ sources.tables.group.path.now ∷ sources.tables.netgroup.path.now ∷ sources.exports.path.now ∷ []
+-- the report of something that was so found is printed; out of memory says nothing
+abbrev pub AnswersFound : (Gathered → Type 0) → CheckForm → Result Printed Failure → Type 0
+AnswersFound IsFound form result =
+    MatchResult result (λ printed. (gathered : Gathered) × (IsFound gathered × PrintsFindings form gathered printed)) (λ failure. failure ≡ Memory)
 
-abbrev pub texts_in : WholeSources → List (List ℕ)
-texts_in sources =
-    sources.tables.hosts.text.now ∷ sources.tables.networks.text.now ∷ sources.tables.passwd.text.now ∷ sources.tables.group.text.now ∷ sources.tables.netgroup.text.now ∷ sources.exports.text.now ∷ []
+-- the answer by the texts of the files
+abbrev pub AnswersTexts : CheckForm → List Mount → WholeSources → Result Printed Failure → Type 0
+AnswersTexts form table sources result = AnswersFound (Gathers sources table) form result
 
--- the path of a file; of one that is not given an empty one, which is told of nothing
-abbrev pub given_path : FileArgument × Option (List ℕ) → List ℕ
-given_path file = unwrap_or file.1 []
-
--- the output tells what is found in these texts, each told by the path of its file
-pub record AnswersSources (words : CheckWords) (file : List ℕ) (table : List Mount) (texts : List (List ℕ)) (result : Result Output Failure) : Type 0 where
-  pub sources : WholeSources
-  pub paths : paths_in sources ≡ map given_path (whole_files words.tables file)
-  pub texts_are : texts_in sources ≡ texts
-  pub tells : ReportsFound (Gathers sources table) (form_of words) result
-
--- the answer by the texts that were read; or why a file has no text
-abbrev pub AnswersTexts : CheckWords → List ℕ → List Mount → Result (List (List ℕ)) Failure → Result Output Failure → Type 0
-AnswersTexts words file table (Ok texts) result = AnswersSources words file table texts result
-AnswersTexts words file table (Err failure) result = result ≡ Err failure
-
--- the answer by the files that the words name
-pub record AnswersFiles (words : CheckWords) (file : List ℕ) (table : List Mount) (known : Option (List ℕ)) (result : Result Output Failure) : Type 0 where
-  pub read : Result (List (List ℕ)) Failure
-  pub reads : ReadsInTurn (whole_files words.tables file) known read
-  pub answers : AnswersTexts words file table read result
-
--- the same, if at most one of the files is to be standard input
-abbrev pub AnswersFilesIf : Bool → CheckWords → List ℕ → List Mount → Option (List ℕ) → Result Output Failure → Type 0
-AnswersFilesIf true words file table known result = result ≡ Err InputTwice
-AnswersFilesIf false words file table known result = AnswersFiles words file table known result
-
--- the answer with the file systems of these words
-pub record AnswersTable (words : CheckWords) (file : List ℕ) (mounts : List (List ℕ)) (known : Option (List ℕ)) (result : Result Output Failure) : Type 0 where
-  pub table : List Mount
-  pub mounts_read : first_bad_path mounts ≡ None
-  pub is_table : IsTableOf (paths_of mounts) table
-  pub answers : AnswersFilesIf (name_input_twice (whole_files words.tables file)) words file table known result
+-- the answer with these file systems: the files are read after them
+abbrev pub AnswersByFiles : List Row → Option (List ℕ) → List ℕ → List Mount → Result Printed Failure → Type 0
+AnswersByFiles rows known file table result = After (ReadsSources whole_list (whole_files rows file) known) (AnswersTexts (form_of rows) table) result
 
 -- the failure says that this word is missing
 abbrev pub IsMissingWord : List ℕ → Failure → Type 0
 IsMissingWord word (Missing name) = name.now ≡ word
 IsMissingWord word failure = ⊥
 
--- the answer without `--site`: FILE and MOUNT.. have to be given; or which MOUNT is not a path
-abbrev pub AnswersByFiles : Option (List ℕ) → Option (List (List ℕ)) → CheckWords → Option (List ℕ) → Result Output Failure → Type 0
-AnswersByFiles None mounts words known result = IsErrAnd result (IsMissingWord (codes "FILE"))
-AnswersByFiles (Some file) None words known result = IsErrAnd result (IsMissingWord (codes "MOUNT"))
-AnswersByFiles (Some file) (Some mounts) words known result = AnswersTable words file mounts known result ⊎ IsErrAnd result (IsNoTable mounts)
+-- the answer without `--site`: FILE and MOUNT.. have to be given
+abbrev pub AnswersGiven : Option (List ℕ) → Option (List (List ℕ)) → List Row → Option (List ℕ) → Result Printed Failure → Type 0
+AnswersGiven None mounts rows known result = IsErrAnd result (IsMissingWord (codes "FILE"))
+AnswersGiven (Some file) None rows known result = IsErrAnd result (IsMissingWord (codes "MOUNT"))
+AnswersGiven (Some file) (Some mounts) rows known result = After (ReadsTable mounts) (AnswersByFiles rows known file) result
 
--- the first of the words that cannot be given with `--site`
-abbrev pub beside_tables : TableWords → Option (List ℕ)
-beside_tables tables =
-    if is_some tables.hosts then Some (codes "--hosts")
-    else (if is_some tables.networks then Some (codes "--networks")
-    else (if is_some tables.passwd then Some (codes "--passwd")
-    else (if is_some tables.group then Some (codes "--group")
-    else (if is_some tables.netgroup then Some (codes "--netgroup")
-    else None))))
-
-abbrev pub beside_site : CheckWords → Option (List ℕ)
-beside_site words = if is_some words.file then Some (codes "FILE") else beside_tables words.tables
+-- the first of the files that cannot be given with `--site`, by the argument that names it
+abbrev pub beside_site : List Row → Option (List ℕ)
+beside_site rows = option_map (λ file. file.0) (find (λ file. is_some file.1) ((codes "FILE", first_of (codes "FILE") rows) ∷ table_files rows))
 
 -- the failure names a word that cannot be given with `--site`
 abbrev pub IsBesideSite : List ℕ → Failure → Type 0
 IsBesideSite word (BesideSite name) = name.now ≡ word
 IsBesideSite word failure = ⊥
 
--- the output tells what is found in these texts of a site, each told by the path of its file
-pub record AnswersSiteSources (form : CheckForm) (folder : List ℕ) (texts : List (List ℕ)) (result : Result Output Failure) : Type 0 where
-  pub sources : SiteSources
-  pub paths : site_paths_in sources ≡ site_paths folder
-  pub texts_are : site_texts_in sources ≡ texts
-  pub tells : ReportsFound (GathersSite sources) form result
+-- the sources of the files in a site's folder; or why one of them has no text. Out of memory says nothing.
+abbrev pub ReadsSite : List ℕ → Option (List ℕ) → Result SiteSources Failure → Type 0
+ReadsSite folder known (Ok sources) =
+    (site_paths_in sources ≡ site_paths folder) × ReadsInTurn (site_words (codes "--site") (site_paths folder)) known (Ok (site_texts_in sources))
+ReadsSite folder known (Err failure) = (failure ≡ Memory) ⊎ ReadsInTurn (site_words (codes "--site") (site_paths folder)) known (Err failure)
 
-abbrev pub AnswersSiteTexts : CheckForm → List ℕ → Result (List (List ℕ)) Failure → Result Output Failure → Type 0
-AnswersSiteTexts form folder (Ok texts) result = AnswersSiteSources form folder texts result
-AnswersSiteTexts form folder (Err failure) result = result ≡ Err failure
+-- the answer by the texts of a site
+abbrev pub AnswersSiteTexts : CheckForm → SiteSources → Result Printed Failure → Type 0
+AnswersSiteTexts form sources result = AnswersFound (GathersSite sources) form result
 
--- the answer by the files of a site's folder; out of memory says nothing
-pub record AnswersSiteFiles (form : CheckForm) (folder : List ℕ) (known : Option (List ℕ)) (result : Result Output Failure) : Type 0 where
-  pub read : Result (List (List ℕ)) Failure
-  pub reads : ReadsInTurn (site_words Site (site_paths folder)) known read
-  pub answers : AnswersSiteTexts form folder read result
+-- the answer by the files of a site's folder
+abbrev pub AnswersSite : CheckForm → List ℕ → Option (List ℕ) → Result Printed Failure → Type 0
+AnswersSite form folder known result = After (ReadsSite folder known) (AnswersSiteTexts form) result
 
-abbrev pub AnswersSite : CheckForm → List ℕ → Option (List ℕ) → Result Output Failure → Type 0
-AnswersSite form folder known result = (result ≡ Err Memory) ⊎ AnswersSiteFiles form folder known result
+-- the same, if nothing is given that cannot be given with `--site`
+abbrev pub AnswersSiteIf : Option (List ℕ) → CheckForm → List ℕ → Option (List ℕ) → Result Printed Failure → Type 0
+AnswersSiteIf (Some word) form folder known result = IsErrAnd result (IsBesideSite word)
+AnswersSiteIf None form folder known result = AnswersSite form folder known result
 
-abbrev pub AnswersSiteIf : Option (List ℕ) → CheckWords → List ℕ → Option (List ℕ) → Result Output Failure → Type 0
-AnswersSiteIf (Some word) words folder known result = IsErrAnd result (IsBesideSite word)
-AnswersSiteIf None words folder known result = AnswersSite (form_of words) folder known result
-
-abbrev pub AnswersCheckBy : Option (List ℕ) → CheckWords → Option (List ℕ) → Result Output Failure → Type 0
-AnswersCheckBy (Some folder) words known result = AnswersSiteIf (beside_site words) words folder known result
-AnswersCheckBy None words known result = AnswersByFiles words.file words.mounts words known result
+-- the answer by the folder that `--site` names, if it is given
+abbrev pub AnswersCheckBy : Option (List ℕ) → List Row → Option (List ℕ) → Result Printed Failure → Type 0
+AnswersCheckBy (Some folder) rows known result = AnswersSiteIf (beside_site rows) (form_of rows) folder known result
+AnswersCheckBy None rows known result = AnswersGiven (first_of (codes "FILE") rows) (all_of (codes "MOUNT") rows) rows known result
 
 -- the answer of `check` to its words
-abbrev pub AnswersCheck : CheckWords → Option (List ℕ) → Result Output Failure → Type 0
-AnswersCheck words known result = AnswersCheckBy words.site words known result
+abbrev pub AnswersCheck : List Row → Option (List ℕ) → Result Printed Failure → Type 0
+AnswersCheck rows known result = AnswersCheckBy (first_of (codes "site") rows) rows known result

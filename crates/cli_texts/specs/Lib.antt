@@ -2,8 +2,12 @@ pub mod CheckCommand
 pub mod ClientsCommand
 pub mod CompareCommand
 pub mod ComparedFiles
-pub mod FaultyOutputs
+pub mod FaultyTexts
+pub mod MountWords
+pub mod Printing
+pub mod PrivateTableFiles
 pub mod SplitCommand
 pub mod TableFiles
 pub mod TryCommand
+pub mod WholeFiles
 pub mod WholeTables

@@ -1,67 +1,54 @@
--- The output of `split` by its two files. (this project's own)
-use Rattle.std.specs.Prelude.{◌≡◌, ◌⊎◌, ◌&&◌, ℕ, Bool, true, false, List, Option, Result, Ok, Err, IsOk}
+-- What `split` prints, by its two files. (this project's own)
+use Rattle.std.specs.Prelude.{◌≡◌, ◌++◌, ℕ, List, [], ◌∷◌, Option, Some, Result, Ok, Err, MatchResult, codes}
 use Rattle.std.specs.String.{string_bytes}
-use Rattle.desk_check.specs.SplitText.{split_answer}
+use Rattle.clap.specs.Words.{Row}
+use Rattle.desk_check.specs.SplitText.{split_answer, split_fault_line}
+use Rattle.desk_check.specs.ToldFault.{TellsOfSplit}
 use Rattle.desk_check.specs.declared.check_faults.Source.{Source}
 use Rattle.desk_check.specs.declared.split_text.SplitFault.{SplitFault}
-use Rattle.cli_line.specs.CommandLine.{SplitWords}
-use Rattle.cli_files.specs.Files.{IsContents, IsNoText, is_input}
-use Rattle.cli_files.specs.Input.{text_of}
-use Rattle.cli_files.specs.declared.failure.Failure.{Failure}
-use Rattle.cli_files.specs.declared.failure.Failure.TheVariants.{InputTwice}
-use Rattle.cli_files.specs.declared.files.FileArgument.TheVariants.{File, FileSystems}
-use Rattle.cli_files.specs.declared.input.TextFault.{TextFault}
-use Rattle.cli_texts.specs.FaultyOutputs.{IsToldSplit}
-use Rattle.cli_output.specs.declared.output.Output.{Output}
-use Rattle.cli_output.specs.declared.output.Output.TheVariants.{NotSplit, Split}
+use Rattle.cli_output.specs.Printed.{Prints}
+use Rattle.cli_output.specs.declared.failure.Failure.{Failure}
+use Rattle.cli_output.specs.declared.failure.Failure.TheVariants.{Memory}
+use Rattle.cli_output.specs.declared.printed.Printed.{Printed}
+use Rattle.cli_words.specs.Words.{After, ByWord}
+use Rattle.cli_texts.specs.Printing.{PrintsAlone}
+use Rattle.cli_texts.specs.TableFiles.{IsShort, ReadsSources}
+use Rattle.cli_texts.specs.declared.split_command.SplitSources.{SplitSources}
+use Rattle.cli_texts.specs.declared.split_command.SplitTexts.{SplitTexts}
 
--- the output has the texts of a split as they are printed, or its fault
-abbrev pub IsSplitBy : Result (List ℕ) SplitFault → Output → Type 0
-IsSplitBy split (Split text) = split ≡ Ok (string_bytes text)
-IsSplitBy split (NotSplit fault told) = split ≡ Err fault
-IsSplitBy split output = ⊥
+-- the files in the order in which they are read
+abbrev pub split_files : List ℕ → List ℕ → List (List ℕ × Option (List ℕ))
+split_files file filesystems = (codes "FILE", Some file) ∷ (codes "FILESYSTEMS", Some filesystems) ∷ []
 
--- the output tells how FILE is split for FILESYSTEMS, and beside a fault its finding
-pub record TellsSplit (file filesystems : Source) (output : Output) : Type 0 where
-  pub split : IsSplitBy (split_answer file.text.now filesystems.text.now) output
-  pub told : IsToldSplit file filesystems output
+-- the sources of these files, in that order
+abbrev pub split_list : SplitSources → List Source
+split_list sources = sources.file ∷ sources.filesystems ∷ []
 
--- the same by the words that name the files, and by their texts
-pub record TellsNamed (words : SplitWords) (text filesystems : List ℕ) (output : Output) : Type 0 where
-  pub file : Source
-  pub table : Source
-  pub paths : (file.path.now ≡ words.file) × (table.path.now ≡ words.filesystems)
-  pub texts : (file.text.now ≡ text) × (table.text.now ≡ filesystems)
-  pub tells : TellsSplit file table output
+-- their texts, in that order
+abbrev pub split_texts : SplitTexts → List (List ℕ)
+split_texts texts = string_bytes texts.file ∷ string_bytes texts.filesystems ∷ []
 
--- the same by what the bytes of FILE and of FILESYSTEMS are taken as: both are texts
-abbrev pub TellsTexts : SplitWords → Result (List ℕ) TextFault → Result (List ℕ) TextFault → Output → Type 0
-TellsTexts words (Ok text) (Ok filesystems) output = TellsNamed words text filesystems output
-TellsTexts words text filesystems output = ⊥
+-- neither text is over the limit
+pub record AreBothShort (texts : SplitTexts) : Type 0 where
+  pub file : IsShort texts.file
+  pub filesystems : IsShort texts.filesystems
 
--- The answer by what the bytes of FILE and of FILESYSTEMS are taken as. Why FILE has no text comes before why FILESYSTEMS
--- has none, and both before any fault of a text.
-abbrev pub AnswersTexts : SplitWords → Result (List ℕ) TextFault → Result (List ℕ) TextFault → Result Output Failure → Type 0
-AnswersTexts words text filesystems (Ok output) = TellsTexts words text filesystems output
-AnswersTexts words text filesystems (Err failure) =
-    IsNoText File words.file text failure ⊎ (IsOk text × IsNoText FileSystems words.filesystems filesystems failure)
+-- a fault of one of the two texts is printed in a line, and standard error shows it as `check` does
+pub record PrintsSplitFault (sources : SplitSources) (fault : SplitFault) (printed : Printed) : Type 0 where
+  pub prints : Prints 3 (split_fault_line fault ++ 10 ∷ []) printed
+  pub shows : TellsOfSplit sources.file sources.filesystems fault (string_bytes printed.note)
 
--- the answer by some bytes of the two files
-pub record AnswersSplitFiles (words : SplitWords) (known : Option (List ℕ)) (result : Result Output Failure) : Type 0 where
-  pub text : List ℕ
-  pub filesystems : List ℕ
-  pub text_contents : IsContents words.file known text
-  pub filesystems_contents : IsContents words.filesystems known filesystems
-  pub answers : AnswersTexts words (text_of text) (text_of filesystems) result
+-- the texts of a split are printed, or its fault
+abbrev pub PrintsSplit : SplitSources → Result (List ℕ) SplitFault → Printed → Type 0
+PrintsSplit sources (Ok text) printed = PrintsAlone 0 text printed
+PrintsSplit sources (Err fault) printed = PrintsSplitFault sources fault printed
 
--- both files are to be standard input
-abbrev pub names_input_twice : SplitWords → Bool
-names_input_twice words = is_input words.file && is_input words.filesystems
+-- the answer by the texts of the files; out of memory says nothing
+abbrev pub AnswersTexts : SplitSources → Result Printed Failure → Type 0
+AnswersTexts sources result =
+    MatchResult result (PrintsSplit sources (split_answer sources.file.text.now sources.filesystems.text.now)) (λ failure. failure ≡ Memory)
 
-abbrev AnswersSplitIf : Bool → SplitWords → Option (List ℕ) → Result Output Failure → Type 0
-AnswersSplitIf true words known result = result ≡ Err InputTwice
-AnswersSplitIf false words known result = AnswersSplitFiles words known result
-
--- the answer of `split` to its words: that by the two files, or that both cannot be standard input
-abbrev pub AnswersSplit : SplitWords → Option (List ℕ) → Result Output Failure → Type 0
-AnswersSplit words known result = AnswersSplitIf (names_input_twice words) words known result
+-- the answer of `split` to its words
+abbrev pub AnswersSplit : List Row → Option (List ℕ) → Result Printed Failure → Type 0
+AnswersSplit rows known result =
+    ByWord (codes "FILE") rows (λ file. ByWord (codes "FILESYSTEMS") rows (λ filesystems. After (ReadsSources split_list (split_files file filesystems) known) AnswersTexts)) result

@@ -1,40 +1,56 @@
--- The files of an exports text and of the tables that options name. (this project's own)
-use Rattle.std.specs.Prelude.{ℕ, ◌≤◌, List, [], ◌∷◌, Option, Some, Result, length}
+-- The files that a command reads: in which order, and as which sources; those of the tables among them. (this project's own)
+use Rattle.std.specs.Prelude.{◌≡◌, ◌≤◌, ℕ, Bool, true, false, List, [], ◌∷◌, Option, Result, Ok, Err, String, codes, length, map, unwrap_or}
 use Rattle.std.specs.String.{string_bytes}
-use Rattle.desk_policy.specs.Parsing.{read_tables}
-use Rattle.desk_policy.specs.declared.parsing.SiteTables.{SiteTables}
-use Rattle.desk_policy.specs.declared.site_fault.SiteFault.{SiteFault}
-use Rattle.cli_line.specs.CommandLine.{TableWords}
-use Rattle.cli_files.specs.declared.files.FileArgument.{FileArgument}
-use Rattle.cli_files.specs.declared.files.FileArgument.TheVariants.{File, Group, Hosts, Netgroup, Networks, Passwd}
-use Rattle.cli_texts.specs.declared.table_files.WholeTexts.{WholeTexts}
+use Rattle.clap.specs.Words.{Row, first_of}
+use Rattle.desk_policy.specs.declared.per_table.PerTable.{PerTable}
+use Rattle.desk_check.specs.declared.check_faults.Source.{Source}
+use Rattle.cli_output.specs.declared.failure.Failure.{Failure}
+use Rattle.cli_output.specs.declared.failure.Failure.TheVariants.{InputTwice}
+use Rattle.cli_files.specs.Files.{ReadsInTurn, name_input_twice}
 
--- the files in the order in which they are read
-abbrev pub whole_files : TableWords → List ℕ → List (FileArgument × Option (List ℕ))
-whole_files tables file =
-    (Hosts, tables.hosts) ∷ (Networks, tables.networks) ∷ (Passwd, tables.passwd) ∷ (Group, tables.group) ∷ (Netgroup, tables.netgroup) ∷ (File, Some file) ∷ []
+-- the files of the tables, each with the option that names it, in the order in which they are read
+abbrev pub table_files : List Row → List (List ℕ × Option (List ℕ))
+table_files rows =
+    (codes "--hosts", first_of (codes "hosts") rows)
+    ∷ (codes "--networks", first_of (codes "networks") rows)
+    ∷ (codes "--passwd", first_of (codes "passwd") rows)
+    ∷ (codes "--group", first_of (codes "group") rows)
+    ∷ (codes "--netgroup", first_of (codes "netgroup") rows)
+    ∷ []
 
--- the texts in that order
-abbrev pub texts_of : WholeTexts → List (List ℕ)
-texts_of texts =
-    string_bytes texts.hosts ∷ string_bytes texts.networks ∷ string_bytes texts.passwd ∷ string_bytes texts.group ∷ string_bytes texts.netgroup ∷ string_bytes texts.exports ∷ []
+-- what there is for each table, in that order
+abbrev pub table_list : {X : Type 0} → PerTable X → List X
+table_list tables = tables.hosts ∷ tables.networks ∷ tables.passwd ∷ tables.group ∷ tables.netgroup ∷ []
 
--- no text is over the limit
-pub record AreShort (texts : WholeTexts) : Type 0 where
-  pub hosts : length (string_bytes texts.hosts) ≤ 16777216
-  pub networks : length (string_bytes texts.networks) ≤ 16777216
-  pub passwd : length (string_bytes texts.passwd) ≤ 16777216
-  pub group : length (string_bytes texts.group) ≤ 16777216
-  pub netgroup : length (string_bytes texts.netgroup) ≤ 16777216
-  pub exports : length (string_bytes texts.exports) ≤ 16777216
+-- the text is not over the limit
+abbrev pub IsShort : {A : Type 0} → String A → Type 0
+IsShort text = length (string_bytes text) ≤ 16777216
 
--- what the texts of the tables are read as
-abbrev pub tables_of : WholeTexts → Result SiteTables SiteFault
-tables_of texts =
-    read_tables (record {
-      hosts = string_bytes texts.hosts;
-      networks = string_bytes texts.networks;
-      passwd = string_bytes texts.passwd;
-      group = string_bytes texts.group;
-      netgroup = string_bytes texts.netgroup;
-    })
+-- the texts of files that are read in turn, unless two of them are to be standard input
+abbrev pub ReadsUnless : Bool → List (List ℕ × Option (List ℕ)) → Option (List ℕ) → Result (List (List ℕ)) Failure → Type 0
+ReadsUnless true files known read = read ≡ Err InputTwice
+ReadsUnless false files known read = ReadsInTurn files known read
+
+abbrev pub ReadsFiles : List (List ℕ × Option (List ℕ)) → Option (List ℕ) → Result (List (List ℕ)) Failure → Type 0
+ReadsFiles files known read = ReadsUnless (name_input_twice files) files known read
+
+-- the path of a file; of one that is not given the empty one, which no finding shows
+abbrev pub given_path : List ℕ × Option (List ℕ) → List ℕ
+given_path file = unwrap_or file.1 []
+
+abbrev pub paths_in : List Source → List (List ℕ)
+paths_in sources = map (λ (source : Source). source.path.now) sources
+
+abbrev pub texts_in : List Source → List (List ℕ)
+texts_in sources = map (λ (source : Source). source.text.now) sources
+
+-- these sources have the paths of these files, and the texts that are read from them
+pub record AreRead (files : List (List ℕ × Option (List ℕ))) (known : Option (List ℕ)) (sources : List Source) : Type 0 where
+  pub paths : paths_in sources ≡ map given_path files
+  pub texts : ReadsFiles files known (Ok (texts_in sources))
+
+module _ {S : Type 0} where
+  -- the sources of these files; or why one of them has no text, or that two of them are to be standard input
+  abbrev pub ReadsSources : (S → List Source) → List (List ℕ × Option (List ℕ)) → Option (List ℕ) → Result S Failure → Type 0
+  ReadsSources source_list files known (Ok sources) = AreRead files known (source_list sources)
+  ReadsSources source_list files known (Err failure) = ReadsFiles files known (Err failure)

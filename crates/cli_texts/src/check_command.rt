@@ -1,92 +1,94 @@
 //! The command `check`: every fault and warning of an exports text and its tables, or of a site's files.
 
-ghost use Rattle.std.specs.Prelude.{◌≡◌, [], Ok, map, unwrap_or};
+ghost use Rattle.std.specs.Prelude.{◌≡◌, ◌++◌, ◌∷◌, [], IfOk, MatchResult, codes, if◌then◌else◌};
 ghost use Rattle.std.specs.Option.{option_map};
+ghost use Rattle.std.specs.String.{string_bytes};
+ghost use Rattle.clap.specs.Words.{all_of, first_of};
+ghost use Rattle.desk_text.specs.Lines.{IsReadable};
+ghost use Rattle.desk_check.specs.CheckFaults.{AreReadable};
 ghost use Rattle.desk_check.specs.Finding.{HaveSlices};
-ghost use Rattle.cli_files.specs.Files.{name_input_twice};
-ghost use Rattle.cli_words.specs.Words.{given_check, given_tables};
-ghost use Rattle.cli_texts.specs.CheckCommand.{AnswersCheck, AnswersFilesIf, AnswersByFiles, AnswersTexts, ReportsThis, beside_site, form_of, given_path, paths_in, texts_in};
-ghost use Rattle.cli_texts.specs.TableFiles.{AreShort, texts_of, whole_files};
+ghost use Rattle.cli_words.specs.Words.{rows_in};
+ghost use Rattle.cli_texts.specs.CheckCommand.{AnswersByFiles, AnswersCheck, AnswersGiven, AnswersTexts, PrintsFindings, beside_site, form_of};
 
 use crate::check_site_files::check_site;
-use crate::table_files::{WholeTexts, names_input_twice, read_whole_texts};
-use cli_files::failure::Failure;
-use cli_output::output::Output;
-use cli_words::arguments::read_mounts;
-use cli_words::text_words::{CheckWords, TableWords};
-use desk_check::{CheckForm, Gathered, Source, WholeSources, gather, report_found};
-use desk_policy::PerTable;
+use crate::whole_files::{read_whole_texts, whole_sources};
+use clap::ArgMatches;
+use cli_output::failure::Failure;
+use cli_output::printed::Printed;
+use cli_words::values::read_mounts;
+use cli_words::words::{all_given, given, is_set};
+use desk_check::{CheckForm, Gathered, WholeSources, gather, report_found};
 use desk_tables::FileSystems;
-use std::alloc::Global;
+use std::alloc::{AllocError, Global};
 use std::io::BufRead;
 
 /// Answers `check FILE MOUNT...` or `check --site DIR`, with its options. Which of the two it is comes first, and then the
 /// mount points are parsed, before any file is read.
 pub fn run_check<I: BufRead>(
     rt: &HostRuntime,
-    words: CheckWords<'_, '_>,
+    words: &ArgMatches<'_>,
     input: &mut I,
-) -> Result<Output, Failure>
-    ensures { AnswersCheck (given_check words.entry) (I.remaining input.old) result }
+) -> Result<Printed, Failure>
+    ensures { AnswersCheck (rows_in words.now) (I.remaining input.old) result }
 {
-    match words.site {
+    match given(words, "site") {
         Some(folder) => match beside_site(words) {
             Some(name) => Err(Failure::BesideSite(name)),
             None => check_site(rt, form_of(words), folder, input),
         },
-        None => run_files(rt, words, input),
+        None => check_given(rt, words, input),
     }
 }
 
 /// Returns the form in which the words ask for the findings.
-fn form_of(words: CheckWords<'_, '_>) -> CheckForm
-    ensures { result ≡ form_of (given_check words.entry) }
+fn form_of(words: &ArgMatches<'_>) -> CheckForm
+    ensures { result ≡ form_of (rows_in words.now) }
 {
     CheckForm {
-        brief: words.brief,
-        strict: words.strict,
-        json: words.json,
+        brief: is_set(words, "brief"),
+        strict: is_set(words, "strict"),
+        json: is_set(words, "json"),
     }
 }
 
-/// Names the first word that cannot be given with `--site`, if one is given.
-fn beside_site(words: CheckWords<'_, '_>) -> Option<&'static str>
-    ensures { option_map (λ name. name.now) result ≡ beside_site (given_check words.entry) }
+/// Names the first of the files that cannot be given with `--site`, if one is given.
+fn beside_site(words: &ArgMatches<'_>) -> Option<&'static str>
+    ensures { option_map (λ name. name.now) result ≡ beside_site (rows_in words.now) }
 {
-    if words.file.is_some() {
+    if given(words, "FILE").is_some() {
         return Some("FILE");
     }
-    if words.tables.hosts.is_some() {
+    if given(words, "hosts").is_some() {
         return Some("--hosts");
     }
-    if words.tables.networks.is_some() {
+    if given(words, "networks").is_some() {
         return Some("--networks");
     }
-    if words.tables.passwd.is_some() {
+    if given(words, "passwd").is_some() {
         return Some("--passwd");
     }
-    if words.tables.group.is_some() {
+    if given(words, "group").is_some() {
         return Some("--group");
     }
-    if words.tables.netgroup.is_some() {
+    if given(words, "netgroup").is_some() {
         return Some("--netgroup");
     }
     None
 }
 
-/// Answers by the files that the words name, without `--site`.
-fn run_files<I: BufRead>(
+/// Answers without `--site`: FILE and MOUNT.. have to be given.
+fn check_given<I: BufRead>(
     rt: &HostRuntime,
-    words: CheckWords<'_, '_>,
+    words: &ArgMatches<'_>,
     input: &mut I,
-) -> Result<Output, Failure>
-    ensures { let given = given_check words.entry in
-        AnswersByFiles given.file given.mounts given (I.remaining input.old) result }
+) -> Result<Printed, Failure>
+    ensures { let rows = rows_in words.now in
+        AnswersGiven (first_of (codes "FILE") rows) (all_of (codes "MOUNT") rows) rows (I.remaining input.old) result }
 {
-    let Some(file) = words.file else {
+    let Some(file) = given(words, "FILE") else {
         return Err(Failure::Missing("FILE"));
     };
-    let Some(mounts) = words.mounts else {
+    let Some(mounts) = all_given(words, "MOUNT") else {
         return Err(Failure::Missing("MOUNT"));
     };
     let filesystems = read_mounts(rt.alloc(), mounts)?;
@@ -96,84 +98,61 @@ fn run_files<I: BufRead>(
 /// Answers by these file systems and the files that the words name.
 fn check_files<I: BufRead>(
     rt: &HostRuntime,
-    words: CheckWords<'_, '_>,
+    words: &ArgMatches<'_>,
     file: &str,
     filesystems: FileSystems,
     input: &mut I,
-) -> Result<Output, Failure>
-    ensures { let given = given_check words.entry in
-        AnswersFilesIf (name_input_twice (whole_files given.tables file.now)) given file.now filesystems (I.remaining input.old) result }
+) -> Result<Printed, Failure>
+    ensures { AnswersByFiles (rows_in words.now) (I.remaining input.old) file.now filesystems result }
 {
-    if names_input_twice(words.tables, file) {
-        drop(filesystems);
-        return Err(Failure::InputTwice);
-    }
-    match read_whole_texts(rt, words.tables, file, input) {
-        Ok(texts) => check_texts(rt.alloc(), words, file, filesystems, &texts),
-        Err(failure) => {
-            drop(filesystems);
-            Err(failure)
-        }
-    }
+    let texts = read_whole_texts(rt, words, file, input)?;
+    let sources = whole_sources(words, file, &texts);
+    check_texts(rt.alloc(), form_of(words), filesystems, sources)
 }
 
-/// Answers by these file systems and texts.
+/// Answers by the texts of the files.
 fn check_texts(
     alloc: Global,
-    words: CheckWords<'_, '_>,
-    file: &str,
+    form: CheckForm,
     filesystems: FileSystems,
-    texts: &WholeTexts,
-) -> Result<Output, Failure>
-    requires { AreShort texts.now }
-    ensures { AnswersTexts (given_check words.entry) file.now filesystems (Ok (texts_of texts.now)) result }
+    sources: WholeSources<'_>,
+) -> Result<Printed, Failure>
+    requires tables { AreReadable sources.tables }
+    requires exports { IsReadable sources.exports.text.now }
+    ensures { AnswersTexts form filesystems sources.entry result }
 {
-    let sources = sources_of(words.tables, file, texts);
-    match gather(alloc, sources, filesystems) {
-        Ok(gathered) => report(alloc, form_of(words), &gathered),
-        Err(_) => Err(Failure::Memory),
-    }
+    let gathered = gather(alloc, sources, filesystems)?;
+    Ok(print_findings(alloc, form, &gathered)?)
 }
 
-/// Lends the texts with the paths of their files.
-pub fn sources_of<'a>(
-    tables: TableWords<'a>,
-    file: &'a str,
-    texts: &'a WholeTexts,
-) -> WholeSources<'a>
-    ensures paths { paths_in result ≡ map given_path (whole_files (given_tables tables.entry) file.entry.now) }
-    ensures texts { texts_in result ≡ texts_of texts.now }
-{
-    WholeSources {
-        tables: PerTable {
-            hosts: source_of(tables.hosts, texts.hosts.as_str()),
-            networks: source_of(tables.networks, texts.networks.as_str()),
-            passwd: source_of(tables.passwd, texts.passwd.as_str()),
-            group: source_of(tables.group, texts.group.as_str()),
-            netgroup: source_of(tables.netgroup, texts.netgroup.as_str()),
-        },
-        exports: source_of(Some(file), texts.exports.as_str()),
-    }
-}
-
-/// Lends a text with the path of its file, which is empty if no file is given.
-pub fn source_of<'a>(word: Option<&'a str>, text: &'a str) -> Source<'a>
-    ensures path { result.path.now ≡ unwrap_or (option_map (λ word. word.now) word.entry) [] }
-    ensures text { result.text.now ≡ text.entry.now }
-{
-    match word {
-        Some(path) => Source { path, text },
-        None => Source { path: "", text },
-    }
-}
-
-/// Tells what was found.
-pub fn report(alloc: Global, form: CheckForm, gathered: &Gathered) -> Result<Output, Failure>
+/// Prints the report of what was found.
+pub fn print_findings(
+    alloc: Global,
+    form: CheckForm,
+    gathered: &Gathered,
+) -> Result<Printed, AllocError>
     requires { HaveSlices gathered.now.findings }
-    ensures { ReportsThis form gathered.now result }
+    ensures { IfOk result (PrintsFindings form gathered.now) }
 {
-    match report_found(alloc, form, gathered) {
-        Ok(checked) => Ok(Output::Checked(checked)),
-        Err(_) => Err(Failure::Memory),
+    let note = check_note(alloc, gathered.read_exports)?;
+    let checked = report_found(alloc, form, gathered)?;
+    Ok(Printed {
+        status: if checked.passes { 0 } else { 3 },
+        text: checked.text,
+        note,
+    })
+}
+
+/// Says if the exports text was not looked at.
+fn check_note(alloc: Global, read_exports: bool) -> Result<String, AllocError>
+    ensures { IfOk result (λ note. string_bytes note ≡ (if read_exports then [] else codes "exportdesk: the exports were not looked at, since a table has a fault" ++ 10 ∷ [])) }
+{
+    if read_exports {
+        Ok(String::new(alloc))
+    } else {
+        String::from_str(
+            alloc,
+            "exportdesk: the exports were not looked at, since a table has a fault\n",
+        )
     }
 }

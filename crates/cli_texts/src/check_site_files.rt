@@ -1,15 +1,14 @@
 //! The command `check --site DIR`: every fault and warning of the files in a site's folder.
 
-ghost use Rattle.std.specs.Prelude.{◌≡◌, Ok};
-ghost use Rattle.cli_output.specs.SiteFolder.{AreShortFiles, site_list, site_paths};
+ghost use Rattle.desk_text.specs.Lines.{IsReadable};
+ghost use Rattle.desk_check.specs.CheckFaults.{AreReadable};
 ghost use Rattle.cli_texts.specs.CheckCommand.{AnswersSite, AnswersSiteTexts};
 
-use crate::check_command::report;
-use cli_files::failure::Failure;
-use cli_files::files::FileArgument;
-use cli_output::output::Output;
-use cli_output::site_folder::{SiteFiles, paths_of, read_texts, sources_of};
-use desk_check::{CheckForm, gather_site};
+use crate::check_command::print_findings;
+use cli_files::site_folder::{paths_of, read_texts, sources_of};
+use cli_output::failure::Failure;
+use cli_output::printed::Printed;
+use desk_check::{CheckForm, SiteSources, gather_site};
 use std::alloc::Global;
 use std::io::BufRead;
 
@@ -19,47 +18,26 @@ pub fn check_site<I: BufRead>(
     form: CheckForm,
     folder: &str,
     input: &mut I,
-) -> Result<Output, Failure>
+) -> Result<Printed, Failure>
     ensures { AnswersSite form folder.now (I.remaining input.old) result }
 {
-    match paths_of(rt.alloc(), folder) {
-        Ok(paths) => check_paths(rt, form, folder, &paths, input),
-        Err(_) => Err(Failure::Memory),
-    }
+    let paths = paths_of(rt.alloc(), folder)?;
+    let texts = read_texts(rt, "--site", &paths, input)?;
+    check_site_texts(rt.alloc(), form, sources_of(&paths, &texts))
 }
 
-/// Answers by the files of these paths.
-fn check_paths<I: BufRead>(
-    rt: &HostRuntime,
-    form: CheckForm,
-    folder: &str,
-    paths: &SiteFiles,
-    input: &mut I,
-) -> Result<Output, Failure>
-    requires { site_list paths.now ≡ site_paths folder.now }
-    ensures { AnswersSite form folder.now (I.remaining input.old) result }
-{
-    match read_texts(rt, FileArgument::Site, paths, input) {
-        Ok(texts) => check_texts(rt.alloc(), form, folder, paths, &texts),
-        Err(failure) => Err(failure),
-    }
-}
-
-/// Answers by these texts of the files.
-fn check_texts(
+/// Answers by the texts of a site.
+fn check_site_texts(
     alloc: Global,
     form: CheckForm,
-    folder: &str,
-    paths: &SiteFiles,
-    texts: &SiteFiles,
-) -> Result<Output, Failure>
-    requires paths { site_list paths.now ≡ site_paths folder.now }
-    requires short { AreShortFiles texts.now }
-    ensures { AnswersSiteTexts form folder.now (Ok (site_list texts.now)) result }
+    sources: SiteSources<'_>,
+) -> Result<Printed, Failure>
+    requires custodians { IsReadable sources.custodians.text.now }
+    requires filesystems { IsReadable sources.filesystems.text.now }
+    requires tables { AreReadable sources.whole.tables }
+    requires exports { IsReadable sources.whole.exports.text.now }
+    ensures { AnswersSiteTexts form sources.entry result }
 {
-    let _ = folder;
-    match gather_site(alloc, sources_of(paths, texts)) {
-        Ok(gathered) => report(alloc, form, &gathered),
-        Err(_) => Err(Failure::Memory),
-    }
+    let gathered = gather_site(alloc, sources)?;
+    Ok(print_findings(alloc, form, &gathered)?)
 }

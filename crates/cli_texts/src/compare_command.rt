@@ -1,30 +1,27 @@
 //! The command `compare`: what changes from one exports text to another, of every directory and for every client.
 
-ghost use Rattle.std.specs.Prelude.{◌≡◌, ◌∷◌, [], Ok, map};
-ghost use Rattle.std.specs.String.{string_bytes};
+ghost use Rattle.std.specs.Prelude.{◌≡◌, Ok};
 ghost use Rattle.desk_text.specs.Lines.{IsReadable};
 ghost use Rattle.desk_check.specs.CheckFaults.{AreReadable};
-ghost use Rattle.desk_exports.specs.declared.profile.Profile.TheVariants.{Two};
-ghost use Rattle.desk_policy.specs.Parsing.{read_whole_with};
-ghost use Rattle.cli_files.specs.Files.{name_input_twice};
-ghost use Rattle.cli_words.specs.Words.{given_compare, given_tables};
-ghost use Rattle.cli_texts.specs.CheckCommand.{given_path, paths_in, texts_in};
-ghost use Rattle.cli_texts.specs.CompareCommand.{AnswersCompare, AnswersFilesIf, ComparesAfter, ComparesTexts, ComparesWith, TellsReport};
-ghost use Rattle.cli_texts.specs.ComparedFiles.{compared_files};
-ghost use Rattle.cli_texts.specs.TableFiles.{whole_files};
+ghost use Rattle.desk_check.specs.CheckText.{tables_of};
+ghost use Rattle.cli_words.specs.Words.{rows_in};
+ghost use Rattle.cli_texts.specs.CompareCommand.{AnswersCompare, AnswersTexts, PrintsChanges};
+ghost use Rattle.cli_texts.specs.FaultyTexts.{AnswersOrFault};
+ghost use Rattle.cli_texts.specs.WholeTables.{GivesOrFault, policy_of};
 
 use crate::View;
-use crate::check_command::source_of;
-use crate::compared_files::{ComparedTexts, compared_name_input_twice, read_compared_texts};
-use crate::faulty_outputs::faulty;
+use crate::compared_files::{ComparedSources, compared_sources, read_compared_texts};
+use crate::faulty_texts::answer_error;
+use crate::mount_words::read_filesystems;
+use crate::printing::print_alone;
 use crate::whole_tables::view_of;
-use cli_files::failure::Failure;
-use cli_output::output::Output;
-use cli_words::arguments::read_mounts;
-use cli_words::text_words::{CompareWords, TableWords};
+use clap::ArgMatches;
+use cli_output::failure::Failure;
+use cli_output::printed::Printed;
+use cli_words::words::{is_set, required};
 use desk_check::{WholeSources, read_sources};
 use desk_impact::impact_report;
-use desk_policy::{PerTable, SiteTables};
+use desk_policy::{SiteFault, SiteTables};
 use desk_tables::FileSystems;
 use desk_text::ReadError;
 use std::alloc::Global;
@@ -33,169 +30,99 @@ use std::io::BufRead;
 /// Answers `compare OLD NEW MOUNT...` with its options. The mount points are parsed before any file is read.
 pub fn run_compare<I: BufRead>(
     rt: &HostRuntime,
-    words: CompareWords<'_, '_>,
+    words: &ArgMatches<'_>,
     input: &mut I,
-) -> Result<Output, Failure>
-    ensures { AnswersCompare (given_compare words.entry) (I.remaining input.old) result }
+) -> Result<Printed, Failure>
+    ensures { AnswersCompare (rows_in words.now) (I.remaining input.old) result }
 {
-    let filesystems = read_mounts(rt.alloc(), words.mounts)?;
-    answer_files(rt, words, filesystems, input)
+    let before = required(words, "OLD")?;
+    let after = required(words, "NEW")?;
+    let filesystems = read_filesystems(rt.alloc(), words)?;
+    let texts = read_compared_texts(rt, words, before, after, input)?;
+    let sources = compared_sources(words, before, after, &texts);
+    answer_texts(rt.alloc(), is_set(words, "all"), &filesystems, sources)
 }
 
-/// Answers by the files that the words name.
-fn answer_files<I: BufRead>(
-    rt: &HostRuntime,
-    words: CompareWords<'_, '_>,
-    filesystems: FileSystems,
-    input: &mut I,
-) -> Result<Output, Failure>
-    ensures { let given = given_compare words.entry in
-        AnswersFilesIf (name_input_twice (compared_files given.tables given.old_file given.new_file)) given filesystems (I.remaining input.old) result }
-{
-    if compared_name_input_twice(words.tables, words.old_file, words.new_file) {
-        drop(filesystems);
-        return Err(Failure::InputTwice);
-    }
-    match read_compared_texts(rt, words.tables, words.old_file, words.new_file, input) {
-        Ok(texts) => {
-            let old_sources = old_sources_of(words.tables, words.old_file, &texts);
-            let new_sources = new_sources_of(words.tables, words.new_file, &texts);
-            answer_texts(rt.alloc(), filesystems, words.all, old_sources, new_sources)
-        }
-        Err(failure) => {
-            drop(filesystems);
-            Err(failure)
-        }
-    }
-}
-
-/// Lends OLD and its tables with the paths of their files.
-fn old_sources_of<'a>(
-    tables: TableWords<'a>,
-    file: &'a str,
-    texts: &'a ComparedTexts,
-) -> WholeSources<'a>
-    ensures paths { paths_in result ≡ map given_path (whole_files (given_tables tables.entry) file.entry.now) }
-    ensures texts { let all = texts.now in texts_in result
-        ≡ string_bytes all.hosts ∷ string_bytes all.networks ∷ string_bytes all.passwd ∷ string_bytes all.group ∷ string_bytes all.netgroup ∷ string_bytes all.old_exports ∷ [] }
-{
-    WholeSources {
-        tables: PerTable {
-            hosts: source_of(tables.hosts, texts.hosts.as_str()),
-            networks: source_of(tables.networks, texts.networks.as_str()),
-            passwd: source_of(tables.passwd, texts.passwd.as_str()),
-            group: source_of(tables.group, texts.group.as_str()),
-            netgroup: source_of(tables.netgroup, texts.netgroup.as_str()),
-        },
-        exports: source_of(Some(file), texts.old_exports.as_str()),
-    }
-}
-
-/// Lends NEW and its tables with the paths of their files.
-fn new_sources_of<'a>(
-    tables: TableWords<'a>,
-    file: &'a str,
-    texts: &'a ComparedTexts,
-) -> WholeSources<'a>
-    ensures paths { paths_in result ≡ map given_path (whole_files (given_tables tables.entry) file.entry.now) }
-    ensures texts { let all = texts.now in texts_in result
-        ≡ string_bytes all.hosts ∷ string_bytes all.networks ∷ string_bytes all.passwd ∷ string_bytes all.group ∷ string_bytes all.netgroup ∷ string_bytes all.new_exports ∷ [] }
-{
-    WholeSources {
-        tables: PerTable {
-            hosts: source_of(tables.hosts, texts.hosts.as_str()),
-            networks: source_of(tables.networks, texts.networks.as_str()),
-            passwd: source_of(tables.passwd, texts.passwd.as_str()),
-            group: source_of(tables.group, texts.group.as_str()),
-            netgroup: source_of(tables.netgroup, texts.netgroup.as_str()),
-        },
-        exports: source_of(Some(file), texts.new_exports.as_str()),
-    }
-}
-
-/// Answers by two exports texts, with the tables beside the first.
+/// Answers by the texts of the files.
 fn answer_texts(
     alloc: Global,
-    filesystems: FileSystems,
     all: bool,
-    old_sources: WholeSources<'_>,
-    new_sources: WholeSources<'_>,
-) -> Result<Output, Failure>
-    requires old_tables { AreReadable old_sources.tables }
-    requires old_exports { IsReadable old_sources.exports.text.now }
-    requires new_tables { AreReadable new_sources.tables }
-    requires new_exports { IsReadable new_sources.exports.text.now }
-    ensures { ComparesTexts filesystems all old_sources.entry new_sources.entry result }
+    filesystems: &FileSystems,
+    sources: ComparedSources<'_>,
+) -> Result<Printed, Failure>
+    requires tables { AreReadable sources.tables }
+    requires before { IsReadable sources.before.text.now }
+    requires after { IsReadable sources.after.text.now }
+    ensures { AnswersTexts all filesystems.now sources.entry result }
 {
-    match read_sources(alloc, old_sources.tables) {
-        Ok(tables) => answer_with(alloc, filesystems, all, &tables, old_sources, new_sources),
-        Err(ReadError::Fault(fault)) => faulty(alloc, old_sources, filesystems, fault),
-        Err(ReadError::Memory) => {
-            drop(filesystems);
-            Err(Failure::Memory)
-        }
+    match read_sources(alloc, sources.tables) {
+        Ok(tables) => compare(alloc, all, filesystems, &tables, sources),
+        Err(error) => answer_error(alloc, sources.whole_before(), filesystems, error),
     }
 }
 
-/// Answers by these tables and two exports texts.
-fn answer_with(
+/// Answers by the texts of the files, of which these tables were read.
+fn compare(
     alloc: Global,
-    filesystems: FileSystems,
     all: bool,
+    filesystems: &FileSystems,
     tables: &SiteTables,
-    old_sources: WholeSources<'_>,
-    new_sources: WholeSources<'_>,
-) -> Result<Output, Failure>
-    requires old_tables { AreReadable old_sources.tables }
-    requires old_exports { IsReadable old_sources.exports.text.now }
-    requires new_tables { AreReadable new_sources.tables }
-    requires new_exports { IsReadable new_sources.exports.text.now }
-    ensures { ComparesWith (Ok tables.now) filesystems all old_sources.entry new_sources.entry result }
+    sources: ComparedSources<'_>,
+) -> Result<Printed, Failure>
+    requires tables { AreReadable sources.tables }
+    requires before { IsReadable sources.before.text.now }
+    requires after { IsReadable sources.after.text.now }
+    requires known { tables_of sources.tables ≡ Ok tables.now }
+    ensures { AnswersTexts all filesystems.now sources.entry result }
 {
-    let own = filesystems.copy()?;
-    match view_of::<View>(alloc, old_sources.exports.text, tables, own) {
-        Ok(before) => answer_after(alloc, filesystems, all, tables, &before, new_sources),
-        Err(ReadError::Fault(fault)) => faulty(alloc, old_sources, filesystems, fault),
-        Err(ReadError::Memory) => {
-            drop(filesystems);
-            Err(Failure::Memory)
-        }
+    match view_of(alloc, sources.whole_before(), tables, filesystems) {
+        Ok(before) => compare_with(
+            alloc,
+            &before,
+            all,
+            filesystems,
+            tables,
+            sources.whole_after(),
+        ),
+        Err(error) => answer_error(alloc, sources.whole_before(), filesystems, error),
     }
 }
 
-/// Answers by the policy of OLD, these tables and the text of NEW.
-fn answer_after(
+/// Answers by a policy and the text of NEW, of which these tables were read.
+fn compare_with(
     alloc: Global,
-    filesystems: FileSystems,
-    all: bool,
-    tables: &SiteTables,
     before: &View,
+    all: bool,
+    filesystems: &FileSystems,
+    tables: &SiteTables,
     sources: WholeSources<'_>,
-) -> Result<Output, Failure>
+) -> Result<Printed, Failure>
     requires tables { AreReadable sources.tables }
     requires exports { IsReadable sources.exports.text.now }
-    ensures { ComparesAfter before.now (read_whole_with Two tables.now filesystems sources.entry.exports.text.now) filesystems all sources.entry result }
+    requires known { tables_of sources.tables ≡ Ok tables.now }
+    ensures { AnswersOrFault (PrintsChanges before.now (policy_of sources.entry filesystems.now) all) sources.entry filesystems.now result }
 {
-    let own = filesystems.copy()?;
-    match view_of::<View>(alloc, sources.exports.text, tables, own) {
-        Ok(after) => {
-            drop(filesystems);
-            changes(alloc, before, &after, all)
-        }
-        Err(ReadError::Fault(fault)) => faulty(alloc, sources, filesystems, fault),
-        Err(ReadError::Memory) => {
-            drop(filesystems);
-            Err(Failure::Memory)
-        }
+    match print_changes(alloc, before, all, filesystems, tables, sources) {
+        Ok(printed) => Ok(printed),
+        Err(error) => answer_error(alloc, sources, filesystems, error),
     }
 }
 
-/// Tells what changes from one policy to another.
-fn changes(alloc: Global, before: &View, after: &View, all: bool) -> Result<Output, Failure>
-    ensures { TellsReport before.now after.now all result }
+/// Prints what changes from a policy to that of NEW.
+fn print_changes(
+    alloc: Global,
+    before: &View,
+    all: bool,
+    filesystems: &FileSystems,
+    tables: &SiteTables,
+    sources: WholeSources<'_>,
+) -> Result<Printed, ReadError<SiteFault>>
+    requires exports { IsReadable sources.exports.text.now }
+    requires known { tables_of sources.tables ≡ Ok tables.now }
+    ensures { let read = policy_of sources.entry filesystems.now in GivesOrFault (PrintsChanges before.now read all) read result }
 {
-    match impact_report(alloc, before, after, all) {
-        Ok(report) => Ok(Output::Changes(report)),
-        Err(_) => Err(Failure::Memory),
-    }
+    let after = view_of(alloc, sources, tables, filesystems)?;
+    let report = impact_report(alloc, before, &after, all)?;
+    let status = if report.mattering == 0 { 0 } else { 1 };
+    Ok(print_alone(alloc, status, report.text))
 }

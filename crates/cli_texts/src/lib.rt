@@ -2,11 +2,12 @@
 //!
 //! Its promise: [`try_command::run_try`] grants a mount only if the verdict over the bytes of its files grants it;
 //! [`split_command::run_split`], [`check_command::run_check`], [`clients_command::run_clients`] and
-//! [`compare_command::run_compare`] answer likewise by the bytes of the files that their words name, or by why a file has no
-//! text.
+//! [`compare_command::run_compare`] print likewise what the bytes of the files that their words name come to, or say why a file
+//! has no text.
 //!
 //! ```text
-//! run_split(&rt, SplitWords { file: "-", filesystems: "filesystems" }, &mut input) // Output::Split: each file system's text
+//! // for the words `split - filesystems`
+//! run_split(&rt, words, &mut input)? // Printed { status: 0, text, note }: each file system's text
 //! ```
 #![tactic(auto)]
 
@@ -15,10 +16,13 @@ mod check_site_files;
 pub mod clients_command;
 pub mod compare_command;
 mod compared_files;
-mod faulty_outputs;
+mod faulty_texts;
+mod mount_words;
+mod printing;
 pub mod split_command;
 mod table_files;
 pub mod try_command;
+mod whole_files;
 mod whole_tables;
 
 use desk_index::Index;

@@ -1,72 +1,119 @@
-//! The files of an exports text and of the tables that options name.
+//! The files of the tables that options name: how many are standard input, their texts, and both as sources.
 
-ghost use Rattle.std.specs.Prelude.{◌≡◌, ◌≤◌, IfOk, if◌then◌else◌};
-ghost use Rattle.std.specs.Result.{result_map_both};
+ghost use Rattle.std.specs.Prelude.{◌≡◌, ◌≤◌, [], Err, IfOk, MatchResult, codes, count_by, if◌then◌else◌, map, unwrap_or};
 ghost use Rattle.std.specs.Option.{option_map};
-ghost use Rattle.cli_files.specs.Files.{ReadsInTurn, is_input_if_given, name_input_twice};
-ghost use Rattle.cli_words.specs.Words.{given_tables};
-ghost use Rattle.cli_texts.specs.TableFiles.{AreShort, texts_of, whole_files};
+ghost use Rattle.std.specs.String.{string_bytes};
+ghost use Rattle.clap.specs.Words.{first_of};
+ghost use Rattle.desk_policy.specs.PerTable.{EachTable};
+ghost use Rattle.cli_files.specs.Files.{Leaves, ReadsIfGiven, ReadsInTurn, is_input, is_input_if_given};
+ghost use Rattle.cli_words.specs.Words.{rows_in};
+ghost use Rattle.cli_texts.specs.PrivateTableFiles.{ReadsTo};
+ghost use Rattle.cli_texts.specs.TableFiles.{IsShort, given_path, paths_in, table_files, table_list, texts_in};
 
-use cli_files::failure::Failure;
-use cli_files::files::{FileArgument, is_input, read_if_given};
-use cli_words::text_words::TableWords;
+use clap::ArgMatches;
+use cli_files::files::{is_input, read_if_given};
+use cli_output::failure::Failure;
+use cli_words::words::given;
+use desk_check::Source;
+use desk_policy::PerTable;
 use std::io::BufRead;
 
-/// An exports text, and the texts of the tables with which it is read.
-#[derive(Drop)]
-pub struct WholeTexts {
-    pub hosts: String,
-    pub networks: String,
-    pub passwd: String,
-    pub group: String,
-    pub netgroup: String,
-    pub exports: String,
-}
-
-/// Tests whether more than one file is to be standard input.
-pub fn names_input_twice(tables: TableWords<'_>, file: &str) -> bool
-    ensures { result ≡ name_input_twice (whole_files (given_tables tables.entry) file.now) }
+/// Counts the tables whose file is standard input.
+pub fn table_inputs(words: &ArgMatches<'_>) -> u32
+    ensures small { result ≤ 5 }
+    ensures counted { result ≡ count_by (λ file. is_input_if_given file.1) (table_files (rows_in words.now)) }
 {
-    let mut inputs = input_count(tables.hosts) + input_count(tables.networks);
-    inputs += input_count(tables.passwd) + input_count(tables.group);
-    inputs += input_count(tables.netgroup) + input_count(Some(file));
-    1 < inputs
+    option_inputs(words, "hosts")
+        + option_inputs(words, "networks")
+        + option_inputs(words, "passwd")
+        + option_inputs(words, "group")
+        + option_inputs(words, "netgroup")
 }
 
-/// Counts a file if it is standard input.
-pub fn input_count(word: Option<&str>) -> u32
+/// Counts the file that an option names, if it is standard input.
+fn option_inputs(words: &ArgMatches<'_>, name: &str) -> u32
     ensures small { result ≤ 1 }
-    ensures counted { result ≡ (if is_input_if_given (option_map (λ word. word.now) word.entry) then 1 else 0) }
+    ensures counted { result ≡ (if is_input_if_given (first_of name.now (rows_in words.now)) then 1 else 0) }
 {
-    match word {
-        Some(word) => { if is_input(word) { 1 } else { 0 } }
+    match given(words, name) {
+        Some(file) => inputs(file),
         None => 0,
     }
 }
 
-/// Reads the files of the tables that are given, in the order hosts, networks, passwd, group, netgroup, and then the exports
-/// file.
-pub fn read_whole_texts<I: BufRead>(
-    rt: &HostRuntime,
-    tables: TableWords<'_>,
-    file: &str,
-    input: &mut I,
-) -> Result<WholeTexts, Failure>
-    ensures texts { ReadsInTurn (whole_files (given_tables tables.entry) file.now) (I.remaining input.old) (result_map_both texts_of (λ failure. failure) result) }
-    ensures short { IfOk result AreShort }
+/// Counts a file, if it is standard input.
+pub fn inputs(file: &str) -> u32
+    ensures small { result ≤ 1 }
+    ensures counted { result ≡ (if is_input file.now then 1 else 0) }
 {
-    let hosts = read_if_given(rt, FileArgument::Hosts, tables.hosts, input)?;
-    let networks = read_if_given(rt, FileArgument::Networks, tables.networks, input)?;
-    let passwd = read_if_given(rt, FileArgument::Passwd, tables.passwd, input)?;
-    let group = read_if_given(rt, FileArgument::Group, tables.group, input)?;
-    let netgroup = read_if_given(rt, FileArgument::Netgroup, tables.netgroup, input)?;
-    let exports = read_if_given(rt, FileArgument::File, Some(file), input)?;
-    Ok(WholeTexts {
+    if is_input(file) { 1 } else { 0 }
+}
+
+/// Reads the files of the tables that are given, in the order hosts, networks, passwd, group, netgroup. A table that is not
+/// given is empty.
+pub fn read_tables<I: BufRead>(
+    rt: &HostRuntime,
+    words: &ArgMatches<'_>,
+    input: &mut I,
+) -> Result<PerTable<String>, Failure>
+    ensures texts { let files = table_files (rows_in words.now) in
+        MatchResult result (λ texts. ReadsTo files (I.remaining input.old) (map string_bytes (table_list texts)) (I.remaining input.new))
+        (λ failure. ReadsInTurn files (I.remaining input.old) (Err failure)) }
+    ensures short { IfOk result (EachTable IsShort) }
+{
+    let hosts = read_option(rt, words, "hosts", "--hosts", input)?;
+    let networks = read_option(rt, words, "networks", "--networks", input)?;
+    let passwd = read_option(rt, words, "passwd", "--passwd", input)?;
+    let group = read_option(rt, words, "group", "--group", input)?;
+    let netgroup = read_option(rt, words, "netgroup", "--netgroup", input)?;
+    Ok(PerTable {
         hosts,
         networks,
         passwd,
         group,
         netgroup,
-        exports,
     })
+}
+
+/// Reads the file that the option of this name gives; a failure calls the option by `argument`.
+fn read_option<I: BufRead>(
+    rt: &HostRuntime,
+    words: &ArgMatches<'_>,
+    name: &str,
+    argument: &'static str,
+    input: &mut I,
+) -> Result<String, Failure>
+    ensures text { ReadsIfGiven argument.now (first_of name.now (rows_in words.now)) (I.remaining input.old) result }
+    ensures short { IfOk result IsShort }
+    ensures left { Leaves (first_of name.now (rows_in words.now)) (I.remaining input.old) (I.remaining input.new) }
+{
+    read_if_given(rt, argument, given(words, name), input)
+}
+
+/// Lends the texts of the tables with the paths of their files.
+pub fn table_sources<'w: 'a, 'a>(
+    words: &ArgMatches<'w>,
+    texts: &'a PerTable<String>,
+) -> PerTable<Source<'a>>
+    ensures paths { paths_in (table_list result) ≡ map given_path (table_files (rows_in words.now)) }
+    ensures texts { texts_in (table_list result) ≡ map string_bytes (table_list texts.now) }
+{
+    PerTable {
+        hosts: option_source(words, "hosts", texts.hosts.as_str()),
+        networks: option_source(words, "networks", texts.networks.as_str()),
+        passwd: option_source(words, "passwd", texts.passwd.as_str()),
+        group: option_source(words, "group", texts.group.as_str()),
+        netgroup: option_source(words, "netgroup", texts.netgroup.as_str()),
+    }
+}
+
+/// Lends a text with the path that the option of this name gives, which is empty if it is not given.
+fn option_source<'w: 'a, 'a>(words: &ArgMatches<'w>, name: &str, text: &'a str) -> Source<'a>
+    ensures path { result.path.now ≡ unwrap_or (first_of name.now (rows_in words.now)) [] }
+    ensures text { result.text.now ≡ text.entry.now }
+{
+    match given(words, name) {
+        Some(path) => Source { path, text },
+        None => Source { path: "", text },
+    }
 }

@@ -1,26 +1,25 @@
 //! The command `try`: one verdict over one exports text.
 
-ghost use Rattle.std.specs.Prelude.{IfOk, Ok};
+ghost use Rattle.std.specs.Prelude.{IfOk};
 ghost use Rattle.std.specs.Option.{option_map};
+ghost use Rattle.desk_text.specs.Address.{number_of};
 ghost use Rattle.desk_text.specs.Lines.{IsReadable};
 ghost use Rattle.desk_check.specs.CheckFaults.{AreReadable};
-ghost use Rattle.cli_files.specs.Files.{name_input_twice};
-ghost use Rattle.cli_words.specs.Words.{given_try};
-ghost use Rattle.cli_texts.specs.CheckCommand.{texts_in};
-ghost use Rattle.cli_texts.specs.TableFiles.{whole_files};
-ghost use Rattle.cli_texts.specs.FaultyOutputs.{IsTold, tables_in};
-ghost use Rattle.cli_texts.specs.TryCommand.{AnswersFilesIf, AnswersTexts, AnswersTry, TellsWith};
+ghost use Rattle.cli_words.specs.Words.{rows_in};
+ghost use Rattle.cli_texts.specs.TryCommand.{AnswersRequest, AnswersTry, PrintsVerdict, ReadsRequest};
+ghost use Rattle.cli_texts.specs.WholeTables.{GivesOrFault, policy_of};
 
-use crate::check_command::sources_of;
-use crate::faulty_outputs::faulty;
-use crate::table_files::{names_input_twice, read_whole_texts};
-use cli_files::failure::Failure;
-use cli_output::output::Output;
-use cli_words::arguments::{Request, read_credential, read_request};
-use cli_words::text_words::TryWords;
+use crate::faulty_texts::answer_error;
+use crate::printing::{end_line, print_alone};
+use crate::whole_files::{read_whole_texts, whole_sources};
+use clap::ArgMatches;
+use cli_output::failure::Failure;
+use cli_output::printed::Printed;
+use cli_words::values::{Request, read_credential, read_request};
+use cli_words::words::{all_required, given, required};
 use desk_check::try_text::try_text;
 use desk_check::{WholeSources, read_sources};
-use desk_policy::SiteTables;
+use desk_policy::SiteFault;
 use desk_tables::Cred;
 use desk_text::ReadError;
 use std::alloc::Global;
@@ -30,112 +29,71 @@ use std::io::BufRead;
 /// are read.
 pub fn run_try<I: BufRead>(
     rt: &HostRuntime,
-    words: TryWords<'_, '_>,
+    words: &ArgMatches<'_>,
     input: &mut I,
-) -> Result<Output, Failure>
-    ensures { AnswersTry (given_try words.entry) (I.remaining input.old) result }
+) -> Result<Printed, Failure>
+    ensures { AnswersTry (rows_in words.now) (I.remaining input.old) result }
 {
-    let request = read_request(rt.alloc(), words.host, words.dir, words.mounts)?;
-    answer_request(rt, words, request, input)
+    let file = required(words, "FILE")?;
+    let request = words_request(rt.alloc(), words)?;
+    let texts = read_whole_texts(rt, words, file, input)?;
+    let sources = whole_sources(words, file, &texts);
+    answer_request(rt.alloc(), given(words, "as"), &request, sources)
 }
 
-/// Answers a request by the files that the words name.
-fn answer_request<I: BufRead>(
-    rt: &HostRuntime,
-    words: TryWords<'_, '_>,
-    request: Request,
-    input: &mut I,
-) -> Result<Output, Failure>
-    ensures { let given = given_try words.entry in
-        AnswersFilesIf (name_input_twice (whole_files given.tables given.file)) given request (I.remaining input.old) result }
+/// Parses the request that the words HOST, DIR and MOUNT.. write.
+fn words_request(alloc: Global, words: &ArgMatches<'_>) -> Result<Request, Failure>
+    ensures { ReadsRequest (rows_in words.now) result }
 {
-    if names_input_twice(words.tables, words.file) {
-        drop(request);
-        return Err(Failure::InputTwice);
-    }
-    match read_whole_texts(rt, words.tables, words.file, input) {
-        Ok(texts) => {
-            let sources = sources_of(words.tables, words.file, &texts);
-            answer_texts(rt.alloc(), words.credential, request, sources)
-        }
-        Err(failure) => {
-            drop(request);
-            Err(failure)
-        }
-    }
+    let host = required(words, "HOST")?;
+    let dir = required(words, "DIR")?;
+    let mounts = all_required(words, "MOUNT")?;
+    read_request(alloc, host, dir, mounts)
 }
 
 /// Answers a request by the texts of its files.
-fn answer_texts(
+fn answer_request(
     alloc: Global,
     word: Option<&str>,
-    request: Request,
+    request: &Request,
     sources: WholeSources<'_>,
-) -> Result<Output, Failure>
+) -> Result<Printed, Failure>
     requires tables { AreReadable sources.tables }
     requires exports { IsReadable sources.exports.text.now }
-    ensures answers { AnswersTexts (option_map (λ word. word.now) word.entry) request (Ok (texts_in sources.entry)) result }
-    ensures told { IfOk result (IsTold sources.entry request.filesystems) }
+    ensures { AnswersRequest (option_map (λ word. word.now) word.entry) request.now sources.entry result }
 {
     let tables = sources.tables;
-    match read_credential(alloc, word, tables.passwd.text, tables.group.text) {
-        Ok(own) => answer_as(alloc, &own, request, sources),
-        Err(failure) => {
-            drop(request);
-            Err(failure)
-        }
+    let own = read_credential(alloc, word, tables.passwd.text, tables.group.text)?;
+    match decide(alloc, &own, request, sources) {
+        Ok(printed) => Ok(printed),
+        Err(error) => answer_error(alloc, sources, &request.filesystems, error),
     }
 }
 
-/// Answers a request of a client with this credential, if it is given.
-#[tactic(auto, using(crate::proofs::ToldFindings::told_fault, crate::proofs::ToldFindings::told_of))]
-fn answer_as(
+/// Decides a request of a client with this credential, if it is given, and prints the verdict.
+fn decide(
     alloc: Global,
     own: &Option<Cred>,
-    request: Request,
+    request: &Request,
     sources: WholeSources<'_>,
-) -> Result<Output, Failure>
+) -> Result<Printed, ReadError<SiteFault>>
     requires tables { AreReadable sources.tables }
     requires exports { IsReadable sources.exports.text.now }
-    ensures answers { TellsWith (tables_in sources.entry) sources.entry.exports.text.now own.now request result }
-    ensures told { IfOk result (IsTold sources.entry request.filesystems) }
+    ensures { let read = policy_of sources.entry request.now.filesystems in
+        GivesOrFault (PrintsVerdict read own.now (number_of request.now.address) request.now.path) read result }
 {
-    match read_sources(alloc, sources.tables) {
-        Ok(tables) => answer_with(alloc, own, request, &tables, sources),
-        Err(ReadError::Fault(fault)) => faulty(alloc, sources, request.filesystems, fault),
-        Err(ReadError::Memory) => {
-            drop(request);
-            Err(Failure::Memory)
-        }
-    }
-}
-
-/// Answers a request by these tables and an exports text.
-#[tactic(auto, using(crate::proofs::ToldFindings::told_read, crate::proofs::ToldFindings::told_of))]
-fn answer_with(
-    alloc: Global,
-    own: &Option<Cred>,
-    request: Request,
-    tables: &SiteTables,
-    sources: WholeSources<'_>,
-) -> Result<Output, Failure>
-    requires tables { AreReadable sources.tables }
-    requires exports { IsReadable sources.exports.text.now }
-    ensures answers { TellsWith (Ok tables.now) sources.entry.exports.text.now own.now request result }
-    ensures told { IfOk result (IsTold sources.entry request.filesystems) }
-{
+    let tables = read_sources(alloc, sources.tables)?;
     let filesystems = request.filesystems.copy()?;
-    match try_text(
+    let tried = try_text(
         alloc,
         sources.exports.text,
-        tables,
-        request.filesystems,
+        &tables,
+        filesystems,
         request.address,
         &request.path,
         own,
-    ) {
-        Ok(tried) => Ok(Output::Tried(tried)),
-        Err(ReadError::Fault(fault)) => faulty(alloc, sources, filesystems, fault),
-        Err(ReadError::Memory) => Err(Failure::Memory),
-    }
+    )?;
+    let status = if tried.granted { 0 } else { 1 };
+    let line = end_line(tried.line)?;
+    Ok(print_alone(alloc, status, line))
 }

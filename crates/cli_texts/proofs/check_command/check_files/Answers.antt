@@ -1,19 +1,23 @@
--- At most one file is standard input, so that they are read in turn.
-use Rattle.std.proofs.Common.{◌≡◌, Err, Ok, false, refl, rules, subst, sym}
-use Rattle.cli_files.specs.Files.{name_input_twice}
-use Rattle.cli_words.specs.Words.{given_tables, given_check}
-use Rattle.cli_texts.specs.CheckCommand.{AnswersFilesIf}
-use Rattle.cli_texts.specs.TableFiles.{texts_of, whole_files}
+-- The files are read first.
+use Rattle.std.proofs.Common.{Err, Ok, refl, subst}
+use Rattle.std.proofs.lemmas.Result.{err_from_is_err_and}
+use Rattle.desk_check.specs.declared.check_report.CheckForm.{CheckForm}
+use Rattle.cli_words.specs.Words.{rows_in}
+use Rattle.cli_texts.specs.CheckCommand.{AnswersTexts}
+use Rattle.cli_texts.specs.WholeFiles.{whole_files, whole_list, whole_texts}
+use Rattle.cli_texts.proofs.FilesInTurn.{lent}
 use Rattle.cli_texts.proofs.check_command.check_files.Goals as goal
 
-pub returns-in-Ok : goal.returns-in-Ok
-returns-in-Ok g c =
-    let once : name_input_twice (whole_files (given_tables c.args.words.tables) c.args.file.now) ≡ false = search rules in
-    subst (λ twice. AnswersFilesIf twice (given_check c.args.words) c.args.file.now c.args.filesystems (g.I.Read.remaining c.args.input.now) c.check_texts.result) (sym once)
-    (record { read = Ok (texts_of c.in-Ok.texts); reads = c.in-Ok.ensures.texts; answers = c.check_texts.ensures })
+pub returns-in_err-texts : goal.returns-in_err-texts
+returns-in_err-texts g c =
+    let p = err_from_is_err_and c.from_residual.result c.from_residual.ensures.1 in
+    rw (p.1, p.2) (record { step = Err c.in_err-texts.field-0.0; is = c.in_err-texts.ensures.texts; next = refl })
 
-pub returns-in-Err : goal.returns-in-Err
-returns-in-Err g c =
-    let once : name_input_twice (whole_files (given_tables c.args.words.tables) c.args.file.now) ≡ false = search rules in
-    subst (λ twice. AnswersFilesIf twice (given_check c.args.words) c.args.file.now c.args.filesystems (g.I.Read.remaining c.args.input.now) (Err c.in-Err.failure)) (sym once)
-    (record { read = Err c.in-Err.failure; reads = c.in-Err.ensures.texts; answers = refl })
+pub returns : goal.returns
+returns g c =
+    let sources = c.whole_sources-sources in
+    record {
+      step = Ok sources.result;
+      is = lent (whole_files (rows_in c.args.words.now) c.args.file.now) (g.I.Read.remaining c.args.input.now) (whole_texts c.in_ok-texts.texts) (whole_list sources.result) sources.ensures.paths sources.ensures.texts c.in_ok-texts.ensures.texts;
+      next = subst (λ (form : CheckForm). AnswersTexts form c.args.filesystems sources.result c.check_texts.result) c.form_of.ensures c.check_texts.ensures;
+    }

@@ -1,20 +1,40 @@
--- DIR is parsed first.
-use Rattle.std.proofs.Common.{List, Result, subst, sym, ℕ}
+-- The words are parsed, and then the files are read.
+use Rattle.std.proofs.Common.{Err, Ok, refl}
 use Rattle.std.proofs.lemmas.Result.{err_from_is_err_and}
-use Rattle.desk_text.specs.Path.{read_path}
-use Rattle.desk_text.specs.declared.path.PathFault.{PathFault}
-use Rattle.cli_words.specs.Words.{given_clients}
-use Rattle.cli_texts.specs.ClientsCommand.{AnswersDir}
-use Rattle.cli_texts.proofs.ClientsAnswers.{bad_dir}
+use Rattle.cli_words.specs.Words.{rows_in}
+use Rattle.cli_texts.specs.WholeFiles.{whole_files, whole_list, whole_texts}
+use Rattle.cli_texts.proofs.FilesInTurn.{lent}
+use Rattle.cli_texts.proofs.FoundWords.{by_found}
 use Rattle.cli_texts.proofs.clients_command.run_clients.Goals as goal
 
-pub returns-in_err-path : goal.returns-in_err-path
-returns-in_err-path g c =
-    let p = err_from_is_err_and c.from_residual.result c.from_residual.ensures.1 in
-    let words = given_clients c.args.words in
-    rw (p.1, p.2) (bad_dir words (read_path words.dir) (g.I.Read.remaining c.args.input.now) c.in_err-path.field-0.0 c.in_err-path.ensures)
+pub returns-in_err-texts : goal.returns-in_err-texts
+returns-in_err-texts g c =
+    let p = err_from_is_err_and c.from_residual-in_err-texts.result c.from_residual-in_err-texts.ensures.1 in
+    rw (p.1, p.2) (by_found _ _ _ _ c.in_ok-file.ensures
+    (record {
+      step = Ok c.in_ok-path.path;
+      is = c.in_ok-path.ensures;
+      next = record {
+        step = Ok c.in_ok-filesystems.filesystems;
+        is = c.in_ok-filesystems.ensures;
+        next = record { step = Err c.in_err-texts.field-0.0; is = c.in_err-texts.ensures.texts; next = refl };
+      };
+    }))
 
 pub returns : goal.returns
 returns g c =
-    let words = given_clients c.args.words in
-    subst (λ (read : Result (List (List ℕ)) PathFault). AnswersDir words read (g.I.Read.remaining c.args.input.now) c.answer_path.result) (sym c.in_ok-path.ensures) c.answer_path.ensures
+    let sources = c.whole_sources-sources in
+    by_found _ _ _ _ c.in_ok-file.ensures
+    (record {
+      step = Ok c.in_ok-path.path;
+      is = c.in_ok-path.ensures;
+      next = record {
+        step = Ok c.in_ok-filesystems.filesystems;
+        is = c.in_ok-filesystems.ensures;
+        next = record {
+          step = Ok sources.result;
+          is = lent (whole_files (rows_in c.args.words.now) c.in_ok-file.file.now) (g.I.Read.remaining c.args.input.now) (whole_texts c.in_ok-texts.texts) (whole_list sources.result) sources.ensures.paths sources.ensures.texts c.in_ok-texts.ensures.texts;
+          next = c.answer_path.ensures;
+        };
+      };
+    })

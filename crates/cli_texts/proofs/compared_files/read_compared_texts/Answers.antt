@@ -1,43 +1,45 @@
--- Each file is read from what those before it leave of the input.
-use Rattle.std.proofs.Common.{inl, inr, refl}
+-- OLD and NEW are read after the tables, and at most one file is standard input.
+use Rattle.std.proofs.Common.{◌∷◌, [], Some, codes, inl, inr, map, refl}
 use Rattle.std.proofs.lemmas.Result.{err_from_is_err_and}
 use Rattle.std.specs.String.{string_bytes}
+use Rattle.cli_words.specs.Words.{rows_in}
+use Rattle.cli_texts.specs.ComparedFiles.{compared_files}
+use Rattle.cli_texts.specs.TableFiles.{table_files, table_list}
+use Rattle.cli_texts.proofs.FilesInTurn.{fails_before, fails_on, once, reads_on}
 use Rattle.cli_texts.proofs.compared_files.read_compared_texts.Goals as goal
 
-pub returns-in_err-hosts-clause-texts : goal.returns-in_err-hosts-clause-texts
-returns-in_err-hosts-clause-texts g c =
+pub returns-in_err-tables-clause-texts : goal.returns-in_err-tables-clause-texts
+returns-in_err-tables-clause-texts g c =
     let p = err_from_is_err_and c.from_residual.result c.from_residual.ensures.1 in
-    rw (p.1, p.2) (inl c.in_err-hosts.ensures.text)
+    let rows = rows_in c.args.words.now in
+    let exports = (codes "OLD", Some c.args.before.now) ∷ (codes "NEW", Some c.args.after.now) ∷ [] in
+    rw (p.1, p.2)
+    (once (compared_files rows c.args.before.now c.args.after.now) (g.I.Read.remaining c.args.input.now) _ _ c.names_input_twice.ensures c.if-names_input_twice.false
+    (fails_before (table_files rows) exports (g.I.Read.remaining c.args.input.now) c.in_err-tables.field-0.0 c.in_err-tables.ensures.texts))
 
-pub returns-in_err-networks-clause-texts : goal.returns-in_err-networks-clause-texts
-returns-in_err-networks-clause-texts g c =
-    let p = err_from_is_err_and c.from_residual-in_err-networks.result c.from_residual-in_err-networks.ensures.1 in
-    rw (p.1, p.2) (inr (string_bytes c.in_ok-hosts.hosts, g.I.Read.remaining c.read_if_given.new.input, (c.in_ok-hosts.ensures.text, (c.read_if_given.ensures.left, inl c.in_err-networks.ensures.text))))
+pub returns-in_err-before-clause-texts : goal.returns-in_err-before-clause-texts
+returns-in_err-before-clause-texts g c =
+    let p = err_from_is_err_and c.from_residual-in_err-before.result c.from_residual-in_err-before.ensures.1 in
+    let rows = rows_in c.args.words.now in
+    let exports = (codes "OLD", Some c.args.before.now) ∷ (codes "NEW", Some c.args.after.now) ∷ [] in
+    rw (p.1, p.2)
+    (once (compared_files rows c.args.before.now c.args.after.now) (g.I.Read.remaining c.args.input.now) _ _ c.names_input_twice.ensures c.if-names_input_twice.false
+    (fails_on (table_files rows) exports (g.I.Read.remaining c.args.input.now) (g.I.Read.remaining c.read_tables.new.input) (map string_bytes (table_list c.in_ok-tables.tables)) c.in_err-before.field-0.0 c.in_ok-tables.ensures.texts (inl c.in_err-before.ensures.text)))
 
-pub returns-in_err-passwd-clause-texts : goal.returns-in_err-passwd-clause-texts
-returns-in_err-passwd-clause-texts g c =
-    let p = err_from_is_err_and c.from_residual-in_err-passwd.result c.from_residual-in_err-passwd.ensures.1 in
-    rw (p.1, p.2) (inr (string_bytes c.in_ok-hosts.hosts, g.I.Read.remaining c.read_if_given.new.input, (c.in_ok-hosts.ensures.text, (c.read_if_given.ensures.left, inr (string_bytes c.in_ok-networks.networks, g.I.Read.remaining c.read_if_given-2.new.input, (c.in_ok-networks.ensures.text, (c.read_if_given-2.ensures.left, inl c.in_err-passwd.ensures.text)))))))
-
-pub returns-in_err-group-clause-texts : goal.returns-in_err-group-clause-texts
-returns-in_err-group-clause-texts g c =
-    let p = err_from_is_err_and c.from_residual-in_err-group.result c.from_residual-in_err-group.ensures.1 in
-    rw (p.1, p.2) (inr (string_bytes c.in_ok-hosts.hosts, g.I.Read.remaining c.read_if_given.new.input, (c.in_ok-hosts.ensures.text, (c.read_if_given.ensures.left, inr (string_bytes c.in_ok-networks.networks, g.I.Read.remaining c.read_if_given-2.new.input, (c.in_ok-networks.ensures.text, (c.read_if_given-2.ensures.left, inr (string_bytes c.in_ok-passwd.passwd, g.I.Read.remaining c.read_if_given-3.new.input, (c.in_ok-passwd.ensures.text, (c.read_if_given-3.ensures.left, inl c.in_err-group.ensures.text))))))))))
-
-pub returns-in_err-netgroup-clause-texts : goal.returns-in_err-netgroup-clause-texts
-returns-in_err-netgroup-clause-texts g c =
-    let p = err_from_is_err_and c.from_residual-in_err-netgroup.result c.from_residual-in_err-netgroup.ensures.1 in
-    rw (p.1, p.2) (inr (string_bytes c.in_ok-hosts.hosts, g.I.Read.remaining c.read_if_given.new.input, (c.in_ok-hosts.ensures.text, (c.read_if_given.ensures.left, inr (string_bytes c.in_ok-networks.networks, g.I.Read.remaining c.read_if_given-2.new.input, (c.in_ok-networks.ensures.text, (c.read_if_given-2.ensures.left, inr (string_bytes c.in_ok-passwd.passwd, g.I.Read.remaining c.read_if_given-3.new.input, (c.in_ok-passwd.ensures.text, (c.read_if_given-3.ensures.left, inr (string_bytes c.in_ok-group.group, g.I.Read.remaining c.read_if_given-4.new.input, (c.in_ok-group.ensures.text, (c.read_if_given-4.ensures.left, inl c.in_err-netgroup.ensures.text)))))))))))))
-
-pub returns-in_err-old_exports-clause-texts : goal.returns-in_err-old_exports-clause-texts
-returns-in_err-old_exports-clause-texts g c =
-    let p = err_from_is_err_and c.from_residual-in_err-old_exports.result c.from_residual-in_err-old_exports.ensures.1 in
-    rw (p.1, p.2) (inr (string_bytes c.in_ok-hosts.hosts, g.I.Read.remaining c.read_if_given.new.input, (c.in_ok-hosts.ensures.text, (c.read_if_given.ensures.left, inr (string_bytes c.in_ok-networks.networks, g.I.Read.remaining c.read_if_given-2.new.input, (c.in_ok-networks.ensures.text, (c.read_if_given-2.ensures.left, inr (string_bytes c.in_ok-passwd.passwd, g.I.Read.remaining c.read_if_given-3.new.input, (c.in_ok-passwd.ensures.text, (c.read_if_given-3.ensures.left, inr (string_bytes c.in_ok-group.group, g.I.Read.remaining c.read_if_given-4.new.input, (c.in_ok-group.ensures.text, (c.read_if_given-4.ensures.left, inr (string_bytes c.in_ok-netgroup.netgroup, g.I.Read.remaining c.read_if_given-5.new.input, (c.in_ok-netgroup.ensures.text, (c.read_if_given-5.ensures.left, inl c.in_err-old_exports.ensures.text))))))))))))))))
-
-pub returns-in_err-new_exports-clause-texts : goal.returns-in_err-new_exports-clause-texts
-returns-in_err-new_exports-clause-texts g c =
-    let p = err_from_is_err_and c.from_residual-in_err-new_exports.result c.from_residual-in_err-new_exports.ensures.1 in
-    rw (p.1, p.2) (inr (string_bytes c.in_ok-hosts.hosts, g.I.Read.remaining c.read_if_given.new.input, (c.in_ok-hosts.ensures.text, (c.read_if_given.ensures.left, inr (string_bytes c.in_ok-networks.networks, g.I.Read.remaining c.read_if_given-2.new.input, (c.in_ok-networks.ensures.text, (c.read_if_given-2.ensures.left, inr (string_bytes c.in_ok-passwd.passwd, g.I.Read.remaining c.read_if_given-3.new.input, (c.in_ok-passwd.ensures.text, (c.read_if_given-3.ensures.left, inr (string_bytes c.in_ok-group.group, g.I.Read.remaining c.read_if_given-4.new.input, (c.in_ok-group.ensures.text, (c.read_if_given-4.ensures.left, inr (string_bytes c.in_ok-netgroup.netgroup, g.I.Read.remaining c.read_if_given-5.new.input, (c.in_ok-netgroup.ensures.text, (c.read_if_given-5.ensures.left, inr (string_bytes c.in_ok-old_exports.old_exports, g.I.Read.remaining c.read_if_given-6.new.input, (c.in_ok-old_exports.ensures.text, (c.read_if_given-6.ensures.left, inl c.in_err-new_exports.ensures.text)))))))))))))))))))
+pub returns-in_err-after-clause-texts : goal.returns-in_err-after-clause-texts
+returns-in_err-after-clause-texts g c =
+    let p = err_from_is_err_and c.from_residual-in_err-after.result c.from_residual-in_err-after.ensures.1 in
+    let rows = rows_in c.args.words.now in
+    let exports = (codes "OLD", Some c.args.before.now) ∷ (codes "NEW", Some c.args.after.now) ∷ [] in
+    rw (p.1, p.2)
+    (once (compared_files rows c.args.before.now c.args.after.now) (g.I.Read.remaining c.args.input.now) _ _ c.names_input_twice.ensures c.if-names_input_twice.false
+    (fails_on (table_files rows) exports (g.I.Read.remaining c.args.input.now) (g.I.Read.remaining c.read_tables.new.input) (map string_bytes (table_list c.in_ok-tables.tables)) c.in_err-after.field-0.0 c.in_ok-tables.ensures.texts
+    (inr (string_bytes c.in_ok-before.before, g.I.Read.remaining c.read_if_given.new.input, (c.in_ok-before.ensures.text, (c.read_if_given.ensures.left, inl c.in_err-after.ensures.text))))))
 
 pub returns-clause-texts : goal.returns-clause-texts
-returns-clause-texts g c = (c.in_ok-hosts.ensures.text, (g.I.Read.remaining c.read_if_given.new.input, (c.read_if_given.ensures.left, (c.in_ok-networks.ensures.text, (g.I.Read.remaining c.read_if_given-2.new.input, (c.read_if_given-2.ensures.left, (c.in_ok-passwd.ensures.text, (g.I.Read.remaining c.read_if_given-3.new.input, (c.read_if_given-3.ensures.left, (c.in_ok-group.ensures.text, (g.I.Read.remaining c.read_if_given-4.new.input, (c.read_if_given-4.ensures.left, (c.in_ok-netgroup.ensures.text, (g.I.Read.remaining c.read_if_given-5.new.input, (c.read_if_given-5.ensures.left, (c.in_ok-old_exports.ensures.text, (g.I.Read.remaining c.read_if_given-6.new.input, (c.read_if_given-6.ensures.left, (c.in_ok-new_exports.ensures.text, (g.I.Read.remaining c.read_if_given-7.new.input, (c.read_if_given-7.ensures.left, refl)))))))))))))))))))))
+returns-clause-texts g c =
+    let rows = rows_in c.args.words.now in
+    let exports = (codes "OLD", Some c.args.before.now) ∷ (codes "NEW", Some c.args.after.now) ∷ [] in
+    once (compared_files rows c.args.before.now c.args.after.now) (g.I.Read.remaining c.args.input.now) _ _ c.names_input_twice.ensures c.if-names_input_twice.false
+    (reads_on (table_files rows) exports (g.I.Read.remaining c.args.input.now) (g.I.Read.remaining c.read_tables.new.input) (map string_bytes (table_list c.in_ok-tables.tables)) (string_bytes c.in_ok-before.before ∷ string_bytes c.in_ok-after.after ∷ []) c.in_ok-tables.ensures.texts
+    (c.in_ok-before.ensures.text, (g.I.Read.remaining c.read_if_given.new.input, (c.read_if_given.ensures.left, (c.in_ok-after.ensures.text, (g.I.Read.remaining c.read_if_given-2.new.input, (c.read_if_given-2.ensures.left, refl)))))))

@@ -1,0 +1,54 @@
+//! What is printed of the fault of an exports text or of its tables: its line, and on standard error the finding that `check`
+//! prints of it.
+
+ghost use Rattle.std.specs.Prelude.{IfOk};
+ghost use Rattle.desk_text.specs.Lines.{IsReadable};
+ghost use Rattle.desk_check.specs.CheckFaults.{AreReadable};
+ghost use Rattle.cli_texts.specs.FaultyTexts.{AnswersError, PrintsThisFault};
+
+use crate::printing::end_line;
+use cli_output::failure::Failure;
+use cli_output::printed::Printed;
+use desk_check::{WholeSources, fault_text, tell_fault};
+use desk_policy::SiteFault;
+use desk_tables::FileSystems;
+use desk_text::ReadError;
+use std::alloc::{AllocError, Global};
+
+/// Answers with the fault of these texts, or that memory ran out.
+pub fn answer_error(
+    alloc: Global,
+    sources: WholeSources<'_>,
+    filesystems: &FileSystems,
+    error: ReadError<SiteFault>,
+) -> Result<Printed, Failure>
+    requires tables { AreReadable sources.tables }
+    requires exports { IsReadable sources.exports.text.now }
+    ensures { AnswersError sources.entry filesystems.now error result }
+{
+    match error {
+        ReadError::Fault(fault) => Ok(print_fault(alloc, sources, filesystems, &fault)?),
+        ReadError::Memory => Err(Failure::Memory),
+    }
+}
+
+/// Prints a fault of these texts, and on standard error the first finding about it of those that `check` makes in the same texts.
+fn print_fault(
+    alloc: Global,
+    sources: WholeSources<'_>,
+    filesystems: &FileSystems,
+    fault: &SiteFault,
+) -> Result<Printed, AllocError>
+    requires tables { AreReadable sources.tables }
+    requires exports { IsReadable sources.exports.text.now }
+    ensures { IfOk result (PrintsThisFault sources.entry filesystems.now fault.now) }
+{
+    let own = filesystems.copy()?;
+    let note = tell_fault(alloc, sources, own, fault)?;
+    let text = end_line(fault_text(alloc, fault)?)?;
+    Ok(Printed {
+        status: 3,
+        text,
+        note,
+    })
+}
