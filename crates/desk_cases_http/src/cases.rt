@@ -1,19 +1,21 @@
 //! The form of a case. It begins with a line `case NAME`. Each line `> TEXT` adds bytes to the stream of requests, and each line
 //! `< TEXT` adds bytes to the replies that it wants; the texts may have escapes (`escapes`). A line `= END, R replies, W bytes`
-//! tells how the connection ends, how many replies were written whole, and how many bytes. Each line `? QUESTION` is followed by
-//! a line `! ANSWER` and asks the desk afterwards; where there is none, each file must stand at its first revision. Empty lines and
-//! those that begin with `#` are skipped.
+//! tells how the connection ends, how many replies were written whole, and how many bytes. A line `~` says that the peer waits: its
+//! input does not end, and the read after the last byte fails. Each line `? QUESTION` is followed by a line `! ANSWER` and asks the
+//! desk afterwards; where there is none, each file must stand at its first revision. Empty lines and those that begin with `#` are
+//! skipped.
 
 use desk_cases_texts::escapes;
 use std::alloc::{AllocError, Global};
 
-/// A case: its name and the number of its line, the bytes that come, the bytes that are to be written, how the connection is to
-/// end, what the desk is asked afterwards, and what it is to answer.
+/// A case: its name and the number of its line, the bytes that come, whether the peer waits after them, the bytes that are to be
+/// written, how the connection is to end, what the desk is asked afterwards, and what it is to answer.
 #[derive(Drop)]
 pub struct Case {
     pub name: String,
     pub line: usize,
     pub stream: Vec<u8>,
+    pub waits: bool,
     pub replies: Vec<u8>,
     pub end: String,
     pub questions: Vec<String>,
@@ -29,6 +31,7 @@ impl Case {
             name: String::from_str(alloc, name)?,
             line,
             stream: Vec::new(alloc),
+            waits: false,
             replies: Vec::new(alloc),
             end: String::new(alloc),
             questions: Vec::new(alloc),
@@ -44,6 +47,10 @@ impl Case {
             ">" => escapes::push(alloc, &mut self.stream, text)?,
             "<" => escapes::push(alloc, &mut self.replies, text)?,
             "=" => add_once(&mut self.end, text)?,
+            "~" => {
+                self.waits = true;
+                text.is_empty()
+            }
             "?" => add_question(alloc, &mut self.questions, text)?,
             "!" => add_answer(&mut self.answers, text)?,
             _ => false,

@@ -8,6 +8,7 @@
 
 mod cases;
 mod desks;
+mod pieces;
 mod report;
 mod trials;
 mod ways;

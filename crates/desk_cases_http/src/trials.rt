@@ -163,7 +163,7 @@ fn try_way<S: Fresh, V: ByKeys>(
     let Some(desk) = &mut subject.database.desk else {
         return wrong.push_str("has no desk");
     };
-    let session = serve_so(alloc, desk, case.stream.as_slice(), way)?;
+    let session = serve_so(alloc, desk, case.stream.as_slice(), case.waits, way)?;
     compare(alloc, wrong, case, &session)?;
     compare_desk(alloc, subject, wrong, case)?;
     if !wrong.is_empty() {

@@ -2,6 +2,7 @@
 
 ghost use Rattle.std.specs.Prelude.{◌<◌};
 
+use crate::pieces::Pieces;
 use desk_http::serve;
 use desk_http_messages::{Bytes, End, Of, Served, StreamFault};
 use desk_policy::PolicyView;
@@ -37,13 +38,18 @@ pub struct Session {
     pub written: Vec<u8>,
 }
 
-/// Serves a stream that comes so. Where it comes byte by byte the writer takes a byte a call, and where it is cut, 7.
+/// Serves a stream that comes so. Where it comes byte by byte the writer takes a byte a call, and where it is cut, 7. If the peer
+/// waits, the read after the last byte fails.
 pub fn serve_so<S: Alter + Drop, V: PolicyView + Drop>(
     alloc: Global,
     desk: &mut Desk<S, V>,
     stream: &[u8],
+    waits: bool,
     way: Way,
 ) -> Result<Session, AllocError> {
+    if waits {
+        return serve_waiting(alloc, desk, stream, way);
+    }
     match way {
         Way::InOnePiece => serve_in_pieces(alloc, desk, stream, b"", 65_536),
         Way::ByteByByte => serve_by_bytes(alloc, desk, stream),
@@ -78,6 +84,27 @@ fn serve_by_bytes<S: Alter + Drop, V: PolicyView + Drop>(
 ) -> Result<Session, AllocError> {
     let mut reader = Bytes::new(stream.to_vec(alloc)?, 1, None);
     let mut writer = Bytes::new(Vec::new(alloc), 1, None);
+    let served = serve(alloc, desk, &mut reader, &mut writer);
+    session_of(alloc, served, &writer)
+}
+
+/// Serves a stream that comes so and does not end.
+fn serve_waiting<S: Alter + Drop, V: PolicyView + Drop>(
+    alloc: Global,
+    desk: &mut Desk<S, V>,
+    stream: &[u8],
+    way: Way,
+) -> Result<Session, AllocError> {
+    let (first, second, most, step) = match way {
+        Way::InOnePiece => (stream, &b""[..], usize::MAX, 65_536),
+        Way::ByteByByte => (stream, &b""[..], 1, 1),
+        Way::CutAfter(count) => {
+            let (first, second) = stream.split_at(count.min(stream.len()));
+            (first, second, usize::MAX, 7usize)
+        }
+    };
+    let mut reader = Pieces::new(first, second, most);
+    let mut writer = Bytes::new(Vec::new(alloc), step.max(1), None);
     let served = serve(alloc, desk, &mut reader, &mut writer);
     session_of(alloc, served, &writer)
 }

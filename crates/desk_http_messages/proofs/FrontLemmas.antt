@@ -1,13 +1,14 @@
 -- A message at the front of the bytes that wait.
-use Rattle.std.proofs.Common.{◌≡◌, ℕ, ◌+◌, ◌<◌, ◌≤◌, List, [], ◌++◌, length, take, drop, slice_range, Ok, refl, sym, ap, ◌∙◌, subst, arith, append_assoc, length-append}
-use Rattle.std.proofs.Common.{Bool, false, ◌==◌, ◌||◌}
+use Rattle.std.proofs.Common.{◌≡◌, inl, ℕ, ◌+◌, ◌<◌, ◌≤◌, List, [], ◌∷◌, ◌++◌, append-nil, length, take, drop, slice_range, Ok, refl, sym, ap, ◌∙◌, subst, arith, append_assoc, length-append}
+use Rattle.std.proofs.Common.{Bool, IsTrue, false, ◌==◌, ◌||◌}
 use Rattle.std.proofs.lemmas.List.{nil_from_length}
 use Rattle.desk_http_messages.specs.declared.framing.Front.TheVariants.{Open}
 use Rattle.desk_http_messages.specs.declared.framing.Pending.TheVariants as pending
+use Rattle.std.proofs.lemmas.List.Elements.{All-cons, All-nil}
 use Rattle.std.proofs.lemmas.List.Folds.{drop_split}
 use Rattle.std.proofs.lemmas.Bool.Decides.{nat_tests}
 use Rattle.std.proofs.lemmas.Grind.{common_steps}
-use Rattle.httparse.specs.Grammar.{RequestHead, IsRequestHead, print_request}
+use Rattle.httparse.specs.Grammar.{AllPass, IsField, IsRequestHead, IsToken, MayBecomeRequest, RequestHead, is_token_byte, is_uri_byte, lf, print_request}
 use Rattle.httparse.specs.Spans.{IsRequestAt, IsRequestWithin}
 use Rattle.httparse.specs.declared.spans.HeaderSpan.{HeaderSpan}
 use Rattle.httparse.proofs.GrammarLemmas.{print_request-append}
@@ -52,6 +53,28 @@ ends_else version minor asks result same new is = grind (arith, nat_tests, commo
 pub some_there : (n : ℕ) → (n == 0) ≡ false → 0 < n
 some_there n h = grind (arith, nat_tests, common_steps)
 
+-- the shortest head
+abbrev shortest : RequestHead
+shortest = record { blank = []; method = 65 ∷ []; target = 65 ∷ []; minor = 0; line_end = lf; fields = []; last = lf }
+
+letter_is_token : IsToken (65 ∷ [])
+unfolding is_token_byte
+letter_is_token = (omega arith, All-cons (λ b. IsTrue (is_token_byte b)) 65 [] refl (All-nil (λ b. IsTrue (is_token_byte b))))
+
+-- no bytes may become a head
+empty_may : MayBecomeRequest []
+unfolding lib.Utf8.encode
+empty_may =
+    let letter : AllPass is_uri_byte (65 ∷ []) = All-cons (λ b. IsTrue (is_uri_byte b)) 65 [] refl (All-nil (λ b. IsTrue (is_uri_byte b))) in
+    let valid : IsRequestHead shortest = record {
+      method = letter_is_token;
+      target = (omega arith, letter);
+      target_text = (65 ∷ [], (refl, refl));
+      minor = omega arith;
+      fields = All-nil IsField;
+    } in
+    inl (print_request shortest, shortest, (valid, sym (append-nil (print_request shortest))))
+
 -- of no bytes
 pub empty_open : (bytes : List ℕ) → length bytes ≡ 0 → IsFront bytes [] (Open pending.Message)
 empty_open bytes none =
@@ -65,6 +88,7 @@ empty_open bytes none =
       unfaulted = λ fault x.
           let long = head_long x.0 x.2.is_head.grammar in
           absurd (omega (arith, long, simp length-append at (ap length x.2.bytes_are), none));
+      unfinished = λ _. (omega (arith, none), inl (subst MayBecomeRequest (sym nothing) empty_may));
       room = omega (arith, none);
       pends = tt;
     }

@@ -1,8 +1,6 @@
 -- What is at the front of the bytes that wait. (this project's own)
-use Rattle.std.specs.Prelude.{◌≡◌, ℕ, ◌+◌, ◌<◌, ◌≤◌, true, false, List, [], ◌++◌, length, take, drop, slice_range, Ok}
-use Rattle.std.specs.List.{list_all}
-use Rattle.httparse.specs.Pieces.{is_newline}
-use Rattle.httparse.specs.Spans.{IsRequestAt, IsRequestWithin}
+use Rattle.std.specs.Prelude.{◌≡◌, ℕ, ◌+◌, ◌<◌, ◌≤◌, List, [], ◌++◌, length, take, drop, slice_range, Ok}
+use Rattle.httparse.specs.Spans.{IsRequestAt, IsRequestWithin, RequestExceeds}
 use Rattle.httparse.specs.declared.spans.HeaderSpan.{HeaderSpan}
 use Rattle.desk_http_messages.specs.declared.framing.Extent.{Extent}
 use Rattle.desk_http_messages.specs.declared.framing.Front.{Front}
@@ -12,9 +10,9 @@ use Rattle.desk_http_messages.specs.declared.framing.Pending.TheVariants as pend
 use Rattle.desk_http_messages.specs.declared.requests.End.{End}
 use Rattle.desk_http_messages.specs.declared.requests.End.TheVariants.{Bad, Input}
 use Rattle.desk_http_messages.specs.declared.requests.StreamFault.TheVariants.{BadHead, BodyCut}
-use Rattle.httparse.specs.Grammar.{RequestHead, print_request}
+use Rattle.httparse.specs.Grammar.{MayBecomeRequest, RequestHead, print_request}
 use Rattle.desk_http_messages.specs.Head.{body_length, ends_stream, headers_of}
-use Rattle.desk_http_messages.specs.Stream.{IsMessage, print_message, HasFault, HasHead, HasNoHead, EndsSo, IsOpen, IsUnfaulted}
+use Rattle.desk_http_messages.specs.Stream.{IsMessage, print_message, HasFault, HasHead, HasNoHead, EndsSo, IsOpen, IsUnfaulted, IsUnfinished}
 use Rattle.desk_http_messages.specs.Stream as stream
 
 -- a whole message is at the front, and its parts are at the places of the extent
@@ -32,27 +30,27 @@ pub record IsMessageAt (bytes : List ℕ) (headers : List HeaderSpan) (e : Exten
 -- how the stream ends if no more bytes come
 abbrev pub end_of : Pending → End
 end_of pending.Message = Input
-end_of pending.Blank = Bad BadHead
 end_of pending.Head = Bad BadHead
 end_of pending.NoHead = Bad BadHead
 end_of (pending.Body whole) = Bad BodyCut
 
--- What is known of bytes that wait so: there are only the bytes of line ends; there are others, and no head; they will never have a
--- head; or they have one, and with its body they will be so long.
+-- What is known of bytes that wait so: bytes can follow that make them a head, or they end within its target; they have too many
+-- header lines, and will never have a head; or they have one, and with its body they will be so long.
 abbrev pub Pends : List ℕ → Pending → Type 0
 Pends bytes pending.Message = Unit {0}
-Pends bytes pending.Blank = list_all is_newline bytes ≡ true
-Pends bytes pending.Head = (list_all is_newline bytes ≡ false) × HasNoHead bytes
-Pends bytes pending.NoHead = (more : List ℕ) → HasNoHead (bytes ++ more)
+Pends bytes pending.Head = MayBecomeRequest bytes
+Pends bytes pending.NoHead = RequestExceeds 32 bytes × ((more : List ℕ) → HasNoHead (bytes ++ more))
 Pends bytes (pending.Body whole) =
     (head : RequestHead) × (more : List ℕ) × (n : ℕ) × HasHead bytes head more
     × (body_length (headers_of head) ≡ Ok n) × (whole ≡ length (print_request head) + n)
 
--- the bytes have no message at their front, no head that is refused, and room for more; and the stream ends so if no more come
+-- The bytes have no message at their front, no head that is refused, and room for more; if they have no head, no fault has been read
+-- in them; and the stream ends so if no more come.
 pub record IsWaiting (bytes : List ℕ) (pending : Pending) : Type 0 where
   pub ends : EndsSo [] bytes (end_of pending)
   pub is_open : IsOpen bytes
   pub unfaulted : IsUnfaulted bytes
+  pub unfinished : HasNoHead bytes → IsUnfinished bytes
   pub room : length bytes < 73728
   pub pends : Pends bytes pending
 

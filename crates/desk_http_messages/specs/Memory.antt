@@ -1,5 +1,5 @@
 -- What the calls of a reader and writer over memory did. (this project's own)
-use Rattle.std.specs.Prelude.{◌≡◌, ◌↔◌, ℕ, ◌+◌, ◌-◌, List, Option, Some, Result, IfOk, IsErr, length, min}
+use Rattle.std.specs.Prelude.{◌≡◌, ◌↔◌, ℕ, ◌+◌, ◌-◌, List, Some, Result, IfOk, IsErr, length, min}
 use Rattle.desk_http_messages.specs.declared.memory.Bytes.{Bytes}
 use Rattle.desk_http_messages.specs.declared.transport.Failed.{Failed}
 

@@ -1,28 +1,17 @@
 -- When bytes that wait are to be looked at anew, and what reading on comes to. (this project's own)
-use Rattle.std.specs.Prelude.{◌≡◌, ◌⊎◌, ℕ, ◌+◌, ◌<◌, ◌≤◌, ◌==◌, ◌||◌, Bool, true, false, List, [], ◌∷◌, length, take, Option}
-use Rattle.std.specs.List.{ends_with, list_all}
+use Rattle.std.specs.Prelude.{◌≡◌, ℕ, ◌<◌, ◌≤◌, Bool, true, false, List, length, Option}
 use Rattle.std.specs.Io.KnownBytes.{IsAtEnd}
-use Rattle.httparse.specs.Pieces.{is_newline}
 use Rattle.desk_http_messages.specs.declared.framing.Pending.{Pending}
 use Rattle.desk_http_messages.specs.declared.framing.Pending.TheVariants as pending
 use Rattle.desk_http_messages.specs.declared.reading.Outcome.{Outcome}
 use Rattle.desk_http_messages.specs.declared.reading.Outcome.TheVariants.{More, AtEnd, Failed, Bound}
 use Rattle.desk_http_messages.specs.Front.{IsWaiting}
 
--- the bytes end with a line end and an empty line, as a head does
-abbrev pub ends_section : List ℕ → Bool
-ends_section bytes = ends_with ◌==◌ bytes (10 ∷ 10 ∷ []) || ends_with ◌==◌ bytes (10 ∷ 13 ∷ 10 ∷ [])
-
--- one of the bytes behind the first `seen` ends such a line
-abbrev pub EndsBehind : ℕ → List ℕ → Type 0
-EndsBehind seen bytes = (place : ℕ) × (seen ≤ place) × (place < length bytes) × (ends_section (take (place + 1) bytes) ≡ true)
-
--- Bytes of which the first `seen` waited so are to be looked at anew: there are some; a request line has begun; an empty line behind
--- the first `seen` may end a head; the message is whole; or there are so many that there is no head.
+-- Bytes of which the first `seen` waited so are to be looked at anew: a message or a head may have gone on; the message is whole; or
+-- there are so many that there is no head.
 abbrev pub IsDue : Pending → ℕ → List ℕ → Type 0
 IsDue pending.Message seen bytes = seen < length bytes
-IsDue pending.Blank seen bytes = (8192 ≤ length bytes) ⊎ (list_all is_newline bytes ≡ false)
-IsDue pending.Head seen bytes = (8192 ≤ length bytes) ⊎ EndsBehind seen bytes
+IsDue pending.Head seen bytes = seen < length bytes
 IsDue pending.NoHead seen bytes = 8192 ≤ length bytes
 IsDue (pending.Body whole) seen bytes = whole ≤ length bytes
 

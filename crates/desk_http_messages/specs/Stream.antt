@@ -1,7 +1,8 @@
 -- A stream of requests: messages, a rest, and how it ends. (RFC 9112, sections 2, 3, 5, 6 and 9; the limits are this project's own)
-use Rattle.std.specs.Prelude.{◌≡◌, ◌≢◌, ℕ, ◌<◌, ◌≤◌, true, false, List, [], ◌∷◌, ◌++◌, length, All, Ok, Err}
+use Rattle.std.specs.Prelude.{◌≡◌, ◌≢◌, ℕ, ◌<◌, ◌≤◌, ◌⊎◌, true, false, List, [], ◌∷◌, ◌++◌, length, All, Ok, Err}
 use Rattle.std.specs.List.{flat_map}
-use Rattle.httparse.specs.Grammar.{RequestHead, IsRequestHead, print_request}
+use Rattle.httparse.specs.Grammar.{RequestHead, IsRequestHead, MayBecomeRequest, print_request}
+use Rattle.httparse.specs.Spans.{RequestExceeds}
 use Rattle.desk_http_messages.specs.declared.requests.StreamFault.{StreamFault}
 use Rattle.desk_http_messages.specs.declared.requests.StreamFault.TheVariants.{BadHead, TransferEncoding, BadLength, BodyTooLarge, BodyCut}
 use Rattle.desk_http_messages.specs.declared.requests.End.{End}
@@ -80,6 +81,12 @@ pub record Splits (bytes : List ℕ) (messages : List Message) (rest : List ℕ)
 -- the rest after which a read failed: no whole message is at its front, and it may go on
 abbrev pub IsOpen : List ℕ → Type 0
 IsOpen rest = (m : Message) (more : List ℕ) → IsMessage m → rest ≡ print_message m ++ more → ⊥
+
+-- No fault has been read in bytes without a head. They are fewer than 8,192; and either bytes can follow that make them a head of the
+-- grammar, or they end within its target, which is tested for UTF-8 at its end; or a front of them has more than 32 header lines, and
+-- what follows these is not looked at.
+abbrev pub IsUnfinished : List ℕ → Type 0
+IsUnfinished bytes = (length bytes < 8192) × (MayBecomeRequest bytes ⊎ RequestExceeds 32 bytes)
 
 -- no head at the front of the rest is refused for what its lines say
 abbrev pub IsUnfaulted : List ℕ → Type 0

@@ -1,12 +1,10 @@
 //! Where a message ends.
 ghost use Rattle.std.specs.Prelude.{◌≡◌, ℕ, ◌+◌, ◌<◌, ◌≤◌, List, All, ◌++◌, length, map, take};
-ghost use Rattle.std.specs.List.{list_all};
-ghost use Rattle.httparse.specs.Pieces.{is_newline};
 ghost use Rattle.httparse.specs.Spans.{IsHeaderWithin, IsRequestAt, IsRequestWithin, header_bytes};
 ghost use Rattle.httparse.specs.declared.spans.HeaderSpan.{HeaderSpan};
 ghost use Rattle.httparse.specs.Grammar.{RequestHead};
 ghost use Rattle.desk_http_messages.specs.Head as spec;
-ghost use Rattle.desk_http_messages.specs.Stream.{HasNoHead};
+ghost use Rattle.desk_http_messages.specs.Stream.{HasNoHead, IsUnfinished};
 ghost use Rattle.desk_http_messages.specs.Front.{IsFront, IsMessageAt, Pends, end_of};
 ghost use Rattle.desk_http_messages.specs.Asked.{asked_by, asked_of};
 
@@ -33,9 +31,7 @@ pub struct Extent {
 pub enum Pending {
     /// The first byte of a message.
     Message,
-    /// The first byte of a request line: there are only line ends before it.
-    Blank,
-    /// The rest of a head.
+    /// The rest of a head, or of the empty lines before it.
     Head,
     /// The end of the input, or so many bytes that there is no head: it has too many lines.
     NoHead,
@@ -50,7 +46,7 @@ impl Pending {
     {
         match self {
             Pending::Message => End::Input,
-            Pending::Blank | Pending::Head | Pending::NoHead => End::Bad(StreamFault::BadHead),
+            Pending::Head | Pending::NoHead => End::Bad(StreamFault::BadHead),
             Pending::Body(_) => End::Bad(StreamFault::BodyCut),
         }
     }
@@ -100,7 +96,7 @@ fn after_head(bytes: &[u8], window: &[u8], headers: &[HeaderSpan], head: Request
 /// Tells what is at the front of bytes that have no head yet.
 fn without_head(bytes: &[u8], pending: Pending) -> Front
     requires some { 0 < length bytes.now }
-    requires none { length bytes.now < 8192 → HasNoHead bytes.now × Pends bytes.now pending × (end_of pending ≡ End.Bad StreamFault.BadHead) }
+    requires none { length bytes.now < 8192 → HasNoHead bytes.now × IsUnfinished bytes.now × Pends bytes.now pending × (end_of pending ≡ End.Bad StreamFault.BadHead) }
     requires never { 8192 ≤ length bytes.now → (more : List ℕ) → HasNoHead (bytes.now ++ more) }
     ensures { (headers : List HeaderSpan) → IsFront bytes.now headers result }
 {
@@ -109,32 +105,6 @@ fn without_head(bytes: &[u8], pending: Pending) -> Front
     } else {
         Front::Fault(StreamFault::BadHead)
     }
-}
-
-/// Tells what bytes wait for that may become a head.
-fn awaited(bytes: &[u8]) -> Pending
-    ensures pends { HasNoHead bytes.now → Pends bytes.now result }
-    ensures ends { end_of result ≡ End.Bad StreamFault.BadHead }
-{
-    if are_line_ends(bytes) {
-        Pending::Blank
-    } else {
-        Pending::Head
-    }
-}
-
-/// Tests whether there are only the bytes of line ends.
-pub(crate) fn are_line_ends(bytes: &[u8]) -> bool
-    ensures { result ≡ list_all is_newline bytes.now }
-{
-    bytes.iter().all(|byte| is_newline(*byte))
-}
-
-/// Tests whether a byte is one of a line end.
-fn is_newline(byte: u8) -> bool
-    ensures { result ≡ is_newline byte }
-{
-    byte == b'\r' || byte == b'\n'
 }
 
 /// Tells what is at the front of the bytes.
@@ -148,7 +118,7 @@ pub fn look_at(bytes: &[u8], headers: &mut [HeaderSpan]) -> Front
     let window = window_of(bytes);
     match parse_request(window, headers) {
         Ok(Status::Complete(head)) => after_head(bytes, window, headers, head),
-        Ok(Status::Partial) => without_head(bytes, awaited(bytes)),
+        Ok(Status::Partial) => without_head(bytes, Pending::Head),
         Err(error) => match error {
             Error::TooManyHeaders => without_head(bytes, Pending::NoHead),
             _ => Front::Fault(StreamFault::BadHead),

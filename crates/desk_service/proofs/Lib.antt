@@ -1,2 +1,7 @@
 pub mod EditAnswers
+pub mod FileLists
+pub mod Foresight
+pub mod NamedMounts
 pub mod QuestionAnswers
+pub mod SecondReading
+pub mod SortedMounts

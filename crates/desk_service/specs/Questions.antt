@@ -1,5 +1,5 @@
 -- What is asked without changing anything, and the answers, as data. (this project's own)
-use Rattle.std.specs.Prelude.{◌≡◌, ℕ, List, [], ◌∷◌, Option, Some, None, Result, map}
+use Rattle.std.specs.Prelude.{◌≡◌, ℕ, Bool, true, false, List, [], ◌∷◌, Option, Some, None, Result, map}
 use Rattle.sqlite_trees.specs.declared.store.Store.{Ghosts}
 use Rattle.sqlite.specs.Held.{state}
 use Rattle.desk_text.specs.Address.{number_of}
@@ -10,75 +10,90 @@ use Rattle.desk_policy.specs.declared.listings.Shown.{Shown as ShownSystem}
 use Rattle.desk_policy.specs.declared.verdict.Denial.{Denial}
 use Rattle.desk_who.specs.Runs.{Run}
 use Rattle.desk_who.specs.Who.{IsWho, range_value}
-use Rattle.desk_core.specs.Head.{Revision}
+use Rattle.desk_core.specs.Head.{Newest, Revision}
 use Rattle.desk_core.specs.History.{newest_of, revisions_of, standing_of}
 use Rattle.desk_core.specs.Site.{IsInForce, site_in}
-use Rattle.desk_core.specs.declared.proposal.Proposal.{Proposal as Proposed}
+use Rattle.desk_core.specs.declared.edit.Refusal.{Refusal}
+use Rattle.desk_core.specs.declared.proposal.Proposal.{Proposal as Pending}
 use Rattle.desk_store.specs.Desk.{History, LeavesTables, Shown, StaysAsItWas, revision_at, signature_of}
 use Rattle.desk_store.specs.declared.desk.Signature.{Signature}
-use Rattle.desk_service.specs.declared.questions.FileAnswer.{FileAnswer}
-use Rattle.desk_service.specs.declared.questions.FileAnswer.TheVariants as found
-use Rattle.desk_service.specs.declared.questions.FileQuestion.{FileQuestion as LentFileQuestion}
-use Rattle.desk_service.specs.declared.questions.FileQuestion.TheVariants as lent_file
+use Rattle.desk_service.specs.Files.{AreListed, ListedFiles, files_of}
+use Rattle.desk_service.specs.Foreseeing.{Foreseen, IsForeseen, IsRefusedText, foreseen_of}
+use Rattle.desk_service.specs.declared.questions.Answer.{Answer as LentAnswer}
+use Rattle.desk_service.specs.declared.questions.Answer.TheVariants as lent_answer
 use Rattle.desk_service.specs.declared.questions.FileText.{FileText}
-use Rattle.desk_service.specs.declared.questions.PolicyAnswer.{PolicyAnswer as LentPolicyAnswer}
-use Rattle.desk_service.specs.declared.questions.PolicyAnswer.TheVariants as lent_answer
-use Rattle.desk_service.specs.declared.questions.PolicyQuestion.{PolicyQuestion as LentPolicyQuestion}
-use Rattle.desk_service.specs.declared.questions.PolicyQuestion.TheVariants as lent
+use Rattle.desk_service.specs.declared.questions.Looked.{Looked}
+use Rattle.desk_service.specs.declared.questions.Looked.TheVariants as looked
 use Rattle.desk_service.specs.declared.questions.ProposalText.{ProposalText}
+use Rattle.desk_service.specs.declared.questions.Question.{Question as LentQuestion}
+use Rattle.desk_service.specs.declared.questions.Question.TheVariants as lent
 
--- a question on the policy in force: whether a client may mount a path, what it may mount, all exports, and who may mount a path
-pub data PolicyQuestion : Type 0 where
-  Mount : ℕ → List (List ℕ) → PolicyQuestion
-  Listing : ℕ → PolicyQuestion
-  Exports : PolicyQuestion
-  Who : List (List ℕ) → PolicyQuestion
+-- a question: by the policy in force, whether a client may mount a path, what it may mount, all exports, and who may mount a path; of
+-- a file, its text as of a revision or else the newest, the list of its revisions, and its proposal; which files there are; and what
+-- would be in force if a file had a text, or that of its proposal
+pub data Question : Type 0 where
+  Mount : ℕ → List (List ℕ) → Question
+  Listing : ℕ → Question
+  Exports : Question
+  Who : List (List ℕ) → Question
+  Text : List ℕ → Option ℕ → Question
+  Revisions : List ℕ → Question
+  Proposal : List ℕ → Question
+  Files : Question
+  Foresee : List ℕ → List ℕ → Question
+  ForeseeProposal : List ℕ → Question
 
--- a question on the policy in force, by value
-abbrev pub policy_question : LentPolicyQuestion → PolicyQuestion
-policy_question (lent.Mount address path) = Mount (number_of address) path.now
-policy_question (lent.Listing address) = Listing (number_of address)
-policy_question lent.Exports = Exports
-policy_question (lent.Who path) = Who path.now
+-- a question by value
+abbrev pub question_of : LentQuestion → Question
+question_of (lent.Mount address path) = Mount (number_of address) path.now
+question_of (lent.Listing address) = Listing (number_of address)
+question_of lent.Exports = Exports
+question_of (lent.Who path) = Who path.now
+question_of (lent.Text name rev) = Text name.now rev
+question_of (lent.Revisions name) = Revisions name.now
+question_of (lent.Proposal name) = Proposal name.now
+question_of lent.Files = Files
+question_of (lent.Foresee name text) = Foresee name.now text.now
+question_of (lent.ForeseeProposal name) = ForeseeProposal name.now
 
--- an answer by the policy in force, with that policy: a verdict, what a client may mount, all exports, and the verdicts on all
--- clients by ranges
-pub data PolicyAnswer : Type 0 where
-  VerdictIs : Content → Result Grant Denial → PolicyAnswer
-  ListingIs : Content → List ShownSystem → PolicyAnswer
-  ExportsAre : Content → PolicyAnswer
-  RangesAre : Content → List (Run (Result Grant Denial)) → PolicyAnswer
+-- an answer: by the policy in force, with that policy, a verdict, what a client may mount, all exports, and the verdicts on all
+-- clients by ranges; a text, a list of revisions, a proposal, or that there is none; the files; and what is foreseen of a text, or why
+-- the file cannot have it
+pub data Answer : Type 0 where
+  VerdictIs : Content → Result Grant Denial → Answer
+  ListingIs : Content → List ShownSystem → Answer
+  ExportsAre : Content → Answer
+  RangesAre : Content → List (Run (Result Grant Denial)) → Answer
+  TextIs : FileText → Answer
+  RevisionsAre : List Signature → Answer
+  ProposalIs : ProposalText → Answer
+  NoRevision : Answer
+  FilesAre : ListedFiles → Answer
+  ForeseenIs : Foreseen → Answer
+  RefusedBy : Refusal → Answer
 
--- an answer by the policy in force, by value
-abbrev pub policy_answer_of : LentPolicyAnswer → PolicyAnswer
-policy_answer_of (lent_answer.Verdict policy verdict) = VerdictIs policy.now (verdict_result verdict)
-policy_answer_of (lent_answer.Listing policy listing) = ListingIs policy.now listing.items
-policy_answer_of (lent_answer.Exports policy) = ExportsAre policy.now
-policy_answer_of (lent_answer.Who policy ranges) = RangesAre policy.now (map range_value ranges.items)
+-- an answer by value
+abbrev pub answer_of : {V : Type 0} → (V → Content) → LentAnswer V → Answer
+answer_of in_force (lent_answer.Verdict policy verdict) = VerdictIs policy.now (verdict_result verdict)
+answer_of in_force (lent_answer.Listing policy listing) = ListingIs policy.now listing.items
+answer_of in_force (lent_answer.Exports policy) = ExportsAre policy.now
+answer_of in_force (lent_answer.Who policy ranges) = RangesAre policy.now (map range_value ranges.items)
+answer_of in_force (lent_answer.Text text) = TextIs text
+answer_of in_force (lent_answer.Revisions revisions) = RevisionsAre revisions
+answer_of in_force (lent_answer.Proposal proposal) = ProposalIs proposal
+answer_of in_force lent_answer.NoRevision = NoRevision
+answer_of in_force (lent_answer.Files listed) = FilesAre (files_of listed)
+answer_of in_force (lent_answer.Foreseen foreseen) = ForeseenIs (foreseen_of in_force foreseen)
+answer_of in_force (lent_answer.Refused refusal) = RefusedBy refusal
 
--- this is a policy, and a path has these ranges under it
-abbrev pub AreRangesOf : Content → List (List ℕ) → PolicyAnswer → Type 0
+-- a policy that newest revisions put in force is so
+abbrev pub TellsInForce : Newest → (Content → Type 0) → Type 0
+TellsInForce newest Tells = (content : Content) × IsInForce (site_in newest) content × Tells content
+
+-- this is a policy, and a path has these ranges under it; there is just one list of them
+abbrev pub AreRangesOf : Content → List (List ℕ) → Answer → Type 0
 AreRangesOf content path (RangesAre own ranges) = (own ≡ content) × IsWho content path ranges
 AreRangesOf content path answer = ⊥
-
--- the answer of a policy to a question; who may mount a path has just one list of ranges
-abbrev pub IsPolicyAnswer : Content → PolicyQuestion → PolicyAnswer → Type 0
-IsPolicyAnswer content (Mount address path) answer = answer ≡ VerdictIs content (verdict_of content address path)
-IsPolicyAnswer content (Listing address) answer = answer ≡ ListingIs content (listing_of content address)
-IsPolicyAnswer content Exports answer = answer ≡ ExportsAre content
-IsPolicyAnswer content (Who path) answer = AreRangesOf content path answer
-
--- a question on a file: its text as of a revision, or else the newest; the list of its revisions; and its proposal
-pub data FileQuestion : Type 0 where
-  Text : List ℕ → Option ℕ → FileQuestion
-  Revisions : List ℕ → FileQuestion
-  Proposal : List ℕ → FileQuestion
-
--- a question on a file, by value
-abbrev pub file_question : LentFileQuestion → FileQuestion
-file_question (lent_file.Text name rev) = Text name.now rev
-file_question (lent_file.Revisions name) = Revisions name.now
-file_question (lent_file.Proposal name) = Proposal name.now
 
 -- who signed a file's revisions
 abbrev pub signatures : List ℕ → History → List Signature
@@ -94,49 +109,70 @@ abbrev pub text_of : Revision → FileText
 text_of r = record { rev = r.rev; author = r.author; approver = r.approver; profile = r.profile; body = r.body }
 
 -- the text of a proposal, with all that is told of it
-abbrev pub proposed : Proposed → ProposalText
+abbrev pub proposed : Pending → ProposalText
 proposed p = record { base = p.base; author = p.author; body = p.body }
 
 -- the answer that a revision is, or that there is none
-abbrev pub text_answer : Option Revision → FileAnswer
-text_answer (Some r) = found.Text (text_of r)
-text_answer None = found.NoRevision
+abbrev pub text_answer : Option Revision → Answer
+text_answer (Some r) = TextIs (text_of r)
+text_answer None = NoRevision
 
 -- the answer that a list of revisions is, or that there is none
-abbrev pub revisions_answer : List Signature → FileAnswer
-revisions_answer [] = found.NoRevision
-revisions_answer (first ∷ others) = found.Revisions (first ∷ others)
+abbrev pub revisions_answer : List Signature → Answer
+revisions_answer [] = NoRevision
+revisions_answer (first ∷ others) = RevisionsAre (first ∷ others)
 
 -- the answer that a proposal is, or that there is none
-abbrev pub proposal_answer : Option Proposed → FileAnswer
-proposal_answer (Some p) = found.Proposal (proposed p)
-proposal_answer None = found.NoRevision
+abbrev pub proposal_answer : Option Pending → Answer
+proposal_answer (Some p) = ProposalIs (proposed p)
+proposal_answer None = NoRevision
 
--- the answer of a history to a question on a file
-abbrev pub file_answer : History → FileQuestion → FileAnswer
-file_answer history (Text file rev) = text_answer (revision_asked history file rev)
-file_answer history (Revisions file) = revisions_answer (signatures file history)
-file_answer history (Proposal file) = proposal_answer ((standing_of history).proposals file)
+-- these are the files of how files stand
+abbrev pub AreFiles : History → Answer → Type 0
+AreFiles history (FilesAre listed) = AreListed (standing_of history) listed
+AreFiles history answer = ⊥
 
--- a question on a site: on its policy in force, or on its files
-pub data Question : Type 0 where
-  OnPolicy : PolicyQuestion → Question
-  OnFile : FileQuestion → Question
+-- what is foreseen of a text of a file, which that proposal has, by newest revisions; or why the file cannot have it
+abbrev pub ForeseesText : Newest → List ℕ → List ℕ → Option Pending → Answer → Type 0
+ForeseesText newest file text proposal (ForeseenIs f) = IsForeseen newest file text proposal f
+ForeseesText newest file text proposal (RefusedBy refusal) = IsRefusedText newest file text refusal
+ForeseesText newest file text proposal answer = ⊥
 
--- an answer: by the policy in force, or by what was stored of a file
-pub data Answer : Type 0 where
-  ByPolicy : PolicyAnswer → Answer
-  ByFile : FileAnswer → Answer
+-- what is foreseen of the text of a proposal; or that there is none
+abbrev pub ForeseesProposal : Newest → List ℕ → Option Pending → Answer → Type 0
+ForeseesProposal newest file (Some p) answer = ForeseesText newest file p.body (Some p) answer
+ForeseesProposal newest file None answer = answer ≡ NoRevision
 
--- a policy in force by a history tells this
-abbrev pub TellsInForce : History → (Content → Type 0) → Type 0
-TellsInForce history Tells = (content : Content) × IsInForce (site_in (newest_of history)) content × Tells content
-
--- the answer to a question by a history: of the policy in force by it, or of what it has of a file
+-- The answer to a question by a history: of the policy in force by it, or of what it has of files.
 abbrev pub AnswersByHistory : History → Question → Answer → Type 0
-AnswersByHistory history (OnPolicy question) (ByPolicy answer) = TellsInForce history (λ content. IsPolicyAnswer content question answer)
-AnswersByHistory history (OnFile question) (ByFile answer) = answer ≡ file_answer history question
-AnswersByHistory history question answer = ⊥
+AnswersByHistory history (Mount address path) answer = TellsInForce (newest_of history) (λ content. answer ≡ VerdictIs content (verdict_of content address path))
+AnswersByHistory history (Listing address) answer = TellsInForce (newest_of history) (λ content. answer ≡ ListingIs content (listing_of content address))
+AnswersByHistory history Exports answer = TellsInForce (newest_of history) (λ content. answer ≡ ExportsAre content)
+AnswersByHistory history (Who path) answer = TellsInForce (newest_of history) (λ content. AreRangesOf content path answer)
+AnswersByHistory history (Text file rev) answer = answer ≡ text_answer (revision_asked history file rev)
+AnswersByHistory history (Revisions file) answer = answer ≡ revisions_answer (signatures file history)
+AnswersByHistory history (Proposal file) answer = answer ≡ proposal_answer ((standing_of history).proposals file)
+AnswersByHistory history Files answer = AreFiles history answer
+AnswersByHistory history (Foresee file text) answer = ForeseesText (newest_of history) file text None answer
+AnswersByHistory history (ForeseeProposal file) answer = ForeseesProposal (newest_of history) file ((standing_of history).proposals file) answer
+
+-- a question takes statements: one for the text of a numbered revision, and one for a list of revisions
+abbrev pub takes_statements : Question → Bool
+takes_statements (Text file (Some rev)) = true
+takes_statements (Revisions file) = true
+takes_statements question = false
+
+-- the statements that a question takes were made
+abbrev pub IsReady : Question → Looked → Type 0
+IsReady question looked.Nothing = takes_statements question ≡ false
+IsReady question found = Unit {0}
+
+-- what the statements of a question found is its answer by a history
+abbrev pub IsLookedUp : History → Question → Looked → Type 0
+IsLookedUp history question looked.Nothing = Unit {0}
+IsLookedUp history question (looked.Text text) = AnswersByHistory history question (TextIs text)
+IsLookedUp history question (looked.Revisions revisions) = AnswersByHistory history question (RevisionsAre revisions)
+IsLookedUp history question looked.NoRevision = AnswersByHistory history question NoRevision
 
 -- A desk was only looked at: it is as it was, wherever it stood, and so are its tables and what a crash leaves.
 abbrev pub OnlyLooks : {S V : Type 0} → Ghosts S → Shown S V → Shown S V → Type 0

@@ -3,20 +3,32 @@
 //! Its promise: each answer is that of the definitions by the history at which the desk stands; a question changes nothing; and an
 //! edit that is stored or proposed is always answered, with a reply that was made before.
 //!
+//! A question has two calls, since its answer lends from the desk: [`look_up`] makes the statements that it takes, if it takes any,
+//! and [`answer`] answers it.
+//!
 //! ```text
-//! answer_by_view(alloc, desk.view(), PolicyQuestion::Mount(address, &path))?  // PolicyAnswer::Verdict(policy, verdict)
-//! answer_by_desk(alloc, &mut desk, FileQuestion::Text("hosts", None))?        // FileAnswer::Text(FileText { rev: 2, .. })
-//! put(alloc, &mut desk, &edit, Replies { accepted, already, .. })?            // one of the four replies
+//! let question = Question::Mount(address, &path);
+//! let looked = look_up(alloc, &mut desk, question)?;
+//! answer(alloc, &desk, question, looked)?                          // Answer::Verdict(policy, verdict)
+//! put(alloc, &mut desk, &edit, Replies { accepted, already, .. })? // one of the four replies
 //! ```
 #![tactic(auto)]
 
+pub mod answering;
 pub mod edits;
+pub mod files;
+pub mod foreseeing;
+pub mod laws;
 pub mod questions;
+pub mod readable;
 pub mod refused;
+mod texts;
 
+pub use answering::{answer, look_up};
 pub use edits::{Replies, put, put_over};
-pub use questions::{
-    FileAnswer, FileQuestion, FileText, PolicyAnswer, PolicyQuestion, ProposalText, answer_by_desk,
-    answer_by_view, answer_in_force,
-};
+pub use files::{ListedFile, ListedFiles, Mark};
+pub use foreseeing::Foreseen;
+pub use laws::edits_put_what_was_foreseen;
+pub use questions::{Answer, FileText, Looked, ProposalText, Question};
+pub use readable::read_by_second;
 pub use refused::Refused;

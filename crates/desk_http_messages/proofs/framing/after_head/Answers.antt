@@ -36,6 +36,7 @@ returns-in-Ok c =
       ends = (λ k d below. absurd (omega (arith, below)), (h, rest, c.in-Ok.body, x, e, cut));
       is_open = open_with_head bytes h rest c.in-Ok.body x e cut;
       unfaulted = unfaulted_with_head bytes h rest c.in-Ok.body x e;
+      unfinished = λ none. absurd (none h rest x);
       room = omega (arith, cut, few, length-drop c.args.head.len bytes, x.is_head.short, at.len);
       pends = (h, rest, c.in-Ok.body, x, e, ap (λ l. l + c.in-Ok.body) at.len);
     }

@@ -9,11 +9,12 @@ returns-then-bytes-lt-HEAD_LIMIT c = λ headers.
     let none = told.0 in
     let some : c.args.bytes.now ≡ [] → ⊥ = λ e. absurd (omega (arith, c.requires.some, ap length e)) in
     record {
-      ends = subst (EndsSo [] c.args.bytes.now) (sym told.2) (λ k d below. absurd (omega (arith, below)), (some, none));
+      ends = subst (EndsSo [] c.args.bytes.now) (sym told.3) (λ k d below. absurd (omega (arith, below)), (some, none));
       is_open = open_without_head c.args.bytes.now none;
       unfaulted = unfaulted_without_head c.args.bytes.now none;
+      unfinished = λ _. told.1;
       room = omega (arith, c.if-bytes-lt-HEAD_LIMIT.true);
-      pends = told.1;
+      pends = told.2;
     }
 
 pub returns-else-bytes-lt-HEAD_LIMIT : goal.returns-else-bytes-lt-HEAD_LIMIT

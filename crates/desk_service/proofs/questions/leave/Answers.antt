@@ -1,6 +1,0 @@
--- Nothing was done.
-use Rattle.desk_service.proofs.QuestionAnswers.{left_alone}
-use Rattle.desk_service.proofs.questions.leave.Goals as goal
-
-pub returns : goal.returns
-returns g c = left_alone g.S.Store c.args.desk.now
