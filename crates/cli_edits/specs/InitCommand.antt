@@ -172,9 +172,13 @@ pub record IsSiteWith {Y : Type 0} (texts : List (List ℕ)) (exports : BTreeMap
 abbrev pub AnswersInitWith : {Y : Type 0} → List (List ℕ) → BTreeMap (String Y) ExportsText → Result Printed Failure → Type 0
 AnswersInitWith texts exports result = (site : SiteTexts) × IsSiteWith texts exports site × AnswersInitSite site result
 
--- the line of the fault for which the exports text is not split, by the number and name of its rule
+-- the line of a fault in the exports text, by the number and name of its rule
+abbrev pub fault_line : ℕ → ℕ → List ℕ → List ℕ
+fault_line line number name = codes "fault exports line " ++ decimal line ++ codes " rule " ++ decimal number ++ 32 ∷ name ++ 10 ∷ []
+
+-- the line of the fault for which the exports text is not split
 abbrev pub split_line : LineFault Rule → List ℕ
-split_line fault = codes "fault exports line " ++ decimal fault.line ++ codes " rule " ++ decimal (rule_number fault.rule) ++ 32 ∷ rule_name fault.rule ++ 10 ∷ []
+split_line fault = fault_line fault.line (rule_number fault.rule) (rule_name fault.rule)
 
 -- the answer by how the exports text is split
 abbrev pub AnswersInitSplit : List (List ℕ) → List Mount → Result (List (List ℕ)) (LineFault Rule) → Result Printed Failure → Type 0

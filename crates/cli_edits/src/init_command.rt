@@ -14,8 +14,7 @@ ghost use Rattle.cli_output.specs.Printed.{PrintsText};
 ghost use Rattle.cli_words.specs.Words.{rows_in};
 ghost use Rattle.cli_files.specs.SiteFolder.{AreShortFiles, site_list};
 ghost use Rattle.cli_desk.specs.Refused.{IsRefused, filed_line};
-ghost use Rattle.cli_edits.specs.InitCommand as spec;
-ghost use Rattle.cli_edits.specs.InitCommand.{AnswersInit, AnswersInitSite, AnswersInitTexts, AnswersInitWith, AreParts, ComesTo, Creates, IsReadyText, IsRefusedFor, IsSiteWith, SplitsExports, Stores, new_exports, ready_text, warning_line};
+ghost use Rattle.cli_edits.specs.InitCommand.{AnswersInit, AnswersInitSite, AnswersInitTexts, AnswersInitWith, AreParts, ComesTo, Creates, IsReadyText, IsRefusedFor, IsSiteWith, SplitsExports, Stores, fault_line, new_exports, ready_text, split_line, warning_line};
 
 use clap::ArgMatches;
 use cli_database_files::new_files::{NewFiles, is_blank};
@@ -86,7 +85,7 @@ fn not_split(
 ) -> Result<Printed, Failure>
     requires filesystems { IsReadable sources.filesystems.text.now }
     requires exports { IsReadable sources.whole.exports.text.now }
-    ensures { PrintsText 3 (spec.split_line fault) result }
+    ensures { PrintsText 3 (split_line fault) result }
 {
     let note = tell_split_fault(
         alloc,
@@ -94,7 +93,7 @@ fn not_split(
         sources.filesystems,
         SplitFault::Exports(fault),
     )?;
-    let text = split_line(alloc, fault)?;
+    let text = fault_line(alloc, fault.line, fault.rule.number(), fault.rule.name())?;
     Ok(Printed {
         status: 3,
         text,
@@ -102,13 +101,10 @@ fn not_split(
     })
 }
 
-/// Writes the line of the fault for which the exports text is not split.
-fn split_line(alloc: Global, fault: LineFault<Rule>) -> Result<String, AllocError>
-    ensures { IfOk result (λ text. string_bytes text ≡ spec.split_line fault) }
+/// Writes the line of a fault in the exports text.
+fn fault_line(alloc: Global, line: u32, number: u32, name: &str) -> Result<String, AllocError>
+    ensures { IfOk result (λ text. string_bytes text ≡ fault_line line number name.now) }
 {
-    let line = fault.line;
-    let number = fault.rule.number();
-    let name = fault.rule.name();
     format!(in alloc; "fault exports line {line} rule {number} {name}\n")
 }
 
