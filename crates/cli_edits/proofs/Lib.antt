@@ -1,6 +1,3 @@
-pub mod AskAnswers
 pub mod InitAnswers
-pub mod NoDesk
 pub mod PutAnswers
-pub mod QuestionAnswers
 pub mod Writing

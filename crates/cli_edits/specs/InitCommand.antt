@@ -1,10 +1,11 @@
--- The output of `init` by its words and files. (this project's own)
+-- What `init` prints by its words and files. (this project's own)
 use Rattle.std.specs.Prelude.{◌≡◌, ◌⊎◌, false, IfErr, IsTrue, OnErr, OnOk, ℕ, ◌++◌, ◌∷◌, List, [], Option, Result, Ok, Err, String, codes, map, take, unwrap_or, if◌then◌else◌}
 use Rattle.std.specs.BTreeMap.{BTreeMap, get_by_text}
 use Rattle.std.specs.Fmt.{decimal}
 use Rattle.std.specs.List.{flat_map}
 use Rattle.std.specs.Str.{bytes_eq}
 use Rattle.std.specs.String.{string_bytes}
+use Rattle.clap.specs.Words.{Row}
 use Rattle.sqlite.specs.Held.{Held, state}
 use Rattle.sqlite.specs.State.{HasCleanDisk, State, Survives}
 use Rattle.sqlite_trees.specs.declared.store.Store.{Ghosts}
@@ -15,6 +16,7 @@ use Rattle.desk_text.specs.declared.reading.ReadError.TheVariants.{Fault, Memory
 use Rattle.desk_tables.specs.FileSystemsText.{read_filesystems}
 use Rattle.desk_tables.specs.Rules.{TableFault}
 use Rattle.desk_tables.specs.declared.filesystems.Mount.{Mount}
+use Rattle.desk_exports.specs.Rules.{rule_name, rule_number}
 use Rattle.desk_exports.specs.Splitting.{split_text}
 use Rattle.desk_exports.specs.declared.profile.Profile.TheVariants.{Two}
 use Rattle.desk_exports.specs.declared.rules.Rule.{Rule}
@@ -26,25 +28,24 @@ use Rattle.desk_policy.specs.declared.site.ExportsText.{ExportsText}
 use Rattle.desk_policy.specs.Warning.{kind_name}
 use Rattle.desk_policy.specs.declared.site_fault.SiteFault.{SiteFault}
 use Rattle.desk_policy.specs.declared.warning.Warning.{Warning}
-use Rattle.desk_core.specs.declared.edit.Refusal.TheVariants.{Fault as SiteRefusal}
+use Rattle.desk_core.specs.declared.edit.Refusal.TheVariants as refusal
 use Rattle.desk_core.specs.Head.{longest_revision}
 use Rattle.desk_store.specs.Create.{JudgesSite, Makes, MayMake, RefusesToCreate, first_history, has_one}
 use Rattle.desk_store.specs.Desk.{IsSiteHistory}
 use Rattle.desk_store.specs.Tables.{LeavesCommit}
 use Rattle.desk_store.specs.declared.error.CreateError.{CreateError}
 use Rattle.desk_store.specs.declared.error.CreateError.TheVariants as create
-use Rattle.desk_service.specs.declared.refused.Refused.TheVariants as by_desk
-use Rattle.cli_line.specs.CommandLine.{InitWords}
+use Rattle.desk_service.specs.declared.refused.Refused.TheVariants as refused
+use Rattle.cli_output.specs.Printed.{PrintsText}
+use Rattle.cli_output.specs.declared.failure.Failure.{Failure}
+use Rattle.cli_output.specs.declared.failure.Failure.TheVariants.{Memory}
+use Rattle.cli_output.specs.declared.printed.Printed.{Printed}
+use Rattle.cli_words.specs.Words.{After, ByWord}
 use Rattle.cli_files.specs.Files.{ReadsInTurn}
-use Rattle.cli_files.specs.declared.failure.Failure.{Failure}
-use Rattle.cli_files.specs.declared.failure.Failure.TheVariants.{Memory}
-use Rattle.cli_files.specs.declared.files.FileArgument.TheVariants.{Dir}
-use Rattle.cli_output.specs.SiteFolder.{site_paths, site_words}
-use Rattle.cli_output.specs.declared.output.Output.{Output}
-use Rattle.cli_output.specs.declared.output.Output.TheVariants.{Done, Refused}
-use Rattle.cli_output.specs.declared.refused.Refused.TheVariants as refused
-use Rattle.cli_database.specs.declared.init_command.NotMade.{NotMade}
-use Rattle.cli_database.specs.declared.init_command.NotMade.TheVariants as not_made
+use Rattle.cli_files.specs.SiteFolder.{site_paths, site_words}
+use Rattle.cli_desk.specs.Refused.{IsRefused, filed_line}
+use Rattle.cli_edits.specs.declared.init_command.NotMade.{NotMade}
+use Rattle.cli_edits.specs.declared.init_command.NotMade.TheVariants as not_made
 
 -- the line of a warning, as `warning exports:/a line 2 Ipv6 fe80::1`
 abbrev pub warning_line : Warning → List ℕ
@@ -104,26 +105,27 @@ abbrev pub ComesTo : {A : Type 0} → SiteTexts → Result (String A) NotMade �
 ComesTo site (Ok text) = JudgesSite {T = Unit} site (Ok tt) × IsReadyText site (string_bytes text)
 ComesTo site (Err refused) = IsRefusedFor site refused
 
--- the output tells what came of making a database of a site; `ready` is told only of one that is made
-abbrev pub TellsCreated : SiteTexts → Result Unit CreateError → Output → Type 0
-TellsCreated site (Ok made) (Done text) = IsReadyText site (string_bytes text)
-TellsCreated site (Err create.Schema) (Refused (refused.Desk by_desk.Schema) told) = Unit {0}
-TellsCreated site (Err (create.Fault fault)) (Refused (refused.Desk (by_desk.Edit refusal)) told) = refusal ≡ SiteRefusal fault
-TellsCreated site (Err (create.TooLarge file)) (Refused (refused.TooLarge found) told) = found ≡ file
-TellsCreated site answer output = ⊥
+-- What came of making a database of a site is printed: `ready` only of one that is made, or why there is none. Of a refusal out
+-- of memory says nothing.
+abbrev pub PrintsCreated : SiteTexts → Result Unit CreateError → Result Printed Failure → Type 0
+PrintsCreated site (Ok made) (Ok printed) = (printed.status ≡ 0) × IsReadyText site (string_bytes printed.text)
+PrintsCreated site (Ok made) (Err failure) = ⊥
+PrintsCreated site (Err (create.Fault fault)) result = IsRefused (refused.Edit (refusal.Fault fault)) result
+PrintsCreated site (Err (create.TooLarge file)) result = PrintsText 1 (filed_line refusal.TooLarge file) result
+PrintsCreated site (Err create.Schema) result = IsRefused refused.Schema result
+PrintsCreated site (Err (create.Store fault)) result = IsRefused refused.Store result
+PrintsCreated site (Err create.Memory) result = result ≡ Err Memory
 
--- A site is judged as one of which a database is made, and what came of it is told: `ready` only of a consistent one. Which
+-- A site is judged as one of which a database is made, and what came of it is printed: `ready` only of a consistent one. Which
 -- database it was, no clause can name, since the connection is made and dropped inside.
-pub record MakesDatabase (site : SiteTexts) (output : Output) : Type 0 where
+pub record MakesDatabase (site : SiteTexts) (result : Result Printed Failure) : Type 0 where
   pub answer : Result Unit CreateError
   pub judged : JudgesSite site answer
-  pub told : TellsCreated site answer output
+  pub prints : PrintsCreated site answer result
 
--- the answer to a site: that of making its database; or this cannot be opened, or a statement was refused
-abbrev pub AnswersInitSite : SiteTexts → Result Output Failure → Type 0
-AnswersInitSite site (Ok (Refused (refused.Desk by_desk.Store) told)) = Unit {0}
-AnswersInitSite site (Ok output) = MakesDatabase site output
-AnswersInitSite site (Err failure) = failure ≡ Memory
+-- the answer to a site: this cannot be opened, or a statement was refused; or that of making its database
+abbrev pub AnswersInitSite : SiteTexts → Result Printed Failure → Type 0
+AnswersInitSite site result = IsRefused refused.Store result ⊎ MakesDatabase site result
 
 -- the text of a mount point among those of these mount points, empty if it is not one of them
 abbrev pub part_of : List Mount → List (List ℕ) → List ℕ → List ℕ
@@ -158,7 +160,7 @@ pub record HasTexts (seven : List (List ℕ)) (mounts : List Mount) (parts : Lis
   pub exports : (name : List ℕ) → site.exports name ≡ new_exports (part_of mounts parts name)
 
 -- the answer to a site of these texts
-abbrev pub AnswersInitOf : List (List ℕ) → List Mount → List (List ℕ) → Result Output Failure → Type 0
+abbrev pub AnswersInitOf : List (List ℕ) → List Mount → List (List ℕ) → Result Printed Failure → Type 0
 AnswersInitOf seven mounts parts result = (site : SiteTexts) × HasTexts seven mounts parts site × AnswersInitSite site result
 
 -- a site has the first seven of these texts, and these exports texts
@@ -167,38 +169,37 @@ pub record IsSiteWith {Y : Type 0} (texts : List (List ℕ)) (exports : BTreeMap
   pub exports_are : (name : List ℕ) → site.exports name ≡ unwrap_or (get_by_text exports name) no_exports
 
 -- the answer to such a site
-abbrev pub AnswersInitWith : {Y : Type 0} → List (List ℕ) → BTreeMap (String Y) ExportsText → Result Output Failure → Type 0
+abbrev pub AnswersInitWith : {Y : Type 0} → List (List ℕ) → BTreeMap (String Y) ExportsText → Result Printed Failure → Type 0
 AnswersInitWith texts exports result = (site : SiteTexts) × IsSiteWith texts exports site × AnswersInitSite site result
 
--- the output tells the fault for which the exports text is not split; out of memory says nothing
-abbrev pub TellsSplitFault : LineFault Rule → Result Output Failure → Type 0
-TellsSplitFault fault (Ok (Refused (refused.Split found) told)) = found ≡ fault
-TellsSplitFault fault (Err Memory) = Unit {0}
-TellsSplitFault fault result = ⊥
+-- the line of a fault in the exports text, by the number and name of its rule
+abbrev pub fault_line : ℕ → ℕ → List ℕ → List ℕ
+fault_line line number name = codes "fault exports line " ++ decimal line ++ codes " rule " ++ decimal number ++ 32 ∷ name ++ 10 ∷ []
+
+-- the line of the fault for which the exports text is not split
+abbrev pub split_line : LineFault Rule → List ℕ
+split_line fault = fault_line fault.line (rule_number fault.rule) (rule_name fault.rule)
 
 -- the answer by how the exports text is split
-abbrev pub AnswersInitSplit : List (List ℕ) → List Mount → Result (List (List ℕ)) (LineFault Rule) → Result Output Failure → Type 0
+abbrev pub AnswersInitSplit : List (List ℕ) → List Mount → Result (List (List ℕ)) (LineFault Rule) → Result Printed Failure → Type 0
 AnswersInitSplit seven mounts (Ok parts) result = AnswersInitOf seven mounts parts result
-AnswersInitSplit seven mounts (Err fault) result = TellsSplitFault fault result
+AnswersInitSplit seven mounts (Err fault) result = PrintsText 3 (split_line fault) result
 
 -- the answer by how the file systems are read; if they have a fault, nothing is split
-abbrev pub AnswersInitBy : List (List ℕ) → List ℕ → Result (List Mount) TableFault → Result Output Failure → Type 0
+abbrev pub AnswersInitBy : List (List ℕ) → List ℕ → Result (List Mount) TableFault → Result Printed Failure → Type 0
 AnswersInitBy seven exports (Ok table) result = AnswersInitSplit seven table (split_text table exports) result
 AnswersInitBy seven exports (Err fault) result = AnswersInitOf seven [] [] result
 
--- the answer by the texts that were read, in the order of the files; or why a file has no text
-abbrev pub AnswersInitTexts : Result (List (List ℕ)) Failure → Result Output Failure → Type 0
-AnswersInitTexts (Ok (custodians ∷ filesystems ∷ hosts ∷ networks ∷ passwd ∷ group ∷ netgroup ∷ exports ∷ [])) result =
+-- the answer by the texts of the files, in their order
+abbrev pub AnswersInitTexts : List (List ℕ) → Result Printed Failure → Type 0
+AnswersInitTexts (custodians ∷ filesystems ∷ hosts ∷ networks ∷ passwd ∷ group ∷ netgroup ∷ exports ∷ []) result =
     AnswersInitBy (custodians ∷ filesystems ∷ hosts ∷ networks ∷ passwd ∷ group ∷ netgroup ∷ []) exports (read_filesystems filesystems) result
-AnswersInitTexts (Ok texts) result = ⊥
-AnswersInitTexts (Err failure) result = result ≡ Err failure
+AnswersInitTexts texts result = ⊥
 
--- the answer of `init` by the files in DIR
-pub record AnswersInitFiles (words : InitWords) (known : Option (List ℕ)) (result : Result Output Failure) : Type 0 where
-  pub read : Result (List (List ℕ)) Failure
-  pub reads : ReadsInTurn (site_words Dir (site_paths words.dir)) known read
-  pub answers : AnswersInitTexts read result
+-- the answer of `init` by the files in the folder at this path, or why one has no text; out of memory says nothing
+abbrev pub AnswersInitDir : List ℕ → Option (List ℕ) → Result Printed Failure → Type 0
+AnswersInitDir dir known result = (result ≡ Err Memory) ⊎ After (ReadsInTurn (site_words (codes "DIR") (site_paths dir)) known) AnswersInitTexts result
 
--- the answer of `init` to its words; out of memory says nothing
-abbrev pub AnswersInit : InitWords → Option (List ℕ) → Result Output Failure → Type 0
-AnswersInit words known result = (result ≡ Err Memory) ⊎ AnswersInitFiles words known result
+-- the answer of `init` to its words
+abbrev pub AnswersInit : List Row → Option (List ℕ) → Result Printed Failure → Type 0
+AnswersInit rows known result = ByWord (codes "DB") rows (λ db. ByWord (codes "DIR") rows (λ dir. AnswersInitDir dir known)) result

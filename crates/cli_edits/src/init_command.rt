@@ -8,26 +8,26 @@ ghost use Rattle.sqlite.specs.Held.{state};
 ghost use Rattle.desk_text.specs.Lines.{IsReadable};
 ghost use Rattle.desk_tables.specs.FileSystemsText.{read_filesystems};
 ghost use Rattle.desk_policy.specs.Site.{no_exports, texts_of};
-ghost use Rattle.cli_output.specs.SiteFolder.{AreShortFiles, site_list};
-ghost use Rattle.cli_output.specs.declared.refused.Refused.TheVariants as refused;
-ghost use Rattle.cli_database.specs.InitCommand.{AnswersInit, AnswersInitSite, AnswersInitTexts, AnswersInitWith, AreParts, ComesTo, Creates, IsReadyText, IsRefusedFor, IsSiteWith, SplitsExports, Stores, new_exports, ready_text, warning_line};
-ghost use Rattle.cli_database.specs.RefusedOutputs.{IsRefusedAs, IsRefusedByDesk};
-ghost use Rattle.desk_service.specs.declared.refused.Refused.TheVariants as by_desk;
-ghost use Rattle.desk_core.specs.declared.edit.Refusal.TheVariants.{Fault as SiteRefusal};
-ghost use Rattle.cli_words.specs.Words.{given_init};
+ghost use Rattle.desk_core.specs.declared.edit.Refusal.TheVariants.{Fault as SiteRefusal, TooLarge as TooLargeRefusal};
+ghost use Rattle.desk_service.specs.declared.refused.Refused.TheVariants as refused;
+ghost use Rattle.cli_output.specs.Printed.{PrintsText};
+ghost use Rattle.cli_words.specs.Words.{rows_in};
+ghost use Rattle.cli_files.specs.SiteFolder.{AreShortFiles, site_list};
+ghost use Rattle.cli_desk.specs.Refused.{IsRefused, filed_line};
+ghost use Rattle.cli_edits.specs.InitCommand.{AnswersInit, AnswersInitSite, AnswersInitTexts, AnswersInitWith, AreParts, ComesTo, Creates, IsReadyText, IsRefusedFor, IsSiteWith, SplitsExports, Stores, fault_line, new_exports, ready_text, split_line, warning_line};
 
-use crate::View;
-use crate::refused_outputs::{
-    not_opened_at, not_writable, obstructed, refused_by_store, refused_by_table, too_large_told,
-};
+use clap::ArgMatches;
 use cli_database_files::new_files::{NewFiles, is_blank};
 use cli_database_files::obstacles::{Obstacle, find_obstacle_to_make};
-use cli_files::failure::Failure;
-use cli_files::files::FileArgument;
-use cli_output::output::Output;
-use cli_output::refused::Refused;
-use cli_output::site_folder::{SiteFiles, paths_of, read_texts, sources_of};
-use cli_words::database_words::InitWords;
+use cli_desk::View;
+use cli_desk::refusals::{
+    not_opened_at, not_writable, obstructed, refused_by_store, refused_by_table, too_large_note,
+};
+use cli_desk::refused::{filed_line, refused};
+use cli_files::site_folder::{SiteFiles, paths_of, read_texts, sources_of};
+use cli_output::failure::Failure;
+use cli_output::printed::Printed;
+use cli_words::words::required;
 use desk_check::split_text::SplitFault;
 use desk_check::{SiteSources, Source, WholeSources, tell_site_fault, tell_split_fault};
 use desk_core::{LONGEST_REVISION, Refusal};
@@ -35,7 +35,7 @@ use desk_exports::{Profile, Rule, split};
 use desk_policy::{
     ExportsText, PerSite, PerTable, Site, SiteFault, SiteFile, Warning, mount_of, parse,
 };
-use desk_service::Refused as ByDesk;
+use desk_service::Refused;
 use desk_store::{CreateError, Desk};
 use desk_tables::{FileSystems, Mount};
 use desk_text::{LineFault, ReadError, Text};
@@ -48,25 +48,27 @@ use std::io::BufRead;
 /// Answers `init DB DIR`.
 pub fn run_init<I: BufRead>(
     rt: &HostRuntime,
-    words: InitWords<'_>,
+    words: &ArgMatches<'_>,
     input: &mut I,
-) -> Result<Output, Failure>
-    ensures { AnswersInit (given_init words.entry) (I.remaining input.old) result }
+) -> Result<Printed, Failure>
+    ensures { AnswersInit (rows_in words.now) (I.remaining input.old) result }
 {
-    let paths = paths_of(rt.alloc(), words.dir)?;
-    let texts = read_texts(rt, FileArgument::Dir, &paths, input)?;
-    split_texts(rt, words.db, &paths, &texts)
+    let db = required(words, "DB")?;
+    let dir = required(words, "DIR")?;
+    let paths = paths_of(rt.alloc(), dir)?;
+    let texts = read_texts(rt, "DIR", &paths, input)?;
+    split_texts(rt, db, &paths, &texts)
 }
 
-/// Splits the exports text, and makes a database of the texts; or answers by the fault for which it is not split.
+/// Splits the exports text, and makes a database of the texts; or prints the fault for which it is not split.
 fn split_texts(
     rt: &HostRuntime,
     db: &str,
     paths: &SiteFiles,
     texts: &SiteFiles,
-) -> Result<Output, Failure>
+) -> Result<Printed, Failure>
     requires { AreShortFiles texts.now }
-    ensures { AnswersInitTexts (Ok (site_list texts.now)) result }
+    ensures { AnswersInitTexts (site_list texts.now) result }
 {
     match split_exports(rt.alloc(), texts) {
         Ok(exports) => build_site(rt, db, paths, texts, exports),
@@ -75,23 +77,35 @@ fn split_texts(
     }
 }
 
-/// Answers by the fault for which the exports text is not split.
+/// Prints the fault for which the exports text is not split.
 fn not_split(
     alloc: Global,
     sources: SiteSources<'_>,
     fault: LineFault<Rule>,
-) -> Result<Output, Failure>
+) -> Result<Printed, Failure>
     requires filesystems { IsReadable sources.filesystems.text.now }
     requires exports { IsReadable sources.whole.exports.text.now }
-    ensures { IsRefusedAs (refused.Split fault) result }
+    ensures { PrintsText 3 (split_line fault) result }
 {
-    let told = tell_split_fault(
+    let note = tell_split_fault(
         alloc,
         sources.whole.exports,
         sources.filesystems,
         SplitFault::Exports(fault),
     )?;
-    Ok(Output::Refused(Refused::Split(fault), told))
+    let text = fault_line(alloc, fault.line, fault.rule.number(), fault.rule.name())?;
+    Ok(Printed {
+        status: 3,
+        text,
+        note,
+    })
+}
+
+/// Writes the line of a fault in the exports text.
+fn fault_line(alloc: Global, line: u32, number: u32, name: &str) -> Result<String, AllocError>
+    ensures { IfOk result (λ text. string_bytes text ≡ fault_line line number name.now) }
+{
+    format!(in alloc; "fault exports line {line} rule {number} {name}\n")
 }
 
 /// Splits the exports text into that of each file system; into none, if the file systems have a fault.
@@ -168,12 +182,16 @@ fn build_site(
     paths: &SiteFiles,
     texts: &SiteFiles,
     exports: BTreeMap<String, ExportsText>,
-) -> Result<Output, Failure>
+) -> Result<Printed, Failure>
     ensures { AnswersInitWith (site_list texts.now) exports result }
 {
     let site = site_of(rt.alloc(), texts, exports)?;
     match make_files(rt, db, &site) {
-        Ok(ready) => Ok(Output::Done(ready)),
+        Ok(ready) => Ok(Printed {
+            status: 0,
+            text: ready,
+            note: String::new(rt.alloc()),
+        }),
         Err(refused) => refuse(rt, db, sources_of(paths, texts), &site, refused),
     }
 }
@@ -310,7 +328,7 @@ fn remove_if_refused<S: Alter + Drop>(
     let was_blank = is_blank(&conn);
     let (stored, conn) = with_ready_text(rt.alloc(), conn, site);
     if stored.is_err() {
-        // Before the lock goes with the connection: behind that, another process may write the files.
+        // Before the lock goes with the connection: after that, another process may write the files.
         new.remove_refused(rt, was_blank);
     }
     (stored, conn)
@@ -352,14 +370,14 @@ fn create_desk<S: Alter + Drop>(
     }
 }
 
-/// Answers by why a site is not stored.
+/// Prints why a site is not stored.
 fn refuse(
     rt: &HostRuntime,
     db: &str,
     sources: SiteSources<'_>,
     site: &Site,
     refused: NotMade,
-) -> Result<Output, Failure>
+) -> Result<Printed, Failure>
     requires { IsRefusedFor (texts_of site.now) refused }
     ensures { AnswersInitSite (texts_of site.now) result }
 {
@@ -377,19 +395,24 @@ fn refuse(
     }
 }
 
-/// Answers that the text of a file is too long for a new database.
-fn too_large(alloc: Global, sources: SiteSources<'_>, file: Text) -> Result<Output, Failure>
-    ensures { IsRefusedAs (refused.TooLarge file) result }
+/// Prints that the text of a file is too long for a new database.
+fn too_large(alloc: Global, sources: SiteSources<'_>, file: Text) -> Result<Printed, Failure>
+    ensures { PrintsText 1 (filed_line TooLargeRefusal file) result }
 {
-    let told = match mount_of(file.as_str()) {
-        Some(mount) => lines_too_large_told(alloc, sources.whole.exports.path, mount)?,
-        None => too_large_told(alloc, FileArgument::Dir, path_of(sources, file.as_str()))?,
+    let note = match mount_of(file.as_str()) {
+        Some(mount) => lines_too_large_note(alloc, sources.whole.exports.path, mount)?,
+        None => too_large_note(alloc, "DIR", path_of(sources, file.as_str()))?,
     };
-    Ok(Output::Refused(Refused::TooLarge(file), told))
+    let text = filed_line(alloc, &Refusal::TooLarge, file.as_str())?;
+    Ok(Printed {
+        status: 1,
+        text,
+        note,
+    })
 }
 
 /// Says that the lines of a file system are too long for a revision.
-fn lines_too_large_told(alloc: Global, path: &str, mount: &str) -> Result<String, AllocError> {
+fn lines_too_large_note(alloc: Global, path: &str, mount: &str) -> Result<String, AllocError> {
     format!(in alloc; "exportdesk: DIR {path:?}: the lines of {mount:?} are over 65536 bytes\n")
 }
 
@@ -423,21 +446,21 @@ fn with_exports<'a>(sources: SiteSources<'a>, site: &'a Site, name: &'a str) -> 
     }
 }
 
-/// Answers by the fault of a site.
+/// Prints the fault of a site.
 fn faulty(
     alloc: Global,
     sources: SiteSources<'_>,
     site: &Site,
     fault: SiteFault,
-) -> Result<Output, Failure>
-    ensures { IsRefusedByDesk (by_desk.Edit (SiteRefusal fault)) result }
+) -> Result<Printed, Failure>
+    ensures { IsRefused (refused.Edit (SiteRefusal fault)) result }
 {
     let name = fault.file.as_str();
-    let told = tell_site_fault(
+    let note = tell_site_fault(
         alloc,
         Profile::Two,
         with_exports(sources, site, name),
         &fault,
     )?;
-    Ok(Output::Refused(Refused::Desk(ByDesk::Edit(Refusal::Fault(fault))), told))
+    refused(alloc, Refused::Edit(Refusal::Fault(fault)), note)
 }

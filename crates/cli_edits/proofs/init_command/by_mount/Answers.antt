@@ -9,8 +9,8 @@ use Rattle.desk_text.specs.Path.{path_text}
 use Rattle.desk_tables.specs.declared.filesystems.Mount.{Mount}
 use Rattle.desk_policy.specs.Site.{no_exports}
 use Rattle.desk_policy.specs.declared.site.ExportsText.{ExportsText}
-use Rattle.cli_database.specs.InitCommand.{new_exports, part_of}
-use Rattle.cli_database.proofs.init_command.by_mount.Goals as goal
+use Rattle.cli_edits.specs.InitCommand.{new_exports, part_of}
+use Rattle.cli_edits.proofs.init_command.by_mount.Goals as goal
 
 drop_back : {X : Type 0} (xs : List X) (n : ℕ) (x : X) → 0 < n → n ≤ length xs → x ≡ get_or xs (n - 1) x → x ∷ drop n xs ≡ drop (n - 1) xs
 drop_back xs n x from to e =

@@ -1,8 +1,8 @@
 -- The lines so far are written.
 use Rattle.std.specs.String.{string_bytes}
-use Rattle.cli_database.specs.InitCommand.{warning_line}
-use Rattle.cli_database.proofs.Writing.{writes}
-use Rattle.cli_database.proofs.init_command.push_warnings.Goals as goal
+use Rattle.cli_edits.specs.InitCommand.{warning_line}
+use Rattle.cli_edits.proofs.Writing.{writes}
+use Rattle.cli_edits.proofs.init_command.push_warnings.Goals as goal
 
 pub loop-warning-preserved : goal.loop-warning-preserved
 loop-warning-preserved c =

@@ -6,8 +6,8 @@ use Rattle.std.specs.Str.{bytes_eq}
 use Rattle.std.proofs.lemmas.Map.Text.{btree_map_updates_text}
 use Rattle.desk_policy.specs.Site.{no_exports}
 use Rattle.desk_policy.specs.declared.site.ExportsText.{ExportsText}
-use Rattle.cli_database.specs.InitCommand.{new_exports}
-use Rattle.cli_database.proofs.init_command.put_part.Goals as goal
+use Rattle.cli_edits.specs.InitCommand.{new_exports}
+use Rattle.cli_edits.proofs.init_command.put_part.Goals as goal
 
 step : (b : Bool) (text : ExportsText) (old : Option ExportsText) → unwrap_or (cond b (Some text) old) no_exports ≡ cond b text (unwrap_or old no_exports)
 step true text old = refl

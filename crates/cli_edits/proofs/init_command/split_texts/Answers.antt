@@ -5,9 +5,9 @@ use Rattle.desk_text.specs.declared.reading.LineFault.{LineFault}
 use Rattle.desk_text.specs.declared.reading.ReadError.{ReadError}
 use Rattle.desk_tables.specs.FileSystemsText.{read_filesystems}
 use Rattle.desk_exports.specs.declared.rules.Rule.{Rule}
-use Rattle.cli_database.specs.InitCommand.{SplitsExports}
-use Rattle.cli_database.proofs.InitAnswers.{memory_texts, with_exports, with_fault}
-use Rattle.cli_database.proofs.init_command.split_texts.Goals as goal
+use Rattle.cli_edits.specs.InitCommand.{SplitsExports}
+use Rattle.cli_edits.proofs.InitAnswers.{memory_texts, with_exports, with_fault}
+use Rattle.cli_edits.proofs.init_command.split_texts.Goals as goal
 
 pub returns-in-Ok : goal.returns-in-Ok
 returns-in-Ok c = with_exports c.args.texts.now c.in-Ok.exports c.build_site.result c.in-Ok.ensures c.build_site.ensures

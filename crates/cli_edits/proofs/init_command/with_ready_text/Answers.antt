@@ -3,8 +3,8 @@ use Rattle.std.proofs.Common.{Result, subst}
 use Rattle.sqlite.specs.Held.{state}
 use Rattle.desk_policy.specs.Site.{texts_of}
 use Rattle.desk_store.specs.declared.error.CreateError.{CreateError}
-use Rattle.cli_database.specs.InitCommand.{Creates}
-use Rattle.cli_database.proofs.init_command.with_ready_text.Goals as goal
+use Rattle.cli_edits.specs.InitCommand.{Creates}
+use Rattle.cli_edits.proofs.init_command.with_ready_text.Goals as goal
 
 pub returns-in-Ok-created : goal.returns-in-Ok-created
 returns-in-Ok-created g c = (

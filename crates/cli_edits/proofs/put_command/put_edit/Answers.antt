@@ -1,7 +1,6 @@
--- An edit of a database that is not opened has no answer.
-use Rattle.desk_core.specs.Edit.{asked}
-use Rattle.cli_database.proofs.PutAnswers.{no_desk}
-use Rattle.cli_database.proofs.put_command.put_edit.Goals as goal
+-- There is no desk.
+use Rattle.std.proofs.Common.{inl}
+use Rattle.cli_edits.proofs.put_command.put_edit.Goals as goal
 
 pub returns-in-Err : goal.returns-in-Err
-returns-in-Err c = no_desk c.args.words.db.now (asked c.args.edit) c.in-Err.answer c.in-Err.ensures
+returns-in-Err c = inl c.in-Err.ensures
