@@ -1,10 +1,10 @@
--- What is found at the elements of a list so far, or told of them, with one more.
-use Rattle.std.proofs.Common.{◌≡◌, ℕ, ◌+◌, ◌<◌, ◌++◌, List, [], ◌∷◌, Option, None, Some, ap, get_or, length, map, sym, take, ◌∙◌}
-use Rattle.std.specs.List.{cons_option, filter_map, flat_map}
-use Rattle.std.proofs.lemmas.List.{append-nil, flat_map_more, take_more}
+-- What is found at the elements of a list so far, with one more, for `texts_back::exports_among`.
+use Rattle.std.proofs.Common.{◌≡◌, ℕ, ◌+◌, ◌<◌, ◌++◌, List, [], ◌∷◌, Option, None, Some, ap, get_or, length, sym, take, ◌∙◌}
+use Rattle.std.specs.List.{cons_option, filter_map}
+use Rattle.std.proofs.lemmas.List.{append-nil, take_more}
 use Rattle.std.proofs.lemmas.List.Elements.{filter_map-append}
 use Rattle.desk_join.specs.Joining.{StoredFile}
-use Rattle.cli_write.specs.PrivateFiles.{with_found}
+use Rattle.cli_write.specs.PrivateTexts.{with_found}
 
 module _ {X : Type 0} (xs : List X) (i : ℕ) (x d : X) (below : i < length xs) (is : x ≡ get_or xs i d) where
   take_next : take (i + 1) xs ≡ take i xs ++ x ∷ []
@@ -17,8 +17,3 @@ module _ {X : Type 0} (xs : List X) (i : ℕ) (x d : X) (below : i < length xs) 
     pub finds_next : (new : List StoredFile) (o : Option StoredFile) → o ≡ f x → new ≡ with_found old o → new ≡ filter_map f (take (i + 1) xs)
     finds_next new None e is = is ∙ before ∙ sym (append-nil (filter_map f (take i xs))) ∙ sym (found_next None e)
     finds_next new (Some file) e is = is ∙ ap (λ ys. ys ++ file ∷ []) before ∙ sym (found_next (Some file) e)
-
-  -- the texts of the elements so far behind another
-  pub writes : (text_of : X → List ℕ) (start now next : List ℕ) → now ≡ start ++ flat_map text_of (take i xs) → next ≡ now ++ text_of x → next ≡ start ++ flat_map text_of (take (i + 1) xs)
-  writes text_of start now next before added =
-      added ∙ ap (λ t. t ++ text_of x) before ∙ flat_map_more text_of start (take i xs) x ∙ ap (λ ys. start ++ flat_map text_of ys) (sym take_next)

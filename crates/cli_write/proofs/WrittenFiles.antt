@@ -1,12 +1,11 @@
 -- Files that are told as replaced, one more, and one that cannot be written, for `replacing::replace_files`.
-use Rattle.std.proofs.Common.{◌≡◌, ◌⊎◌, inl, inr, ℕ, ◌+◌, ◌<◌, ◌++◌, List, [], ◌∷◌, ap, arith, get_or, length, map, refl, sym, take, ◌∙◌, subst}
-use Rattle.std.specs.List.{Contains}
+use Rattle.std.proofs.Common.{◌≡◌, inl, inr, ℕ, ◌+◌, ◌<◌, ◌++◌, List, [], ◌∷◌, ap, arith, get_or, length, map, refl, sym, take, ◌∙◌, subst}
 use Rattle.std.specs.List.{flat_map}
 use Rattle.std.specs.String.{string_bytes}
 use Rattle.std.proofs.lemmas.List.{append-nil, get_or-map, length-map, map-append, take_more}
 use Rattle.std.proofs.lemmas.List.Concat.{flat_map-append}
-use Rattle.cli_files.specs.declared.failure.Failure.{Failure}
-use Rattle.cli_files.specs.declared.failure.Failure.TheVariants.{Memory, Unwritten}
+use Rattle.cli_output.specs.declared.failure.Failure.{Failure}
+use Rattle.cli_output.specs.declared.failure.Failure.TheVariants.{Memory, Unwritten}
 use Rattle.cli_write.specs.Replacing.{AreAmong, IsUnwritten, IsUnwrittenIn, MayTell, TellsWritten, written_line}
 
 among_more : (names others : List (List ℕ)) (name : List ℕ) → AreAmong names others → AreAmong (names ++ name ∷ []) (others ++ name ∷ [])

@@ -1,8 +1,4 @@
-pub mod TextsBack
-pub mod Readable
-pub mod ListedFiles
-pub mod PrivateFiles
-pub mod CopiedDesk
-pub mod FilesCommand
+pub mod PrivateTexts
 pub mod Replacing
+pub mod TextsBack
 pub mod WriteCommand

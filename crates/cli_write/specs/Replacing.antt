@@ -2,8 +2,8 @@
 use Rattle.std.specs.Prelude.{◌≡◌, ◌⊎◌, ℕ, ◌++◌, Contains, List, [], ◌∷◌, codes}
 use Rattle.std.specs.List.{flat_map}
 use Rattle.std.specs.String.{string_bytes}
-use Rattle.cli_files.specs.declared.failure.Failure.{Failure}
-use Rattle.cli_files.specs.declared.failure.Failure.TheVariants.{Memory, Unwritten}
+use Rattle.cli_output.specs.declared.failure.Failure.{Failure}
+use Rattle.cli_output.specs.declared.failure.Failure.TheVariants.{Memory, Unwritten}
 use Rattle.cli_write.specs.declared.replacing.NewText.{NewText}
 
 -- the name, the path and the text of a file

@@ -6,12 +6,8 @@ use Rattle.desk_text.specs.Path.{path_text}
 use Rattle.desk_tables.specs.declared.filesystems.Mount.{Mount}
 use Rattle.desk_policy.specs.SiteFile.{all_files, exports_file_name, file_name}
 use Rattle.desk_core.specs.Head.{Newest, Revision}
-use Rattle.desk_core.specs.Site.{policy_of, site_in, text_in}
+use Rattle.desk_core.specs.Site.{text_in}
 use Rattle.desk_join.specs.Joining.{StoredFile, joined}
-
--- the file systems that are listed now, by mount point
-abbrev pub listed_now : Newest → List Mount
-listed_now newest = (policy_of (site_in newest)).table
 
 -- a revision of an exports file
 abbrev pub exports_file : Revision → StoredFile
@@ -25,10 +21,7 @@ stored_exports newest mount = option_map exports_file (newest (exports_file_name
 abbrev pub exports_among : List Mount → Newest → List StoredFile
 exports_among table newest = filter_map (λ mount. stored_exports newest (path_text mount.path)) table
 
--- those of the listed file systems
-abbrev pub listed_exports : Newest → List StoredFile
-listed_exports newest = exports_among (listed_now newest) newest
-
--- the texts of the eight files: of each of the seven the newest text, empty if it has none, and the exports files, joined
-abbrev pub texts_back : Newest → List (List ℕ)
-texts_back newest = map (λ file. (text_in newest (file_name file)).body) all_files ++ joined (listed_exports newest) ∷ []
+-- The texts of the eight files, if these file systems are listed: of each of the seven the newest text, empty if it has none, and the
+-- exports files of the file systems, joined.
+abbrev pub texts_back : List Mount → Newest → List (List ℕ)
+texts_back table newest = map (λ file. (text_in newest (file_name file)).body) all_files ++ joined (exports_among table newest) ∷ []

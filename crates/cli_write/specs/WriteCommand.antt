@@ -1,24 +1,28 @@
 -- What `write` answers. (this project's own)
 use Rattle.std.specs.Prelude.{◌≡◌, ◌⊎◌, ℕ, ◌++◌, Bool, List, [], ◌∷◌, Option, Some, None, Result, Ok, Err, codes, length, map, nat_lt, if◌then◌else◌}
 use Rattle.std.specs.String.{string_bytes}
+use Rattle.clap.specs.Words.{Row}
+use Rattle.sqlite.specs.Effect.{Database}
 use Rattle.desk_policy.specs.SiteFile.{all_files, file_name}
 use Rattle.desk_policy.specs.View.{HasFault}
+use Rattle.desk_policy.specs.declared.site_fault.SiteFault.{SiteFault}
 use Rattle.desk_core.specs.Head.{Newest}
+use Rattle.desk_core.specs.History.{newest_of}
+use Rattle.desk_core.specs.Judging.{table_in}
 use Rattle.desk_core.specs.Site.{IsConsistent, site_in}
-use Rattle.desk_core.specs.Standing.{Standing}
-use Rattle.desk_core.specs.declared.edit.Refusal.TheVariants.{Fault as SiteRefusal}
-use Rattle.desk_service.specs.declared.refused.Refused.TheVariants as by_desk
-use Rattle.cli_line.specs.CommandLine.{WriteWords}
-use Rattle.cli_files.specs.Files.{IsUnread}
-use Rattle.cli_files.specs.declared.failure.Failure.{Failure}
-use Rattle.cli_files.specs.declared.failure.Failure.TheVariants.{Memory}
-use Rattle.cli_files.specs.declared.files.FileArgument.TheVariants.{Database as DatabaseFile}
-use Rattle.cli_output.specs.SiteFolder.{site_paths}
-use Rattle.cli_output.specs.declared.output.Output.{Output}
-use Rattle.cli_output.specs.declared.output.Output.TheVariants.{Done, Refused}
-use Rattle.cli_output.specs.declared.refused.Refused.TheVariants as refused
-use Rattle.cli_write.specs.CopiedDesk.{IsStanding, TellsNoDesk}
-use Rattle.cli_write.specs.Readable.{by_second}
+use Rattle.desk_core.specs.declared.edit.Refusal.TheVariants.{Fault as SiteRefusal, TooLarge}
+use Rattle.desk_store.specs.Desk.{History}
+use Rattle.desk_store.specs.Open.{IsOurs, IsProject}
+use Rattle.desk_service.specs.Readable.{by_second}
+use Rattle.desk_service.specs.declared.refused.Refused.TheVariants as refused
+use Rattle.cli_output.specs.Printed.{PrintsText}
+use Rattle.cli_output.specs.declared.failure.Failure.{Failure}
+use Rattle.cli_output.specs.declared.failure.Failure.TheVariants.{Memory}
+use Rattle.cli_output.specs.declared.printed.Printed.{Printed}
+use Rattle.cli_words.specs.Words.{ByWord}
+use Rattle.cli_files.specs.SiteFolder.{site_paths}
+use Rattle.cli_desk.specs.Desks.{HasNoCopiedDesk}
+use Rattle.cli_desk.specs.Refused.{IsRefused, filed_line}
 use Rattle.cli_write.specs.Replacing.{IsUnwrittenIn, TellsWritten}
 use Rattle.cli_write.specs.TextsBack.{texts_back}
 
@@ -36,40 +40,56 @@ first_too_long [] texts = None
 first_too_long (name ∷ names) [] = None
 first_too_long (name ∷ names) (text ∷ texts) = if is_too_long text then Some name else first_too_long names texts
 
--- the output refuses the text of this file; out of memory says nothing
-abbrev pub RefusesTooLong : List ℕ → Result Output Failure → Type 0
-RefusesTooLong name (Ok (Refused (refused.TooLarge file) told)) = file ≡ name
-RefusesTooLong name (Err Memory) = Unit {0}
-RefusesTooLong name result = ⊥
+-- some of the files of these names are printed, in their order; or one at these paths cannot be written
+abbrev pub PrintsWritten : List (List ℕ) → List (List ℕ) → Result Printed Failure → Type 0
+PrintsWritten names paths (Ok printed) = (printed.status ≡ 0) × TellsWritten names (string_bytes printed.text)
+PrintsWritten names paths (Err failure) = IsUnwrittenIn paths failure
 
--- some of the files of these names are told, in their order; or one at these paths cannot be written
-abbrev pub TellsDone : List (List ℕ) → List (List ℕ) → Result Output Failure → Type 0
-TellsDone names paths (Ok (Done told)) = TellsWritten names (string_bytes told)
-TellsDone names paths (Ok output) = ⊥
-TellsDone names paths (Err failure) = IsUnwrittenIn paths failure
+-- a command refuses the text of this file, since it is too long; out of memory says nothing
+abbrev pub RefusesTooLong : List ℕ → Result Printed Failure → Type 0
+RefusesTooLong name result = PrintsText 1 (filed_line TooLarge name) result
 
--- Of files of these names, at these paths, none of whose texts is too long, some are told, in their order: which of them got its
--- text, only the system can say. Or the first whose text is too long is refused, or one cannot be written.
-abbrev pub WritesNamed : List (List ℕ) → List (List ℕ) → List (List ℕ) → Result Output Failure → Type 0
-WritesNamed names paths texts (Ok (Done told)) = (first_too_long names texts ≡ None) × TellsWritten names (string_bytes told)
-WritesNamed names paths texts (Ok (Refused (refused.TooLarge file) told)) = first_too_long names texts ≡ Some file
-WritesNamed names paths texts (Ok output) = ⊥
-WritesNamed names paths texts (Err failure) = IsUnwrittenIn paths failure
+-- files of these names, at these paths, get their texts, unless the text of this one is too long
+abbrev pub WritesUnless : Option (List ℕ) → List (List ℕ) → List (List ℕ) → Result Printed Failure → Type 0
+WritesUnless None names paths result = PrintsWritten names paths result
+WritesUnless (Some name) names paths result = RefusesTooLong name result
 
--- the same of the texts that go back, by newest revisions, and of the eight files in a folder
-abbrev pub WritesBack : List ℕ → Newest → Result Output Failure → Type 0
-WritesBack folder newest result = WritesNamed site_names (site_paths folder) (texts_back newest) result
+-- Files of these names, at these paths, get these texts: some are printed, in their order. Which of them had other bytes, only the
+-- system can say. Or the first whose text is too long is refused, and none is written.
+abbrev pub WritesNamed : List (List ℕ) → List (List ℕ) → List (List ℕ) → Result Printed Failure → Type 0
+WritesNamed names paths texts result = WritesUnless (first_too_long names texts) names paths result
 
--- They are written only if the site is consistent as `init` reads it, by profile 2; else the fault that it would find is told.
-abbrev pub WritesNewest : List ℕ → Newest → Result Output Failure → Type 0
-WritesNewest folder newest (Ok (Refused (refused.Desk (by_desk.Edit (SiteRefusal fault))) told)) = HasFault (site_in (by_second newest)) fault
-WritesNewest folder newest (Ok output) = IsConsistent (site_in (by_second newest)) × WritesBack folder newest (Ok output)
-WritesNewest folder newest (Err failure) = IsUnwrittenIn (site_paths folder) failure
+-- the same of the eight files in a folder
+abbrev pub WritesTexts : List ℕ → List (List ℕ) → Result Printed Failure → Type 0
+WritesTexts folder texts result = WritesNamed site_names (site_paths folder) texts result
 
--- What is told of the files of a folder, by the newest revisions of the database at a path; or that there is no desk on it, or that
--- a file cannot be written. Out of memory says nothing.
-abbrev pub AnswersWrite : WriteWords → Result Output Failure → Type 0
-AnswersWrite words (Ok (Refused (refused.Desk by_desk.Schema) told)) = TellsNoDesk words.db (Ok (Refused (refused.Desk by_desk.Schema) told))
-AnswersWrite words (Ok (Refused (refused.Desk by_desk.Store) told)) = TellsNoDesk words.db (Ok (Refused (refused.Desk by_desk.Store) told))
-AnswersWrite words (Ok output) = (standing : Standing) × IsStanding standing × WritesNewest words.dir standing.newest (Ok output)
-AnswersWrite words (Err failure) = IsUnread DatabaseFile words.db failure ⊎ IsUnwrittenIn (site_paths words.dir) failure
+-- the site of newest revisions has a fault as `init` reads it, by profile 2, and the command refuses it
+abbrev pub RefusesFault : Newest → Result Printed Failure → Type 0
+RefusesFault newest result = (fault : SiteFault) × HasFault (site_in (by_second newest)) fault × IsRefused (refused.Edit (SiteRefusal fault)) result
+
+-- Texts of newest revisions are written only if the site is consistent as `init` reads it; else the fault that it would find is
+-- refused. Out of memory says nothing.
+abbrev pub WritesReadable : List ℕ → Newest → List (List ℕ) → Result Printed Failure → Type 0
+WritesReadable folder newest texts result =
+    (IsConsistent (site_in (by_second newest)) × WritesTexts folder texts result) ⊎ (RefusesFault newest result ⊎ (result ≡ Err Memory))
+
+-- the same of the texts that go back by newest revisions
+abbrev pub WritesNewest : List ℕ → Newest → Result Printed Failure → Type 0
+WritesNewest folder newest result = WritesReadable folder newest (texts_back (table_in newest) newest) result
+
+-- the database is one of this project, and these are the newest revisions of each history that it holds
+pub record AreNewestIn (db : Database) (newest : Newest) : Type 0 where
+  pub ours : IsOurs db
+  pub each : (history : History) → IsProject db history → newest ≡ newest_of history
+
+-- the newest texts of a database of this project are written into a folder
+abbrev pub WritesStored : List ℕ → Result Printed Failure → Type 0
+WritesStored folder result = (db : Database) × (newest : Newest) × AreNewestIn db newest × WritesNewest folder newest result
+
+-- those of the database at a path; or there is no desk on it
+abbrev pub WritesDatabase : List ℕ → List ℕ → Result Printed Failure → Type 0
+WritesDatabase path folder result = HasNoCopiedDesk path result ⊎ WritesStored folder result
+
+-- The newest texts of DB are written into DIR; or one of these words is missing.
+abbrev pub AnswersWrite : List Row → Result Printed Failure → Type 0
+AnswersWrite rows = ByWord (codes "DB") rows (λ db. ByWord (codes "DIR") rows (λ dir. WritesDatabase db dir))

@@ -1,20 +1,14 @@
-//! The commands `files` and `write`: which files a database holds, and its newest texts, written back into a folder.
+//! The command `write`: the newest texts of a database, written back into a folder.
 //!
-//! Its promise: both answer by what the database holds, of which they read a copy. `files` tells each file once, in the order of
-//! a site, with its proposal. `write` writes the texts that `init` reads: the newest of each of the seven, and those of the exports
-//! files of the listed file systems, joined. Texts that `init` could not read, by their length or since they are of profile 1, are
-//! refused before anything is written.
+//! Its promise: it writes what the database holds, of which it reads a copy: the texts that `init` reads, which are the newest of
+//! each of the seven files, and those of the exports files of the listed file systems, joined. If `init` could not read them, since
+//! one is too long or of profile 1, that is refused, and nothing is written.
 //!
 //! ```text
-//! run_files(&rt, FilesWords { db: "desk.db" })                 // Output::Done: "custodians rev 1 site" ..
-//! run_write(&rt, WriteWords { db: "desk.db", dir: "/etc" })    // Output::Done: "written exports"
+//! run_write(&rt, words)? // of `write desk.db /etc`: status 0, "written exports\n"
 //! ```
 #![tactic(auto)]
 
-mod copied_desk;
-pub mod files_command;
-mod listed_files;
-mod readable;
 mod replacing;
 mod texts_back;
 pub mod write_command;

@@ -5,7 +5,7 @@ ghost use Rattle.std.specs.Prelude.{◌≡◌, ◌++◌, IfErr, MatchResult, OnO
 ghost use Rattle.std.specs.String.{string_bytes};
 ghost use Rattle.cli_write.specs.Replacing.{IsUnwritten, IsUnwrittenIn, MayTell, TellsWritten, name_in, path_in, written_line};
 
-use cli_files::failure::Failure;
+use cli_output::failure::Failure;
 use std::alloc::{AllocError, Global};
 use std::fs::{File, Metadata, OpenOptions};
 use std::io::{Read, Write};

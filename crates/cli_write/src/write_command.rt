@@ -1,113 +1,127 @@
 //! The command `write`: the newest texts of a database, as the files that `init` reads.
 
-ghost use Rattle.std.specs.Prelude.{◌≡◌, find, map, string_bytes};
+ghost use Rattle.std.specs.Prelude.{◌≡◌, find, map};
 ghost use Rattle.std.specs.Option.{option_copied};
+ghost use Rattle.std.specs.String.{string_bytes};
+ghost use Rattle.sqlite.specs.Files.{over_files};
 ghost use Rattle.desk_core.specs.Head.{newest_in};
 ghost use Rattle.desk_core.specs.declared.edit.Refusal.TheVariants.{Fault as SiteRefusal};
-ghost use Rattle.desk_service.specs.declared.refused.Refused.TheVariants as by_desk;
-ghost use Rattle.cli_database.specs.RefusedOutputs.{IsRefusedByDesk};
-ghost use Rattle.cli_output.specs.SiteFolder.{site_list, site_paths};
-ghost use Rattle.cli_words.specs.Words.{given_write};
+ghost use Rattle.desk_service.specs.declared.refused.Refused.TheVariants as refused;
+ghost use Rattle.cli_words.specs.Words.{rows_in};
+ghost use Rattle.cli_files.specs.SiteFolder.{site_list, site_paths};
+ghost use Rattle.cli_desk.specs.Desks.{IsCopied};
+ghost use Rattle.cli_desk.specs.Refused.{IsRefused};
 ghost use Rattle.cli_write.specs.Replacing.{name_in, path_in, text_in};
-ghost use Rattle.cli_write.specs.WriteCommand.{AnswersWrite, RefusesTooLong, TellsDone, WritesBack, WritesNamed, WritesNewest, is_too_long, site_names};
+ghost use Rattle.cli_write.specs.TextsBack.{texts_back};
+ghost use Rattle.cli_write.specs.WriteCommand.{AnswersWrite, PrintsWritten, RefusesTooLong, WritesDatabase, WritesNamed, WritesReadable, WritesStored, WritesTexts, is_too_long, site_names};
 
-use crate::copied_desk::open_copied_desk;
-use crate::readable::read_by_second;
 use crate::replacing::{NewText, replace_files};
 use crate::texts_back::texts_back;
-use cli_database::View;
-use cli_database::put_command::fault_told;
-use cli_files::failure::Failure;
+use clap::ArgMatches;
+use cli_desk::View;
+use cli_desk::desks::{CopiedDesk, open_copied_desk};
+use cli_desk::refused::{filed_line, refused};
+use cli_desk::site_notes::fault_note;
 use cli_files::input::LONGEST_INPUT;
-use cli_output::output::Output;
-use cli_output::refused::Refused;
-use cli_output::site_folder::{SiteFiles, paths_of};
-use cli_words::database_words::WriteWords;
-use desk_core::{Edit, Refusal};
+use cli_files::site_folder::{SiteFiles, paths_of};
+use cli_output::failure::Failure;
+use cli_output::printed::Printed;
+use cli_words::words::required;
+use desk_core::Refusal;
 use desk_exports::Profile;
 use desk_policy::{SiteFault, SiteFile};
-use desk_service::Refused as ByDesk;
-use desk_store::Desk;
-use desk_text::{ReadError, Text};
-use sqlite::Alter;
+use desk_service::{Answer, ListedFiles, Looked, Question, Refused, answer, read_by_second};
+use desk_text::ReadError;
 use std::alloc::{AllocError, Global};
 
 /// Answers `write DB DIR`.
-pub fn run_write(rt: &HostRuntime, words: WriteWords<'_>) -> Result<Output, Failure>
-    ensures { AnswersWrite (given_write words.entry) result }
+pub fn run_write(rt: &HostRuntime, words: &ArgMatches<'_>) -> Result<Printed, Failure>
+    ensures { AnswersWrite (rows_in words.now) result }
 {
-    match open_copied_desk(rt, words.db) {
+    let db = required(words, "DB")?;
+    let dir = required(words, "DIR")?;
+    write_database(rt, db, dir)
+}
+
+/// Writes the newest texts of a database into a folder, if `init` can read them all.
+fn write_database(rt: &HostRuntime, db: &str, dir: &str) -> Result<Printed, Failure>
+    ensures { WritesDatabase db.now dir.now result }
+{
+    match open_copied_desk(rt, db) {
         Ok(desk) => {
-            let told = write_newest(rt, words.dir, &desk);
+            let printed = write_desk(rt, dir, &desk);
             drop(desk);
-            told
+            printed
         }
         Err(answer) => answer,
     }
 }
 
-/// Writes the newest texts of a desk into a folder, if `init` can read them all.
-fn write_newest<S: Alter + Drop>(
-    rt: &HostRuntime,
-    dir: &str,
-    desk: &Desk<S, View>,
-) -> Result<Output, Failure>
-    ensures { WritesNewest dir.now (newest_in desk.now.state.heads) result }
+/// Writes the newest texts of a desk on a copy into a folder, if `init` can read them all.
+fn write_desk(rt: &HostRuntime, dir: &str, desk: &CopiedDesk) -> Result<Printed, Failure>
+    requires { IsCopied over_files desk.now }
+    ensures { WritesStored dir.now result }
 {
-    match read_by_second(rt.alloc(), desk.heads()) {
-        Ok(()) => write_back(rt, dir, desk),
-        Err(ReadError::Fault(fault)) => refuse_faulty(rt.alloc(), desk, fault),
+    let found = answer(rt.alloc(), desk, Question::Files, Looked::Nothing)?;
+    match found {
+        Answer::Files(listed) => {
+            let printed = write_newest(rt, dir, &listed);
+            drop(listed);
+            printed
+        }
+        // The question is about files.
+        _ => unreachable!(),
+    }
+}
+
+/// Writes the newest texts of files into a folder, if `init` can read them all.
+fn write_newest(rt: &HostRuntime, dir: &str, listed: &ListedFiles<'_>) -> Result<Printed, Failure>
+    ensures { let newest = newest_in listed.now.heads.now in
+        WritesReadable dir.now newest (texts_back listed.now.filesystems.now newest) result }
+{
+    match read_by_second::<View>(rt.alloc(), listed.heads) {
+        Ok(()) => write_back(rt, dir, listed),
+        Err(ReadError::Fault(fault)) => refuse_faulty(rt.alloc(), listed, fault),
         Err(ReadError::Memory) => Err(Failure::Memory),
     }
 }
 
-/// Answers by the fault that `init` would find.
-fn refuse_faulty<S: Alter + Drop>(
+/// Refuses the fault that `init` would find.
+fn refuse_faulty(
     alloc: Global,
-    desk: &Desk<S, View>,
+    listed: &ListedFiles<'_>,
     fault: SiteFault,
-) -> Result<Output, Failure>
-    ensures { IsRefusedByDesk (by_desk.Edit (SiteRefusal fault)) result }
+) -> Result<Printed, Failure>
+    ensures { IsRefused (refused.Edit (SiteRefusal fault)) result }
 {
-    let told = second_fault_told(alloc, desk, &fault)?;
-    Ok(Output::Refused(Refused::Desk(ByDesk::Edit(Refusal::Fault(fault))), told))
+    let note = second_fault_note(alloc, listed, &fault)?;
+    refused(alloc, Refused::Edit(Refusal::Fault(fault)), note)
 }
 
-/// Tells the fault that `init` would find, as `check` does, and what to do about it.
-fn second_fault_told<S: Alter + Drop>(
+/// Says the fault that `init` would find, as `check` does, and what to do about it.
+fn second_fault_note(
     alloc: Global,
-    desk: &Desk<S, View>,
+    listed: &ListedFiles<'_>,
     fault: &SiteFault,
 ) -> Result<String, AllocError> {
-    let no_edit = Edit {
-        file: "",
-        base: 0,
-        caller: "",
-        key: "",
-        text: "",
-    };
-    let finding = fault_told(alloc, Profile::Two, desk, &no_edit, fault)?;
+    let finding = fault_note(alloc, Profile::Two, listed, None, fault)?;
     let name = fault.file.as_str();
     format!(in alloc;
         "{finding}exportdesk: NAME {name:?}: its newest revision is of profile 1, and init reads by profile 2: put a text without this fault first\n"
     )
 }
 
-/// Writes the newest texts of a desk into a folder, if none is too long for `init`.
-fn write_back<S: Alter + Drop>(
-    rt: &HostRuntime,
-    dir: &str,
-    desk: &Desk<S, View>,
-) -> Result<Output, Failure>
-    ensures { WritesBack dir.now (newest_in desk.now.state.heads) result }
+/// Writes the newest texts of files into a folder, if none is too long for `init`.
+fn write_back(rt: &HostRuntime, dir: &str, listed: &ListedFiles<'_>) -> Result<Printed, Failure>
+    ensures { WritesTexts dir.now (texts_back listed.now.filesystems.now (newest_in listed.now.heads.now)) result }
 {
-    let texts = texts_back(rt.alloc(), desk)?;
+    let texts = texts_back(rt.alloc(), listed)?;
     write_texts(rt, dir, &texts)
 }
 
 /// Writes texts into a folder, each as the file of its name, if none is too long for `init`.
-fn write_texts(rt: &HostRuntime, dir: &str, texts: &SiteFiles) -> Result<Output, Failure>
-    ensures { WritesNamed site_names (site_paths dir.now) (site_list texts.now) result }
+fn write_texts(rt: &HostRuntime, dir: &str, texts: &SiteFiles) -> Result<Printed, Failure>
+    ensures { WritesTexts dir.now (site_list texts.now) result }
 {
     let paths = paths_of(rt.alloc(), dir)?;
     let files = new_texts(&paths, texts);
@@ -154,21 +168,26 @@ fn new_text<'a>(name: &'a str, path: &'a String, text: &'a String) -> NewText<'a
 }
 
 /// Writes files, if none is too long for `init`.
-fn write_files(rt: &HostRuntime, files: &[NewText<'_>]) -> Result<Output, Failure>
+fn write_files(rt: &HostRuntime, files: &[NewText<'_>]) -> Result<Printed, Failure>
     ensures { WritesNamed (map name_in files.now) (map path_in files.now) (map text_in files.now) result }
 {
     match find_too_long(files) {
         Some(file) => refuse_too_long(rt.alloc(), file),
-        None => tell_written(rt, files),
+        None => write_all(rt, files),
     }
 }
 
-/// Writes files, and tells which got another text.
-fn tell_written(rt: &HostRuntime, files: &[NewText<'_>]) -> Result<Output, Failure>
-    ensures { TellsDone (map name_in files.now) (map path_in files.now) result }
+/// Writes files, and prints which got another text.
+fn write_all(rt: &HostRuntime, files: &[NewText<'_>]) -> Result<Printed, Failure>
+    ensures { PrintsWritten (map name_in files.now) (map path_in files.now) result }
 {
-    let told = replace_files(rt, files)?;
-    Ok(Output::Done(told))
+    let text = replace_files(rt, files)?;
+    let note = String::new(rt.alloc());
+    Ok(Printed {
+        status: 0,
+        text,
+        note,
+    })
 }
 
 /// Finds the first file whose text is too long to be read.
@@ -178,14 +197,18 @@ fn find_too_long<'a, 'b>(files: &'a [NewText<'b>]) -> Option<&'a NewText<'b>>
     files.iter().find(|file| file.text.len() > LONGEST_INPUT)
 }
 
-/// Answers that the text of a file is too long to be read.
-fn refuse_too_long(alloc: Global, file: &NewText<'_>) -> Result<Output, Failure>
+/// Refuses the text of a file, since it is too long to be read.
+fn refuse_too_long(alloc: Global, file: &NewText<'_>) -> Result<Printed, Failure>
     ensures { RefusesTooLong file.now.name.now result }
 {
     let path = file.path;
-    let name = Text::copy(alloc, file.name)?;
-    let told = format!(in alloc;
+    let note = format!(in alloc;
         "exportdesk: DIR {path:?}: it would be over 16777216 bytes, which init does not read\n"
     )?;
-    Ok(Output::Refused(Refused::TooLarge(name), told))
+    let text = filed_line(alloc, &Refusal::TooLarge, file.name)?;
+    Ok(Printed {
+        status: 1,
+        text,
+        note,
+    })
 }

@@ -9,7 +9,7 @@ abbrev body_in : Option Revision → List ℕ
 body_in newest = (option_map_or revision_text newest no_exports).body
 
 pub returns-in-Some : goal.returns-in-Some
-returns-in-Some g c = c.as_str.ensures ∙ ap body_in c.in-Some.ensures.newest
+returns-in-Some c = c.as_str.ensures ∙ ap body_in c.in-Some.ensures
 
 pub returns-in-None : goal.returns-in-None
-returns-in-None g c = ap body_in c.in-None.ensures.newest
+returns-in-None c = ap body_in c.in-None.ensures

@@ -10,14 +10,14 @@ use Rattle.cli_write.proofs.Gathering.{finds_next}
 use Rattle.cli_write.proofs.texts_back.exports_among.Goals as goal
 
 pub loop-mount-init : goal.loop-mount-init
-loop-mount-init g c = ap (map stored_file) c.new-files.ensures.items
+loop-mount-init c = ap (map stored_file) c.new-files.ensures.items
 
 pub loop-mount-preserved : goal.loop-mount-preserved
-loop-mount-preserved g c =
+loop-mount-preserved c =
     finds_next c.args.mounts.now c.loop-mount.mount-index c.mount-item.result c.mount-item.result c.loop-mount-test.true c.mount-item.is
-    (λ (mount : Mount). stored_exports (newest_in c.args.desk.now.state.heads) (path_text mount.path)) (map stored_file c.loop-mount.files.items) c.loop-mount.invariant
+    (λ (mount : Mount). stored_exports (newest_in c.args.listed.now.heads.now) (path_text mount.path)) (map stored_file c.loop-mount.files.items) c.loop-mount.invariant
     (map stored_file c.push_found.new.files.items) (option_map stored_file c.in_ok-found.found)
-    (c.in_ok-found.ensures ∙ ap (stored_exports (newest_in c.args.desk.now.state.heads)) c.text.ensures.printed) c.in_ok-push_found.ensures
+    (c.in_ok-found.ensures ∙ ap (stored_exports (newest_in c.args.listed.now.heads.now)) c.text.ensures.printed) c.in_ok-push_found.ensures
 
 pub returns : goal.returns
-returns g c = c.loop-mount.invariant ∙ ap (λ ms. exports_among ms (newest_in c.args.desk.now.state.heads)) (take_all c.loop-mount.mount-index c.args.mounts.now c.loop-mount-test.false)
+returns c = c.loop-mount.invariant ∙ ap (λ ms. exports_among ms (newest_in c.args.listed.now.heads.now)) (take_all c.loop-mount.mount-index c.args.mounts.now c.loop-mount-test.false)

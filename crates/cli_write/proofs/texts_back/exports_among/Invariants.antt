@@ -6,4 +6,4 @@ use Rattle.cli_write.specs.TextsBack.{exports_among}
 use Rattle.cli_write.proofs.texts_back.exports_among.Given as goal
 
 abbrev pub invariant-loop-mount : goal.invariant-loop-mount
-invariant-loop-mount g l = map stored_file l.files.items ≡ exports_among (take l.mount-index l.mounts) (newest_in l.desk.state.heads)
+invariant-loop-mount l = map stored_file l.files.items ≡ exports_among (take l.mount-index l.mounts) (newest_in l.listed.heads.now)

@@ -6,6 +6,6 @@ use Rattle.cli_write.specs.TextsBack.{exports_among}
 use Rattle.cli_write.proofs.texts_back.joined_exports.Goals as goal
 
 pub returns : goal.returns
-returns g c =
+returns c =
     c.in_ok-text.ensures
-    ∙ ap joined (ap (map stored_file) c.as_slice-2.ensures.value ∙ c.in_ok-files.ensures ∙ ap (λ (mounts : List Mount). exports_among mounts (newest_in c.args.desk.now.state.heads)) (c.as_slice.ensures ∙ c.listed_now.ensures))
+    ∙ ap joined (ap (map stored_file) c.as_slice-2.ensures.value ∙ c.in_ok-files.ensures ∙ ap (λ (mounts : List Mount). exports_among mounts (newest_in c.args.listed.now.heads.now)) c.as_slice.ensures)

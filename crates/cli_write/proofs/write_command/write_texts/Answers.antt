@@ -1,5 +1,5 @@
 use Rattle.std.proofs.Common.{List, map, subst, ℕ, ◌∙◌}
-use Rattle.cli_output.specs.SiteFolder.{site_paths}
+use Rattle.cli_files.specs.SiteFolder.{site_paths}
 use Rattle.cli_write.specs.Replacing.{path_in, text_in}
 use Rattle.cli_write.specs.WriteCommand.{WritesNamed, site_names}
 use Rattle.cli_write.proofs.write_command.write_texts.Goals as goal
