@@ -1,5 +1,5 @@
 -- The words of a line by what they are: WHOM [but NAME..] may [not] ACTION DIR.. (this project's own)
-use Rattle.std.specs.Prelude.{◌≡◌, ℕ, ◌+◌, ◌==◌, ◌&&◌, not, nat_lt, Bool, true, List, [], codes, drop, length, slice_index_or, take, if◌then◌else◌}
+use Rattle.std.specs.Prelude.{◌≡◌, ℕ, ◌+◌, ◌==◌, ◌&&◌, ◌++◌, not, nat_lt, Bool, true, List, [], codes, drop, length, slice_index_or, take, if◌then◌else◌}
 use Rattle.std.specs.List.{position_or_len}
 use Rattle.std.specs.Str.{bytes_eq}
 use Rattle.desk_expect.specs.declared.form.Form.{Form as LentForm}
@@ -26,6 +26,18 @@ whom words = take (index_of (subject words) (codes "but")) (subject words)
 
 abbrev pub but : List (List ℕ) → List (List ℕ)
 but words = after (subject words) (index_of (subject words) (codes "but"))
+
+-- the word `everybody` by itself
+abbrev pub is_everybody : List (List ℕ) → Bool
+is_everybody whom = length whom == 1 && bytes_eq (slice_index_or whom 0 []) (codes "everybody")
+
+-- the names of those whom a line is about
+abbrev pub named : List (List ℕ) → List (List ℕ)
+named whom = if is_everybody whom then [] else whom
+
+-- the names of a line, those after `but` too
+abbrev pub names : List (List ℕ) → List (List ℕ)
+names words = named (whom words) ++ but words
 
 -- the first word is `not`
 abbrev pub begins_with_not : List (List ℕ) → Bool

@@ -44,6 +44,23 @@ pub fn form_of<'a>(words: &'a [Text]) -> Option<Form<'a>>
     })
 }
 
+/// Tests whether a line is about everybody: the word stands by itself.
+pub(crate) fn is_everybody(whom: &[Text]) -> bool
+    ensures { result ≡ spec.is_everybody whom.now }
+{
+    match whom {
+        [word] => word.as_str() == "everybody",
+        _ => false,
+    }
+}
+
+/// Returns the names of those whom a line is about: none if it is about everybody.
+pub(crate) fn named(whom: &[Text]) -> &[Text]
+    ensures { result.now ≡ spec.named whom.now }
+{
+    if is_everybody(whom) { &[] } else { whom }
+}
+
 /// Tests whether something stands before `but`, and something after it, if it stands among the words before `may`.
 fn has_subject(subject: &[Text]) -> bool
     ensures { result ≡ spec.has_subject subject.now }
