@@ -1,3 +1,4 @@
+pub mod Denied
 pub mod Dots
 pub mod Gathered
 pub mod Held

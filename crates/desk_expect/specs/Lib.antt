@@ -5,6 +5,7 @@ pub mod Form
 pub mod Laws
 pub mod Meaning
 pub mod Names
+pub mod Outside
 pub mod PrivateAudience
 pub mod PrivateMeaning
 pub mod PrivateReading

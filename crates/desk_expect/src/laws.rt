@@ -1,6 +1,7 @@
 //! What the definitions of this crate keep, each as a function that does nothing.
 
 ghost use Rattle.desk_expect.specs.Laws.{NoneBrokenIsAllHold, UnreportedLinesHold};
+ghost use Rattle.desk_expect.specs.Outside.{OutsideIsDenied};
 
 use desk_impact::no_section_is_all_kept;
 
@@ -17,3 +18,8 @@ pub fn none_broken_is_all_hold()
 {
     unreported_lines_hold();
 }
+
+/// A directory of which neither it nor anything below it is in a file system is denied to everybody, and all below it.
+pub fn outside_is_denied()
+    ensures { OutsideIsDenied }
+{}
