@@ -1,4 +1,4 @@
--- The sections so far are written behind the headline.
+-- The sections so far are written after the headline.
 use Rattle.std.proofs.Common.{◌≡◌, ◌++◌, take}
 use Rattle.std.specs.List.{flat_map}
 use Rattle.std.specs.String.{string_bytes}
