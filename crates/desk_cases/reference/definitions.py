@@ -1,6 +1,7 @@
 """The definitions, written anew in the words of docs/DEFINITIONS.md, for the scripts that print cases or look their answers up:
-who may mount what, for whom, and what another site would change. A line has a weight for an address, or none; no line is looked
-for by a key, and no address is looked for at which something might change: ranges are found by halving.
+who may mount what, for whom, what another site would change, and what a site is expected to allow. A line has a weight for an
+address, or none; no line is looked for by a key, and no address is looked for at which something might change: ranges are found
+by halving.
 
 A path is a tuple of components, an address a number, and a mount point a path.
 """
@@ -156,11 +157,11 @@ def is_steady(site, line, first, bits):
     return True
 
 
-def runs(value_of, sites, path):
+def runs(value_of, sites, path, names=()):
     """The longest ranges of addresses with one value, each its first address, its last one, and the value, which is that of the
-    verdicts that the sites have on the path."""
+    verdicts that the sites have on the path, and of whether names of an expectation mean the addresses."""
     found = []
-    for first, last in steady_blocks(tuple((site, fs_of(site.mounts, path)) for site in sites)):
+    for first, last in steady_blocks(tuple((site, fs_of(site.mounts, path)) for site in sites), tuple(names)):
         value = value_of(first)
         if found and found[-1][2] == value:
             first = found.pop()[0]
@@ -169,14 +170,17 @@ def runs(value_of, sites, path):
 
 
 @functools.lru_cache(maxsize=1)
-def steady_blocks(places):
-    """The addresses in blocks, found by halving, in each of which all lines of these mount points have one weight."""
+def steady_blocks(places, names=()):
+    """The addresses in blocks, found by halving, in each of which all lines of these mount points have one weight, and each of the
+    names, which come with their sites, means all addresses or none."""
     lines = [(site, line) for site, mount in places for line in site.lines.get(mount, [])]
     found, blocks = [], [(0, 0)]
     while blocks:
         first, bits = blocks.pop()
         size = 2 ** (32 - bits)
-        if all(is_steady(site, line, first, bits) for site, line in lines):
+        if all(is_steady(site, line, first, bits) for site, line in lines) and all(
+            is_steady_name(site, name, first, first + size - 1) for site, name in names
+        ):
             found.append((first, first + size - 1))
         else:
             blocks += [(first + size // 2, bits + 1), (first, bits + 1)]
@@ -253,6 +257,196 @@ def report(before, after, tell_all=False):
     text += "1 change" if mattering == 1 else f"{mattering} changes"
     text += f", {others} of lines or reasons alone\n" if others else "\n"
     return text, mattering
+
+
+# ---- what a site is expected to allow
+
+
+ACTIONS = ("mount", "write", "root", "sys", "krb5", "krb5i", "krb5p")
+RULES = ["OpenQuote", "Form", "BadAction", "BadPath", "BadAddress", "UnknownName", "Nobody"]
+
+
+class Expectation:
+    """A line: its number, its words, the names of those it is about, or None for everybody, those that it is not about, whether it
+    says what may not be done, the action, and its directories, each with whether all below it are meant."""
+
+    def __init__(self, number, words, whom, but, forbids, action, scopes):
+        self.number, self.words, self.whom, self.but = number, words, whom, but
+        self.forbids, self.action, self.scopes = forbids, action, scopes
+
+
+def expectation(site, number, words):
+    """What a line with these words expects, or the first rule that it breaks and the place of the word at fault."""
+    may = words.index("may") if "may" in words else None
+    if may is None:
+        return "Form", len(words) - 1
+    subject, promised = words[:may], words[may + 1 :]
+    at = subject.index("but") if "but" in subject else may
+    if at == 0 or at == may - 1 and "but" in subject:
+        return "Form", at
+    whom, but = subject[:at], subject[at + 1 :]
+    forbids = promised[:1] == ["not"]
+    acted = may + 1 + forbids
+    if len(words) < acted + 2:
+        return "Form", len(words) - 1
+    if words[acted] not in ACTIONS:
+        return "BadAction", acted
+    scopes = [scope_of(word) for word in words[acted + 1 :]]
+    if None in scopes:
+        return "BadPath", acted + 1 + scopes.index(None)
+    names = [] if whom == ["everybody"] else list(enumerate(whom))
+    names += [(at + 1 + place, name) for place, name in enumerate(but)]
+    for rule, is_broken in (("BadAddress", is_bad_address), ("UnknownName", is_unknown)):
+        for place, name in names:
+            if is_broken(site, name):
+                return rule, place
+    found = Expectation(number, words, None if whom == ["everybody"] else whom, but, forbids, words[acted], scopes)
+    if not any(is_meant(site, found, first) for first, _ in steady_blocks((), names_of(site, found))):
+        return "Nobody", 0
+    return found
+
+
+def scope_of(word):
+    """A directory, or one with `/...` after it, which means all below it too; no other component is `...`."""
+    below = word.endswith("/...")
+    text = (word[:-4] or "/") if below else word
+    parts = text.split("/")
+    if not text.startswith("/") or {".", "..", "..."} & set(parts) or "\0" in text or len(text.encode()) > 1024:
+        return None
+    return tuple(part for part in parts if part), below
+
+
+def span_of(name):
+    """The first and the last address of a network or a range; None if it is not one, and False if the name is not written so."""
+    first, dash, last = name.partition("-")
+    if "/" in name:
+        address, _, prefix = name.partition("/")
+        parts = address.split(".")
+        if len(parts) > 4 or not all(map(is_octet, parts)) or not is_decimal(prefix) or int(prefix) > 32:
+            return None
+        size = 2 ** (32 - int(prefix))
+        number = number_of(".".join(parts + ["0"] * (4 - len(parts)))) // size * size
+        return number, number + size - 1
+    if dash and is_dotted(first) and is_dotted(last):
+        if not is_address(first) or not is_address(last) or number_of(last) < number_of(first):
+            return None
+        return number_of(first), number_of(last)
+    return False
+
+
+def is_decimal(text):
+    return text.isascii() and text.isdigit() and (text == "0" or text[0] != "0")
+
+
+def is_octet(text):
+    return is_decimal(text) and int(text) < 256
+
+
+def is_address(text):
+    return text.count(".") == 3 and all(map(is_octet, text.split(".")))
+
+
+def is_bad_address(site, name):
+    """Written like an address, a network or a range, and none; no line of an exports file matches one of IPv6."""
+    if span_of(name) is not False:
+        return span_of(name) is None
+    return ":" in name or is_dotted(name) and not is_address(name)
+
+
+def is_unknown(site, name):
+    return span_of(name) is False and ":" not in name and not is_dotted(name) and name not in site.groups and not host_addresses(site, name)
+
+
+def means(site, name, address):
+    """A network or a range means the addresses of it, and any other name those for which it stands in a line."""
+    span = span_of(name)
+    return span[0] <= address <= span[1] if span else address in addresses_of(site, name)
+
+
+def is_steady_name(site, name, first, last):
+    """Whether a name means all of these addresses, or none of them."""
+    span = span_of(name)
+    if span:
+        return last < span[0] or span[1] < first or span[0] <= first and last <= span[1]
+    return first == last or not any(first <= address <= last for address in addresses_of(site, name))
+
+
+def names_of(site, expected):
+    return tuple((site, name) for name in [*(expected.whom or []), *expected.but])
+
+
+def is_meant(site, expected, address):
+    """One of the names means the address, or all are meant; and none of those after `but` does."""
+    named = expected.whom is None or any(means(site, name, address) for name in expected.whom)
+    return named and not any(means(site, name, address) for name in expected.but)
+
+
+def allows(action, found):
+    """A verdict allows what its terms allow: a mount always, to write if it is not read-only, root if uid 0 acts as uid 0, and a
+    flavour if it is among those accepted."""
+    terms = effect(found)
+    if terms is None:
+        return False
+    access, flavours, mapping = terms.split(" ")
+    if action == "mount":
+        return True
+    if action == "write":
+        return access == "rw"
+    if action == "root":
+        return mapping.partition("=")[2].split(":")[0] == "0"
+    return action in flavours.partition("=")[2].split(":")
+
+
+def breaches(site, expected, path):
+    """The longest ranges of addresses that are meant and whose one verdict is not as expected."""
+
+    def broken(address):
+        found = verdict(site, address, path)
+        return found if is_meant(site, expected, address) and allows(expected.action, found) == expected.forbids else None
+
+    return [run for run in runs(broken, [site], path, names_of(site, expected)) if run[2] is not None]
+
+
+def scope_places(site, path, below):
+    """The directory; and if all below it are meant, for it and each mount point under it its heading and a path for each place:
+    itself, the directories at home there that a line writes, and its other directories."""
+    if not below:
+        yield printed(path), path
+        return
+    roots = in_order({path, *(mount for mount in site.mounts if is_under(mount, path))})
+    written = in_order({one for lines in site.lines.values() for line in lines for one in line.directories})
+    for root in roots:
+        yield printed(root), root
+        yield from ((printed(one), one) for one in written if one != root and fs_of(roots, one) == root)
+        yield f"other directories of {printed(root)}", unwritten({*written, *roots, *site.mounts}, root)
+
+
+def expectations_report(site, file, expectations):
+    """What is reported of expectations, as it is printed, and how many of them are broken."""
+    text, count = "", 0
+    for expected in expectations:
+        sections = ""
+        for scope in expected.scopes:
+            for heading, path in scope_places(site, *scope):
+                found = breaches(site, expected, path)
+                if found:
+                    sections += f"== {heading}\n"
+                sections += "".join(f"{dotted(first)}-{dotted(last)} {said}\n" for first, last, said in found)
+        if sections:
+            count += 1
+            text += f"{file}:{expected.number}: broken: {' '.join(expected.words)}\n{sections}"
+    number = len(expectations)
+    return text + f"{number} expectation{'' if number == 1 else 's'}, {count} broken\n", count
+
+
+def outside_text(site, file, expectations):
+    """The directories of which neither they nor anything below them is in a file system."""
+    return "".join(
+        f"{file}:{expected.number}: {printed(path)} is in no file system, nor is anything below it\n"
+        for expected in expectations
+        for path, _ in expected.scopes
+        if not any(is_under(path, mount) or is_under(mount, path) for mount in site.mounts)
+    )
 
 
 # ---- how they are printed

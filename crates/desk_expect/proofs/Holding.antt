@@ -1,0 +1,160 @@
+-- What is reported of an expectation, of the line that it is read from, and of a whole text.
+use Rattle.std.proofs.Common.{◌≡◌, ℕ, ◌<◌, ◌^◌, ◌&&◌, not, Bool, true, false, cond, List, [], ◌∷◌, ◌++◌, length, map, refl, sym, ap, ◌∙◌, subst, inl, inr}
+use Rattle.std.specs.Prelude.{◌==◌, Result, filter}
+use Rattle.std.specs.List.{AllByRecursion, AllZip, flat_map}
+use Rattle.std.proofs.lemmas.Bool.{cases_Bool, eqb-true, or_cases, or_left, or_right, true≢false}
+use Rattle.std.proofs.lemmas.List.{nil_from_length}
+use Rattle.std.proofs.lemmas.List.Elements.{All-from_recursion, recursion_from_All}
+use Rattle.desk_tables.specs.declared.hosts.HostRow.{HostRow}
+use Rattle.desk_netgroup.specs.declared.group_line.GroupLine.{GroupLine}
+use Rattle.desk_policy.specs.Policy.{Content}
+use Rattle.desk_policy.specs.Verdict.{Grant, verdict_of}
+use Rattle.desk_policy.specs.declared.verdict.Denial.{Denial}
+use Rattle.desk_impact.specs.Sections.{AreBreachesIn, NoSectionIsAllKept, PlaceBreaches}
+use Rattle.desk_expect.specs.Action.{is_allowed_by}
+use Rattle.desk_expect.specs.Audience.{contains}
+use Rattle.desk_expect.specs.Expectation.{Holds, IsExpectationOf, Promise, is_against, is_broken_at, is_in, is_in_some}
+use Rattle.desk_expect.specs.Laws.{NoneBrokenIsAllHold, UnreportedLinesHold}
+use Rattle.desk_expect.specs.Reading.{AreExpectationsOf}
+use Rattle.desk_expect.specs.Report.{IsTestOf, is_broken}
+use Rattle.desk_expect.specs.ReportText.{BrokenValue}
+use Rattle.desk_expect.specs.declared.action.Action.{Action}
+use Rattle.desk_expect.specs.declared.expectation.Expectation.{Expectation}
+use Rattle.desk_expect.specs.declared.scope.Scope.{Scope}
+
+both_empty : {X : Type 0} (xs ys : List X) → xs ++ ys ≡ [] → (xs ≡ []) × (ys ≡ [])
+both_empty [] ys e = (refl, e)
+both_empty (x ∷ xs) ys e = absurd (cc)
+
+-- an expectation is kept in these scopes: at each address, of each of their paths
+IsKept : Content → Expectation → List Scope → Type 0
+IsKept content expectation scopes =
+    (address : ℕ) (path : List (List ℕ)) → address < 2 ^ 32 → is_in_some scopes path ≡ true → is_broken_at expectation address (verdict_of content address path) ≡ false
+
+module _ (law : NoSectionIsAllKept) (content : Content) (expectation : Expectation) where
+  Sections : Scope → List PlaceBreaches → Type 0
+  Sections scope some = AreBreachesIn (is_broken_at expectation) content scope.path scope.below some
+
+  kept_in : (scopes : List Scope) (by_scope : List (List PlaceBreaches)) → AllZip (λ scope some. AreBreachesIn (is_broken_at expectation) content scope.path scope.below some) scopes by_scope
+      → flat_map (λ some. some) by_scope ≡ [] → IsKept content expectation scopes
+  unfolding IsKept
+  kept_in [] [] each none address path fits inside = absurd (true≢false (sym inside))
+  kept_in [] (sections ∷ more) each none address path fits inside = absurd each
+  kept_in (scope ∷ scopes) [] each none address path fits inside = absurd each
+  kept_in (scope ∷ scopes) (sections ∷ more) each none address path fits inside =
+      let p = both_empty sections (flat_map (λ (some : List PlaceBreaches). some) more) none in
+      elim (or_cases (is_in path scope) (is_in_some scopes path) inside) as (λ _. is_broken_at expectation address (verdict_of content address path) ≡ false) [
+        | inl here ↦ (law (is_broken_at expectation) content scope.path scope.below sections each.0).0 p.0 address path fits here
+        | inr later ↦ kept_in scopes more each.1 p.1 address path fits later
+      ]
+
+  none_found : (scopes : List Scope) (by_scope : List (List PlaceBreaches)) → AllZip (λ scope some. AreBreachesIn (is_broken_at expectation) content scope.path scope.below some) scopes by_scope
+      → IsKept content expectation scopes → flat_map (λ some. some) by_scope ≡ []
+  unfolding IsKept
+  none_found [] [] each kept = refl
+  none_found [] (sections ∷ more) each kept = absurd each
+  none_found (scope ∷ scopes) [] each kept = absurd each
+  none_found (scope ∷ scopes) (sections ∷ more) each kept =
+      let first : sections ≡ [] = (law (is_broken_at expectation) content scope.path scope.below sections each.0).1
+      (λ address path fits inside. kept address path fits (or_left (is_in path scope) (is_in_some scopes path) inside)) in
+      ap (λ (some : List PlaceBreaches). some ++ flat_map (λ (s : List PlaceBreaches). s) more) first
+      ∙ none_found scopes more each.1 (λ address path fits inside. kept address path fits (or_right (is_in path scope) (is_in_some scopes path) inside))
+
+-- ---- the line
+true_of_not : (b : Bool) → not b ≡ false → b ≡ true
+true_of_not true e = refl
+true_of_not false e = absurd (true≢false e)
+
+not_against : (forbids : Bool) (action : Action) (verdict : Result Grant Denial) → is_against forbids action verdict ≡ false → is_allowed_by action verdict ≡ not forbids
+not_against true action verdict e = e
+not_against false action verdict e = true_of_not (is_allowed_by action verdict) e
+
+keeps : (forbids : Bool) (action : Action) (verdict : Result Grant Denial) → is_allowed_by action verdict ≡ not forbids → is_against forbids action verdict ≡ false
+keeps true action verdict e = e
+keeps false action verdict e = ap not e
+
+and_false : (a b : Bool) → a ≡ true → (a && b) ≡ false → b ≡ false
+and_false a b is e = sym (ap (λ c. c && b) is) ∙ e
+
+and_if : (a b : Bool) → (a ≡ true → b ≡ false) → (a && b) ≡ false
+and_if true b e = e refl
+and_if false b e = refl
+
+module _ (netgroups : List GroupLine) (hosts : List HostRow) (content : Content) (promise : Promise) (expectation : Expectation) (of : IsExpectationOf netgroups hosts promise expectation) where
+  same_against : (verdict : Result Grant Denial) → is_against expectation.forbids expectation.action verdict ≡ is_against promise.forbids promise.action verdict
+  same_against verdict = ap (λ f. is_against f expectation.action verdict) of.forbids ∙ ap (λ (a : Action). is_against promise.forbids a verdict) of.action
+
+  holds_of : IsKept content expectation expectation.scopes → Holds netgroups hosts content promise
+  unfolding IsKept
+  holds_of kept address path fits meant inside =
+      let verdict = verdict_of content address path in
+      let broken = kept address path fits (ap (λ (scopes : List Scope). is_in_some scopes path) of.scopes ∙ inside) in
+      let against = and_false (contains expectation.audience address) (is_against expectation.forbids expectation.action verdict) (of.audience address fits ∙ meant) broken in
+      not_against promise.forbids promise.action verdict (sym (same_against verdict) ∙ against)
+
+  kept_of : Holds netgroups hosts content promise → IsKept content expectation expectation.scopes
+  unfolding IsKept
+  kept_of holds address path fits inside =
+      let verdict = verdict_of content address path in
+      and_if (contains expectation.audience address) (is_against expectation.forbids expectation.action verdict)
+      (λ meant. same_against verdict ∙ keeps promise.forbids promise.action verdict
+      (holds address path fits (sym (of.audience address fits) ∙ meant) (ap (λ (scopes : List Scope). is_in_some scopes path) (sym of.scopes) ∙ inside)))
+
+pub unreported : NoSectionIsAllKept → UnreportedLinesHold
+unreported law netgroups hosts content promise expectation sections of tested = (
+  λ none. holds_of netgroups hosts content promise expectation of (kept_in law content expectation expectation.scopes tested.by_scope tested.each (sym tested.are ∙ none)),
+  λ holds. tested.are ∙ none_found law content expectation expectation.scopes tested.by_scope tested.each (kept_of netgroups hosts content promise expectation of holds),
+)
+
+-- ---- a whole text
+empty_of : (one : BrokenValue) → is_broken one ≡ false → one.sections ≡ []
+empty_of one none = nil_from_length one.sections (eqb-true (length one.sections) 0 (true_of_not (length one.sections == 0) none))
+
+none_of : (one : BrokenValue) → one.sections ≡ [] → is_broken one ≡ false
+none_of one empty = ap (λ (sections : List PlaceBreaches). is_broken (record { expectation = one.expectation; sections = sections })) empty
+
+no_broken : (found : List BrokenValue) → filter is_broken found ≡ [] → AllByRecursion (λ one. is_broken one ≡ false) found
+no_broken [] none = tt
+no_broken (one ∷ found) none =
+    elim (cases_Bool (is_broken one)) as (λ _. AllByRecursion (λ (other : BrokenValue). is_broken other ≡ false) (one ∷ found)) [
+      | inl is ↦ absurd (some (sym (ap (λ b. cond b (one ∷ filter is_broken found) (filter is_broken found)) is) ∙ none))
+      | inr kept ↦ (kept, no_broken found (sym (ap (λ b. cond b (one ∷ filter is_broken found) (filter is_broken found)) kept) ∙ none))
+    ]
+  where
+    some : one ∷ filter is_broken found ≡ [] → ⊥
+    some e = cc
+
+all_kept : (found : List BrokenValue) → AllByRecursion (λ one. is_broken one ≡ false) found → filter is_broken found ≡ []
+all_kept [] kept = refl
+all_kept (one ∷ found) kept = ap (λ b. cond b (one ∷ filter is_broken found) (filter is_broken found)) kept.0 ∙ all_kept found kept.1
+
+module _ (law : UnreportedLinesHold) (netgroups : List GroupLine) (hosts : List HostRow) (content : Content) where
+  each_holds : (promises : List Promise) (found : List BrokenValue) → AreExpectationsOf netgroups hosts promises (map (λ one. one.expectation) found) → AllByRecursion (IsTestOf content) found
+      → AllByRecursion (λ one. is_broken one ≡ false) found → AllByRecursion (Holds netgroups hosts content) promises
+  each_holds [] [] of tested kept = tt
+  each_holds [] (one ∷ found) of tested kept = absurd of
+  each_holds (promise ∷ promises) [] of tested kept = absurd of
+  each_holds (promise ∷ promises) (one ∷ found) of tested kept = (
+    (law netgroups hosts content promise one.expectation one.sections of.0 tested.0).0 (empty_of one kept.0),
+    each_holds promises found of.1 tested.1 kept.1,
+  )
+
+  none_reported : (promises : List Promise) (found : List BrokenValue) → AreExpectationsOf netgroups hosts promises (map (λ one. one.expectation) found) → AllByRecursion (IsTestOf content) found
+      → AllByRecursion (Holds netgroups hosts content) promises → AllByRecursion (λ one. is_broken one ≡ false) found
+  none_reported [] [] of tested hold = tt
+  none_reported [] (one ∷ found) of tested hold = absurd of
+  none_reported (promise ∷ promises) [] of tested hold = absurd of
+  none_reported (promise ∷ promises) (one ∷ found) of tested hold = (
+    none_of one ((law netgroups hosts content promise one.expectation one.sections of.0 tested.0).1 hold.0),
+    none_reported promises found of.1 tested.1 hold.1,
+  )
+
+pub none_broken : UnreportedLinesHold → NoneBrokenIsAllHold
+none_broken law netgroups hosts text promises expectations content file report read of is =
+    let found = is.are.found in
+    let own : AreExpectationsOf netgroups hosts promises (map (λ (one : BrokenValue). one.expectation) found) = subst (AreExpectationsOf netgroups hosts promises) (sym is.are.expectations_are) of in
+    let tested = recursion_from_All (IsTestOf content) found is.are.each in (
+      λ zero. All-from_recursion (Holds netgroups hosts content) promises
+          (each_holds law netgroups hosts content promises found own tested (no_broken found (sym is.are.are ∙ nil_from_length is.broken (sym is.count ∙ zero)))),
+      λ hold. is.count ∙ ap length (is.are.are ∙ all_kept found (none_reported law netgroups hosts content promises found own tested (recursion_from_All (Holds netgroups hosts content) promises hold))),
+    )

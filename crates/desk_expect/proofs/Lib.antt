@@ -1,0 +1,14 @@
+pub mod Denied
+pub mod Dots
+pub mod Gathered
+pub mod Held
+pub mod Holding
+pub mod Joined
+pub mod Lines
+pub mod Meant
+pub mod Nobody
+pub mod Ranges
+pub mod Scopes
+pub mod Starts
+pub mod Tested
+pub mod Written

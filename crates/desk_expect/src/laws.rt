@@ -1,0 +1,25 @@
+//! What the definitions of this crate keep, each as a function that does nothing.
+
+ghost use Rattle.desk_expect.specs.Laws.{NoneBrokenIsAllHold, UnreportedLinesHold};
+ghost use Rattle.desk_expect.specs.Outside.{OutsideIsDenied};
+
+use desk_impact::no_section_is_all_kept;
+
+/// Nothing is reported of a line exactly if it holds: at each address that its names mean, and for each path of its directories.
+pub fn unreported_lines_hold()
+    ensures { UnreportedLinesHold }
+{
+    no_section_is_all_kept();
+}
+
+/// A report counts no expectation as broken exactly if each line of their text holds.
+pub fn none_broken_is_all_hold()
+    ensures { NoneBrokenIsAllHold }
+{
+    unreported_lines_hold();
+}
+
+/// A directory of which neither it nor anything below it is in a file system is denied to everybody, and all below it.
+pub fn outside_is_denied()
+    ensures { OutsideIsDenied }
+{}

@@ -1,0 +1,44 @@
+//! Expectations: what a site promises of its policy, written down in a text, and whether a policy keeps it.
+//!
+//! Its promise: [`read_expectations`] reads what the lines of a text expect, each with just the addresses that its names mean, or
+//! reports the first faulty line and the first rule that it breaks. [`find_broken`] finds the expectations that a policy breaks,
+//! each with where and for whom: at each place of its directories the longest ranges of addresses, with the verdict that breaks
+//! it. [`test_report`] prints them, and counts them. Its laws say that nothing is reported of a line exactly if the line holds: at
+//! each address that it is about, and for each path of its directories. [`find_outside`] finds the directories that no file system
+//! has anything of: a line that forbids something there holds whatever the policy says.
+//!
+//! ```text
+//! let expectations = read_expectations(alloc, "everybody may not write /usr/...\n", &netgroups, &hosts)?;
+//! test_report(alloc, &view, "promises", expectations.as_slice())?.text
+//! // "promises:1: broken: everybody may not write /usr/...\n== /usr\n0.0.0.0-.. granted line 2 rw ..\n1 expectation, 1 broken\n"
+//! ```
+#![tactic(auto)]
+
+pub mod action;
+pub mod audience;
+pub mod expectation;
+mod faults;
+pub mod form;
+pub mod laws;
+pub mod meaning;
+pub mod names;
+pub mod outside;
+pub mod reading;
+pub mod report;
+mod report_text;
+pub mod rules;
+pub mod scope;
+pub mod span;
+pub mod spans;
+
+pub use action::Action;
+pub use audience::Audience;
+pub use expectation::Expectation;
+pub use laws::{none_broken_is_all_hold, outside_is_denied, unreported_lines_hold};
+pub use outside::{Outside, find_outside, outside_text};
+pub use reading::read_expectations;
+pub use report::{Broken, TestReport, find_broken, test_report};
+pub use rules::{PlacedFault, Rule};
+pub use scope::Scope;
+pub use span::Span;
+pub use spans::SpanSet;
