@@ -12,6 +12,7 @@ mod credentials;
 mod custodians;
 mod entries;
 pub mod escapes;
+mod expectations;
 mod exports;
 mod faults;
 mod filesystems;

@@ -5,8 +5,8 @@ ghost use Rattle.desk_text.specs.Lines.{IsReadable};
 use crate::answers::Asked;
 use crate::site::Site;
 use crate::{
-    addresses, credentials, custodians, exports, faults, filesystems, hosts, indexes, lines,
-    listings, netgroups, nets, networks, parts, paths, policies, ranges, reports, sites,
+    addresses, credentials, custodians, expectations, exports, faults, filesystems, hosts, indexes,
+    lines, listings, netgroups, nets, networks, parts, paths, policies, ranges, reports, sites,
 };
 use desk_text::is_readable;
 use std::alloc::Global;
@@ -54,6 +54,7 @@ fn of_site(alloc: Global, site: &mut Site, out: &mut String, question: &str, tex
             || indexes::answer(alloc, site, out, question, text)?
             || ranges::answer(alloc, site, out, question, text)?
             || reports::answer(alloc, site, out, question, text)?
+            || expectations::answer(alloc, site, out, question, text)?
             || parts::answer(alloc, site, out, question, text)?
             || sites::answer(alloc, site, out, question, text)?
             || faults::answer(alloc, site, out, question, text)?,

@@ -1,0 +1,6 @@
+-- The report of the changes is printed.
+use Rattle.std.proofs.Common.{refl, rules}
+use Rattle.cli_questions.proofs.printing.print_changes.Goals as goal
+
+pub returns : goal.returns
+returns c = record { report = c.in_ok-report.report; is = c.in_ok-report.ensures; prints = record { status_is = search rules; text_is = refl } }
