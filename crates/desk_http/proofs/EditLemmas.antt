@@ -22,10 +22,10 @@ use Rattle.desk_http.specs.Questions.{store_reply}
 use Rattle.desk_http.specs.Replies.{refused_reply}
 use Rattle.desk_http.specs.PrivateAnswering.{AreReplies, EditAnswered, Gives, GivesText}
 
--- the reply where a look at the tables failed
-pub failed_look : (task : Task) (e : DeskError) → IsOfTask task e → (refused_reply (refused_by e) ≡ memory_reply) ⊎ ((true ≡ true) × (refused_reply (refused_by e) ≡ store_reply))
-failed_look task e (inl memory) = inl (ap (λ (x : DeskError). refused_reply (refused_by x)) memory)
-failed_look task e (inr store) = inr (refl, ap (λ (x : DeskError). refused_reply (refused_by x)) store.2)
+-- the reply where a look at the tables failed, which were asked
+pub failed_look : (task : Task) (e : DeskError) (asked : Bool) → IsOfTask task e → asked ≡ true → (refused_reply (refused_by e) ≡ memory_reply) ⊎ ((asked ≡ true) × (refused_reply (refused_by e) ≡ store_reply))
+failed_look task e asked (inl memory) takes = inl (ap (λ (x : DeskError). refused_reply (refused_by x)) memory)
+failed_look task e asked (inr store) takes = inr (takes, ap (λ (x : DeskError). refused_reply (refused_by x)) store.2)
 
 -- what is told of an edit that is not refused
 abbrev told_by : ℕ → Bool → Bool → Answer

@@ -2,6 +2,7 @@
 use Rattle.std.specs.Prelude.{◌≡◌, ℕ, ◌⊎◌, Bool, true, false, List, [], ◌∷◌, Option, Some, None}
 use Rattle.desk_core.specs.Edit.{Edit}
 use Rattle.desk_store.specs.Desk.{History}
+use Rattle.desk_service.specs.Questions.{takes_statements}
 use Rattle.desk_http_messages.specs.Asked.{Asked, asked_by}
 use Rattle.desk_http_messages.specs.Head.{ends_stream}
 use Rattle.desk_http_messages.specs.Replies.{Reply, memory_reply, print_reply}
@@ -9,7 +10,7 @@ use Rattle.desk_http_messages.specs.Stream.{Message}
 use Rattle.desk_http_requests.specs.Calls.{Asks, Puts, Query, edit_in, first_fault, query_asked}
 use Rattle.desk_http_requests.specs.declared.faults.RequestFault.{RequestFault}
 use Rattle.desk_http.specs.Replies.{request_fault_reply}
-use Rattle.desk_http.specs.Questions.{QuestionReply, asks_tables, store_reply}
+use Rattle.desk_http.specs.Questions.{QuestionReply, store_reply}
 use Rattle.desk_http.specs.Edits.{EditReply}
 
 -- the reply to an edit that a request may ask for
@@ -20,7 +21,7 @@ EditReplyIf old (Some e) reply new = EditReply old e reply new
 -- the ordinary reply to what a request asks
 abbrev pub QueryReply : Asked → Option Query → History → Reply → History → Type 0
 QueryReply asked None old reply new = ⊥
-QueryReply asked (Some (Asks question)) old reply new = QuestionReply old question reply × (new ≡ old)
+QueryReply asked (Some (Asks question own)) old reply new = QuestionReply old question own reply × (new ≡ old)
 QueryReply asked (Some (Puts file base)) old reply new = EditReplyIf old (edit_in asked file base) reply new
 
 -- the ordinary reply: to the first fault of the request, or to what it asks
@@ -28,10 +29,10 @@ abbrev pub OrdinaryReply : Asked → Option RequestFault → History → Reply �
 OrdinaryReply asked (Some fault) old reply new = (reply ≡ request_fault_reply fault) × (new ≡ old)
 OrdinaryReply asked None old reply new = QueryReply asked (query_asked asked) old reply new
 
--- the tables may be asked for a file, for its proposal and its revisions, and for an edit
+-- the tables are asked for a question that takes statements, and for an edit
 abbrev pub may_ask_tables : Option Query → Bool
 may_ask_tables None = false
-may_ask_tables (Some (Asks question)) = asks_tables question
+may_ask_tables (Some (Asks question own)) = takes_statements question
 may_ask_tables (Some (Puts file base)) = true
 
 -- The reply may stand in place of the ordinary one: that there is no memory; or, to a request without a fault that asks the

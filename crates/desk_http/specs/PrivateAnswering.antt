@@ -1,20 +1,16 @@
 -- What a desk does at one call that has a reply. (this project's own)
-use Rattle.std.specs.Prelude.{◌≡◌, ◌⊎◌, ℕ, Bool, true, List, Result}
-use Rattle.desk_policy.specs.Policy.{Content}
-use Rattle.desk_policy.specs.Verdict.{Grant}
-use Rattle.desk_policy.specs.declared.verdict.Denial.{Denial}
-use Rattle.desk_who.specs.Runs.{Run}
-use Rattle.desk_who.specs.Who.{IsWho}
+use Rattle.std.specs.Prelude.{◌≡◌, ◌⊎◌, ℕ, Bool, true, List, Option}
+use Rattle.desk_tables.specs.declared.credentials.Cred.{Cred}
 use Rattle.desk_core.specs.Edit.{Already, Edit, Pending, Proposed, Stored}
 use Rattle.desk_store.specs.Desk.{History}
+use Rattle.desk_service.specs.Questions.{IsLookedUp, Question, takes_statements}
+use Rattle.desk_service.specs.declared.questions.Looked.{Looked}
 use Rattle.desk_service.specs.declared.edits.Replies.{Replies}
 use Rattle.desk_http_messages.specs.Asked.{Asked, asked_by}
 use Rattle.desk_http_messages.specs.Head.{ends_stream}
-use Rattle.desk_http_messages.specs.Replies.{Reply, memory_reply, print_reply, reply_with}
+use Rattle.desk_http_messages.specs.Replies.{Reply, memory_reply, print_reply}
 use Rattle.desk_http_messages.specs.Stream.{Message}
-use Rattle.desk_http_requests.specs.Calls.{Question}
-use Rattle.desk_http_bodies.specs.Ranges.{who_data}
-use Rattle.desk_http.specs.Questions.{QuestionReply, asks_tables, store_reply}
+use Rattle.desk_http.specs.Questions.{QuestionReply, store_reply}
 use Rattle.desk_http.specs.Edits.{EditReply, answer_reply}
 use Rattle.desk_http.specs.Answering.{Answered}
 
@@ -31,11 +27,11 @@ pub record Gives {S : Type 0} (good : S → Type 0) (stands : S → History → 
 abbrev pub GivesText : {S : Type 0} → (S → Type 0) → (S → History → History → Type 0) → (History → Reply → History → Type 0) → Bool → S → List ℕ → S → Type 0
 GivesText good stands answered ends old text new = (reply : Reply) × Gives good stands answered old reply new × (text ≡ print_reply ends reply)
 
--- A question is replied by the history, or that there is no memory, or, if the tables are asked, that the store refused a statement;
--- and nothing changes.
-abbrev pub QuestionAnswered : Question → History → Reply → History → Type 0
-QuestionAnswered question old reply new =
-    (QuestionReply old question reply ⊎ ((reply ≡ memory_reply) ⊎ ((asks_tables question ≡ true) × (reply ≡ store_reply)))) × (new ≡ old)
+-- A question is replied by the history, or that there is no memory, or, if it takes statements, that the store refused one; and nothing
+-- changes.
+abbrev pub QuestionAnswered : Question → Option Cred → History → Reply → History → Type 0
+QuestionAnswered question own old reply new =
+    (QuestionReply old question own reply ⊎ ((reply ≡ memory_reply) ⊎ ((takes_statements question ≡ true) × (reply ≡ store_reply)))) × (new ≡ old)
 
 -- An edit is replied by the history; or that there is no memory or that the store refused a statement, and then nothing changes.
 abbrev pub EditAnswered : Edit → History → Reply → History → Type 0
@@ -48,10 +44,11 @@ pub record AreReplies {T : Type 0} (items : T → List ℕ) (ends : Bool) (rev :
   pub proposed : items replies.proposed ≡ print_reply ends (answer_reply (Proposed rev))
   pub already_proposed : items replies.already_proposed ≡ print_reply ends (answer_reply (Pending rev))
 
--- the text of the reply to who may mount a path under a policy; ends says that the stream ends after it
-abbrev pub IsWhoText : Content → List (List ℕ) → Bool → List ℕ → Type 0
-IsWhoText content path ends text =
-    (ranges : List (Run (Result Grant Denial))) × IsWho content path ranges × (text ≡ print_reply ends (reply_with 200 (who_data content path ranges)))
+-- the text of a reply to a question, which is right by each history at which the desk stands, if what was looked up for it is
+abbrev pub TellsLooked : {S : Type 0} → (S → History → History → Type 0) → S → Question → Option Cred → Looked → Bool → List ℕ → Type 0
+TellsLooked stands desk question own looked ends text =
+    (reply : Reply) × ((history pending : History) → stands desk history pending → IsLookedUp history question looked → QuestionReply history question own reply)
+    × (text ≡ print_reply ends reply)
 
 -- a desk after one request, which wrote the text of its reply; ends says that the stream ends after it
 abbrev pub AnswersAsked : {S : Type 0} → (S → Type 0) → (S → History → History → Type 0) → S → Asked → Bool → List ℕ → S → Type 0
