@@ -12,7 +12,7 @@ use Rattle.desk_http_messages.specs.declared.requests.End.{End}
 use Rattle.desk_http_messages.specs.declared.requests.End.TheVariants.{Input, Closed, Bad, ReadFault, WriteFault, Memory}
 use Rattle.desk_http_messages.specs.declared.requests.Served.{Served}
 use Rattle.desk_http_messages.specs.Head.{ends_stream}
-use Rattle.desk_http_messages.specs.Stream.{Message, IsMessage, print_message, Splits, GoesOn, ClosesAfter, HasFault, EndsSo, IsOpen, IsUnfaulted}
+use Rattle.desk_http_messages.specs.Stream.{Message, IsMessage, print_message, Splits, GoesOn, ClosesAfter, HasFault, HasNoHead, EndsSo, IsOpen, IsUnfaulted, IsUnfinished}
 use Rattle.desk_http_messages.specs.Front.{IsMessageAt}
 use Rattle.desk_store.specs.Desk.{History}
 use Rattle.desk_http_messages.specs.Asked.{asked_by}
@@ -115,8 +115,8 @@ module _ {S : Type 0} (good : S → Type 0) (stands : S → History → History 
     splits_now = record { whole = refl; each = p.each }
 
     -- a read failed
-    pub before : IsOpen waiting → IsUnfaulted waiting → (left'' : Option (List ℕ)) → Keeps left' left'' → AnswersBefore good stands old new left left'' held held' replied written
-    before is_open unfaulted left'' kept = record {
+    pub before : IsOpen waiting → IsUnfaulted waiting → (HasNoHead waiting → IsUnfinished waiting) → (left'' : Option (List ℕ)) → Keeps left' left'' → AnswersBefore good stands old new left left'' held held' replied written
+    before is_open unfaulted unfinished left'' kept = record {
       received = flat_map print_message p.messages ++ waiting;
       messages = p.messages;
       rest = waiting;
@@ -127,6 +127,7 @@ module _ {S : Type 0} (good : S → Type 0) (stands : S → History → History 
       goes_on = p.goes_on;
       is_open = is_open;
       unfaulted = unfaulted;
+      unfinished = unfinished;
       run = p.run;
       replied_is = p.replied_is;
       written_is = p.written_is;

@@ -4,7 +4,7 @@ use Rattle.std.specs.Io.KnownBytes.{Consumes, Appends, Keeps, IsAtEnd}
 use Rattle.desk_http_messages.specs.declared.requests.End.{End}
 use Rattle.desk_http_messages.specs.declared.requests.End.TheVariants.{Input, Closed, Bad, ReadFault, WriteFault, Memory}
 use Rattle.desk_http_messages.specs.declared.requests.StreamFault.{StreamFault}
-use Rattle.desk_http_messages.specs.Stream.{Message, Splits, GoesOn, ClosesAfter, HasFault, EndsSo, IsOpen, IsUnfaulted}
+use Rattle.desk_http_messages.specs.Stream.{Message, Splits, GoesOn, ClosesAfter, HasFault, HasNoHead, EndsSo, IsOpen, IsUnfaulted, IsUnfinished}
 use Rattle.desk_store.specs.Desk.{History}
 use Rattle.desk_http_messages.specs.Replies.{print_reply, fault_reply, joined, last_texts}
 use Rattle.desk_http.specs.Answering.{Serves}
@@ -36,7 +36,7 @@ pub record AnswersAll {S : Type 0} (good : S → Type 0) (stands : S → History
   pub written_is : written ≡ length (joined texts)
 
 -- A read failed: the messages before the one in which it failed were answered. What was read of that one is neither a whole message
--- nor refused for what its head says.
+-- nor refused for what its head says; and if it has no head, no fault has been read in it.
 pub record AnswersBefore {S : Type 0} (good : S → Type 0) (stands : S → History → History → Type 0)
     (old new : S) (left left' held held' : Option (List ℕ)) (replied written : ℕ)
     : Type 0 where
@@ -50,6 +50,7 @@ pub record AnswersBefore {S : Type 0} (good : S → Type 0) (stands : S → Hist
   pub goes_on : GoesOn messages
   pub is_open : IsOpen rest
   pub unfaulted : IsUnfaulted rest
+  pub unfinished : HasNoHead rest → IsUnfinished rest
   pub run : Serves good stands old messages texts new
   pub replied_is : replied ≡ length texts
   pub written_is : written ≡ length (joined texts)

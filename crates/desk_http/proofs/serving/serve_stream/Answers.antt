@@ -94,7 +94,7 @@ returns-in-Failed-clause-session g c =
     let p = Progress-more (HasGoodDisk g.S.Store) (StandsAt g.S.Store) _ _ _ _ _ _ _ _ _ c.loop-extent.invariant.progress _ got.0 _ got.1 got.2 in
     let waits = subst (λ o. ReadOn c.in-Open.pending o (length c.loop-extent.buffer) c.read_on-made.new.buffer c.read_on-made.result.0 (1000000 - c.loop-extent.reads) (g.R.Source.has_failed c.read_on-made.new.reader) (g.R.Source.left c.read_on-made.new.reader)) c.in-Failed.is c.read_on-made.ensures.outcome in
     told_by (HasGoodDisk g.S.Store) (StandsAt g.S.Store) c.ended-in-Failed.result _ _ _ c.ended-in-Failed.ensures _ _ _ _ _ _
-    (before (HasGoodDisk g.S.Store) (StandsAt g.S.Store) _ _ _ _ _ _ _ _ _ p waits.0.is_open waits.0.unfaulted _ (Keeps-same _))
+    (before (HasGoodDisk g.S.Store) (StandsAt g.S.Store) _ _ _ _ _ _ _ _ _ p waits.0.is_open waits.0.unfaulted waits.0.unfinished _ (Keeps-same _))
 
 pub returns-in-Bound-clause-session : goal.returns-in-Bound-clause-session
 returns-in-Bound-clause-session g c =
@@ -102,4 +102,4 @@ returns-in-Bound-clause-session g c =
     let p = Progress-more (HasGoodDisk g.S.Store) (StandsAt g.S.Store) _ _ _ _ _ _ _ _ _ c.loop-extent.invariant.progress _ got.0 _ got.1 got.2 in
     let waits = subst (λ o. ReadOn c.in-Open.pending o (length c.loop-extent.buffer) c.read_on-made.new.buffer c.read_on-made.result.0 (1000000 - c.loop-extent.reads) (g.R.Source.has_failed c.read_on-made.new.reader) (g.R.Source.left c.read_on-made.new.reader)) c.in-Bound.is c.read_on-made.ensures.outcome in
     told_by (HasGoodDisk g.S.Store) (StandsAt g.S.Store) c.ended-in-Bound.result _ _ _ c.ended-in-Bound.ensures _ _ _ _ _ _
-    (before (HasGoodDisk g.S.Store) (StandsAt g.S.Store) _ _ _ _ _ _ _ _ _ p waits.0.is_open waits.0.unfaulted _ (Keeps-same _))
+    (before (HasGoodDisk g.S.Store) (StandsAt g.S.Store) _ _ _ _ _ _ _ _ _ p waits.0.is_open waits.0.unfaulted waits.0.unfinished _ (Keeps-same _))
