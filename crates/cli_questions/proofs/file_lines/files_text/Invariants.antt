@@ -8,4 +8,4 @@ use Rattle.cli_questions.specs.FileLines.{file_lines}
 use Rattle.cli_questions.proofs.file_lines.files_text.Given as goal
 
 abbrev pub invariant-loop-file : goal.invariant-loop-file
-invariant-loop-file l = string_bytes l.text ≡ flat_map (λ (file : ListedFile). file_lines (file_of file)) (take l.file-index l.listed.files.items)
+invariant-loop-file l = string_bytes l.text ≡ flat_map (λ (file : ListedFile). file_lines (file_of file)) (take l.file-index l.file-items)
