@@ -20,6 +20,7 @@ use Rattle.desk_service.specs.Questions.{Answer, AnswersByHistory, Exports, File
 use Rattle.desk_service.specs.declared.questions.Looked.{Looked}
 use Rattle.desk_service.specs.declared.refused.Refused.TheVariants as refused
 use Rattle.cli_output.specs.Failure.{IsUnread}
+use Rattle.cli_output.specs.Printed.{Prints, PrintsText}
 use Rattle.cli_output.specs.declared.failure.Failure.{Failure}
 use Rattle.cli_output.specs.declared.failure.Failure.TheVariants.{Memory}
 use Rattle.cli_output.specs.declared.printed.Printed.{Printed}
@@ -118,3 +119,10 @@ pub printed_by : {S V : Type 0} (g : Ghosts S) (desk : Shown S V) (asked : Asked
     → TriesToPrint asked answer result → AnswersWith g desk asked looked result
 printed_by g desk asked looked answer (Ok printed) by prints = λ history stands found. (answer, by history stands found, prints)
 printed_by g desk asked looked answer (Err failure) by prints = prints
+
+-- a text that is an answer is printed
+pub text_printed : (asked : Asked) (answer known : Answer) (bytes : List ℕ) (result : Result Printed Failure)
+    → answer ≡ known → ((printed : Printed) → Prints 0 bytes printed → PrintsAnswer asked known printed)
+    → PrintsText 0 bytes result → TriesToPrint asked answer result
+text_printed asked answer known bytes (Ok printed) e is prints = subst (λ (a : Answer). PrintsAnswer asked a printed) (sym e) (is printed prints)
+text_printed asked answer known bytes (Err failure) e is prints = prints

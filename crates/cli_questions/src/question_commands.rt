@@ -131,7 +131,24 @@ pub fn run_impact<I: BufRead>(
     let db = required(words, "DB")?;
     let name = required(words, "NAME")?;
     let all = is_set(words, "all");
-    match (given(words, "FILE"), is_set(words, "proposal")) {
+    let file = given(words, "FILE");
+    let is_proposal = is_set(words, "proposal");
+    foresee(rt, db, name, all, file, is_proposal, input)
+}
+
+/// Answers `impact` by FILE or by the proposal, one of which is to be given.
+fn foresee<I: BufRead>(
+    rt: &HostRuntime,
+    db: &str,
+    name: &str,
+    all: bool,
+    file: Option<&str>,
+    is_proposal: bool,
+    input: &mut I,
+) -> Result<Printed, Failure>
+    ensures { spec.AnswersImpactBy db.now name.now all (option_map (λ word. word.now) file.entry) is_proposal (I.remaining input.old) result }
+{
+    match (file, is_proposal) {
         (Some(_), true) => Err(Failure::BesideProposal),
         (Some(file), false) => foresee_file(rt, db, name, file, all, input),
         (None, true) => answer_question(

@@ -6,11 +6,11 @@ use Rattle.cli_questions.specs.Questions.{asked_of}
 use Rattle.cli_questions.proofs.DeskAnswers.{after_statements, good_disk, look_fails}
 use Rattle.cli_questions.proofs.answering.answer_by.Goals as goal
 
-pub answer_with-requires-found : goal.answer_with-requires-found
+pub answer_with-requires-clause-found : goal.answer_with-requires-clause-found
 unfolding state
-answer_with-requires-found c =
+answer_with-requires-clause-found c =
     let good = good_disk (file_state c.look_up.new.desk.conn).is_clean refl in
-    (c.requires.0, (c.look_up.ensures.looks.0.stands good c.requires.0 [] c.requires.1, c.in-Ok.ensures.found good c.requires.0 [] c.requires.1))
+    (c.requires.0, c.look_up.ensures.looks.0.stands good c.requires.0 [] c.requires.1, c.in-Ok.ensures.found good c.requires.0 [] c.requires.1)
 
 pub returns-in-Ok : goal.returns-in-Ok
 unfolding state

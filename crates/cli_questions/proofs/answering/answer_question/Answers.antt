@@ -4,8 +4,8 @@ use Rattle.cli_questions.specs.Questions.{asked_of}
 use Rattle.cli_questions.proofs.DeskAnswers.{at_path, has_history, no_desk}
 use Rattle.cli_questions.proofs.answering.answer_question.Goals as goal
 
-pub answer_by-requires : goal.answer_by-requires
-answer_by-requires c = has_history over_files c.in-Ok.desk c.in-Ok.ensures.opened
+pub answer_by-printed-requires : goal.answer_by-printed-requires
+answer_by-printed-requires c = has_history over_files c.in-Ok.desk c.in-Ok.ensures.opened
 
 pub returns-in-Ok : goal.returns-in-Ok
 returns-in-Ok c = at_path over_files c.in-Ok.desk c.args.db.now (asked_of c.args.asked) c.answer_by-printed.result c.in-Ok.ensures.opened c.answer_by-printed.ensures

@@ -1,6 +1,7 @@
 -- The words are looked up, and parsed from left to right.
-use Rattle.std.proofs.Common.{Err, Ok, refl, subst, sym}
+use Rattle.std.proofs.Common.{ℕ, Err, List, Ok, Option, refl, subst, sym}
 use Rattle.std.proofs.lemmas.Result.{err_from_is_err_and}
+use Rattle.cli_questions.specs.QuestionCommands.{ParsesOwn}
 use Rattle.cli_questions.specs.Questions.{Asked, AnswersQuestion}
 use Rattle.cli_questions.proofs.question_commands.run_ask.Goals as goal
 
@@ -32,8 +33,8 @@ returns-in_err-path c =
 pub returns-in_err-own : goal.returns-in_err-own
 returns-in_err-own c =
     let p = err_from_is_err_and c.from_residual-in_err-own.result c.from_residual-in_err-own.ensures.1 in
-    rw (p.1, p.2, c.in_ok-db.ensures, c.in_ok-host.ensures, c.in_ok-dir.ensures) (record { step = Ok c.in_ok-address.address; is = c.in_ok-address.ensures; next = record { step = Ok c.in_ok-path.path; is = c.in_ok-path.ensures; next = record { step = Err c.in_err-own.field-0.0; is = c.in_err-own.ensures; next = refl } } })
+    rw (p.1, p.2, c.in_ok-db.ensures, c.in_ok-host.ensures, c.in_ok-dir.ensures) (record { step = Ok c.in_ok-address.address; is = c.in_ok-address.ensures; next = record { step = Ok c.in_ok-path.path; is = c.in_ok-path.ensures; next = record { step = Err c.in_err-own.field-0.0; is = subst (λ (word : Option (List ℕ)). ParsesOwn word (Err c.in_err-own.field-0.0)) c.given.ensures c.in_err-own.ensures; next = refl } } })
 
 pub returns : goal.returns
 returns c =
-    rw (c.in_ok-db.ensures, c.in_ok-host.ensures, c.in_ok-dir.ensures) (record { step = Ok c.in_ok-address.address; is = c.in_ok-address.ensures; next = record { step = Ok c.in_ok-path.path; is = c.in_ok-path.ensures; next = record { step = Ok c.in_ok-own.own; is = c.in_ok-own.ensures; next = (subst (λ (asked : Asked). AnswersQuestion c.in_ok-db.db.now asked c.answer_question.result) c.asking.ensures c.answer_question.ensures) } } })
+    rw (c.in_ok-db.ensures, c.in_ok-host.ensures, c.in_ok-dir.ensures) (record { step = Ok c.in_ok-address.address; is = c.in_ok-address.ensures; next = record { step = Ok c.in_ok-path.path; is = c.in_ok-path.ensures; next = record { step = Ok c.in_ok-own.own; is = subst (λ (word : Option (List ℕ)). ParsesOwn word (Ok c.in_ok-own.own)) c.given.ensures c.in_ok-own.ensures; next = (subst (λ (asked : Asked). AnswersQuestion c.in_ok-db.db.now asked c.answer_question.result) c.asking.ensures c.answer_question.ensures) } } })
