@@ -15,14 +15,15 @@
 
 mod commands;
 
-ghost use Rattle.std.specs.Prelude.{map};
+ghost use Rattle.std.specs.Prelude.{◌≡◌, ◌≢◌, ◌⊎◌, map};
 ghost use Rattle.std.specs.Io.KnownBytes.{Appends};
+ghost use Rattle.cli_output.specs.Printed.{status_of, text_of};
 ghost use Rattle.cli.specs.Commands.{Runs};
 
 use crate::commands::{run_first_line, run_words};
-use cli_output::failure::Origin;
+use cli_output::failure::{Failure, Origin};
 pub use cli_output::printed::print_memory;
-use cli_output::printed::report;
+use cli_output::printed::{Printed, report};
 use cli_serve::serve_command::Service;
 use std::convert::AsSlice;
 use std::io::{BufRead, Write};
@@ -39,13 +40,28 @@ where
     ensures { Runs (map S.items words.now) (I.remaining input.old) result (Appends (O.contents out.old) (O.contents out.new)) }
 {
     let mut service = None;
-    let status = if words.is_empty() {
+    if words.is_empty() {
         let answer = run_first_line(rt, input, &mut service);
-        report(rt.alloc(), Origin::FirstLine, answer, out, err)
+        finish(rt, Origin::FirstLine, answer, service, out, err)
     } else {
         let answer = run_words(rt, words, input, &mut service);
-        report(rt.alloc(), Origin::Arguments, answer, out, err)
-    };
+        finish(rt, Origin::Arguments, answer, service, out, err)
+    }
+}
+
+/// Reports what a command answers, and then runs its service, if it has one; but not if its line could not be printed.
+fn finish<O: Write, E: Write>(
+    rt: &HostRuntime,
+    origin: Origin,
+    answer: Result<Printed, Failure>,
+    service: Option<Service>,
+    out: &mut O,
+    err: &mut E,
+) -> u8
+    ensures status { (result ≡ status_of answer) ⊎ (result ≡ 4) }
+    ensures printed { result ≢ 4 → Appends (O.contents out.old) (O.contents out.new) (text_of answer) }
+{
+    let status = report(rt.alloc(), origin, answer, out, err);
     if let Some(service) = service {
         end(rt, service, status == 0);
     }
