@@ -1,0 +1,153 @@
+"""What `test` and `audit` answer: a text of expectations of a site, read line by line, and what is reported of it on standard
+output, as text or as JSON, and on standard error.
+"""
+
+from reference.definitions import (
+    RULES, Expectation, breaches, dotted, expectation, is_under, printed, scope_places,
+)  # fmt: skip
+from reference.findings import finding_text, printed_json
+from reference.lines import logical_lines, open_quote, words_of
+
+SENTENCES = {
+    "OpenQuote": "begins with a quote that is not closed on its physical line: close it, or write a backslash before a quote in a"
+    " name",
+    "Form": "is not where it belongs: write WHOM [but NAME..] may [not] ACTION DIR.., as in everybody but adm may not write"
+    " /usr/...",
+    "BadAction": "is not an action: write mount, write, root, sys, krb5, krb5i or krb5p",
+    "BadPath": "is not a directory: one begins with /, has no component . or .., has ... after its last / alone, no NUL byte, and"
+    " at most 1024 bytes before /...",
+    "BadAddress": "is not an address, a network or a range: write them as 10.0.0.5, 10.0.0.0/8 or 10.0.0.5-10.0.0.9",
+    "UnknownName": "is not a known netgroup or host: correct it, write blanks between names, or give the tables that have it",
+    "Nobody": "is whom the line is about, and that is nobody: no address is meant",
+}
+OUTSIDE = "is in no file system, nor is anything below it"
+
+
+# ---- a text of expectations
+
+
+class Fault:
+    """The first rule that the first faulty line of a text breaks, and the place of the slice at fault."""
+
+    def __init__(self, line, rule, place):
+        self.line, self.rule, self.place = line, rule, place
+        self.text = f"line {line} rule {RULES.index(rule) + 1} {rule}"
+
+
+def read_expectations(text, site):
+    """What the lines of a text expect, whose names are those of a site; or the fault of the first line that has one."""
+    found = []
+    for line in logical_lines(text):
+        read = read_line(line, site)
+        if isinstance(read, Fault):
+            return read
+        found.append(read)
+    return found
+
+
+def read_line(line, site):
+    """What a line expects, or its fault: first of all, that a quote does not close."""
+    place = open_quote(line)
+    if place:
+        return Fault(line.number, "OpenQuote", place)
+    words = words_of(line)
+    read = expectation(site, line.number, [value for value, _ in words])
+    if isinstance(read, Expectation):
+        return read
+    rule, number = read
+    return Fault(line.number, rule, words[number][1])
+
+
+# ---- what is reported
+
+
+def broken(site, expectations):
+    """Of the expectations those that the site breaks, each with where, and for whom: the heading of each place at which there are
+    addresses whose verdict is not as expected, and the longest ranges of these with one verdict."""
+    for expected in expectations:
+        places = [place for scope in expected.scopes for place in scope_places(site, *scope)]
+        sections = [(heading, breaches(site, expected, path)) for heading, path in places]
+        sections = [(heading, ranges) for heading, ranges in sections if ranges]
+        if sections:
+            yield expected, sections
+
+
+def report_text(file, found, count):
+    """The broken expectations, and how many there are of all."""
+    text = ""
+    for expected, sections in found:
+        text += f"{file}:{expected.number}: broken: {' '.join(expected.words)}\n"
+        for heading, ranges in sections:
+            text += f"== {heading}\n"
+            text += "".join(f"{dotted(first)}-{dotted(last)} {verdict}\n" for first, last, verdict in ranges)
+    return text + f"{count} expectation{'' if count == 1 else 's'}, {len(found)} broken\n"
+
+
+def report_json(file, found):
+    """The same for programs: a list of objects, one a range."""
+    objects = [
+        object_of(file, expected, heading, found_range)
+        for expected, sections in found
+        for heading, ranges in sections
+        for found_range in ranges
+    ]
+    return printed_json(objects) + "\n"
+
+
+def object_of(file, expected, heading, found_range):
+    first, last, verdict = found_range
+    return {
+        "dir": heading.removeprefix("other directories of "),
+        "expectation": " ".join(expected.words),
+        "first": dotted(first),
+        "kind": "broken",
+        "last": dotted(last),
+        "line": expected.number,
+        "others": not heading.startswith("/"),
+        "path": file,
+        "verdict": verdict,
+    }
+
+
+def outside_text(site, file, expectations):
+    """A line for each directory of which neither it nor anything below it is in a file system: it may be misspelled, and what is
+    forbidden there holds whatever the site says."""
+    return "".join(
+        f"{file}:{expected.number}: {printed(path)} {OUTSIDE}\n"
+        for expected in expectations
+        for path, _ in expected.scopes
+        if not any(is_under(path, mount) or is_under(mount, path) for mount in site.mounts)
+    )
+
+
+# ---- the commands
+
+
+def fault_texts(file, fault):
+    """What is printed of a text with a fault on standard output, and on standard error."""
+    rule = f"{RULES.index(fault.rule) + 1} {fault.rule}"
+    return f"fault expectations {fault.text}\n", finding_text(file, fault.place, rule, SENTENCES[fault.rule])
+
+
+def answer(site, file, text, is_json=False):
+    """What is printed of the expectations in this text of a site on standard output, on standard error, and the status: 0 if all
+    hold, 1 if one is broken, and 3 if the text has a fault."""
+    expectations = read_expectations(text, site)
+    if isinstance(expectations, Fault):
+        return *fault_texts(file, expectations), 3
+    found = list(broken(site, expectations))
+    text = report_json(file, found) if is_json else report_text(file, found, len(expectations))
+    return text, outside_text(site, file, expectations), 1 if found else 0
+
+
+def case_answer(question, site, text, names):
+    """The answer to `expect` or `outside` in a file of cases, where names are looked up in tables of their own: what is reported,
+    or of a text with a fault where the slice at fault is, in bytes."""
+    found = read_expectations(text, names)
+    if isinstance(found, Fault):
+        place = found.place
+        first, last = (len(place.part.whole[:at].encode()) for at in (place.start, place.end))
+        return f"fault {found.text} at {place.part.number}:{first}-{last}"
+    if question == "outside":
+        return outside_text(site, "expectations", found)
+    return report_text("expectations", list(broken(site, found)), len(found))

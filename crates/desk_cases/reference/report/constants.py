@@ -1,0 +1,189 @@
+"""What stands on every report alike: its style sheet, the shapes of its maps, and how it is read."""
+
+STYLE = r'''
+:root{color-scheme:light dark;--bg:#fff;--fg:#1b1f23;--mute:#57606a;--line:#d3d9df;--soft:#f4f6f8;--hit:#fff6e5;--link:#0a58a6;--ro:#1f62a8;--rw:#c2560a;--rwt:#964206;--rk:#8b0a50;--in:#fff}
+@media screen and (prefers-color-scheme:dark){:root{--bg:#13161a;--fg:#e4e8ec;--mute:#a4adb6;--line:#3a4149;--soft:#1c2025;--hit:#2b2416;--link:#83bbf7;--ro:#74b4f2;--rw:#ee8f43;--rwt:#f3a565;--rk:#ff85b6;--in:#13161a}}
+@media print{:root{color-scheme:light}}
+@media screen{section.fs{content-visibility:auto;contain-intrinsic-size:auto 80rem}}
+*{box-sizing:border-box}
+html{scroll-padding-top:3rem;-webkit-text-size-adjust:100%;text-size-adjust:100%}
+body{margin:0 auto;padding:0 1.25rem 4rem;max-width:80rem;background:var(--bg);color:var(--fg);font:1rem/1.5 system-ui,-apple-system,"Segoe UI",Roboto,"Liberation Sans",Arial,sans-serif;font-variant-numeric:tabular-nums}
+code,pre,.r{font-family:ui-monospace,SFMono-Regular,Menlo,Consolas,"DejaVu Sans Mono","Liberation Mono",monospace;font-size:.875em}
+code{overflow-wrap:anywhere;unicode-bidi:isolate}
+pre{background:var(--soft);border:1px solid var(--line);border-radius:6px;padding:.75rem 1rem;overflow:auto;tab-size:8}
+pre code{font-size:1em}
+a{color:var(--link);text-underline-offset:.15em}
+:focus-visible{outline:3px solid var(--link);outline-offset:2px}
+:target{outline:2px solid var(--link);outline-offset:-1px}
+section:target{outline:0}
+section:target>h2,section:target>h3{text-decoration:underline;text-decoration-color:var(--link);text-underline-offset:.25em}
+header{padding-top:2rem}
+.kind{margin:0;color:var(--mute);text-transform:uppercase;letter-spacing:.08em;font-size:.8125rem}
+h1{font-size:1.875rem;line-height:1.2;margin:.1rem 0 .5rem}
+h2{font-size:1.5rem;line-height:1.25;margin:3rem 0 1rem;padding-bottom:.35rem;border-bottom:2px solid var(--line)}
+h3{font-size:1.1875rem;line-height:1.3;margin:1.75rem 0 .5rem}
+h4{font-size:1rem;margin:1.5rem 0 .5rem}
+h5{font-size:.9375rem;margin:0 0 .5rem}
+h3 code,h4 code,h5 code{font-size:1em}
+p{margin:.4rem 0 .8rem;max-width:46rem}
+nav{position:sticky;top:0;z-index:2;display:flex;gap:.15rem 1.1rem;overflow-x:auto;margin:1rem -1.25rem 0;padding:.6rem 1.25rem;background:var(--bg);border-bottom:1px solid var(--line);font-size:.9375rem;white-space:nowrap}
+dl.big{display:grid;grid-template-columns:repeat(auto-fit,minmax(9rem,1fr));margin:0;border:1px solid var(--line);border-radius:8px;overflow:hidden}
+dl.big div{box-shadow:0 0 0 .5px var(--line);padding:.7rem .9rem;display:flex;flex-direction:column}
+dl.big dt{font-size:.875rem;color:var(--mute)}
+dl.big dd{margin:0;font-size:1.75rem;line-height:1.2;font-weight:600}
+dl.big small{display:block;font-size:.8125rem;font-weight:400;color:var(--mute)}
+dl.facts{display:grid;grid-template-columns:repeat(auto-fit,minmax(13rem,1fr));gap:.4rem 1.5rem;margin:.5rem 0 1rem}
+dl.facts dt{font-size:.8125rem;color:var(--mute)}
+dl.facts dd{margin:0}
+.wide{overflow-x:auto;margin:.5rem 0 1.25rem;max-width:100%}
+table{border-collapse:collapse;font-size:.9375rem;width:100%}
+caption{text-align:left;color:var(--mute);font-size:.875rem;padding:.25rem 0}
+.off{position:absolute;width:1px;height:1px;overflow:hidden;clip-path:inset(50%)}
+th,td{text-align:left;vertical-align:top;padding:.4rem .75rem .4rem 0;border-bottom:1px solid var(--line)}
+th:last-child,td:last-child{padding-right:0}
+thead th{font-size:.8125rem;font-weight:600;color:var(--mute);vertical-align:bottom}
+tbody th{font-weight:400}
+.num{text-align:right;white-space:nowrap}
+.zero{color:var(--mute)}
+small{color:var(--mute)}
+table.o td{vertical-align:middle}
+table.o th{vertical-align:middle;white-space:nowrap}
+table.o thead th{vertical-align:bottom}
+table.s{width:auto}
+table.s th,table.s td{padding-right:1.5rem;white-space:nowrap}
+table.v{table-layout:fixed;min-width:44rem}
+table.v th:first-child{width:7.5rem}
+table.v th:nth-child(3){width:9.5rem}
+table.v th:nth-child(4){width:40%}
+table.p{table-layout:fixed;min-width:44rem}
+table.p th:first-child{width:9.5rem}
+table.p th:nth-child(2){width:7rem}
+table.text{font-size:.875rem;width:100%}
+table.text code{white-space:pre-wrap;tab-size:8;font-size:.9375em}
+table.text th,table.text td{padding-top:.12rem;padding-bottom:.12rem;border-bottom-color:transparent}
+table.text thead th{border-bottom-color:var(--line)}
+table.text tbody th{width:2.5rem;text-align:right;color:var(--mute);user-select:none}
+table.text td{vertical-align:baseline}
+table.text td:nth-child(2){white-space:nowrap}
+table.text td:last-child{width:100%}
+table.text .num{padding-right:1.25rem}
+table.text tr.hit>*{background:var(--hit)}
+ul.r{list-style:none;margin:0;padding:0;display:flex;flex-wrap:wrap;gap:0 1rem}
+ul.d{list-style:none;margin:0 0 .5rem;padding:0;font-size:.875rem;color:var(--mute)}
+ul.mine,ul.legend{list-style:none;padding:0;margin:.5rem 0 1rem}
+ul.legend{display:flex;flex-wrap:wrap;gap:.35rem 1.4rem;font-size:.875rem}
+.b{display:inline-block;padding:0 .45em;border:1.5px solid currentColor;border-radius:4px;font-size:.8125rem;line-height:1.45;font-weight:600;white-space:nowrap}
+.b.n{color:var(--mute);font-weight:400}
+.b.o{color:var(--ro)}
+.b.w{color:var(--rwt)}
+.b.r{color:var(--rk);border-width:2.5px}
+.l{white-space:nowrap}
+b.l{font-size:.875rem}
+.l.look-first::before{content:"\25b2\a0"}
+.l.check::before{content:"\25cb\a0"}
+.l.look-first{color:var(--rk)}
+.x{font-style:normal;color:var(--rk);border-bottom:1px dotted}
+.sha{font-size:.75rem}
+.names{font-size:.875rem;max-width:none}
+.state{font-size:.875rem;color:var(--mute);max-width:none}
+.state code{color:var(--fg)}
+table.a th code,table.f th+td code{white-space:nowrap}
+dl.words{display:grid;grid-template-columns:max-content 1fr;gap:.4rem 1.25rem;max-width:52rem}
+dl.words dd{margin:0}
+ul.d .r{font-size:.9375em}
+.key{font-size:.875rem;color:var(--mute)}
+table.n tbody th{min-width:9rem}
+.cut{font-size:.875rem;border-left:3px solid var(--rw);padding-left:.6rem}
+section.fs{border-top:1px solid var(--line);padding-top:.25rem;margin-top:2.5rem}
+section.fs>h3{font-size:1.375rem;margin-top:1rem}
+section.place{border-left:3px solid var(--line);padding-left:1rem;margin:1rem 0 1.5rem}
+section.wait{border:2px dashed var(--rw);border-radius:8px;padding:.25rem 1rem;margin:1rem 0}
+.up{font-size:.875rem}
+details{margin:.25rem 0 1rem}
+td details{margin:0}
+summary{cursor:pointer;color:var(--link);font-size:.9375rem}
+td summary{font-size:.875rem}
+.maps{display:flex;flex-wrap:wrap;gap:.75rem 1.25rem;margin:.25rem 0 .5rem}
+figure{margin:0;width:10rem}
+.place figure{width:7.5rem}
+figcaption{font-size:.8125rem;line-height:1.35;color:var(--mute)}
+figcaption b{display:block;color:var(--fg);font-weight:600}
+svg{display:block}
+.defs{position:absolute}
+svg.big{width:100%;height:auto}
+svg.tiny{width:4.25rem;height:4.25rem}
+svg.key{display:inline-block;width:1.25rem;height:1.25rem;vertical-align:-.3rem}
+path.g{fill:var(--soft);stroke:var(--mute);stroke-width:.6}
+path.h{fill:none;stroke:var(--in);stroke-width:.5;stroke-opacity:.55}
+.y text{font-size:6px;fill:var(--mute);text-anchor:end}
+path.po{fill:var(--ro)}
+path.pr{fill:var(--rk)}
+path.px{fill:var(--in)}
+path.o{fill:url(#po)}
+path.w{fill:var(--rw)}
+path.r{fill:url(#pr)}
+.tiny path.r{fill:url(#pt)}
+path.k{stroke:var(--in);stroke-width:.5;paint-order:stroke}
+.tiny path.k{stroke-width:1;paint-order:normal}
+.tiny path.k.o{stroke-width:1}
+.tiny path.k.w{stroke:var(--rw)}
+.tiny path.k.r{fill:var(--rk);stroke:var(--rk);stroke-width:.6}
+path.k.o{fill:var(--in);stroke:var(--ro);stroke-width:.9}
+path.k.r{fill:var(--rk)}
+@media (max-width:40rem){body{padding:0 .9rem 3rem}nav{margin:1rem -.9rem 0;padding:.6rem .9rem}h1{font-size:1.5rem}figure,.place figure{width:8rem}section.place{padding-left:.7rem}table.o{min-width:58rem}table.h,table.n,table.i{min-width:44rem}table.v,table.v tbody,table.f,table.f tbody{display:block;min-width:0}table.v thead,table.f thead{position:absolute;width:1px;height:1px;overflow:hidden;clip-path:inset(50%)}table.v tr,table.f tr{display:grid;gap:.1rem .6rem;padding:.5rem 0;border-bottom:1px solid var(--line)}table.v tr>*,table.f tr>*{padding:0;border:0}table.v tr{grid-template-columns:auto 1fr}table.f tr{grid-template-columns:auto 1fr auto}table.v .num{grid-area:1/2}table.f th{grid-area:1/1}table.f td:nth-child(2){grid-area:1/2}table.f .num{grid-area:1/3}table.v .num::before,table.f .num::before{content:"addresses: ";color:var(--mute);font-size:.8125rem}table.v td:nth-child(2),table.v td:nth-child(4),table.f td:nth-child(3){grid-column:1/-1}ul.r{gap:0 .8rem}table.text,table.text tbody{display:block}table.text thead{position:absolute;width:1px;height:1px;overflow:hidden;clip-path:inset(50%)}table.text tr{display:grid;grid-template-columns:2.25rem 1fr auto;border-bottom:1px solid var(--line)}table.text td:last-child{grid-column:2/-1;width:auto}table.text .num{padding-right:0}table.s th,table.s td{padding-right:.6rem;font-size:.8125rem}dl.words{display:block}dl.words dd{margin:.1rem 0 .7rem}}
+@media print{body{max-width:none;padding:0;font-size:9pt}nav,.up{display:none}a{color:inherit;text-decoration:none}h2,h3,h4,h5,caption,thead{break-after:avoid}tr,figure,.maps,dl,.place{break-inside:avoid}thead{display:table-header-group}.wide{overflow:visible}details::details-content{content-visibility:visible;display:block;height:auto}summary{color:inherit;list-style:none}table,table.text{font-size:8.5pt}svg.tiny{width:1.1cm;height:1.1cm}figure{width:3.3cm}.place figure{width:2.9cm}}
+@media (forced-colors:active){.b,svg{forced-color-adjust:none}}
+'''
+
+DEFINITIONS = '''<svg class="defs" width="0" height="0" aria-hidden="true" focusable="false">
+<defs>
+<pattern id="po" width="2" height="2" patternUnits="userSpaceOnUse" patternTransform="rotate(45)"><path class="po" d="M0 0h1.1v2h-1.1z"/></pattern>
+<pattern id="pr" width="4" height="4" patternUnits="userSpaceOnUse"><path class="pr" d="M0 0h4v4h-4z"/><path class="px" d="M1.6 1h.8v.6h.6v.8h-.6v.6h-.8v-.6h-.6v-.8h.6z"/></pattern>
+<pattern id="pt" width="8" height="8" patternUnits="userSpaceOnUse"><path class="pr" d="M0 0h8v8h-8z"/><path class="px" d="M1 1h2v2h-2z"/></pattern>
+<path id="g" class="g" d="M0 0h64v64h-64z"/>
+<path id="h" class="h" d="M4 0v64M8 0v64M12 0v64M16 0v64M20 0v64M24 0v64M28 0v64M32 0v64M36 0v64M40 0v64M44 0v64M48 0v64M52 0v64M56 0v64M60 0v64M0 4h64M0 8h64M0 12h64M0 16h64M0 20h64M0 24h64M0 28h64M0 32h64M0 36h64M0 40h64M0 44h64M0 48h64M0 52h64M0 56h64M0 60h64"/>
+<g id="y" class="y"><text x="-2" y="4">0</text><text x="-2" y="20">64</text><text x="-2" y="36">128</text><text x="-2" y="52">192</text></g>
+<g id="y12" class="y"><text x="-2" y="4">16</text><text x="-2" y="20">20</text><text x="-2" y="36">24</text><text x="-2" y="52">28</text></g>
+</defs></svg>
+'''
+
+HOW_TO_READ = '''<section id="read">
+<h2>How to read this</h2>
+<h3>Words</h3>
+<dl class="words">
+<dt><span class="b n">denied</span></dt><dd>The client may not mount the directory: no line matches it, or none of the lines that match it best lists the directory.</dd>
+<dt><span class="b o">read-only</span></dt><dd>It may mount it read-only, and no user of the client acts as uid 0.</dd>
+<dt><span class="b w">read-write</span></dt><dd>It may mount it read-write, and no user of the client acts as uid 0.</dd>
+<dt><span class="b r">root kept</span></dt><dd>It may mount it, read-only or read-write, and its root, or every user, acts as uid 0 (<code>-maproot=0</code>, <code>-mapall=0</code>).</dd>
+<dt>other directories</dt><dd>All directories of the file system that no line writes. They have the same verdicts, so one list holds for all of them.</dd>
+<dt>It grants</dt><dd>To how many addresses the line grants some directory: those for which it is the line that the verdict names.</dd>
+<dt>State</dt><dd>The SHA-256 of a line <code>NAME rev N SHA-256</code> for each file in the order of the table of files (<code>NAME rev N profile P SHA-256</code> for exports), and of <code>NAME proposed rev N SHA-256</code> behind it if the file has a proposal. Equal states have equal texts in force, revisions and proposals.</dd>
+</dl>
+<h3>Maps</h3>
+<p>A map is one network, cut into 256 cells of equal size: 16 rows of 16, read like text. In a map of all IPv4 a cell is a /8 and a row is a /4; in one of a /8, /16 or /24 a cell is a /16, a /24 or one address. The cell's number, from 0 to 255, is the next number of the address; the numbers at the left are those of the first cells of the rows. In the map of 172.16.0.0/12 a row is a /16, from 172.16 to 172.31, and a cell a /20.</p>
+<p>The whole cell shows what <b>every</b> address in it may; a mark in its middle shows the most that <b>at least one</b> may, if that is more: a hollow square for read-only, a full one for read-write, a diamond for root kept. So no host vanishes, and a cell is full only if all of it is granted. The most is, in this order: root kept, read-write, read-only.</p>
+<p>Wherever the answer changes between two neighbouring addresses, one of the maps has that border as a line of its grid, unless the page says that maps are not drawn.</p>
+<h3>What stands out</h3>
+<p>A line stands out by these rules and no others. Only <i>look first</i> and <i>check</i> tell them apart; an intended line may stand out, and a line that does not is not thereby right.</p>
+<table class="f">
+<caption class="off">Rules by which a line stands out</caption>
+<thead><tr><th scope="col">Level</th><th scope="col">Words</th><th scope="col">The line</th></tr></thead>
+<tbody>
+<tr><th scope="row"><b class="l look-first">look first</b></th><td>for everybody, read-write, sec=..</td><td>names no client or a network /0, is not <code>-ro</code>, and grants something</td></tr>
+<tr><th scope="row"><b class="l look-first">look first</b></th><td>root stays root, every user acts as root</td><td>is for a network or for everybody, and uid 0 is kept</td></tr>
+<tr><th scope="row"><b class="l check">check</b></th><td>for everybody, read-only, sec=..</td><td>names no client or a network /0, is <code>-ro</code>, and grants something</td></tr>
+<tr><th scope="row"><b class="l check">check</b></th><td>root stays root, every user acts as root</td><td>is for hosts or netgroups, and uid 0 is kept</td></tr>
+<tr><th scope="row"><b class="l check">check</b></th><td>wide</td><td>grants something to over 65,536 addresses, and is not for everybody</td></tr>
+<tr><th scope="row"><b class="l check">check</b></th><td>matches nobody</td><td>has only names that stand for no address, or a network of IPv6</td></tr>
+<tr><th scope="row"><b class="l check">check</b></th><td>never decides</td><td>matches some address, but other lines decide for all of them: made a comment, it would leave every verdict as it is</td></tr>
+</tbody></table>
+<h3>What this page does not tell</h3>
+<ul>
+<li>A client is an IPv4 address. Addresses can be forged, and with <code>sys</code> a client says itself who its users are.</li>
+<li>The page is about the texts in the database. Whether the server has the same ones it does not know.</li>
+<li>Hosts and networks of IPv6 match nobody here, and of <code>V4:</code> lines nothing is said.</li>
+<li>Under Kerberos the principal decides as whom a user acts; the words on root are for <code>sys</code>.</li>
+<li>Keys, and their digests, are not in it. Keep it as you keep the exports themselves.</li>
+</ul>
+</section>
+'''

@@ -1,0 +1,292 @@
+"""The part of the report on one file system."""
+
+from reference.definitions import changes, effect, matters, printed
+from reference.idle import is_for_all
+from reference.lines import logical_lines, physical_lines, words_of
+from reference.readings import read_site
+from reference.report.data import (
+    PRIVATE, SPACE, FileSystem, changed_places, classes_of, counts, network_ends, size_of,
+)  # fmt: skip
+from reference.report.maps import figures
+from reference.report.pieces import box, cut, folded, folded_if_long, level_mark, line_link, ranges_cell, table, zero
+from reference.report.text import (
+    class_badge, code, codes, escaped, escaped_line, network_text, number, part_words, percent, plural, range_text, terms_badge,
+    terms_words,
+)  # fmt: skip
+from reference.why import named_line
+
+# A text of more lines is folded. If a file system has more groups of directories, none of them has maps, and so many are listed.
+OPEN_LINES, MOST_DRAWN, MOST_GROUPS = 40, 12, 100
+# So many directories stand in a heading, so many reasons of a denial apart, and so many networks in the table of shares.
+MOST_NAMES, MOST_REASONS, MOST_SHARES = 8, 5, 12
+
+
+def file_of(system):
+    return f"exports:{system.name}"
+
+
+# ---- what stands out
+
+
+def finding_words(finding):
+    """The words of a finding, with the lines that decide in place of one that never does."""
+    return ", ".join(deciding_words(finding) if words == "never decides" else words for _, words in finding.words)
+
+
+def deciding_words(finding):
+    system = finding.system
+    line = next(line for line in system.lines if line.number == finding.line)
+    others = system.deciding(line)
+    named = ", ".join(line_link(system, other) for other in others[:6]) + (" and others" if len(others) > 6 else "")
+    return f"never decides: {named} {'decides' if len(others) == 1 else 'decide'} for all its clients"
+
+
+# ---- the text in force
+
+
+def line_note(system, line):
+    """What a line does, and to how many addresses it grants something."""
+    if system.decides_nothing(line):
+        return f"<b>{'matches nobody' if system.matches_nobody(line) else 'never decides'}</b>", ""
+    everybody = " <b>everybody</b>" if is_for_all(line) else ""
+    return terms_badge(line.terms) + everybody, number(size_of(system.grants[line.number]))
+
+
+def text_table(system, text, marked):
+    """Each physical line with what it does; those of the marked lines stand out."""
+    if not physical_lines(text):
+        return "<p>The text is empty: nobody may mount any of its directories.</p>\n"
+    notes = {line.number: line_note(system, line) for line in system.lines}
+    for line in logical_lines(text):
+        if words_of(line)[0][0].startswith("V4:"):
+            notes[line.number] = zero("not read"), ""
+    rows = "".join(text_row(system, part, marked, *notes.get(part.number, ("", ""))) for part in physical_lines(text))
+    heads = '<th scope="col">Line</th><th scope="col">It grants</th><th scope="col" class="num">to addresses</th>'
+    caption = f'<caption class="off">Text of {code(system.name)}, and what each line grants</caption>'
+    head = f'<thead><tr>{heads}<th scope="col">Text</th></tr></thead>'
+    return box(f"Text of {system.name}", f'<table class="text">{caption}\n{head}\n<tbody>\n{rows}</tbody></table>')
+
+
+def text_row(system, part, marked, note, count):
+    hit = ' class="hit"' if part.number in marked else ""
+    cells = f'<td>{note}</td><td class="num">{count}</td><td><code>{escaped_line(part.whole)}</code></td>'
+    return f'<tr id="f{system.number}-{part.number}"{hit}><th scope="row">{part.number}</th>{cells}</tr>\n'
+
+
+# ---- who may mount which directory
+
+
+def verdict_rows(system, group):
+    """A row for each verdict: those that grant by their lines, then the denied ones. Together they hold each address once."""
+    by_verdict = {}
+    for first, last, verdict in system.who[group[0]]:
+        by_verdict.setdefault(verdict, []).append((first, last))
+    granted = sorted((verdict for verdict in by_verdict if effect(verdict)), key=named_line)
+    rows = [granted_row(system, verdict, by_verdict[verdict]) for verdict in granted]
+    denied = sorted((verdict for verdict in by_verdict if not effect(verdict)), key=denial_order)
+    differ = any(system.who[place] != system.who[group[0]] for place in group)
+    if denied and (differ or len(denied) > MOST_REASONS):
+        ranges = [found for verdict in denied for found in by_verdict[verdict]]
+        reason = "no line matches them, or those that match them best list other directories"
+        return [*rows, [class_badge(0), "everybody else", part_words(size_of(ranges)), reason]], len(granted)
+    return rows + [denied_row(system, verdict, by_verdict[verdict]) for verdict in denied], len(granted)
+
+
+def denial_order(verdict):
+    """Those whom a line matches come first, by the lines, and then those whom none matches."""
+    return named_line(verdict) or SPACE
+
+
+def granted_row(system, verdict, ranges):
+    terms = effect(verdict)
+    by = f"{line_link(system, named_line(verdict))}: {escaped(terms_words(terms))}"
+    return [terms_badge(terms), ranges_cell(ranges), part_words(size_of(ranges)), by]
+
+
+def denied_row(system, verdict, ranges):
+    line = named_line(verdict)
+    clients = "everybody else" if line is None else ranges_cell(ranges)
+    reason = f"{line_link(system, line)} matches them best, but lists other directories" if line else "no line matches them"
+    return [class_badge(0), clients, part_words(size_of(ranges)), reason]
+
+
+def place_text(system, place):
+    return "other directories" if place == system.other else printed(place)
+
+
+def place_name(system, place):
+    return "other directories" if place == system.other else code(printed(place))
+
+
+def group_block(system, group, is_drawn):
+    """A group of directories whose grants are the same: maps, and a row for each verdict."""
+    names = [place_name(system, place) for place in group]
+    rest = len(group) - MOST_NAMES
+    heading = ", ".join(names[:MOST_NAMES]) + (f" and {number(rest)} more" if rest > 0 else "")
+    made = f'<section class="place">\n<h5>{heading}</h5>\n'
+    if rest > 0:
+        others = f'<p class="names">{", ".join(names[MOST_NAMES:])}</p>\n'
+        made += folded(f"The other {plural(rest, 'directory', 'directories')}", others)
+    if not system.granted(group[0]):
+        it = "it" if len(group) == 1 and group[0] != system.other else "them"
+        return f"{made}<p>Nobody may mount {it}.</p>\n</section>\n"
+    made += figures(classes_of(system.who[group[0]]), False) if is_drawn else ""
+    return made + verdict_table(system, group) + "</section>\n"
+
+
+def verdict_table(system, group):
+    rows, granting = verdict_rows(system, group)
+    caption, label = (f"Who may mount {group_words(system, group, name)}" for name in (place_name, place_text))
+    made = table(caption, ["Verdict", "Clients", "Addresses#", "By, and on what terms"], rows, "v", True, label)
+    return folded_if_long(made, len(rows), f"{plural(granting, 'line')} that grant it")
+
+
+def group_words(system, group, name):
+    """The names of a few directories, or of the first of them."""
+    if len(group) > 3:
+        return f"{name(system, group[0])} and {number(len(group) - 1)} more"
+    return ", ".join(name(system, place) for place in group)
+
+
+def groups_block(system):
+    groups = system.groups()
+    made = '<h4 class="sub">Who may mount which directory</h4>\n'
+    if len(groups) > MOST_DRAWN:
+        made += cut(f"Maps of the single directories are not drawn: there are {number(len(groups))} lists")
+    is_drawn = 1 < len(groups) <= MOST_DRAWN
+    made += "".join(group_block(system, group, is_drawn) for group in groups[:MOST_GROUPS])
+    rest = sum(map(len, groups[MOST_GROUPS:]))
+    more = plural(rest, "more directory is", "more directories are")
+    return made + (cut(f"{more} not listed here; <code>exportdesk who</code> answers for each") if rest else "")
+
+
+# ---- where its clients are
+
+
+def shares_table(system):
+    """How many addresses may mount some directory: of all, outside the private networks, in each of these, and in each network
+    that a line writes."""
+    written = {network_of(line) for line in system.lines if line.clients[0] == "network" and not is_for_all(line)}
+    own = sorted(written - set(PRIVATE))
+    shares = [("all of IPv4", [(0, SPACE - 1)]), ("outside private space", outside_private())]
+    shares += [(network_text(*network), [network_ends(*network)]) for network in [*PRIVATE, *own[:MOST_SHARES]]]
+    heads = ["Network", "has#", "read-only#", "read-write#", "root kept#", "may mount#"]
+    words = "Addresses that may mount some directory of "
+    rows = [share_row(system, *share) for share in shares]
+    made = table(words + code(system.name), heads, rows, "s", label=words + system.name)
+    rest = len(own) - MOST_SHARES
+    more = plural(rest, "more network that lines write is", "more networks that lines write are")
+    return made + (cut(f"{more} not listed") if rest > 0 else "")
+
+
+def network_of(line):
+    _, address, prefix = line.clients
+    return network_ends(address, prefix)[0], prefix
+
+
+def outside_private():
+    ends = [network_ends(*network) for network in PRIVATE]
+    firsts = [0, *(last + 1 for _, last in ends)]
+    return list(zip(firsts, [*(first - 1 for first, _ in ends), SPACE - 1]))
+
+
+def share_row(system, name, ranges):
+    by_class = [sum(found) for found in zip(*(counts(system.classes, *ends) for ends in ranges))]
+    whole, some = size_of(ranges), sum(by_class[1:])
+    counted = [number(count) if count else zero("0") for count in by_class[1:]]
+    return [name, number(whole), *counted, f"{part_words(some, whole)} <small>{percent(some, whole)}</small>"]
+
+
+# ---- a proposal
+
+
+def proposal_block(desk, system):
+    """The text that waits, with the lines of it that are not in force, and what it would change for whom."""
+    if file_of(system) not in desk.proposals:
+        return ""
+    author, text = desk.proposals[file_of(system)]
+    base = number(desk.number(file_of(system)))
+    made = '<section class="wait">\n<h4>A proposal waits</h4>\n'
+    made += f"<p>{code(author)} proposes this text in the place of revision {base}. It is not in force: another of the custodians"
+    made += " has to put the same text.</p>\n"
+    made += proposed_text(system, desk.texts.get(file_of(system), ""), text)
+    after = FileSystem(read_site({**desk.texts, file_of(system): text}), system.number)
+    return made + changes_block(system, after) + "</section>\n"
+
+
+def proposed_text(system, old, text):
+    in_force = {part.whole for part in physical_lines(old)}
+    rows = "".join(proposed_row(part, part.whole in in_force) for part in physical_lines(text))
+    heads = '<th scope="col">Line</th><th scope="col">In force?</th><th scope="col">Text</th>'
+    caption = f'<caption class="off">Proposed text</caption><thead><tr>{heads}</tr></thead>'
+    return box(f"Proposed text of {system.name}", f'<table class="text">{caption}<tbody>{rows}</tbody></table>')
+
+
+def proposed_row(part, is_in_force):
+    hit, note = ("", "") if is_in_force else (' class="hit"', "<b>not yet</b>")
+    text = f"<td>{note}</td><td><code>{escaped_line(part.whole)}</code></td>"
+    return f'<tr{hit}><th scope="row">{part.number}</th>{text}</tr>\n'
+
+
+def changes_block(before, after):
+    places = changed_places(before, after)
+    found = [(place, change) for place in places for change in changes(before.site, after.site, place)]
+    rows = [change_row(place == places[-1], place, *change) for place, change in found if matters(change)]
+    silent = len(found) - len(rows)
+    made = "<p>It would change nothing for any client.</p>\n"
+    if rows:
+        made = table("What it would change", ["Directory", "Clients", "Addresses#", "Now", "Then"], rows, "i")
+        made = folded_if_long(made, len(rows), plural(len(rows), "change"))
+    return made + (f"<p>{plural(silent, 'change')} of lines or reasons alone.</p>\n" if silent else "")
+
+
+def change_row(are_others, place, first, last, verdicts):
+    name = "other directories" if are_others else code(printed(place))
+    return [name, range_text(first, last), number(last - first + 1), *map(verdict_words, verdicts)]
+
+
+def verdict_words(verdict):
+    terms = effect(verdict)
+    return f"{terms_badge(terms)} line {named_line(verdict)}: {escaped(terms_words(terms))}" if terms else class_badge(0)
+
+
+# ---- all of it
+
+
+def revision_words(desk, name):
+    if name not in desk.authors:
+        return "no revision"
+    count, author = desk.authors[name]
+    approver = desk.approvers.get(name)
+    approved = f", approved by {code(approver)}" if approver else ""
+    return f"revision {number(count)} by {code(author)}{approved}{', of profile 1' if desk.profile(name) == 1 else ''}"
+
+
+def facts(desk, system):
+    name = file_of(system)
+    guarded = "yes: a change needs two of them" if name in desk.guarded() else "no: each of them may change it alone"
+    found = counts(system.classes, 0, SPACE - 1)
+    some = ", ".join(f"{class_badge(value)} {part_words(found[value])}" for value in (3, 2, 1) if found[value]) or "nobody"
+    rows = [("In force", revision_words(desk, name)), ("Custodians", codes(desk.custodians(name))), ("Guarded", guarded)]
+    rows.append(("May mount some of it", some))
+    made = "".join(f"<div><dt>{term}</dt><dd>{words}</dd></div>\n" for term, words in rows)
+    return f'<dl class="facts">\n{made}</dl>\n'
+
+
+def findings_list(findings):
+    items = "".join(
+        f"<li>{level_mark(one.level)} {line_link(one.system, one.line)}: {finding_words(one)}</li>\n" for one in findings
+    )
+    return f'<ul class="mine">{items}</ul>\n' if findings else ""
+
+
+def system_section(desk, system, findings):
+    text = desk.texts.get(file_of(system), "")
+    made = f'<section class="fs" id="f{system.number}">\n<h3>{code(system.name)}</h3>\n'
+    made += facts(desk, system) + findings_list(findings) + proposal_block(desk, system) + "<h4>Text in force</h4>\n"
+    count = len(physical_lines(text))
+    made += folded_if_long(text_table(system, text, {one.line for one in findings}), count, plural(count, "line"), OPEN_LINES)
+    if any(counts(system.classes, 0, SPACE - 1)[1:]):
+        made += "<h4>Where its clients are</h4>\n" + figures(system.classes, True)
+        made += folded("The same in numbers", shares_table(system), True)
+    return made + groups_block(system) + '<p class="up"><a href="#systems">All file systems</a></p>\n</section>\n'
