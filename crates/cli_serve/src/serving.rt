@@ -31,19 +31,13 @@ pub fn serve_on<S: Alter + Drop, V: PolicyView + Drop, E: Write>(
     ensures run { (messages : List Message) × (texts : List (List ℕ)) × Serves (HasGoodDisk S.Store) (StandsAt S.Store) desk.old messages texts desk.new }
 {
     runs_follow::<S, V>();
-    let mut others = connections;
-    for _ in 0..connections {
-        others = others.saturating_sub(1);
-        let port = port_of_others(listener, others);
+    for place in 0..connections {
         if let Ok((stream, _)) = listener.accept() {
+            let is_last = place == connections - 1;
+            let port = if is_last { None } else { Some(listener) };
             serve_connection(rt, desk, &stream, port, limit, err);
         }
     }
-}
-
-/// Returns the port at which others may wait, if so many more are accepted.
-fn port_of_others(listener: &TcpListener, others: u32) -> Option<&TcpListener> {
-    if others > 0 { Some(listener) } else { None }
 }
 
 /// Serves one connection and closes it: at once if it was idle, or a message or its reply took too long. If the clock cannot be
