@@ -28,15 +28,15 @@ use cli_files::site_folder::{SiteFiles, paths_of, read_texts, sources_of};
 use cli_output::failure::Failure;
 use cli_output::printed::Printed;
 use cli_words::words::required;
-use desk_check::{tell_site_fault, tell_split_fault};
+use desk_check::split_text::SplitFault;
+use desk_check::{SiteSources, Source, WholeSources, tell_site_fault, tell_split_fault};
 use desk_core::{LONGEST_REVISION, Refusal};
 use desk_exports::{Profile, Rule};
-use desk_findings::{SiteSources, Source, WholeSources};
+use desk_split::split;
 use desk_policy::{
     ExportsText, PerSite, PerTable, Site, SiteFault, SiteFile, Warning, mount_of, parse,
 };
 use desk_service::Refused;
-use desk_split::{SplitFault, split};
 use desk_store::{CreateError, Desk};
 use desk_tables::{FileSystems, Mount};
 use desk_text::{LineFault, ReadError, Text};

@@ -1,6 +1,2 @@
-pub mod Limits
-pub mod Loopback
-pub mod PrivateLimits
 pub mod PrivateServe
-pub mod Refusals
 pub mod ServeCommand

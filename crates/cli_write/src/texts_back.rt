@@ -13,9 +13,9 @@ ghost use Rattle.cli_write.specs.TextsBack as spec;
 
 use cli_files::site_folder::SiteFiles;
 use desk_core::Head;
+use desk_split::{ExportsFile, join};
 use desk_policy::{SiteFile, exports_file_name};
 use desk_service::ListedFiles;
-use desk_split::{ExportsFile, join};
 use desk_tables::Mount;
 use std::alloc::{AllocError, Global};
 

@@ -20,12 +20,11 @@ class Site:
 
 
 class Line:
-    """Its clients are `("names", names)`, `("network", number, prefix)`, `("ipv6", text)` or `("everybody",)`. A network
-    whose size is that of its class has its text."""
+    """Its clients are `("names", names)`, `("network", number, prefix)`, `("ipv6",)` or `("everybody",)`."""
 
-    def __init__(self, number, directories, alldirs, terms, clients, by_class=None):
+    def __init__(self, number, directories, alldirs, terms, clients):
         self.number, self.directories, self.alldirs = number, directories, alldirs
-        self.terms, self.clients, self.by_class = terms, clients, by_class
+        self.terms, self.clients = terms, clients
 
 
 # ---- who may mount what
@@ -47,21 +46,14 @@ def fs_of(mounts, path):
 
 
 def is_dotted(name):
-    return all(letter in "0123456789." for letter in name)
+    return all(letter.isdigit() or letter == "." for letter in name)
 
 
 def host_addresses(site, name):
-    """An address stands for itself, one of IPv6 for nothing, and a host for all addresses that the hosts file gives it, in
-    whatever case of A to Z."""
-    if ":" in name:
-        return set()
+    """An address stands for itself, and a host for all addresses that the hosts file gives it, in whatever case."""
     if is_dotted(name):
-        return {number_of(name)} if is_address(name) else set()
-    return {address for address, names in site.hosts for known in names if lowered(known) == lowered(name)}
-
-
-def lowered(name):
-    return name.encode().lower()
+        return {number_of(name)} if name.count(".") == 3 else set()
+    return {address for address, names in site.hosts for known in names if known.lower() == name.lower()}
 
 
 def hosts_of(site, group, depth):
@@ -73,14 +65,16 @@ def hosts_of(site, group, depth):
 
 
 def addresses_of(site, name):
-    """A written name that is not like an address stands for the hosts of its group, or else for a host."""
+    """A written name stands for the hosts of its group, or else for a host; one of IPv6 stands for nothing."""
     if name not in site.known:
         site.known[name] = addresses_found(site, name)
     return site.known[name]
 
 
 def addresses_found(site, name):
-    if name in site.groups and ":" not in name and not is_dotted(name):
+    if ":" in name:
+        return set()
+    if name in site.groups:
         return set().union(*(host_addresses(site, host) for host in hosts_of(site, name, len(site.groups))))
     return host_addresses(site, name)
 
@@ -274,16 +268,15 @@ RULES = ["OpenQuote", "Form", "BadAction", "BadPath", "BadAddress", "UnknownName
 
 class Expectation:
     """A line: its number, its words, the names of those it is about, or None for everybody, those that it is not about, whether it
-    says what may not be done, the action, and its directories, each with whether all below it are meant. Its names are looked up
-    in the hosts and groups of a site."""
+    says what may not be done, the action, and its directories, each with whether all below it are meant."""
 
-    def __init__(self, number, words, site, whom, but, forbids, action, scopes):
-        self.number, self.words, self.site, self.whom, self.but = number, words, site, whom, but
+    def __init__(self, number, words, whom, but, forbids, action, scopes):
+        self.number, self.words, self.whom, self.but = number, words, whom, but
         self.forbids, self.action, self.scopes = forbids, action, scopes
 
 
 def expectation(site, number, words):
-    """What a line with these words expects, or the first rule that it breaks and the number of the word at fault."""
+    """What a line with these words expects, or the first rule that it breaks and the place of the word at fault."""
     may = words.index("may") if "may" in words else None
     if may is None:
         return "Form", len(words) - 1
@@ -307,8 +300,8 @@ def expectation(site, number, words):
         for place, name in names:
             if is_broken(site, name):
                 return rule, place
-    found = Expectation(number, words, site, None if whom == ["everybody"] else whom, but, forbids, words[acted], scopes)
-    if not any(is_meant(found, first) for first, _ in steady_blocks((), names_of(found))):
+    found = Expectation(number, words, None if whom == ["everybody"] else whom, but, forbids, words[acted], scopes)
+    if not any(is_meant(site, found, first) for first, _ in steady_blocks((), names_of(site, found))):
         return "Nobody", 0
     return found
 
@@ -361,10 +354,7 @@ def is_bad_address(site, name):
 
 
 def is_unknown(site, name):
-    """Any other name that is neither a netgroup's nor a host's."""
-    if span_of(name) is not False or ":" in name or is_dotted(name):
-        return False
-    return name not in site.groups and not host_addresses(site, name)
+    return span_of(name) is False and ":" not in name and not is_dotted(name) and name not in site.groups and not host_addresses(site, name)
 
 
 def means(site, name, address):
@@ -381,14 +371,14 @@ def is_steady_name(site, name, first, last):
     return first == last or not any(first <= address <= last for address in addresses_of(site, name))
 
 
-def names_of(expected):
-    return tuple((expected.site, name) for name in [*(expected.whom or []), *expected.but])
+def names_of(site, expected):
+    return tuple((site, name) for name in [*(expected.whom or []), *expected.but])
 
 
-def is_meant(expected, address):
+def is_meant(site, expected, address):
     """One of the names means the address, or all are meant; and none of those after `but` does."""
-    named = expected.whom is None or any(means(expected.site, name, address) for name in expected.whom)
-    return named and not any(means(expected.site, name, address) for name in expected.but)
+    named = expected.whom is None or any(means(site, name, address) for name in expected.whom)
+    return named and not any(means(site, name, address) for name in expected.but)
 
 
 def allows(action, found):
@@ -412,9 +402,9 @@ def breaches(site, expected, path):
 
     def broken(address):
         found = verdict(site, address, path)
-        return found if is_meant(expected, address) and allows(expected.action, found) == expected.forbids else None
+        return found if is_meant(site, expected, address) and allows(expected.action, found) == expected.forbids else None
 
-    return [run for run in runs(broken, [site], path, names_of(expected)) if run[2] is not None]
+    return [run for run in runs(broken, [site], path, names_of(site, expected)) if run[2] is not None]
 
 
 def scope_places(site, path, below):
@@ -429,6 +419,34 @@ def scope_places(site, path, below):
         yield printed(root), root
         yield from ((printed(one), one) for one in written if one != root and fs_of(roots, one) == root)
         yield f"other directories of {printed(root)}", unwritten({*written, *roots, *site.mounts}, root)
+
+
+def expectations_report(site, file, expectations):
+    """What is reported of expectations, as it is printed, and how many of them are broken."""
+    text, count = "", 0
+    for expected in expectations:
+        sections = ""
+        for scope in expected.scopes:
+            for heading, path in scope_places(site, *scope):
+                found = breaches(site, expected, path)
+                if found:
+                    sections += f"== {heading}\n"
+                sections += "".join(f"{dotted(first)}-{dotted(last)} {said}\n" for first, last, said in found)
+        if sections:
+            count += 1
+            text += f"{file}:{expected.number}: broken: {' '.join(expected.words)}\n{sections}"
+    number = len(expectations)
+    return text + f"{number} expectation{'' if number == 1 else 's'}, {count} broken\n", count
+
+
+def outside_text(site, file, expectations):
+    """The directories of which neither they nor anything below them is in a file system."""
+    return "".join(
+        f"{file}:{expected.number}: {printed(path)} is in no file system, nor is anything below it\n"
+        for expected in expectations
+        for path, _ in expected.scopes
+        if not any(is_under(path, mount) or is_under(mount, path) for mount in site.mounts)
+    )
 
 
 # ---- how they are printed

@@ -126,7 +126,7 @@ def random_clients(rng):
         number, prefix = rng.address(), rng.one(PREFIXES)
         return network(rng, number, prefix)
     if kind < 83:
-        return ("ipv6", "3ffe:a::/64"), ["-network", "3ffe:a::/64"]
+        return ("ipv6",), ["-network", "3ffe:a::/64"]
     return ("everybody",), []
 
 

@@ -1,10 +1,9 @@
-"""Reads the texts of sites, as far as well-formed lines go; words with quotes or backslashes in exports files alone: for the script
-that looks answers up in the definitions.
+"""Reads the texts of sites, as far as well-formed lines go whose words have no quotes and no backslashes: for the script that
+looks answers up in the definitions.
 """
 
 import re
 
-from reference import lines
 from reference.definitions import Line, Site, fs_of, number_of, printed
 
 FILES = ["custodians", "filesystems", "hosts", "networks", "passwd", "group", "netgroup"]
@@ -17,7 +16,17 @@ def path_of(text):
 
 def logical_lines(text):
     """The lines of a text, each with its number, and with those that go on in the next one joined; without comments."""
-    return [(line.number, line.text) for line in lines.logical_lines(text)]
+    number, begun = None, ""
+    lines = text.split("\n")
+    for place, line in enumerate(lines, 1):
+        number = number or place
+        goes_on = line.rstrip(" \t").endswith("\\")
+        begun += line.rstrip(" \t")[:-1] + " " if goes_on else line
+        if goes_on and place < len(lines):
+            continue
+        if begun.strip() and not begun.strip().startswith("#"):
+            yield number, begun
+        number, begun = None, ""
 
 
 class Tables:
@@ -35,13 +44,12 @@ class Tables:
             self.users.setdefault(row[0], (int(row[2]), int(row[3])))
         for row in fields("group"):
             self.groups.setdefault(row[0], (int(row[2]), row[3].split(",")))
-        self.netgroups, self.group_lines = {}, {}
-        for number, line in logical_lines(texts.get("netgroup", "")):
-            name, *members = line.split(None, 1)
-            self.group_lines[name] = number
+        self.netgroups = {}
+        for _, line in logical_lines(texts.get("netgroup", "")):
+            name, _, members = line.strip().partition(" ")
             self.netgroups[name] = [
                 ("group", group) if group else ("host", host)
-                for host, group in re.findall(r"\(\s*([^,\s]*)\s*,[^)]*\)|([^\s(),]+)", "".join(members))
+                for host, group in re.findall(r"\(\s*([^,\s]*)\s*,[^)]*\)|([^\s(),]+)", members)
                 if group or host not in ("", "-")
             ]
 
@@ -62,7 +70,7 @@ class Tables:
     def network(self, text, mask):
         """The client network, as a number and a prefix."""
         if ":" in text:
-            return "ipv6", text
+            return ("ipv6",)
         first, slash, prefix = text.partition("/")
         number = padded(first if first[0].isdigit() else self.networks[first])
         if slash:
@@ -76,31 +84,29 @@ def padded(text):
     return number_of(".".join((text.split(".") + ["0", "0", "0"])[:4]))
 
 
-def read_line(line, tables):
+def read_line(text, number, tables):
     """An exports line, or None for a V4: line."""
-    words = [(value, place.slice.startswith("-")) for value, place in lines.words_of(line)]
-    if words[0][0].startswith("V4:"):
+    words = text.split()
+    if words[0].startswith("V4:"):
         return None
     directories, options, names = [], {}, []
     while words:
-        word, is_dashed = words.pop(0)
+        word = words.pop(0)
         if word.startswith("/"):
             directories.append(path_of(word))
-        elif is_dashed:
+        elif word.startswith("-"):
             *pieces, last = word[1:].split(",")
             if last in VALUED:
-                last += "=" + words.pop(0)[0]
+                last += "=" + words.pop(0)
             options |= dict((piece.split("=") + [""])[:2] for piece in [*pieces, last])
         else:
             names.append(word)
     short = {"o": "ro", "r": "maproot"}
     options = {short.get(name, name): value for name, value in options.items()}
-    clients, by_class = ("names", names) if names else ("everybody",), None
+    clients = ("names", names) if names else ("everybody",)
     if "network" in options:
         clients = tables.network(options["network"], options.get("mask"))
-        has_size = "/" in options["network"] or "mask" in options or clients[0] == "ipv6"
-        by_class = None if has_size else options["network"]
-    return Line(line.number, directories, "alldirs" in options, terms_of(options, tables), clients, by_class)
+    return Line(number, directories, "alldirs" in options, terms_of(options, tables), clients)
 
 
 def terms_of(options, tables):
@@ -110,12 +116,6 @@ def terms_of(options, tables):
         return f"{access} sec={flavours} all={tables.credential(options['mapall'])}"
     root = tables.credential(options["maproot"]) if "maproot" in options else "65534:65533"
     return f"{access} sec={flavours} root={root}"
-
-
-def acting_as(terms, own):
-    """The credential as which a client acts on these terms that has one of its own."""
-    kind, _, mapped = terms.split(" ")[2].partition("=")
-    return mapped if kind == "all" or own.split(":")[0] == "0" else own
 
 
 def empty_site(mounts, tables):
@@ -130,8 +130,8 @@ def read_site(texts):
     mounts = [path_of(line.split()[0]) for _, line in logical_lines(texts["filesystems"])]
     site = empty_site(mounts, tables)
     for mount in site.mounts:
-        for line in lines.logical_lines(texts.get(f"exports:{printed(mount)}", "")):
-            entry = read_line(line, tables)
+        for number, line in logical_lines(texts.get(f"exports:{printed(mount)}", "")):
+            entry = read_line(line, number, tables)
             site.lines[mount] += [entry] if entry else []
     return site
 
@@ -140,8 +140,8 @@ def read_whole(text, mounts, texts):
     """The site of an exports text for all of these mount points, and of the texts of tables."""
     tables = Tables(texts)
     site = empty_site(map(path_of, mounts), tables)
-    for line in lines.logical_lines(text):
-        entry = read_line(line, tables)
+    for number, line in logical_lines(text):
+        entry = read_line(line, number, tables)
         if entry:
             site.lines[fs_of(site.mounts, entry.directories[0])].append(entry)
     return site

@@ -1,3 +1,6 @@
+pub mod FoundFaults
+pub mod FoundSlices
 pub mod HintLemmas
 pub mod ShownTextLemmas
 pub mod ToldFindings
+pub mod PlacedWords

@@ -6,4 +6,3 @@ pub mod PrivateFiles
 pub mod Questions
 pub mod Readable
 pub mod Refused
-pub mod Sites

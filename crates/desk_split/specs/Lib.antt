@@ -1,4 +1,3 @@
-pub mod SplitFault
 pub mod Splitting
 pub mod Joining
 pub mod Laws

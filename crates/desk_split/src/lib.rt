@@ -18,9 +18,7 @@
 
 pub mod joining;
 pub mod laws;
-pub mod split_fault;
 pub mod splitting;
 
 pub use joining::{ExportsFile, join};
-pub use split_fault::SplitFault;
 pub use splitting::split;

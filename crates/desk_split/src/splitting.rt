@@ -94,7 +94,7 @@ fn destination_by(filesystems: &FileSystems, line: &GrammarLine) -> Result<Optio
     if line.is_v4 {
         return Ok(first_fs(filesystems));
     }
-    match line.directories.as_slice().first() {
+    match line.directories().first() {
         Some(Ok(path)) => match filesystems.of(path) {
             Some(fs) => Ok(Some(fs)),
             None => Err(Rule::DirectoryElsewhere),

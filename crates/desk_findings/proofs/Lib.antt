@@ -1,4 +1,0 @@
-pub mod FoundFaults
-pub mod FoundSlices
-pub mod OneFaults
-pub mod PlacedWords
