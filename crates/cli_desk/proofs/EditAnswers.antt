@@ -1,4 +1,4 @@
--- An edit that is made of a desk is made of the database that the desk was opened on, for `edits`.
+-- An edit that is made of a desk is made of the database that the desk was opened on, for `desks`.
 use Rattle.std.proofs.Common.{◌⊎◌, [], Result, Ok, arith, inl, inr}
 use Rattle.sqlite.specs.Held.{Held, state}
 use Rattle.sqlite.specs.State.{HasCleanDisk, State, Survives}
@@ -9,8 +9,9 @@ use Rattle.desk_store.specs.Desk.{CommitsOne, IsEdited, Shown, told}
 use Rattle.desk_store.specs.Open.{LeavesOpened, MayMigrate, OpensAt}
 use Rattle.desk_store.specs.declared.desk.Done.{Done}
 use Rattle.desk_store.specs.declared.error.DeskError.{DeskError}
-use Rattle.desk_service.specs.Edits.{IsPut, PutsBy, PutsOver}
+use Rattle.desk_service.specs.Edits.{PutsBy}
 use Rattle.desk_service.specs.declared.edits.Replies.{Replies}
+use Rattle.cli_desk.specs.Desks.{IsPut, PutsOver}
 
 -- An edit is made of a desk that was opened on the database of a connection.
 module _ {S V : Type 0} (g : Ghosts S) (conn : Held S) (desk after : Shown S V) (e : Edit) (opens : HasCleanDisk (state g desk.conn) → OpensAt g (state g conn).committed desk) (leaves : HasCleanDisk (state g desk.conn) → LeavesOpened (state g conn).committed (state g desk.conn).committed) (crash : Survives (state g conn) (state g desk.conn) (MayMigrate (state g conn))) where

@@ -1,7 +1,7 @@
 -- The edit is made of the desk that was opened.
 use Rattle.desk_core.specs.Edit.{asked}
-use Rattle.desk_service.proofs.EditAnswers.{puts_over}
-use Rattle.desk_service.proofs.edits.put_over.Goals as goal
+use Rattle.cli_desk.proofs.EditAnswers.{puts_over}
+use Rattle.cli_desk.proofs.desks.put_over.Goals as goal
 
 pub returns-in-Ok : goal.returns-in-Ok
 returns-in-Ok g c =
