@@ -61,12 +61,19 @@ class Server:
             fail("`serve` did not end behind its last connection")
         return self.child.returncode, self.out + rest, messages
 
-    def expect_end(self, where):
-        """Waits until it has ended by itself, which has to be with status 0 and without a message."""
+    def expect_end(self, where, refused=()):
+        """Waits until it has ended by itself, which has to be with status 0, and with no message but that so many edits were
+        refused, of one connection after another."""
         status, out, messages = self.wait()
         line = f"listening 127.0.0.1:{self.port}\n".encode()
-        if (status, out, messages) != (0, line, b""):
+        wanted = b"".join(map(refused_line, refused))
+        if (status, out, messages) != (0, line, wanted):
             fail(f"{where}: `serve` ended with status {status}, said {out!r}, and the message {messages!r}")
+
+
+def refused_line(count):
+    """What is said of so many refused edits of a connection."""
+    return f"exportdesk: {count} edit{'s' if count > 1 else ''} refused\n".encode()
 
 
 class Client:

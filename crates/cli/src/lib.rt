@@ -63,15 +63,15 @@ fn finish<O: Write, E: Write>(
 {
     let status = report(rt.alloc(), origin, answer, out, err);
     if let Some(service) = service {
-        end(rt, service, status == 0);
+        end(rt, service, status == 0, err);
     }
     status
 }
 
 /// Runs a service, if its line is printed, and ends it.
-fn end(rt: &HostRuntime, mut service: Service, is_printed: bool) {
+fn end<E: Write>(rt: &HostRuntime, mut service: Service, is_printed: bool, err: &mut E) {
     if is_printed {
-        service.run(rt);
+        service.run(rt, err);
     }
     service.close(rt);
 }

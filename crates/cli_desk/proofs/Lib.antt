@@ -1,1 +1,2 @@
+pub mod EditAnswers
 pub mod NoDesk

@@ -13,8 +13,8 @@ use Rattle.cli_output.specs.declared.failure.Failure.TheVariants.{Memory}
 use Rattle.cli_output.specs.declared.printed.Printed.{Printed}
 use Rattle.cli_database_files.specs.Copy.{is_out_of_memory}
 use Rattle.cli_desk.specs.Desks.{HasNoCopiedDesk, HasNoDesk, HasNoDeskOn}
-use Rattle.cli_desk.specs.Refusals.{IsRefusedBy, copy_error}
-use Rattle.cli_desk.specs.Refused.{IsRefused}
+use Rattle.cli_desk.specs.RefusalNotes.{IsRefusedBy, copy_error}
+use Rattle.cli_desk.specs.RefusalLines.{IsRefused}
 
 -- out of memory says nothing of a file
 unread_memory : (path : List ℕ) (failure : Failure) → failure ≡ Memory → IsUnread (codes "DB") path failure

@@ -1,3 +1,3 @@
 pub mod Desks
-pub mod Refusals
-pub mod Refused
+pub mod RefusalLines
+pub mod RefusalNotes

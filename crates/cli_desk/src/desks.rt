@@ -14,14 +14,15 @@ ghost use Rattle.sqlite.specs.Files.{file_state, over_files};
 ghost use Rattle.sqlite.specs.Held.{state};
 ghost use Rattle.sqlite.specs.Start.{FindsIn};
 ghost use Rattle.sqlite.specs.State.{HasCleanDisk, Opens};
+ghost use Rattle.desk_core.specs.Edit.{asked};
 ghost use Rattle.desk_store.specs.Desk.{HasGoodDisk};
 ghost use Rattle.desk_store.specs.Open.{OpensAt};
 ghost use Rattle.desk_service.specs.declared.refused.Refused.TheVariants as refused;
-ghost use Rattle.cli_desk.specs.Desks.{HasNoCopiedDesk, HasNoDesk, HasNoDeskOn, IsCopied, OpensDesk};
-ghost use Rattle.cli_desk.specs.Refused.{IsRefused};
+ghost use Rattle.cli_desk.specs.Desks.{HasNoCopiedDesk, HasNoDesk, HasNoDeskOn, IsCopied, OpensDesk, PutsOver};
+ghost use Rattle.cli_desk.specs.RefusalLines.{IsRefused};
 
 use crate::View;
-use crate::refusals::{
+use crate::refusal_notes::{
     not_opened_at, not_writable, refused_by_copy, refused_by_desk, refused_by_schema,
 };
 use cli_database_files::copy::{Copied, Unopened, open_copy, unread};
@@ -29,7 +30,10 @@ use cli_database_files::database_file::{CANNOT_OPEN, is_plain};
 use cli_database_files::log_file::remove_log;
 use cli_output::failure::Failure;
 use cli_output::printed::Printed;
-use desk_store::Desk;
+use desk_core::Edit;
+use desk_policy::PolicyView;
+use desk_service::{Replies, put};
+use desk_store::{Desk, DeskError};
 use sqlite::{Alter, Connection, FileFrom, FileStore, Start};
 use sqlite_disk::Memory;
 use std::alloc::Global;
@@ -184,5 +188,26 @@ fn desk_over<S: Alter + Drop>(
             drop(conn);
             Err(refused_by_desk(rt.alloc(), db, error))
         }
+    }
+}
+
+/// Opens a desk on the database of a connection, and makes an edit of it. The desk is handed back beside the reply, since a
+/// refusal may have to be reported with its texts; and the connection beside why no desk is opened.
+pub fn put_over<S: Alter + Drop, V: PolicyView + Drop, T: Drop>(
+    alloc: Global,
+    conn: Connection<S>,
+    edit: &Edit<'_>,
+    replies: Replies<T>,
+) -> Result<(Result<T, DeskError>, Desk<S, V>), (DeskError, Connection<S>)>
+    requires { (state S.Store conn).in_transaction ≡ false }
+    ensures { PutsOver S.Store conn (asked edit.now) replies result }
+{
+    let opened: Result<Desk<S, V>, _> = Desk::open(alloc, conn);
+    match opened {
+        Ok(mut desk) => {
+            let answer = put(alloc, &mut desk, edit, replies);
+            Ok((answer, desk))
+        }
+        Err(both) => Err(both),
     }
 }

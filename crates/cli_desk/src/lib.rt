@@ -11,8 +11,8 @@
 #![tactic(auto)]
 
 pub mod desks;
-pub mod refusals;
-pub mod refused;
+pub mod refusal_lines;
+pub mod refusal_notes;
 pub mod site_notes;
 
 use desk_index::Index;

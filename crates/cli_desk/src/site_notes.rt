@@ -1,8 +1,9 @@
 //! What standard error says of the fault that a site would have with another text: the finding, as `check` prints it.
 
 use crate::View;
-use desk_check::{SiteSources, Source, WholeSources, tell_site_fault};
+use desk_check::tell_site_fault;
 use desk_exports::Profile;
+use desk_findings::{SiteSources, Source, WholeSources};
 use desk_policy::{PerTable, SiteFault, SiteFile};
 use desk_service::{Answer, ListedFiles, Looked, Question, answer};
 use desk_store::Desk;

@@ -10,7 +10,7 @@ use Rattle.desk_text.specs.declared.reading.ReadError.TheVariants.{Fault}
 use Rattle.desk_tables.specs.FileSystemsText.{read_filesystems}
 use Rattle.desk_tables.specs.Rules.{TableFault}
 use Rattle.desk_tables.specs.declared.filesystems.Mount.{Mount}
-use Rattle.desk_exports.specs.Splitting.{split_text}
+use Rattle.desk_split.specs.Splitting.{split_text}
 use Rattle.desk_exports.specs.declared.rules.Rule.{Rule}
 use Rattle.desk_policy.specs.Site.{SiteTexts, no_exports}
 use Rattle.desk_policy.specs.declared.site.ExportsText.{ExportsText}

@@ -19,8 +19,8 @@ use Rattle.cli_output.specs.declared.failure.Failure.{Failure}
 use Rattle.cli_output.specs.declared.failure.Failure.TheVariants.{Memory}
 use Rattle.cli_output.specs.declared.printed.Printed.{Printed}
 use Rattle.cli_desk.specs.Desks.{HasNoDesk}
-use Rattle.cli_desk.specs.Refusals.{IsRefusedBy}
-use Rattle.cli_desk.specs.Refused.{IsRefused}
+use Rattle.cli_desk.specs.RefusalNotes.{IsRefusedBy}
+use Rattle.cli_desk.specs.RefusalLines.{IsRefused}
 use Rattle.cli_edits.specs.PutCommand.{AnswersEdit, HasReplies, PrintsAnswer, PrintsReply, PutsFrom, line_of}
 
 -- the replies are the lines of the answer

@@ -17,7 +17,7 @@ use Rattle.desk_tables.specs.FileSystemsText.{read_filesystems}
 use Rattle.desk_tables.specs.Rules.{TableFault}
 use Rattle.desk_tables.specs.declared.filesystems.Mount.{Mount}
 use Rattle.desk_exports.specs.Rules.{rule_name, rule_number}
-use Rattle.desk_exports.specs.Splitting.{split_text}
+use Rattle.desk_split.specs.Splitting.{split_text}
 use Rattle.desk_exports.specs.declared.profile.Profile.TheVariants.{Two}
 use Rattle.desk_exports.specs.declared.rules.Rule.{Rule}
 use Rattle.desk_policy.specs.Parsing.{read_site}
@@ -43,7 +43,7 @@ use Rattle.cli_output.specs.declared.printed.Printed.{Printed}
 use Rattle.cli_words.specs.Words.{After, ByWord}
 use Rattle.cli_files.specs.Files.{ReadsInTurn}
 use Rattle.cli_files.specs.SiteFolder.{site_paths, site_words}
-use Rattle.cli_desk.specs.Refused.{IsRefused, filed_line}
+use Rattle.cli_desk.specs.RefusalLines.{IsRefused, filed_line}
 use Rattle.cli_edits.specs.declared.init_command.NotMade.{NotMade}
 use Rattle.cli_edits.specs.declared.init_command.NotMade.TheVariants as not_made
 

@@ -16,7 +16,7 @@ use Rattle.desk_core.specs.Standing.{Standing}
 use Rattle.desk_store.specs.Desk.{AnswersBy}
 use Rattle.desk_store.specs.declared.desk.Done.{Done}
 use Rattle.desk_store.specs.declared.error.DeskError.{DeskError}
-use Rattle.desk_service.specs.Edits.{IsNotPut, IsPut, reply_to}
+use Rattle.desk_service.specs.Edits.{reply_to}
 use Rattle.desk_service.specs.declared.edits.Replies.{Replies}
 use Rattle.desk_service.specs.declared.refused.Refused.TheVariants as refused
 use Rattle.cli_output.specs.Printed.{Prints}
@@ -26,9 +26,9 @@ use Rattle.cli_output.specs.declared.printed.Printed.{Printed}
 use Rattle.cli_words.specs.Values.{IsBadNumber, revision_number}
 use Rattle.cli_words.specs.Words.{After, ByWord}
 use Rattle.cli_files.specs.Files.{ReadsInTurn, name_input_twice}
-use Rattle.cli_desk.specs.Desks.{HasNoDesk}
-use Rattle.cli_desk.specs.Refusals.{IsRefusedBy}
-use Rattle.cli_desk.specs.Refused.{IsRefused}
+use Rattle.cli_desk.specs.Desks.{HasNoDesk, IsNotPut, IsPut}
+use Rattle.cli_desk.specs.RefusalNotes.{IsRefusedBy}
+use Rattle.cli_desk.specs.RefusalLines.{IsRefused}
 
 -- a line that is printed of an edit, by its words and the number of the edit's revision, as `accepted rev 2`
 abbrev pub line_of : List ℕ → ℕ → List ℕ

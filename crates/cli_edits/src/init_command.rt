@@ -13,29 +13,30 @@ ghost use Rattle.desk_service.specs.declared.refused.Refused.TheVariants as refu
 ghost use Rattle.cli_output.specs.Printed.{PrintsText};
 ghost use Rattle.cli_words.specs.Words.{rows_in};
 ghost use Rattle.cli_files.specs.SiteFolder.{AreShortFiles, site_list};
-ghost use Rattle.cli_desk.specs.Refused.{IsRefused, filed_line};
+ghost use Rattle.cli_desk.specs.RefusalLines.{IsRefused, filed_line};
 ghost use Rattle.cli_edits.specs.InitCommand.{AnswersInit, AnswersInitSite, AnswersInitTexts, AnswersInitWith, AreParts, ComesTo, Creates, IsReadyText, IsRefusedFor, IsSiteWith, SplitsExports, Stores, fault_line, new_exports, ready_text, split_line, warning_line};
 
 use clap::ArgMatches;
 use cli_database_files::new_files::{NewFiles, is_blank};
 use cli_database_files::obstacles::{Obstacle, find_obstacle_to_make};
 use cli_desk::View;
-use cli_desk::refusals::{
+use cli_desk::refusal_lines::{filed_line, refused};
+use cli_desk::refusal_notes::{
     not_opened_at, not_writable, obstructed, refused_by_store, refused_by_table, too_large_note,
 };
-use cli_desk::refused::{filed_line, refused};
 use cli_files::site_folder::{SiteFiles, paths_of, read_texts, sources_of};
 use cli_output::failure::Failure;
 use cli_output::printed::Printed;
 use cli_words::words::required;
-use desk_check::split_text::SplitFault;
-use desk_check::{SiteSources, Source, WholeSources, tell_site_fault, tell_split_fault};
+use desk_check::{tell_site_fault, tell_split_fault};
 use desk_core::{LONGEST_REVISION, Refusal};
-use desk_exports::{Profile, Rule, split};
+use desk_exports::{Profile, Rule};
+use desk_findings::{SiteSources, Source, WholeSources};
 use desk_policy::{
     ExportsText, PerSite, PerTable, Site, SiteFault, SiteFile, Warning, mount_of, parse,
 };
 use desk_service::Refused;
+use desk_split::{SplitFault, split};
 use desk_store::{CreateError, Desk};
 use desk_tables::{FileSystems, Mount};
 use desk_text::{LineFault, ReadError, Text};

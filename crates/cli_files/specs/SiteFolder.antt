@@ -3,7 +3,7 @@ use Rattle.std.specs.Prelude.{ℕ, ◌==◌, ◌-◌, ◌≤◌, ◌++◌, Bool,
 use Rattle.std.specs.Option.{option_map_or}
 use Rattle.std.specs.String.{string_bytes}
 use Rattle.desk_policy.specs.SiteFile.{all_files, file_name}
-use Rattle.desk_check.specs.declared.check_site.SiteSources.{SiteSources}
+use Rattle.desk_findings.specs.declared.check_site.SiteSources.{SiteSources}
 use Rattle.cli_files.specs.declared.site_folder.SiteFiles.{SiteFiles}
 
 -- a name may follow the path of a folder as it is: that ends with a slash, or is empty

@@ -9,7 +9,7 @@ ghost use Rattle.cli_files.specs.SiteFolder.{AreShortFiles, needs_no_slash, path
 
 use crate::files::read_if_given;
 use cli_output::failure::Failure;
-use desk_check::{SiteSources, Source, WholeSources};
+use desk_findings::{SiteSources, Source, WholeSources};
 use desk_policy::{PerTable, SiteFile};
 use std::alloc::{AllocError, Global};
 use std::io::BufRead;

@@ -4,7 +4,7 @@ use Rattle.sqlite_trees.specs.View.{doubt}
 use Rattle.sqlite_trees.specs.declared.store.Store.{Ghosts}
 use Rattle.sqlite.specs.Effect.{Database}
 use Rattle.desk_core.specs.Foresight.{IsForesightOf}
-use Rattle.desk_core.specs.Head.{Revision}
+use Rattle.desk_core.specs.Head.{Newest, Revision}
 use Rattle.desk_core.specs.History.{newest_of, standing_of}
 use Rattle.desk_core.specs.declared.proposal.Proposal.{Proposal as Pending}
 use Rattle.desk_store.specs.Desk.{History, Shown, StandsAt}
@@ -16,7 +16,7 @@ use Rattle.desk_store.specs.declared.error.StoreFault.{StoreFault}
 use Rattle.desk_store.specs.declared.error.Task.TheVariants as task
 use Rattle.desk_store.specs.declared.desk.Signature.{Signature}
 use Rattle.desk_service.specs.Foreseeing.{Foreseen}
-use Rattle.desk_service.specs.Questions.{Answer, AnswersByHistory, Exports, Files, Foresee, ForeseeProposal, ForeseenIs, ForeseesProposal, IsLookedUp, Listing, Mount, Proposal, Question, Revisions, Text, Who, proposal_answer, revision_asked, revisions_answer, signatures, text_answer}
+use Rattle.desk_service.specs.Questions.{Answer, AnswersByHistory, Exports, Files, Foresee, ForeseeProposal, ForeseeProposedSite, ForeseeSite, ForeseenIs, ForeseesProposal, ForeseesProposedSite, IsLookedUp, Listing, Mount, Proposal, Question, Revisions, Site, Text, Who, proposal_answer, revision_asked, revisions_answer, signatures, text_answer}
 use Rattle.desk_service.specs.declared.questions.Looked.{Looked}
 use Rattle.desk_service.specs.declared.refused.Refused.TheVariants as refused
 use Rattle.cli_output.specs.Failure.{IsUnread}
@@ -26,8 +26,8 @@ use Rattle.cli_output.specs.declared.failure.Failure.TheVariants.{Memory}
 use Rattle.cli_output.specs.declared.printed.Printed.{Printed}
 use Rattle.cli_database_files.specs.Copy.{is_out_of_memory}
 use Rattle.cli_desk.specs.Desks.{HasNoCopiedDesk, IsCopied}
-use Rattle.cli_desk.specs.Refusals.{IsRefusedBy, copy_error}
-use Rattle.cli_desk.specs.Refused.{IsRefused}
+use Rattle.cli_desk.specs.RefusalNotes.{IsRefusedBy, copy_error}
+use Rattle.cli_desk.specs.RefusalLines.{IsRefused}
 use Rattle.cli_questions.specs.PrivateAnswering.{AnswersOnDesk, AnswersWith, HasHistory, IsSound, TriesToPrint}
 use Rattle.cli_questions.specs.Questions.{AnswersQuestion, Asked, PrintsAnswer}
 
@@ -96,6 +96,10 @@ not_proposal : (found : Option Pending) (foreseen : Foreseen) → ForeseenIs for
 not_proposal (Some p) foreseen is = absurd (cc)
 not_proposal None foreseen is = absurd (cc)
 
+not_proposed_site : (newest : Newest) (file : List ℕ) (pending : Option Pending) (foreseen : Foreseen) → ForeseesProposedSite newest file pending (ForeseenIs foreseen) → ⊥
+not_proposed_site newest file (Some p) foreseen by = by
+not_proposed_site newest file None foreseen by = absurd (cc)
+
 foreseen_sound : (history : History) (question : Question) (foreseen : Foreseen) → AnswersByHistory history question (ForeseenIs foreseen) → IsSound (ForeseenIs foreseen)
 foreseen_sound history (Mount address path) foreseen by = absurd (let e = by.2 in cc)
 foreseen_sound history (Listing address) foreseen by = absurd (let e = by.2 in cc)
@@ -107,6 +111,9 @@ foreseen_sound history (Proposal file) foreseen by = absurd (not_proposal ((stan
 foreseen_sound history Files foreseen by = absurd by
 foreseen_sound history (Foresee file text) foreseen by = (file, by.own)
 foreseen_sound history (ForeseeProposal file) foreseen by = proposal_sound history file ((standing_of history).proposals file) foreseen by
+foreseen_sound history Site foreseen by = absurd by
+foreseen_sound history (ForeseeSite file text) foreseen by = absurd by
+foreseen_sound history (ForeseeProposedSite file) foreseen by = absurd (not_proposed_site (newest_of history) file ((standing_of history).proposals file) foreseen by)
 
 -- what is foreseen is of the policy in force
 pub sound : (history : History) (question : Question) (answer : Answer) → AnswersByHistory history question answer → IsSound answer

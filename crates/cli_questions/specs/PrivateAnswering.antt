@@ -8,11 +8,11 @@ use Rattle.desk_store.specs.Desk.{History, Shown, StandsAt}
 use Rattle.desk_service.specs.Questions.{Answer, ForeseenIs, IsLookedUp, Question}
 use Rattle.desk_service.specs.declared.questions.Looked.{Looked}
 use Rattle.desk_service.specs.declared.refused.Refused.TheVariants as refused
-use Rattle.desk_check.specs.TryText.{Answer as Tried}
 use Rattle.cli_output.specs.declared.failure.Failure.{Failure}
 use Rattle.cli_output.specs.declared.failure.Failure.TheVariants.{Memory}
 use Rattle.cli_output.specs.declared.printed.Printed.{Printed}
-use Rattle.cli_desk.specs.Refused.{Says}
+use Rattle.cli_verdict.specs.TryText.{Answer as Tried}
+use Rattle.cli_desk.specs.RefusalLines.{Says}
 use Rattle.cli_questions.specs.Questions.{Asked, PrintsAnswer, PrintsByHistory, PrintsVerdict}
 
 -- what is foreseen is of the policy in force

@@ -10,16 +10,16 @@ use Rattle.desk_impact.specs.declared.report.Report.{Report}
 use Rattle.desk_store.specs.Desk.{History}
 use Rattle.desk_store.specs.Open.{IsOurs, IsProject}
 use Rattle.desk_service.specs.Foreseeing.{Foreseen, content_after}
-use Rattle.desk_service.specs.Questions.{Answer, AnswersByHistory, ExportsAre, FilesAre, ForeseenIs, ListingIs, NoRevision, ProposalIs, Question, RangesAre, RefusedBy, RevisionsAre, Text, TextIs, VerdictIs, Proposal, Revisions, question_of}
+use Rattle.desk_service.specs.Questions.{Answer, AnswersByHistory, ExportsAre, FilesAre, ForeseenIs, ListingIs, NoRevision, ProposalIs, Question, RangesAre, RefusedBy, RevisionsAre, SiteIs, Text, TextIs, VerdictIs, Proposal, Revisions, question_of}
 use Rattle.desk_service.specs.declared.refused.Refused.TheVariants as refused
-use Rattle.desk_check.specs.TryText.{answer_on}
-use Rattle.desk_check.specs.TryText.{Answer as Tried}
 use Rattle.cli_output.specs.Failure.{IsUnread}
 use Rattle.cli_output.specs.Printed.{Prints}
 use Rattle.cli_output.specs.declared.failure.Failure.{Failure}
 use Rattle.cli_output.specs.declared.failure.Failure.TheVariants.{Memory}
 use Rattle.cli_output.specs.declared.printed.Printed.{Printed}
-use Rattle.cli_desk.specs.Refused.{Says}
+use Rattle.cli_verdict.specs.TryText.{answer_on}
+use Rattle.cli_verdict.specs.TryText.{Answer as Tried}
+use Rattle.cli_desk.specs.RefusalLines.{Says}
 use Rattle.cli_questions.specs.FileLines.{files_text}
 use Rattle.cli_questions.specs.RevisionLines.{log_text}
 use Rattle.cli_questions.specs.declared.answering.Asked.{Asked as LentAsked}
@@ -53,7 +53,7 @@ pub record PrintsChanges (asked : Asked) (foreseen : Foreseen) (printed : Printe
   pub prints : Prints (if report.mattering == 0 then 0 else 1) (string_bytes report.text) printed
 
 -- An answer is printed: a verdict as `try` does; a text as it is, of a revision or of a proposal; lists of revisions, of ranges and of
--- files in lines; what would change as a report; and a refusal as its line.
+-- files in lines; what would change as a report; and a refusal as its line. No command asks for a whole site, of which nothing is printed.
 abbrev pub PrintsAnswer : Asked → Answer → Printed → Type 0
 PrintsAnswer asked (VerdictIs content verdict) printed = PrintsVerdict (answer_on content asked.own verdict) printed
 PrintsAnswer asked (ListingIs content listing) printed = Prints 0 (listing_text content listing) printed
@@ -65,6 +65,7 @@ PrintsAnswer asked (ProposalIs proposal) printed = Prints 0 proposal.body printe
 PrintsAnswer asked NoRevision printed = Says refused.NoRevision printed
 PrintsAnswer asked (FilesAre listed) printed = Prints 0 (files_text listed) printed
 PrintsAnswer asked (ForeseenIs foreseen) printed = PrintsChanges asked foreseen printed
+PrintsAnswer asked (SiteIs site) printed = Prints 0 [] printed
 PrintsAnswer asked (RefusedBy refusal) printed = Says (refused.Edit refusal) printed
 
 -- what is printed of a question by a history: its answer

@@ -7,7 +7,7 @@ ghost use Rattle.cli_questions.specs.Questions.{AnswersQuestion, asked_of};
 
 use crate::printing::print_answer;
 use cli_desk::desks::{CopiedDesk, open_copied_desk};
-use cli_desk::refusals::refused_by_copy;
+use cli_desk::refusal_notes::refused_by_copy;
 use cli_output::failure::Failure;
 use cli_output::printed::Printed;
 use desk_service::{Looked, Question, answer, look_up};

@@ -4,7 +4,7 @@ use crate::answering::Asked;
 use crate::revision_lines::counts_classes;
 use cli_desk::View;
 use cli_desk::desks::CopiedDesk;
-use cli_desk::refusals::{too_large_note, unknown_file_note};
+use cli_desk::refusal_notes::{too_large_note, unknown_file_note};
 use cli_desk::site_notes::{NewText, edit_fault_note};
 use desk_core::Refusal;
 use desk_policy::SiteFault;

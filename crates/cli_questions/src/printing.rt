@@ -2,12 +2,13 @@
 
 ghost use Rattle.std.specs.Prelude.{◌≡◌, ℕ, IfOk, List};
 ghost use Rattle.std.specs.String.{string_bytes};
-ghost use Rattle.desk_check.specs.TryText.{answer_on};
 ghost use Rattle.desk_impact.specs.Report.{IsReport};
 ghost use Rattle.desk_policy.specs.Verdict.{verdict_result};
 ghost use Rattle.desk_service.specs.Foreseeing.{content_after, foreseen_of};
-ghost use Rattle.desk_service.specs.Questions.{ForeseenIs, answer_of, question_of};
+ghost use Rattle.desk_service.specs.Questions.{ForeseenIs, SiteIs, answer_of, question_of};
+ghost use Rattle.desk_service.specs.Sites.{site_of};
 ghost use Rattle.cli_output.specs.Printed.{PrintsText};
+ghost use Rattle.cli_verdict.specs.TryText.{answer_on};
 ghost use Rattle.cli_questions.specs.PrivateAnswering.{IsSound, TriesToPrint, TriesToPrintVerdict};
 ghost use Rattle.cli_questions.specs.Questions.{asked_of, file_in};
 
@@ -17,14 +18,14 @@ use crate::notes::{foreseen_note, no_revision_note, proposal_note, refusal_note,
 use crate::revision_lines::log_text;
 use cli_desk::View;
 use cli_desk::desks::CopiedDesk;
-use cli_desk::refused::refused;
+use cli_desk::refusal_lines::refused;
 use cli_output::failure::Failure;
 use cli_output::printed::Printed;
-use desk_check::try_text::printed_verdict;
+use cli_verdict::printed_verdict;
 use desk_core::Foresight;
 use desk_impact::{Report, impact_report, lines_report};
 use desk_policy::{Policy, Verdict, all_exports, listing_text};
-use desk_service::{Answer, FileText, Foreseen, ProposalText, Question, Refused};
+use desk_service::{Answer, FileText, Foreseen, ProposalText, Question, Refused, WholeSite};
 use desk_tables::Cred;
 use desk_who::who_text;
 use std::alloc::{AllocError, Global};
@@ -60,6 +61,7 @@ pub(crate) fn print_answer(
         }
         Answer::Files(files) => print_text(alloc, files_text(alloc, &files)),
         Answer::Foreseen(foreseen) => print_changes(alloc, asked, &foreseen),
+        Answer::Site(site) => print_site(alloc, asked, &site),
         Answer::Refused(refusal) => {
             let note = refusal_note(alloc, desk, asked, &refusal)?;
             refused(alloc, Refused::Edit(refusal), note)
@@ -162,4 +164,19 @@ fn report_of(alloc: Global, foreseen: &Foreseen<'_, View>, all: bool) -> Result<
         Foresight::Whole(after) => impact_report(alloc, foreseen.before, after, all),
         Foresight::Lines(fs, lines) => lines_report(alloc, foreseen.before, lines, *fs, all),
     }
+}
+
+/// Prints nothing: no command asks for a whole site.
+fn print_site(
+    alloc: Global,
+    asked: Asked<'_>,
+    site: &WholeSite<'_, View>,
+) -> Result<Printed, Failure>
+    ensures { TriesToPrint (asked_of asked.entry) (SiteIs (site_of (λ content. content) site.now)) result }
+{
+    Ok(Printed {
+        status: 0,
+        text: String::new(alloc),
+        note: String::new(alloc),
+    })
 }

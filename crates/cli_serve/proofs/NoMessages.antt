@@ -8,4 +8,4 @@ use Rattle.desk_http.specs.Answering.{Serves}
 pub no_messages : {S : Type 0} (good : S → Type 0) (stands : S → History → History → Type 0) (desk : S)
     → (messages : List Message) × (texts : List (List ℕ)) × Serves good stands desk messages texts desk
 no_messages good stands desk =
-    ([], [], record { disk = λ clean. clean; step = λ clean history pending at. (history, pending, refl, at) })
+    ([], [], record { printed = tt; disk = λ clean. clean; step = λ clean history pending at. ([], refl, at) })

@@ -14,10 +14,10 @@ use Rattle.cli_desk.specs.Desks.{HasNoDesk}
 use Rattle.cli_serve.specs.declared.serve_command.Asked.{Asked}
 use Rattle.cli_serve.specs.declared.serve_command.Started.{Started}
 
--- the limit of time that SECONDS writes, in seconds; 30 if it is not given
+-- the limit of time that SECONDS writes, in seconds; 5 if it is not given
 abbrev pub limit_number : Option (List ℕ) → Option ℕ
 limit_number (Some word) = count_number word
-limit_number None = Some 30
+limit_number None = Some 5
 
 -- the failure names SECONDS; out of memory says nothing
 abbrev pub IsBadLimit : Option (List ℕ) → Failure → Type 0

@@ -9,6 +9,7 @@ ghost use Rattle.cli_words.specs.Words.{rows_in};
 ghost use Rattle.cli_serve.specs.PrivateServe.{Starts};
 ghost use Rattle.cli_serve.specs.ServeCommand.{IsBadLimit, IsUnbound, ReadsAsked, RefusesServe, StartsServe, limit_number, listening_line};
 
+use crate::loopback::loopback;
 use crate::serving::serve_on;
 use clap::ArgMatches;
 use cli_database_files::database_file::plain_path;
@@ -23,12 +24,11 @@ use desk_store::Desk;
 use sqlite::{FileFrom, FileStore, Wary};
 use std::alloc::{AllocError, Global};
 use std::io;
-use std::io::ErrorKind;
-use std::net::{Ipv4Addr, TcpListener};
-use std::time::Duration;
+use std::io::{ErrorKind, Write};
+use std::net::TcpListener;
 
-/// How long a read or a write of a connection waits, in seconds, if the words do not say it.
-const DEFAULT_SECONDS: u32 = 30;
+/// How long a message, its reply, and the time between two may take, in seconds, if the words do not say it.
+const DEFAULT_SECONDS: u32 = 5;
 
 /// What `serve` is asked.
 #[derive(Clone, Copy)]
@@ -38,7 +38,7 @@ pub struct Asked<'a> {
     pub port: u16,
     /// How many connections are served.
     pub connections: u32,
-    /// How long a read or a write of a connection waits, in seconds; 0 for no limit.
+    /// How long a message, its reply, and the time between two may take, in seconds; 0 for no limit.
     pub seconds: u32,
 }
 
@@ -56,18 +56,18 @@ pub struct Service {
     listener: TcpListener,
     /// How many connections are served.
     pub connections: u32,
-    /// How long a read or a write of a connection waits, in seconds; 0 for no limit.
+    /// How long a message, its reply, and the time between two may take, in seconds; 0 for no limit.
     pub seconds: u32,
     /// The path of the log of its database, if the log was made for it.
     log: Option<String>,
 }
 
 impl Service {
-    /// Serves its connections, one after another.
-    pub fn run(&mut self, rt: &HostRuntime) {
-        let limit = Duration::from_secs(u64::from(self.seconds));
+    /// Serves its connections, one after another. What is to be reported meanwhile goes to `err`.
+    pub fn run<E: Write>(&mut self, rt: &HostRuntime, err: &mut E) {
+        let limit = u64::from(self.seconds) * 1000;
         let connections = self.connections;
-        serve_on(rt, &mut self.desk, &self.listener, connections, Some(limit));
+        serve_on(rt, &mut self.desk, &self.listener, connections, limit, err);
     }
 
     /// Ends. A log that was made for nothing goes before the lock goes with the desk: after that, another process may write it.
@@ -169,7 +169,7 @@ fn listen(
     requires { string_bytes line ≡ listening_line asked.port }
     ensures { Starts asked.entry result }
 {
-    match TcpListener::bind(rt, (Ipv4Addr::LOCALHOST, asked.port)) {
+    match TcpListener::bind(rt, loopback(asked.port)) {
         Ok(listener) => Ok(Started {
             printed: Printed {
                 status: 0,

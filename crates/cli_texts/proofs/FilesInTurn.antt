@@ -1,6 +1,6 @@
 -- Files that are read in turn, some by one function and the rest after it.
 use Rattle.std.proofs.Common.{◌≡◌, ◌++◌, ℕ, Bool, false, List, [], ◌∷◌, Option, Result, Ok, Err, inl, inr, map, subst, sym}
-use Rattle.desk_check.specs.declared.check_faults.Source.{Source}
+use Rattle.desk_findings.specs.declared.check_faults.Source.{Source}
 use Rattle.cli_files.specs.Files.{ReadsInTurn, name_input_twice}
 use Rattle.cli_output.specs.declared.failure.Failure.{Failure}
 use Rattle.cli_texts.specs.PrivateTableFiles.{ReadsTo}

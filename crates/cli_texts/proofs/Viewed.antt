@@ -10,8 +10,8 @@ use Rattle.desk_policy.specs.Policy.{Content, with_warnings}
 use Rattle.desk_policy.specs.View.{Builds, IsFaultOf, IsLeastContradiction, WarningsChangeNoAnswer}
 use Rattle.desk_policy.specs.declared.parsing.SiteTables.{SiteTables}
 use Rattle.desk_policy.specs.declared.site_fault.SiteFault.{SiteFault}
-use Rattle.desk_check.specs.CheckText.{tables_of}
-use Rattle.desk_check.specs.declared.check_text.WholeSources.{WholeSources}
+use Rattle.desk_findings.specs.CheckText.{tables_of}
+use Rattle.desk_findings.specs.declared.check_text.WholeSources.{WholeSources}
 use Rattle.cli_texts.specs.WholeTables.{GivesOrFault, Writes, policy_of, policy_with}
 
 -- a fault of what is read without warnings is one of what is read with them

@@ -3,14 +3,14 @@ use Rattle.std.specs.Prelude.{◌≡◌, ◌⊎◌, ◌++◌, ℕ, List, [], ◌
 use Rattle.std.specs.String.{string_bytes}
 use Rattle.clap.specs.Words.{Row, all_of, first_of}
 use Rattle.desk_tables.specs.declared.filesystems.Mount.{Mount}
+use Rattle.desk_findings.specs.CheckSite.{GathersSite}
+use Rattle.desk_findings.specs.CheckText.{Gathers}
+use Rattle.desk_findings.specs.declared.check_site.SiteSources.{SiteSources}
+use Rattle.desk_findings.specs.declared.check_text.Gathered.{Gathered}
+use Rattle.desk_findings.specs.declared.check_text.WholeSources.{WholeSources}
 use Rattle.desk_check.specs.CheckReport.{Reports}
-use Rattle.desk_check.specs.CheckSite.{GathersSite}
-use Rattle.desk_check.specs.CheckText.{Gathers}
 use Rattle.desk_check.specs.declared.check_report.CheckForm.{CheckForm}
 use Rattle.desk_check.specs.declared.check_report.Checked.{Checked}
-use Rattle.desk_check.specs.declared.check_site.SiteSources.{SiteSources}
-use Rattle.desk_check.specs.declared.check_text.Gathered.{Gathered}
-use Rattle.desk_check.specs.declared.check_text.WholeSources.{WholeSources}
 use Rattle.cli_output.specs.Printed.{Prints}
 use Rattle.cli_output.specs.declared.failure.Failure.{Failure}
 use Rattle.cli_output.specs.declared.failure.Failure.TheVariants.{BesideSite, Memory, Missing}

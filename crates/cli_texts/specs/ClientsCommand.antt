@@ -10,7 +10,7 @@ use Rattle.desk_policy.specs.declared.verdict.Denial.{Denial}
 use Rattle.desk_who.specs.Runs.{Run}
 use Rattle.desk_who.specs.Who.{IsWho}
 use Rattle.desk_who.specs.WhoPrints.{who_text}
-use Rattle.desk_check.specs.declared.check_text.WholeSources.{WholeSources}
+use Rattle.desk_findings.specs.declared.check_text.WholeSources.{WholeSources}
 use Rattle.cli_output.specs.declared.bad_argument.ArgumentFault.TheVariants as fault
 use Rattle.cli_output.specs.declared.failure.Failure.{Failure}
 use Rattle.cli_output.specs.declared.printed.Printed.{Printed}

@@ -7,7 +7,7 @@ use Rattle.desk_policy.specs.Policy.{Content}
 use Rattle.desk_policy.specs.declared.site_fault.SiteFault.{SiteFault}
 use Rattle.desk_impact.specs.Report.{IsReport}
 use Rattle.desk_impact.specs.declared.report.Report.{Report}
-use Rattle.desk_check.specs.declared.check_text.WholeSources.{WholeSources}
+use Rattle.desk_findings.specs.declared.check_text.WholeSources.{WholeSources}
 use Rattle.cli_output.specs.declared.failure.Failure.{Failure}
 use Rattle.cli_output.specs.declared.printed.Printed.{Printed}
 use Rattle.cli_words.specs.Words.{After, ByWord, is_set}

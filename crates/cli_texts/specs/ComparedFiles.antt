@@ -3,8 +3,8 @@ use Rattle.std.specs.Prelude.{ℕ, ◌++◌, List, [], ◌∷◌, Option, Some, 
 use Rattle.std.specs.String.{string_bytes}
 use Rattle.clap.specs.Words.{Row}
 use Rattle.desk_policy.specs.PerTable.{EachTable}
-use Rattle.desk_check.specs.declared.check_faults.Source.{Source}
-use Rattle.desk_check.specs.declared.check_text.WholeSources.{WholeSources}
+use Rattle.desk_findings.specs.declared.check_faults.Source.{Source}
+use Rattle.desk_findings.specs.declared.check_text.WholeSources.{WholeSources}
 use Rattle.cli_texts.specs.TableFiles.{IsShort, table_files, table_list}
 use Rattle.cli_texts.specs.declared.compared_files.ComparedSources.{ComparedSources}
 use Rattle.cli_texts.specs.declared.compared_files.ComparedTexts.{ComparedTexts}

@@ -6,13 +6,13 @@ use Rattle.desk_text.specs.declared.reading.ReadError.TheVariants as read_error
 use Rattle.desk_tables.specs.declared.filesystems.Mount.{Mount}
 use Rattle.desk_policy.specs.View.{IsFaultOf}
 use Rattle.desk_policy.specs.declared.site_fault.SiteFault.{SiteFault}
-use Rattle.desk_check.specs.Faults.{fault_line}
+use Rattle.desk_findings.specs.declared.check_text.WholeSources.{WholeSources}
 use Rattle.desk_check.specs.ToldFault.{TellsOf}
-use Rattle.desk_check.specs.declared.check_text.WholeSources.{WholeSources}
 use Rattle.cli_output.specs.Printed.{Prints}
 use Rattle.cli_output.specs.declared.failure.Failure.{Failure}
 use Rattle.cli_output.specs.declared.failure.Failure.TheVariants.{Memory}
 use Rattle.cli_output.specs.declared.printed.Printed.{Printed}
+use Rattle.cli_texts.specs.FaultLine.{fault_line}
 use Rattle.cli_texts.specs.WholeTables.{policy_of}
 
 -- this fault is printed in a line, and standard error shows it as `check` does

@@ -2,11 +2,13 @@ pub mod CheckCommand
 pub mod ClientsCommand
 pub mod CompareCommand
 pub mod ComparedFiles
+pub mod FaultLine
 pub mod FaultyTexts
 pub mod MountWords
 pub mod Printing
 pub mod PrivateTableFiles
 pub mod SplitCommand
+pub mod SplitText
 pub mod TableFiles
 pub mod TryCommand
 pub mod WholeFiles

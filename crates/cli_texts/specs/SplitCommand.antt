@@ -2,16 +2,17 @@
 use Rattle.std.specs.Prelude.{◌≡◌, ◌++◌, ℕ, List, [], ◌∷◌, Option, Some, Result, Ok, Err, MatchResult, codes}
 use Rattle.std.specs.String.{string_bytes}
 use Rattle.clap.specs.Words.{Row}
-use Rattle.desk_check.specs.SplitText.{split_answer, split_fault_line}
+use Rattle.desk_split.specs.SplitFault.{split_fault_line}
+use Rattle.desk_split.specs.declared.split_fault.SplitFault.{SplitFault}
+use Rattle.desk_findings.specs.declared.check_faults.Source.{Source}
 use Rattle.desk_check.specs.ToldFault.{TellsOfSplit}
-use Rattle.desk_check.specs.declared.check_faults.Source.{Source}
-use Rattle.desk_check.specs.declared.split_text.SplitFault.{SplitFault}
 use Rattle.cli_output.specs.Printed.{Prints}
 use Rattle.cli_output.specs.declared.failure.Failure.{Failure}
 use Rattle.cli_output.specs.declared.failure.Failure.TheVariants.{Memory}
 use Rattle.cli_output.specs.declared.printed.Printed.{Printed}
 use Rattle.cli_words.specs.Words.{After, ByWord}
 use Rattle.cli_texts.specs.Printing.{PrintsAlone}
+use Rattle.cli_texts.specs.SplitText.{split_answer}
 use Rattle.cli_texts.specs.TableFiles.{IsShort, ReadsSources}
 use Rattle.cli_texts.specs.declared.split_command.SplitSources.{SplitSources}
 use Rattle.cli_texts.specs.declared.split_command.SplitTexts.{SplitTexts}

@@ -3,7 +3,7 @@ use Rattle.std.specs.Prelude.{◌≡◌, ◌≤◌, ℕ, Bool, true, false, List
 use Rattle.std.specs.String.{string_bytes}
 use Rattle.clap.specs.Words.{Row, first_of}
 use Rattle.desk_policy.specs.declared.per_table.PerTable.{PerTable}
-use Rattle.desk_check.specs.declared.check_faults.Source.{Source}
+use Rattle.desk_findings.specs.declared.check_faults.Source.{Source}
 use Rattle.cli_output.specs.declared.failure.Failure.{Failure}
 use Rattle.cli_output.specs.declared.failure.Failure.TheVariants.{InputTwice}
 use Rattle.cli_files.specs.Files.{ReadsInTurn, name_input_twice}

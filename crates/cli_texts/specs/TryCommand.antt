@@ -8,8 +8,7 @@ use Rattle.desk_tables.specs.Users.{read_users}
 use Rattle.desk_tables.specs.declared.credentials.Cred.{Cred}
 use Rattle.desk_policy.specs.Policy.{Content}
 use Rattle.desk_policy.specs.declared.site_fault.SiteFault.{SiteFault}
-use Rattle.desk_check.specs.TryText.{Answer, IsAnswerBy}
-use Rattle.desk_check.specs.declared.check_text.WholeSources.{WholeSources}
+use Rattle.desk_findings.specs.declared.check_text.WholeSources.{WholeSources}
 use Rattle.cli_output.specs.declared.failure.Failure.{Failure}
 use Rattle.cli_output.specs.declared.printed.Printed.{Printed}
 use Rattle.cli_words.specs.Values.{AnswersOwn, IsBadArgument, IsRequest, own_answer}
@@ -18,6 +17,7 @@ use Rattle.cli_words.specs.declared.values.Request.{Request}
 use Rattle.cli_texts.specs.FaultyTexts.{AnswersOrFault}
 use Rattle.cli_texts.specs.Printing.{PrintsAlone}
 use Rattle.cli_texts.specs.TableFiles.{ReadsSources}
+use Rattle.cli_verdict.specs.TryText.{Answer, IsAnswerBy}
 use Rattle.cli_texts.specs.WholeFiles.{whole_files, whole_list}
 use Rattle.cli_texts.specs.WholeTables.{policy_of}
 

@@ -10,8 +10,8 @@ use Rattle.desk_policy.specs.Policy.{Content}
 use Rattle.desk_policy.specs.View.{IsFaultOf}
 use Rattle.desk_policy.specs.declared.parsing.SiteTables.{SiteTables}
 use Rattle.desk_policy.specs.declared.site_fault.SiteFault.{SiteFault}
-use Rattle.desk_check.specs.CheckText.{tables_of}
-use Rattle.desk_check.specs.declared.check_text.WholeSources.{WholeSources}
+use Rattle.desk_findings.specs.CheckText.{tables_of}
+use Rattle.desk_findings.specs.declared.check_text.WholeSources.{WholeSources}
 
 -- the policy that an exports text of profile 2 writes with these tables and file systems, or its fault; a table's fault comes
 -- before it

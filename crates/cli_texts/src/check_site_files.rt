@@ -1,14 +1,15 @@
 //! The command `check --site DIR`: every fault and warning of the files in a site's folder.
 
 ghost use Rattle.desk_text.specs.Lines.{IsReadable};
-ghost use Rattle.desk_check.specs.CheckFaults.{AreReadable};
+ghost use Rattle.desk_findings.specs.CheckFaults.{AreReadable};
 ghost use Rattle.cli_texts.specs.CheckCommand.{AnswersSite, AnswersSiteTexts};
 
 use crate::check_command::print_findings;
 use cli_files::site_folder::{paths_of, read_texts, sources_of};
 use cli_output::failure::Failure;
 use cli_output::printed::Printed;
-use desk_check::{CheckForm, SiteSources, gather_site};
+use desk_check::CheckForm;
+use desk_findings::{SiteSources, gather_site};
 use std::alloc::Global;
 use std::io::BufRead;
 

@@ -1,7 +1,7 @@
 //! The command `clients`: who may mount a directory, by an exports text.
 
 ghost use Rattle.desk_text.specs.Lines.{IsReadable};
-ghost use Rattle.desk_check.specs.CheckFaults.{AreReadable};
+ghost use Rattle.desk_findings.specs.CheckFaults.{AreReadable};
 ghost use Rattle.cli_words.specs.Words.{rows_in};
 ghost use Rattle.cli_texts.specs.ClientsCommand.{AnswersClients, AnswersPath, PrintsRanges, ReadsDir};
 ghost use Rattle.cli_texts.specs.WholeTables.{GivesOrFault, policy_of};
@@ -16,7 +16,7 @@ use cli_output::failure::Failure;
 use cli_output::printed::Printed;
 use cli_words::values::read_path;
 use cli_words::words::required;
-use desk_check::{WholeSources, read_sources};
+use desk_findings::{WholeSources, read_sources};
 use desk_policy::{PolicyView, SiteFault};
 use desk_tables::FileSystems;
 use desk_text::{Path, ReadError};

@@ -2,8 +2,8 @@
 
 ghost use Rattle.std.specs.Prelude.{◌≡◌, Ok};
 ghost use Rattle.desk_text.specs.Lines.{IsReadable};
-ghost use Rattle.desk_check.specs.CheckFaults.{AreReadable};
-ghost use Rattle.desk_check.specs.CheckText.{tables_of};
+ghost use Rattle.desk_findings.specs.CheckFaults.{AreReadable};
+ghost use Rattle.desk_findings.specs.CheckText.{tables_of};
 ghost use Rattle.cli_words.specs.Words.{rows_in};
 ghost use Rattle.cli_texts.specs.CompareCommand.{AnswersCompare, AnswersTexts, PrintsChanges};
 ghost use Rattle.cli_texts.specs.FaultyTexts.{AnswersOrFault};
@@ -19,7 +19,7 @@ use clap::ArgMatches;
 use cli_output::failure::Failure;
 use cli_output::printed::Printed;
 use cli_words::words::{is_set, required};
-use desk_check::{WholeSources, read_sources};
+use desk_findings::{WholeSources, read_sources};
 use desk_impact::impact_report;
 use desk_policy::{SiteFault, SiteTables};
 use desk_tables::FileSystems;

@@ -3,13 +3,15 @@
 
 ghost use Rattle.std.specs.Prelude.{IfOk};
 ghost use Rattle.desk_text.specs.Lines.{IsReadable};
-ghost use Rattle.desk_check.specs.CheckFaults.{AreReadable};
+ghost use Rattle.desk_findings.specs.CheckFaults.{AreReadable};
 ghost use Rattle.cli_texts.specs.FaultyTexts.{AnswersError, PrintsThisFault};
 
+use crate::fault_line::fault_text;
 use crate::printing::end_line;
 use cli_output::failure::Failure;
 use cli_output::printed::Printed;
-use desk_check::{WholeSources, fault_text, tell_fault};
+use desk_check::tell_fault;
+use desk_findings::WholeSources;
 use desk_policy::SiteFault;
 use desk_tables::FileSystems;
 use desk_text::ReadError;

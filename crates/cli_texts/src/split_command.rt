@@ -9,14 +9,16 @@ ghost use Rattle.cli_texts.specs.SplitCommand.{AnswersSplit, AnswersTexts, AreBo
 ghost use Rattle.cli_texts.specs.TableFiles.{ReadsFiles, given_path, paths_in, texts_in};
 
 use crate::printing::{end_line, print_alone};
+use crate::split_text::split_text;
 use crate::table_files::inputs;
 use clap::ArgMatches;
 use cli_files::files::read_if_given;
 use cli_output::failure::Failure;
 use cli_output::printed::Printed;
 use cli_words::words::required;
-use desk_check::split_text::{SplitFault, split_text};
-use desk_check::{Source, tell_split_fault};
+use desk_check::tell_split_fault;
+use desk_findings::Source;
+use desk_split::SplitFault;
 use desk_text::ReadError;
 use std::alloc::{AllocError, Global};
 use std::io::BufRead;

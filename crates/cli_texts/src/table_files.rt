@@ -14,7 +14,7 @@ use clap::ArgMatches;
 use cli_files::files::{is_input, read_if_given};
 use cli_output::failure::Failure;
 use cli_words::words::given;
-use desk_check::Source;
+use desk_findings::Source;
 use desk_policy::PerTable;
 use std::io::BufRead;
 

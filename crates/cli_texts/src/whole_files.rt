@@ -3,7 +3,7 @@
 ghost use Rattle.std.specs.Prelude.{◌≡◌, IfOk, map};
 ghost use Rattle.std.specs.Result.{result_map_both};
 ghost use Rattle.desk_text.specs.Lines.{IsReadable};
-ghost use Rattle.desk_check.specs.CheckFaults.{AreReadable};
+ghost use Rattle.desk_findings.specs.CheckFaults.{AreReadable};
 ghost use Rattle.cli_files.specs.Files.{name_input_twice};
 ghost use Rattle.cli_words.specs.Words.{rows_in};
 ghost use Rattle.cli_texts.specs.TableFiles.{ReadsFiles, given_path, paths_in, texts_in};
@@ -13,7 +13,7 @@ use crate::table_files::{inputs, read_tables, table_inputs, table_sources};
 use clap::ArgMatches;
 use cli_files::files::read_if_given;
 use cli_output::failure::Failure;
-use desk_check::{Source, WholeSources};
+use desk_findings::{Source, WholeSources};
 use desk_policy::PerTable;
 use std::io::BufRead;
 

@@ -2,12 +2,12 @@
 
 ghost use Rattle.std.specs.Prelude.{◌≡◌, Ok};
 ghost use Rattle.desk_text.specs.Lines.{IsReadable};
-ghost use Rattle.desk_check.specs.CheckText.{tables_of};
+ghost use Rattle.desk_findings.specs.CheckText.{tables_of};
 ghost use Rattle.cli_texts.specs.WholeTables.{GivesOrFault, Writes, policy_of};
 
 use crate::View;
-use desk_check::WholeSources;
 use desk_exports::Profile;
+use desk_findings::WholeSources;
 use desk_policy::{
     PolicyView, SiteFault, SiteTables, parse_whole_without_warnings, warnings_change_no_answer,
 };

@@ -383,7 +383,7 @@ pub static COMMANDS: [CommandRow; 18] = [
             Argument {
                 name: "timeout",
                 kind: Kind::Valued("SECONDS"),
-                help: "How long a read or a write of a connection waits before the connection ends: 30 if it is not given, 0 for no limit",
+                help: "How long a message, its reply, and an idle connection may take before the connection ends: 5 if it is not given, 0 for no limit",
             },
         ],
     },

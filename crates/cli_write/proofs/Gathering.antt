@@ -3,7 +3,7 @@ use Rattle.std.proofs.Common.{◌≡◌, ℕ, ◌+◌, ◌<◌, ◌++◌, List, 
 use Rattle.std.specs.List.{cons_option, filter_map}
 use Rattle.std.proofs.lemmas.List.{append-nil, take_more}
 use Rattle.std.proofs.lemmas.List.Elements.{filter_map-append}
-use Rattle.desk_join.specs.Joining.{StoredFile}
+use Rattle.desk_split.specs.Joining.{StoredFile}
 use Rattle.cli_write.specs.PrivateTexts.{with_found}
 
 module _ {X : Type 0} (xs : List X) (i : ℕ) (x d : X) (below : i < length xs) (is : x ≡ get_or xs i d) where

@@ -7,7 +7,7 @@ use Rattle.desk_tables.specs.declared.filesystems.Mount.{Mount}
 use Rattle.desk_policy.specs.SiteFile.{all_files, exports_file_name, file_name}
 use Rattle.desk_core.specs.Head.{Newest, Revision}
 use Rattle.desk_core.specs.Site.{text_in}
-use Rattle.desk_join.specs.Joining.{StoredFile, joined}
+use Rattle.desk_split.specs.Joining.{StoredFile, joined}
 
 -- a revision of an exports file
 abbrev pub exports_file : Revision → StoredFile

@@ -22,7 +22,7 @@ use Rattle.cli_output.specs.declared.printed.Printed.{Printed}
 use Rattle.cli_words.specs.Words.{ByWord}
 use Rattle.cli_files.specs.SiteFolder.{site_paths}
 use Rattle.cli_desk.specs.Desks.{HasNoCopiedDesk}
-use Rattle.cli_desk.specs.Refused.{IsRefused, filed_line}
+use Rattle.cli_desk.specs.RefusalLines.{IsRefused, filed_line}
 use Rattle.cli_write.specs.Replacing.{IsUnwrittenIn, TellsWritten}
 use Rattle.cli_write.specs.TextsBack.{texts_back}
 

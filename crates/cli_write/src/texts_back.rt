@@ -5,7 +5,7 @@ ghost use Rattle.std.specs.Option.{option_map};
 ghost use Rattle.std.specs.String.{string_bytes};
 ghost use Rattle.desk_core.specs.Head.{newest_in};
 ghost use Rattle.desk_core.specs.Site.{text_in};
-ghost use Rattle.desk_join.specs.Joining.{joined, stored_file};
+ghost use Rattle.desk_split.specs.Joining.{joined, stored_file};
 ghost use Rattle.desk_policy.specs.SiteFile.{file_name};
 ghost use Rattle.cli_files.specs.SiteFolder.{site_list};
 ghost use Rattle.cli_write.specs.PrivateTexts.{with_found};
@@ -13,9 +13,9 @@ ghost use Rattle.cli_write.specs.TextsBack as spec;
 
 use cli_files::site_folder::SiteFiles;
 use desk_core::Head;
-use desk_join::{ExportsFile, join};
 use desk_policy::{SiteFile, exports_file_name};
 use desk_service::ListedFiles;
+use desk_split::{ExportsFile, join};
 use desk_tables::Mount;
 use std::alloc::{AllocError, Global};
 

@@ -10,7 +10,7 @@ ghost use Rattle.desk_service.specs.declared.refused.Refused.TheVariants as refu
 ghost use Rattle.cli_words.specs.Words.{rows_in};
 ghost use Rattle.cli_files.specs.SiteFolder.{site_list, site_paths};
 ghost use Rattle.cli_desk.specs.Desks.{IsCopied};
-ghost use Rattle.cli_desk.specs.Refused.{IsRefused};
+ghost use Rattle.cli_desk.specs.RefusalLines.{IsRefused};
 ghost use Rattle.cli_write.specs.Replacing.{name_in, path_in, text_in};
 ghost use Rattle.cli_write.specs.TextsBack.{texts_back};
 ghost use Rattle.cli_write.specs.WriteCommand.{AnswersWrite, PrintsWritten, RefusesTooLong, WritesDatabase, WritesNamed, WritesReadable, WritesStored, WritesTexts, is_too_long, site_names};
@@ -20,7 +20,7 @@ use crate::texts_back::texts_back;
 use clap::ArgMatches;
 use cli_desk::View;
 use cli_desk::desks::{CopiedDesk, open_copied_desk};
-use cli_desk::refused::{filed_line, refused};
+use cli_desk::refusal_lines::{filed_line, refused};
 use cli_desk::site_notes::fault_note;
 use cli_files::input::LONGEST_INPUT;
 use cli_files::site_folder::{SiteFiles, paths_of};

@@ -1,7 +1,9 @@
 //! Tries connections on loopback: peers connect and write, the desk serves so many connections, one after another, and then what
-//! each peer received and what the desk holds is compared. Replies over memory are in the worked cases over HTTP.
+//! each peer received, what was reported and what the desk holds is compared. Then the command is tried. Replies over memory are
+//! in the worked cases over HTTP.
 #![tactic(auto)]
 
+mod command;
 mod desks;
 mod peers;
 mod trials;
@@ -13,15 +15,24 @@ pub fn try_all(rt: &HostRuntime) -> io::Result<bool> {
     let (mut passed, mut failed) = (0u64, 0u64);
     for trial in &trials::TRIALS {
         let wrong = trials::try_one(rt, trial)?;
-        let (name, wrong) = (trial.name, wrong.as_str());
-        if wrong.is_empty() {
+        if report(rt, trial.name, wrong.as_str())? {
             passed = passed.saturating_add(1);
-            println!(rt; "{name}: passed")?;
         } else {
             failed = failed.saturating_add(1);
-            println!(rt; "{name}: FAILED: {wrong}")?;
         }
     }
     println!(rt; "{passed} passed, {failed} failed")?;
-    Ok(failed == 0)
+    let wrong = command::try_command(rt)?;
+    let is_served = report(rt, "the command, on 127.0.0.1 alone", wrong.as_str())?;
+    Ok(is_served && failed == 0)
+}
+
+/// Prints whether a trial passed, and what is wrong if it failed. Tells whether it passed.
+fn report(rt: &HostRuntime, name: &str, wrong: &str) -> io::Result<bool> {
+    if wrong.is_empty() {
+        println!(rt; "{name}: passed")?;
+    } else {
+        println!(rt; "{name}: FAILED: {wrong}")?;
+    }
+    Ok(wrong.is_empty())
 }

@@ -8,9 +8,9 @@ use desk_index::Index;
 use desk_policy::{PolicyView, Site};
 use desk_store::Desk;
 use sqlite::{Alter, MemStore};
-use std::io;
+use std::alloc::AllocError;
 use std::net::{Ipv4Addr, SocketAddr, TcpListener, TcpStream};
-use std::time::Duration;
+use std::{io, str};
 
 /// An edit.
 const EDIT: &[u8] =
@@ -82,8 +82,35 @@ const BODY_CUT: &[u8] =
     connection: close\r\n\r\n\
     {\"error\":\"BodyCut\",\"number\":105}";
 
-/// Peers that connect one after another, how many connections are served then, with a limit of so many milliseconds, and what the
-/// desk holds afterwards. An accept waits for a peer, or fails if there is none.
+/// An edit with a wrong key, twice, and one by a caller who is not listed. A refusal does not close.
+const WRONG_KEYS: &[u8] =
+    b"PUT /v1/file?name=hosts&base=1 HTTP/1.1\r\nX-Custodian: site\r\nX-Key: abd\r\nContent-Length: 20\r\n\r\n\
+    127.0.0.1 localhost\n\
+    PUT /v1/file?name=hosts&base=1 HTTP/1.1\r\nX-Custodian: site\r\nX-Key: abe\r\nContent-Length: 20\r\n\r\n\
+    127.0.0.1 localhost\n\
+    PUT /v1/file?name=hosts&base=1 HTTP/1.1\r\nX-Custodian: eve\r\nX-Key: abc\r\nContent-Length: 20\r\n\r\n\
+    127.0.0.1 localhost\n";
+
+/// Their replies.
+const WRONG_KEY_REPLIES: &[u8] =
+    b"HTTP/1.1 403 Forbidden\r\ncontent-type: application/json\r\ncontent-length: 29\r\n\r\n\
+    {\"error\":\"BadKey\",\"number\":2}\
+    HTTP/1.1 403 Forbidden\r\ncontent-type: application/json\r\ncontent-length: 29\r\n\r\n\
+    {\"error\":\"BadKey\",\"number\":2}\
+    HTTP/1.1 403 Forbidden\r\ncontent-type: application/json\r\ncontent-length: 36\r\n\r\n\
+    {\"error\":\"UnknownCaller\",\"number\":1}";
+
+/// One edit with a wrong key, and its reply.
+const WRONG_KEY: &[u8] =
+    b"PUT /v1/file?name=hosts&base=1 HTTP/1.1\r\nX-Custodian: site\r\nX-Key: abd\r\nContent-Length: 20\r\n\r\n\
+    127.0.0.1 localhost\n";
+
+const BAD_KEY: &[u8] =
+    b"HTTP/1.1 403 Forbidden\r\ncontent-type: application/json\r\ncontent-length: 29\r\n\r\n\
+    {\"error\":\"BadKey\",\"number\":2}";
+
+/// Peers that connect one after another, how many connections are served then, with a limit of so many milliseconds, and what is
+/// reported and what the desk holds afterwards. An accept waits for a peer, or fails if there is none.
 #[derive(Clone, Copy)]
 pub struct Trial {
     pub name: &'static str,
@@ -91,6 +118,7 @@ pub struct Trial {
     connections: u32,
     limit: u64,
     waits: bool,
+    reports: &'static str,
     holds: &'static str,
 }
 
@@ -119,7 +147,7 @@ const ONE_EDIT: Peer = Peer {
 };
 
 /// One that asks for the revisions before the edit, and one that asks afterwards.
-const ASKS_FIRST: Peer = Peer {
+pub const ASKS_FIRST: Peer = Peer {
     sends: QUESTION,
     filler: 0,
     then: Then::EndsWriting,
@@ -186,16 +214,50 @@ const WAITS_IN_HEAD: Peer = Peer {
     receives: Receives::Whole(b""),
 };
 
-/// How many milliseconds a read or a write may wait, mostly.
+/// One that asks, and then keeps its connection open without a byte, and one that never sends any.
+const STAYS: Peer = Peer {
+    sends: QUESTION,
+    filler: 0,
+    then: Then::Waits,
+    receives: Receives::Whole(ONE_REVISION),
+};
+
+const SAYS_NOTHING: Peer = Peer {
+    sends: b"",
+    filler: 0,
+    then: Then::Waits,
+    receives: Receives::Whole(b""),
+};
+
+/// One with three edits that are refused, and one with a single one.
+const TRIES_KEYS: Peer = Peer {
+    sends: WRONG_KEYS,
+    filler: 0,
+    then: Then::EndsWriting,
+    receives: Receives::Whole(WRONG_KEY_REPLIES),
+};
+
+const TRIES_A_KEY: Peer = Peer {
+    sends: WRONG_KEY,
+    filler: 0,
+    then: Then::EndsWriting,
+    receives: Receives::Whole(BAD_KEY),
+};
+
+/// How many milliseconds a message may take, mostly.
 const LIMIT: u64 = 30_000;
 
-pub const TRIALS: [Trial; 9] = [
+/// More than a program of the gate may take: with this limit nobody is served behind a connection that does not make room.
+const LONG_LIMIT: u64 = 600_000;
+
+pub const TRIALS: [Trial; 13] = [
     Trial {
         name: "three edits, of which the last closes",
         peers: &[CLOSED_BY_DESK],
         connections: 1,
         limit: LIMIT,
         waits: true,
+        reports: "",
         holds: EDITED,
     },
     Trial {
@@ -204,6 +266,7 @@ pub const TRIALS: [Trial; 9] = [
         connections: 2,
         limit: LIMIT,
         waits: true,
+        reports: "",
         holds: EDITED,
     },
     Trial {
@@ -212,6 +275,7 @@ pub const TRIALS: [Trial; 9] = [
         connections: 2,
         limit: LIMIT,
         waits: true,
+        reports: "",
         holds: EDITED,
     },
     Trial {
@@ -220,6 +284,7 @@ pub const TRIALS: [Trial; 9] = [
         connections: 2,
         limit: LIMIT,
         waits: true,
+        reports: "",
         holds: EDITED,
     },
     Trial {
@@ -228,6 +293,7 @@ pub const TRIALS: [Trial; 9] = [
         connections: 2,
         limit: LIMIT,
         waits: true,
+        reports: "",
         holds: AS_MADE,
     },
     Trial {
@@ -236,6 +302,7 @@ pub const TRIALS: [Trial; 9] = [
         connections: 2,
         limit: LIMIT,
         waits: true,
+        reports: "",
         holds: AS_MADE,
     },
     Trial {
@@ -244,7 +311,44 @@ pub const TRIALS: [Trial; 9] = [
         connections: 2,
         limit: 200,
         waits: true,
+        reports: "",
         holds: EDITED,
+    },
+    Trial {
+        name: "a peer that stays after its reply, and one behind it",
+        peers: &[STAYS, EDITOR],
+        connections: 2,
+        limit: LONG_LIMIT,
+        waits: true,
+        reports: "",
+        holds: EDITED,
+    },
+    Trial {
+        name: "a peer that says nothing, one that stays, and one behind them",
+        peers: &[SAYS_NOTHING, STAYS, EDITOR],
+        connections: 3,
+        limit: LONG_LIMIT,
+        waits: true,
+        reports: "",
+        holds: EDITED,
+    },
+    Trial {
+        name: "two peers that stay, and a third that is not served",
+        peers: &[STAYS, STAYS, NOT_SERVED],
+        connections: 2,
+        limit: 200,
+        waits: true,
+        reports: "",
+        holds: AS_MADE,
+    },
+    Trial {
+        name: "edits with wrong keys, a question, and one such edit more",
+        peers: &[TRIES_KEYS, ASKS_FIRST, TRIES_A_KEY],
+        connections: 3,
+        limit: LIMIT,
+        waits: true,
+        reports: "exportdesk: 3 edits refused\nexportdesk: 1 edit refused\n",
+        holds: AS_MADE,
     },
     Trial {
         name: "no connection",
@@ -252,6 +356,7 @@ pub const TRIALS: [Trial; 9] = [
         connections: 0,
         limit: LIMIT,
         waits: true,
+        reports: "",
         holds: AS_MADE,
     },
     Trial {
@@ -260,6 +365,7 @@ pub const TRIALS: [Trial; 9] = [
         connections: 3,
         limit: LIMIT,
         waits: false,
+        reports: "",
         holds: AS_MADE,
     },
 ];
@@ -293,7 +399,7 @@ fn try_peers<S: Alter + Drop, V: PolicyView + Drop>(
     desk: &mut Desk<S, V>,
     wrong: &mut String,
 ) -> io::Result<()> {
-    let mut streams = served(rt, trial, desk)?;
+    let mut streams = served(rt, trial, desk, wrong)?;
     for (peer, stream) in trial.peers.iter().zip(streams.iter_mut()) {
         if let Some(stream) = stream {
             check_peer(rt.alloc(), peer, stream, wrong)?;
@@ -307,18 +413,37 @@ fn try_peers<S: Alter + Drop, V: PolicyView + Drop>(
     Ok(())
 }
 
-/// Has the peers of a trial connect and write, and serves so many connections. Returns the connections that the peers keep.
+/// Has the peers of a trial connect and write, and serves so many connections. Returns the connections that the peers keep, and
+/// adds what is wrong with what is reported.
 fn served<S: Alter + Drop, V: PolicyView + Drop>(
     rt: &HostRuntime,
     trial: &Trial,
     desk: &mut Desk<S, V>,
+    wrong: &mut String,
 ) -> io::Result<Vec<Option<TcpStream>>> {
     let listener = TcpListener::bind(rt, SocketAddr::from((Ipv4Addr::LOCALHOST, 0)))?;
     listener.set_nonblocking(!trial.waits)?;
     let streams = connected(rt, listener.local_addr()?, trial.peers)?;
-    let limit = Duration::from_millis(trial.limit);
-    serve_on(rt, desk, &listener, trial.connections, Some(limit));
+    let mut err = Vec::new(rt.alloc());
+    serve_on(
+        rt,
+        desk,
+        &listener,
+        trial.connections,
+        trial.limit,
+        &mut err,
+    );
+    check_reports(trial, err.as_slice(), wrong)?;
     Ok(streams)
+}
+
+/// Compares what is reported in a trial with what is wanted. Adds what differs.
+fn check_reports(trial: &Trial, err: &[u8], wrong: &mut String) -> Result<(), AllocError> {
+    if err == trial.reports.as_bytes() {
+        return Ok(());
+    }
+    let text = str::from_utf8(err).unwrap_or("bytes that are not UTF-8");
+    write!(wrong, "standard error gets {text:?}\n")
 }
 
 /// Connects these peers, one after another, and has each write.

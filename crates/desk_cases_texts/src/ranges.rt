@@ -5,10 +5,11 @@ use crate::answers::{Asked, say};
 use crate::indexes::add_by_keys;
 use crate::listings::say_lines;
 use crate::site::{Before, InForce, Site};
+use desk_impact::{impact, impact_text, those_that_matter};
 use desk_index::Index;
 use desk_policy::{Plain, PolicyView};
 use desk_text::Path;
-use desk_who::{impact, impact_text, those_that_matter, who, who_text};
+use desk_who::{who, who_text};
 use std::alloc::Global;
 
 /// Answers a question on ranges of addresses.

@@ -1,6 +1,3 @@
-pub mod FoundFaults
-pub mod FoundSlices
 pub mod HintLemmas
 pub mod ShownTextLemmas
 pub mod ToldFindings
-pub mod PlacedWords

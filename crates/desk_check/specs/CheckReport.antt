@@ -2,13 +2,13 @@
 use Rattle.std.specs.Prelude.{◌≡◌, ℕ, ◌==◌, Bool, List, length, not, if◌then◌else◌}
 use Rattle.std.specs.List.{list_any}
 use Rattle.std.specs.String.{string_bytes}
-use Rattle.desk_check.specs.Finding.{is_fault}
+use Rattle.desk_findings.specs.Finding.{is_fault}
+use Rattle.desk_findings.specs.declared.check_text.Gathered.{Gathered}
+use Rattle.desk_findings.specs.declared.finding.Finding.{Finding}
 use Rattle.desk_check.specs.FindingJson.{findings_json}
 use Rattle.desk_check.specs.FindingPrints.{findings_text}
 use Rattle.desk_check.specs.declared.check_report.CheckForm.{CheckForm}
 use Rattle.desk_check.specs.declared.check_report.Checked.{Checked}
-use Rattle.desk_check.specs.declared.check_text.Gathered.{Gathered}
-use Rattle.desk_check.specs.declared.finding.Finding.{Finding}
 
 -- texts pass without a fault; strictly without any finding
 abbrev pub passes : Bool → List Finding → Bool

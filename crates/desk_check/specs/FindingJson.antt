@@ -9,11 +9,11 @@ use Rattle.serde_json.specs.Written.{compact_text}
 use Rattle.desk_text.specs.Address as addresses
 use Rattle.desk_text.specs.Address.{addr_text}
 use Rattle.desk_text.specs.declared.address.Addr.{Addr}
-use Rattle.desk_check.specs.Finding.{kind_word, line_at, name_of, number_of, slice_at}
+use Rattle.desk_findings.specs.Finding.{kind_word, line_at, name_of, number_of, slice_at}
+use Rattle.desk_findings.specs.declared.finding.Finding.{Finding}
+use Rattle.desk_findings.specs.declared.finding.Matter.{Matter}
+use Rattle.desk_findings.specs.declared.finding.Matter.TheVariants as matter
 use Rattle.desk_check.specs.FindingPrints.{message}
-use Rattle.desk_check.specs.declared.finding.Finding.{Finding}
-use Rattle.desk_check.specs.declared.finding.Matter.{Matter}
-use Rattle.desk_check.specs.declared.finding.Matter.TheVariants as matter
 
 -- the earlier line, and the address of a contradiction
 abbrev pub other_of : Matter → Option ℕ

@@ -9,13 +9,13 @@ use Rattle.desk_text.specs.Address.{addr_text}
 use Rattle.desk_text.specs.declared.place.Place.{Place}
 use Rattle.desk_policy.specs.SiteFault.{rule_sentence}
 use Rattle.desk_policy.specs.Warning.{kind_sentence}
-use Rattle.desk_check.specs.Finding.{is_fault, kind_word, line_at, name_of, number_of, slice_at}
+use Rattle.desk_findings.specs.Finding.{is_fault, kind_word, line_at, name_of, number_of, slice_at}
+use Rattle.desk_findings.specs.declared.finding.Finding.{Finding}
+use Rattle.desk_findings.specs.declared.finding.Matter.{Matter}
+use Rattle.desk_findings.specs.declared.finding.Matter.TheVariants as matter
 use Rattle.desk_check.specs.Hints.{hint}
 use Rattle.desk_check.specs.ShownText.{blanks, carets, shown_line, shown_text}
-use Rattle.desk_check.specs.declared.finding.Finding.{Finding}
 use Rattle.desk_check.specs.declared.finding_prints.Excerpt.{Excerpt}
-use Rattle.desk_check.specs.declared.finding.Matter.{Matter}
-use Rattle.desk_check.specs.declared.finding.Matter.TheVariants as matter
 
 -- what the sentence is about: the slice in quotes, or the file as a whole
 abbrev pub subject : List ℕ → Option Place → List ℕ

@@ -15,8 +15,8 @@ use Rattle.desk_policy.specs.declared.site_fault.SiteRule.{SiteRule}
 use Rattle.desk_policy.specs.declared.site_fault.SiteRule.TheVariants as rule
 use Rattle.desk_policy.specs.declared.warning.WarningKind.{WarningKind}
 use Rattle.desk_policy.specs.declared.warning.WarningKind.TheVariants as kind
-use Rattle.desk_check.specs.declared.finding.Matter.{Matter}
-use Rattle.desk_check.specs.declared.finding.Matter.TheVariants as matter
+use Rattle.desk_findings.specs.declared.finding.Matter.{Matter}
+use Rattle.desk_findings.specs.declared.finding.Matter.TheVariants as matter
 
 -- options of Linux that have no counterpart
 abbrev pub names_without_counterpart : List (List ℕ)

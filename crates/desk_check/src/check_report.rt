@@ -1,13 +1,12 @@
 //! What `check` prints of what it finds, and whether the texts pass.
 
 ghost use Rattle.std.specs.Prelude.{◌≡◌, IfOk};
+ghost use Rattle.desk_findings.specs.Finding.{HaveSlices};
 ghost use Rattle.desk_check.specs.CheckReport.{Reports, passes};
-ghost use Rattle.desk_check.specs.Finding.{HaveSlices};
 
-use crate::check_text::Gathered;
-use crate::finding::{Finding, has_fault};
 use crate::finding_json::findings_json;
 use crate::finding_prints::findings_text;
+use desk_findings::{Finding, Gathered, has_fault};
 use std::alloc::{AllocError, Global};
 
 /// How findings are printed, and when texts pass.

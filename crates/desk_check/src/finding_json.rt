@@ -9,13 +9,13 @@ ghost use Rattle.std.specs.String.{string_bytes};
 ghost use Rattle.serde_json.specs.Data.{number, object, put as put_member, string, unsigned};
 ghost use Rattle.serde_json.specs.View.{members_view, view};
 ghost use Rattle.serde_json.specs.Written.{compact_text};
-ghost use Rattle.desk_check.specs.Finding.{HasSlice, HaveSlices};
+ghost use Rattle.desk_findings.specs.Finding.{HasSlice, HaveSlices};
 ghost use Rattle.desk_check.specs.FindingJson as spec;
 ghost use Rattle.desk_check.specs.FindingPrints.{message};
 ghost use Rattle.desk_check.specs.PrivateFindingJson.{put_address, put_other};
 
-use crate::finding::{Finding, Matter};
 use crate::finding_prints::push_message;
+use desk_findings::{Finding, Matter};
 use serde_json::{Map, Value, put};
 use std::alloc::{AllocError, Global};
 
@@ -148,7 +148,7 @@ fn add_message(
 }
 
 /// Adds a member that is a text.
-fn add_text(
+pub fn add_text(
     alloc: Global,
     key: &str,
     text: &str,
@@ -161,7 +161,7 @@ fn add_text(
 }
 
 /// Adds a member that is a number.
-fn add_number(
+pub fn add_number(
     alloc: Global,
     key: &str,
     value: usize,
@@ -173,7 +173,7 @@ fn add_number(
 }
 
 /// Adds JSON, with each control character by its code.
-fn push_json(json: &str, text: &mut String) -> Result<(), AllocError>
+pub fn push_json(json: &str, text: &mut String) -> Result<(), AllocError>
     ensures { OnOk result (string_bytes text.new ≡ string_bytes text.old ++ flat_map spec.shown_in_json (chars json.now)) }
 {
     for c in json.chars() {

@@ -6,13 +6,13 @@ ghost use Rattle.std.specs.Option.{option_map};
 ghost use Rattle.std.specs.Str.{IsCharBoundary};
 ghost use Rattle.std.specs.String.{string_bytes};
 ghost use Rattle.desk_text.specs.Place.{LiesWithin};
-ghost use Rattle.desk_check.specs.Finding.{HasSlice, HaveSlices};
+ghost use Rattle.desk_findings.specs.Finding.{HasSlice, HaveSlices};
 ghost use Rattle.desk_check.specs.FindingPrints.{IsAround};
 ghost use Rattle.desk_check.specs.FindingPrints as spec;
 
-use crate::finding::{Finding, Matter};
 use crate::hints::hint;
 use crate::shown_text::{push_blanks, push_carets, push_shown, push_shown_line};
+use desk_findings::{Finding, Matter};
 use desk_text::Place;
 use std::alloc::{AllocError, Global};
 
@@ -169,7 +169,7 @@ fn push_hint(hint: Option<&str>, text: &mut String) -> Result<(), AllocError>
 }
 
 /// Adds a line of a file, or what is shown of a long one, and a line of carets under this slice of it.
-fn push_marked_line(source: &str, place: Place, text: &mut String) -> Result<(), AllocError>
+pub fn push_marked_line(source: &str, place: Place, text: &mut String) -> Result<(), AllocError>
     requires { LiesWithin source.now place }
     ensures { OnOk result (string_bytes text.new ≡ string_bytes text.old ++ spec.marked_line source.now (Some place)) }
 {

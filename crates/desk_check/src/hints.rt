@@ -9,8 +9,8 @@ ghost use Rattle.desk_exports.specs.Grammar.{after_dash, option_name};
 ghost use Rattle.desk_exports.specs.Options.{is_name_among};
 ghost use Rattle.desk_check.specs.Hints as spec;
 
-use crate::finding::Matter;
 use desk_exports::{Keyword, Rule};
+use desk_findings::Matter;
 use desk_policy::{SiteRule, WarningKind};
 use desk_tables::TableRule;
 use desk_text::Addr;

@@ -14,7 +14,7 @@ use Rattle.desk_impact.specs.Sections.{AreBreachesIn, NoSectionIsAllKept, PlaceB
 use Rattle.desk_expect.specs.Action.{is_allowed_by}
 use Rattle.desk_expect.specs.Audience.{contains}
 use Rattle.desk_expect.specs.Expectation.{Holds, IsExpectationOf, Promise, is_against, is_broken_at, is_in, is_in_some}
-use Rattle.desk_expect.specs.Laws.{NoneBrokenIsAllHold, UnreportedLinesHold}
+use Rattle.desk_expect.specs.Laws.{NoBrokenIsAllHold, NoneBrokenIsAllHold, UnreportedLinesHold}
 use Rattle.desk_expect.specs.Reading.{AreExpectationsOf}
 use Rattle.desk_expect.specs.Report.{IsTestOf, is_broken}
 use Rattle.desk_expect.specs.ReportText.{BrokenValue}
@@ -113,12 +113,12 @@ empty_of one none = nil_from_length one.sections (eqb-true (length one.sections)
 none_of : (one : BrokenValue) → one.sections ≡ [] → is_broken one ≡ false
 none_of one empty = ap (λ (sections : List PlaceBreaches). is_broken (record { expectation = one.expectation; sections = sections })) empty
 
-no_broken : (found : List BrokenValue) → filter is_broken found ≡ [] → AllByRecursion (λ one. is_broken one ≡ false) found
-no_broken [] none = tt
-no_broken (one ∷ found) none =
+none_is_broken : (found : List BrokenValue) → filter is_broken found ≡ [] → AllByRecursion (λ one. is_broken one ≡ false) found
+none_is_broken [] none = tt
+none_is_broken (one ∷ found) none =
     elim (cases_Bool (is_broken one)) as (λ _. AllByRecursion (λ (other : BrokenValue). is_broken other ≡ false) (one ∷ found)) [
       | inl is ↦ absurd (some (sym (ap (λ b. cond b (one ∷ filter is_broken found) (filter is_broken found)) is) ∙ none))
-      | inr kept ↦ (kept, no_broken found (sym (ap (λ b. cond b (one ∷ filter is_broken found) (filter is_broken found)) kept) ∙ none))
+      | inr kept ↦ (kept, none_is_broken found (sym (ap (λ b. cond b (one ∷ filter is_broken found) (filter is_broken found)) kept) ∙ none))
     ]
   where
     some : one ∷ filter is_broken found ≡ [] → ⊥
@@ -149,12 +149,19 @@ module _ (law : UnreportedLinesHold) (netgroups : List GroupLine) (hosts : List 
     none_reported promises found of.1 tested.1 hold.1,
   )
 
-pub none_broken : UnreportedLinesHold → NoneBrokenIsAllHold
+pub no_broken : UnreportedLinesHold → NoBrokenIsAllHold
+no_broken law netgroups hosts text promises expectations content broken read of are =
+    let found = are.found in
+    let own : AreExpectationsOf netgroups hosts promises (map (λ (one : BrokenValue). one.expectation) found) = subst (AreExpectationsOf netgroups hosts promises) (sym are.expectations_are) of in
+    let tested = recursion_from_All (IsTestOf content) found are.each in (
+      λ none. All-from_recursion (Holds netgroups hosts content) promises
+          (each_holds law netgroups hosts content promises found own tested (none_is_broken found (sym are.are ∙ none))),
+      λ hold. are.are ∙ all_kept found (none_reported law netgroups hosts content promises found own tested (recursion_from_All (Holds netgroups hosts content) promises hold)),
+    )
+
+pub none_broken : NoBrokenIsAllHold → NoneBrokenIsAllHold
 none_broken law netgroups hosts text promises expectations content file report read of is =
-    let found = is.are.found in
-    let own : AreExpectationsOf netgroups hosts promises (map (λ (one : BrokenValue). one.expectation) found) = subst (AreExpectationsOf netgroups hosts promises) (sym is.are.expectations_are) of in
-    let tested = recursion_from_All (IsTestOf content) found is.are.each in (
-      λ zero. All-from_recursion (Holds netgroups hosts content) promises
-          (each_holds law netgroups hosts content promises found own tested (no_broken found (sym is.are.are ∙ nil_from_length is.broken (sym is.count ∙ zero)))),
-      λ hold. is.count ∙ ap length (is.are.are ∙ all_kept found (none_reported law netgroups hosts content promises found own tested (recursion_from_All (Holds netgroups hosts content) promises hold))),
+    let either = law netgroups hosts text promises expectations content is.broken read of is.are in (
+      λ zero. either.0 (nil_from_length is.broken (sym is.count ∙ zero)),
+      λ hold. is.count ∙ ap length (either.1 hold),
     )

@@ -6,7 +6,8 @@ use Rattle.desk_policy.specs.Policy.{Content}
 use Rattle.desk_impact.specs.Sections.{PlaceBreaches}
 use Rattle.desk_expect.specs.Expectation.{Holds, IsExpectationOf, Promise}
 use Rattle.desk_expect.specs.Reading.{AreExpectationsOf, read_promises}
-use Rattle.desk_expect.specs.Report.{IsTestReport, IsTested}
+use Rattle.desk_expect.specs.Report.{AreBroken, IsTestReport, IsTested}
+use Rattle.desk_expect.specs.ReportText.{BrokenValue}
 use Rattle.desk_expect.specs.declared.expectation.Expectation.{Expectation}
 use Rattle.desk_expect.specs.declared.report.TestReport.{TestReport}
 
@@ -16,6 +17,13 @@ UnreportedLinesHold =
     (netgroups : List GroupLine) (hosts : List HostRow) (content : Content) (promise : Promise) (expectation : Expectation) (sections : List PlaceBreaches)
     → IsExpectationOf netgroups hosts promise expectation → IsTested content expectation sections
     → (sections ≡ []) ↔ Holds netgroups hosts content promise
+
+-- None of the expectations of a text is broken exactly if each line of the text holds.
+abbrev pub NoBrokenIsAllHold : Type 0
+NoBrokenIsAllHold =
+    (netgroups : List GroupLine) (hosts : List HostRow) (text : List ℕ) (promises : List Promise) (expectations : List Expectation) (content : Content) (broken : List BrokenValue)
+    → read_promises netgroups hosts text ≡ Ok promises → AreExpectationsOf netgroups hosts promises expectations → AreBroken content expectations broken
+    → (broken ≡ []) ↔ All (Holds netgroups hosts content) promises
 
 -- A report of the expectations of a text counts none as broken exactly if each line of the text holds.
 abbrev pub NoneBrokenIsAllHold : Type 0

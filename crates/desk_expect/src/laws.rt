@@ -1,6 +1,6 @@
 //! What the definitions of this crate keep, each as a function that does nothing.
 
-ghost use Rattle.desk_expect.specs.Laws.{NoneBrokenIsAllHold, UnreportedLinesHold};
+ghost use Rattle.desk_expect.specs.Laws.{NoBrokenIsAllHold, NoneBrokenIsAllHold, UnreportedLinesHold};
 ghost use Rattle.desk_expect.specs.Outside.{OutsideIsDenied};
 
 use desk_impact::no_section_is_all_kept;
@@ -12,11 +12,18 @@ pub fn unreported_lines_hold()
     no_section_is_all_kept();
 }
 
+/// None of the expectations of a text is broken exactly if each of its lines holds.
+pub fn no_broken_is_all_hold()
+    ensures { NoBrokenIsAllHold }
+{
+    unreported_lines_hold();
+}
+
 /// A report counts no expectation as broken exactly if each line of their text holds.
 pub fn none_broken_is_all_hold()
     ensures { NoneBrokenIsAllHold }
 {
-    unreported_lines_hold();
+    no_broken_is_all_hold();
 }
 
 /// A directory of which neither it nor anything below it is in a file system is denied to everybody, and all below it.

@@ -34,7 +34,9 @@ pub mod spans;
 pub use action::Action;
 pub use audience::Audience;
 pub use expectation::Expectation;
-pub use laws::{none_broken_is_all_hold, outside_is_denied, unreported_lines_hold};
+pub use laws::{
+    no_broken_is_all_hold, none_broken_is_all_hold, outside_is_denied, unreported_lines_hold,
+};
 pub use outside::{Outside, find_outside, outside_text};
 pub use reading::read_expectations;
 pub use report::{Broken, TestReport, find_broken, test_report};

@@ -1,12 +1,14 @@
 -- The reply to an edit, by what a desk answered.
-use Rattle.std.proofs.Common.{◌≡◌, ◌⊎◌, ◌+◌, ◌++◌, ℕ, Bool, true, false, IfOk, List, Option, OnErr, Result, Ok, Err, Some, [], ap, ◌∙◌, append-nil, arith, inl, inr, refl, subst, sym}
+use Rattle.std.proofs.Common.{◌≡◌, ◌⊎◌, ◌+◌, ◌++◌, ◌∷◌, ℕ, Bool, true, false, IfOk, List, None, Option, OnErr, Result, Ok, Err, Some, [], ap, ◌∙◌, append-nil, arith, inl, inr, refl, subst, sym}
 use Rattle.std.specs.Prelude.{if◌then◌else◌}
 use Rattle.sqlite.specs.Held.{state}
 use Rattle.sqlite_trees.specs.declared.store.Store.{Ghosts}
 use Rattle.desk_core.specs.Edit.{Answer, Edit, Proposed, Refused, Stored}
 use Rattle.desk_core.specs.History.{IsAnswered, added_if, standing_of}
+use Rattle.desk_core.specs.Judging.{Answers, answer_of, entry_of, first_case}
 use Rattle.desk_core.specs.Standing.{Standing}
-use Rattle.desk_core.specs.State.{again}
+use Rattle.desk_core.specs.State.{again, standing}
+use Rattle.desk_core.specs.declared.edit.Refusal.{Refusal}
 use Rattle.desk_store.specs.Desk.{HasGoodDisk, IsEdited, Shown, StandsAt, answer_told, pending_after, told}
 use Rattle.desk_store.specs.Rows.{IsOfTask}
 use Rattle.desk_store.specs.declared.desk.Done.{Done}
@@ -18,8 +20,7 @@ use Rattle.desk_service.specs.Refused.{refused_by}
 use Rattle.desk_service.specs.declared.edits.Replies.{Replies}
 use Rattle.desk_http_messages.specs.Replies.{Reply, memory_reply, print_reply}
 use Rattle.desk_http.specs.Edits.{answer_reply}
-use Rattle.desk_http.specs.Questions.{store_reply}
-use Rattle.desk_http.specs.Replies.{refused_reply}
+use Rattle.desk_http.specs.Replies.{refused_reply, store_reply}
 use Rattle.desk_http.specs.PrivateAnswering.{AreReplies, EditAnswered, Gives, GivesText}
 
 -- the reply where a look at the tables failed, which were asked
@@ -53,25 +54,36 @@ module _ {S V : Type 0} (g : Ghosts S) (old new : Shown S V) (e : Edit) where
     step = λ clean history pending at.
         let it = edited.step clean history pending at in
         let right : IsAnswered history e (Some answer) = subst (IsAnswered history e) is it.answered in (
-          history ++ added_if (standing_of history) e (told result),
-          pending_after pending (standing_of history) e (told result),
-          inl (answer, right, ap (λ (a : Option Answer). history ++ added_if (standing_of history) e a) is, refl),
-          it.stands,
+          record { edit = e; answer = Some answer } ∷ [],
+          inl (answer, right, refl, refl),
+          subst (λ (a : Option Answer). StandsAt g new (history ++ added_if (standing_of history) e a) (pending_after pending (standing_of history) e a)) is it.stands,
         );
   }
 
-  -- an edit that added nothing, and is not replied by its answer
-  nothing_added : (result : Result Done DeskError) (reply : Reply) → ((standing : Standing) → added_if standing e (told result) ≡ []) → ((reply ≡ memory_reply) ⊎ (reply ≡ store_reply)) → Edited result → Replied reply
-  nothing_added result reply none which edited = record {
+  -- the replies to one that has none, whatever the standing that is its history's
+  abbrev MayReply : Standing → Reply → Type 0
+  MayReply s reply = (reply ≡ memory_reply) ⊎ ((reply ≡ store_reply) × Answers s e (answer_of (entry_of s e)))
+
+  -- an edit that has none
+  unanswered : (result : Result Done DeskError) (reply : Reply) → told result ≡ None → MayReply (standing old.state) reply → Edited result → Replied reply
+  unanswered result reply is may edited = record {
     disk = λ clean. omega (arith, clean, edited.crash.clean);
-    step = λ clean history pending at.
-        let it = edited.step clean history pending at in
-        let same : history ++ added_if (standing_of history) e (told result) ≡ history = ap (λ l. history ++ l) (none (standing_of history)) ∙ append-nil history in (
-          history,
-          pending_after pending (standing_of history) e (told result),
-          inr (which, refl),
-          subst (λ h. StandsAt g new h (pending_after pending (standing_of history) e (told result))) same it.stands,
-        );
+    step = λ clean history pending at. let it = edited.step clean history pending at in (
+      record { edit = e; answer = None } ∷ [],
+      inr (inr (subst (λ (s : Standing). (first_case s e ≡ None) × MayReply s reply) at.standing_is (edited.unanswered is, may), refl)),
+      subst (λ (a : Option Answer). StandsAt g new (history ++ added_if (standing_of history) e a) (pending_after pending (standing_of history) e a)) is it.stands,
+    );
+  }
+
+  -- an edit that is refused, and for whose reply there is no memory
+  refused_untold : (why : Refusal) → Edited (Err (error.Refused why)) → Replied memory_reply
+  refused_untold why edited = record {
+    disk = λ clean. omega (arith, clean, edited.crash.clean);
+    step = λ clean history pending at. let it = edited.step clean history pending at in (
+      [],
+      inr (inl (refl, refl)),
+      subst (λ h. StandsAt g new h pending) (append-nil history) it.stands,
+    );
   }
 
   -- an edit that is stored or proposed, or was
@@ -92,15 +104,15 @@ module _ {S V : Type 0} (g : Ghosts S) (old new : Shown S V) (e : Edit) where
 
   failed_gives : (failed : DeskError) → Edited (Err failed) → Replied (refused_reply (refused_by failed))
   failed_gives (error.Refused why) edited = answered (Err (error.Refused why)) (Refused why) refl edited
-  failed_gives (error.Store fault) edited = nothing_added (Err (error.Store fault)) store_reply (λ standing. refl) (inr refl) edited
+  failed_gives (error.Store fault) edited = unanswered (Err (error.Store fault)) store_reply refl (inr (refl, edited.judged.answers)) edited
   failed_gives error.Schema edited = absurd (edited.schema refl)
-  failed_gives error.Memory edited = nothing_added (Err error.Memory) memory_reply (λ standing. refl) (inl refl) edited
+  failed_gives error.Memory edited = unanswered (Err error.Memory) memory_reply refl (inl refl) edited
 
   memory_gives : (failed : DeskError) → Edited (Err failed) → Replied memory_reply
-  memory_gives (error.Refused why) edited = nothing_added (Err (error.Refused why)) memory_reply (λ standing. refl) (inl refl) edited
-  memory_gives (error.Store fault) edited = nothing_added (Err (error.Store fault)) memory_reply (λ standing. refl) (inl refl) edited
+  memory_gives (error.Refused why) edited = refused_untold why edited
+  memory_gives (error.Store fault) edited = unanswered (Err (error.Store fault)) memory_reply refl (inl refl) edited
   memory_gives error.Schema edited = absurd (edited.schema refl)
-  memory_gives error.Memory edited = nothing_added (Err error.Memory) memory_reply (λ standing. refl) (inl refl) edited
+  memory_gives error.Memory edited = unanswered (Err error.Memory) memory_reply refl (inl refl) edited
 
   pub failed_text : {T V E : Type 0} (items : V → List ℕ) (r : Result V E) (replies : Replies T) (failed : DeskError) (ends : Bool) → PutsBy g old new e replies (Err failed)
       → IfOk r (λ text. items text ≡ print_reply ends (refused_reply (refused_by failed))) → IfOk r (λ text. GivesText (HasGoodDisk g) (StandsAt g) (EditAnswered e) ends old (items text) new)

@@ -14,10 +14,12 @@ use Rattle.desk_http_messages.specs.declared.requests.Served.{Served}
 use Rattle.desk_http_messages.specs.Head.{ends_stream}
 use Rattle.desk_http_messages.specs.Stream.{Message, IsMessage, print_message, Splits, GoesOn, ClosesAfter, HasFault, HasNoHead, EndsSo, IsOpen, IsUnfaulted, IsUnfinished}
 use Rattle.desk_http_messages.specs.Front.{IsMessageAt}
-use Rattle.desk_store.specs.Desk.{History}
+use Rattle.desk_core.specs.History.{Exchange, history_after, history_through, standing_of}
+use Rattle.desk_store.specs.Desk.{History, pending_after}
+use Rattle.desk_store.specs.Laws.{pending_through}
 use Rattle.desk_http_messages.specs.Asked.{asked_by}
 use Rattle.desk_http_messages.specs.Replies.{Reply, print_reply, fault_reply, joined}
-use Rattle.desk_http.specs.Answering.{Answered, Replies, Serves}
+use Rattle.desk_http.specs.Answering.{Answered, ArePrinted, Replies, Serves}
 use Rattle.desk_http.specs.Serving.{IsReplyTo, AnswersAll, AnswersBefore, AnswersInPart, CutReply, SessionOf}
 use Rattle.desk_http.specs.PrivateAnswering.{AnswersAsked, AnswersMessage}
 use Rattle.desk_http.specs.PrivateServing.{EndsBy, Refuses}
@@ -33,44 +35,80 @@ printed-push messages m rest =
     ap (λ l. l ++ rest) (flat_map-append print_message messages (m ∷ []) ∙ ap (λ l. flat_map print_message messages ++ l) (append-nil (print_message m)))
     ∙ append_assoc (flat_map print_message messages) (print_message m) rest
 
--- replies go on by one
-pub Replies-push : (old mid new : History) (messages : List Message) (texts : List (List ℕ)) (m : Message) (text : List ℕ) (reply : Reply) → Replies old messages texts mid → Answered (asked_by m) mid reply new → text ≡ print_reply (ends_stream m.head) reply → Replies old (messages ++ m ∷ []) (texts ++ text ∷ []) new
-Replies-push old mid new [] [] m text reply run answered is = (new, reply, subst (λ h. Answered (asked_by m) h reply new) run answered, is, refl)
-Replies-push old mid new (k ∷ messages) (t ∷ texts) m text reply run answered is = (run.0, run.1, run.2, run.3, Replies-push run.0 mid new messages texts m text reply run.4 answered is)
-Replies-push old mid new [] (t ∷ texts) m text reply run answered is = absurd run
-Replies-push old mid new (k ∷ messages) [] m text reply run answered is = absurd run
+-- the history after more exchanges
+pub through-append : (history : History) (made more : List Exchange) → history_through history (made ++ more) ≡ history_through (history_through history made) more
+through-append history [] more = refl
+through-append history (x ∷ made) more = through-append (history_after history x) made more
 
 -- replies of two runs, one after the other
-pub Replies-append : (old mid new : History) (messages others : List Message) (texts more : List (List ℕ)) → Replies old messages texts mid → Replies mid others more new → Replies old (messages ++ others) (texts ++ more) new
-Replies-append old mid new [] others [] more run next = subst (λ h. Replies h others more new) run next
-Replies-append old mid new (k ∷ messages) others (t ∷ texts) more run next = (run.0, run.1, run.2, run.3, Replies-append run.0 mid new messages others texts more run.4 next)
-Replies-append old mid new [] others (t ∷ texts) more run next = absurd run
-Replies-append old mid new (k ∷ messages) others [] more run next = absurd run
+pub Replies-append : (old : History) (messages others : List Message) (texts more : List (List ℕ)) (made next : List Exchange) → Replies old messages texts made → Replies (history_through old made) others more next → Replies old (messages ++ others) (texts ++ more) (made ++ next)
+Replies-append old [] others [] more made next run goes =
+    subst (λ (l : List Exchange). Replies old others more (l ++ next)) (sym run) (subst (λ (l : List Exchange). Replies (history_through old l) others more next) run goes)
+Replies-append old (k ∷ messages) others (t ∷ texts) more made next (own, later, reply, answered, is, all, run) goes = (
+  own,
+  later ++ next,
+  reply,
+  answered,
+  is,
+  ap (λ (l : List Exchange). l ++ next) all ∙ append_assoc own later next,
+  Replies-append (history_through old own) messages others texts more later next run
+      (subst (λ (h : History). Replies h others more next) (ap (history_through old) all ∙ through-append old own later) goes),
+)
+Replies-append old [] others (t ∷ texts) more made next run goes = absurd run
+Replies-append old (k ∷ messages) others [] more made next run goes = absurd run
+
+-- one reply
+Replies-one : (old : History) (m : Message) (text : List ℕ) (reply : Reply) (own : List Exchange) → Answered (asked_by m) old reply own → text ≡ print_reply (ends_stream m.head) reply → Replies old (m ∷ []) (text ∷ []) own
+Replies-one old m text reply own answered is = (own, [], reply, answered, is, sym (append-nil own), refl)
+
+-- texts that were printed for two lists of messages
+ArePrinted-append : (messages others : List Message) (texts more : List (List ℕ)) → ArePrinted messages texts → ArePrinted others more → ArePrinted (messages ++ others) (texts ++ more)
+ArePrinted-append [] others [] more printed next = next
+ArePrinted-append (k ∷ messages) others (t ∷ texts) more printed next = (printed.0, ArePrinted-append messages others texts more printed.1 next)
+ArePrinted-append [] others (t ∷ texts) more printed next = absurd printed
+ArePrinted-append (k ∷ messages) others [] more printed next = absurd printed
+
+-- where a desk stands after more exchanges
+stands_after : {S : Type 0} (stands : S → History → History → Type 0) (desk : S) (history pending : History) (made more : List Exchange)
+    → stands desk (history_through (history_through history made) more) (pending_through (history_through history made) (pending_through history pending made) more)
+    → stands desk (history_through history (made ++ more)) (pending_through history pending (made ++ more))
+stands_after stands desk history pending [] more at = at
+stands_after stands desk history pending (x ∷ made) more at =
+    stands_after stands desk (history_after history x) (pending_after pending (standing_of history) x.edit x.answer) made more at
 
 module _ {S : Type 0} (good : S → Type 0) (stands : S → History → History → Type 0) where
   -- a desk that is left alone
   pub Serves-none : (desk : S) → Serves good stands desk [] [] desk
-  Serves-none desk = record { disk = λ clean. clean; step = λ clean history pending at. (history, pending, refl, at) }
-
-  -- what was served goes on by one message
-  pub Serves-push : (old mid new : S) (messages : List Message) (texts : List (List ℕ)) (m : Message) (text : List ℕ) → Serves good stands old messages texts mid → AnswersMessage good stands mid m text new → Serves good stands old (messages ++ m ∷ []) (texts ++ text ∷ []) new
-  Serves-push old mid new messages texts m text run answers = record {
-    disk = λ clean. run.disk (answers.1.disk clean);
-    step = λ clean history pending at.
-        let before = run.step (answers.1.disk clean) history pending at in
-        let next = answers.1.step clean before.0 before.1 before.3 in
-        (next.0, next.1, Replies-push history before.0 next.0 messages texts m text answers.0 before.2 next.2 answers.2, next.3);
-  }
+  Serves-none desk = record { printed = tt; disk = λ clean. clean; step = λ clean history pending at. ([], refl, at) }
 
   -- what was served twice is served in one
   pub Serves-append : (old mid new : S) (messages others : List Message) (texts more : List (List ℕ)) → Serves good stands old messages texts mid → Serves good stands mid others more new → Serves good stands old (messages ++ others) (texts ++ more) new
   Serves-append old mid new messages others texts more run next = record {
+    printed = ArePrinted-append messages others texts more run.printed next.printed;
     disk = λ clean. run.disk (next.disk clean);
     step = λ clean history pending at.
         let before = run.step (next.disk clean) history pending at in
-        let after = next.step clean before.0 before.1 before.3 in
-        (after.0, after.1, Replies-append history before.0 after.0 messages others texts more before.2 after.2, after.3);
+        let after = next.step clean (history_through history before.0) (pending_through history pending before.0) before.2 in (
+          before.0 ++ after.0,
+          Replies-append history messages others texts more before.0 after.0 before.1 after.1,
+          stands_after stands new history pending before.0 after.0 after.2,
+        );
   }
+
+  -- one message was served
+  Serves-one : (old new : S) (m : Message) (text : List ℕ) → AnswersMessage good stands old m text new → Serves good stands old (m ∷ []) (text ∷ []) new
+  Serves-one old new m text answers = record {
+    printed = ((answers.0, answers.2), tt);
+    disk = answers.1.disk;
+    step = λ clean history pending at.
+        let it = answers.1.step clean history pending at in
+        (it.0, Replies-one history m text answers.0 it.0 it.1 answers.2, it.2);
+  }
+
+  -- what was served goes on by one message
+  pub Serves-push : (old mid new : S) (messages : List Message) (texts : List (List ℕ)) (m : Message) (text : List ℕ) → Serves good stands old messages texts mid → AnswersMessage good stands mid m text new → Serves good stands old (messages ++ m ∷ []) (texts ++ text ∷ []) new
+  Serves-push old mid new messages texts m text run answers =
+      Serves-append old mid new messages (m ∷ []) texts (text ∷ []) run (Serves-one mid new m text answers)
 
   module _ (old new : S) (left left' held held' : Option (List ℕ)) (waiting : List ℕ) (replied written : ℕ) (p : Progress good stands old new left left' held held' waiting replied written) where
     -- more bytes came

@@ -25,7 +25,3 @@ reply_of question own answer = refused_reply refused.NoRevision
 -- this is replied to a question by a history: the answer by that history, printed
 abbrev pub QuestionReply : History → Question → Option Cred → Reply → Type 0
 QuestionReply history question own reply = (answer : Answer) × AnswersByHistory history question answer × (reply ≡ reply_of question own answer)
-
--- the reply where the store refused a statement
-abbrev pub store_reply : Reply
-store_reply = refused_reply refused.Store

@@ -66,3 +66,7 @@ refused_body other = refusal_data (refused_name other) (refused_number other)
 -- the reply to a question or an edit that is refused
 abbrev pub refused_reply : Refused → Reply
 refused_reply why = reply_with (refused_status why) (refused_body why)
+
+-- the reply where the store refused a statement
+abbrev pub store_reply : Reply
+store_reply = refused_reply refused.Store

@@ -15,5 +15,5 @@ pub mod questions;
 pub mod replies;
 pub mod serving;
 
-pub use laws::runs_follow;
+pub use laws::{replies_are_a_run, runs_follow};
 pub use serving::serve;

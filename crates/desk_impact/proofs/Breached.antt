@@ -8,7 +8,7 @@ use Rattle.desk_policy.specs.Policy.{Content}
 use Rattle.desk_policy.specs.Verdict.{Grant, verdict_of}
 use Rattle.desk_policy.specs.declared.verdict.Denial.{Denial}
 use Rattle.desk_who.specs.Breaking.{AreBreaches, broken_at}
-use Rattle.desk_who.specs.Impact.{TwoVerdicts}
+use Rattle.desk_impact.specs.Impact.{TwoVerdicts}
 use Rattle.desk_who.specs.Runs.{HasValue, Run}
 use Rattle.desk_impact.specs.Places.{Others, Place, place_of, place_verdict}
 use Rattle.desk_impact.specs.PrivatePlaces.{IsFree}

@@ -8,7 +8,7 @@ use Rattle.std.proofs.lemmas.List.Sums.{AllPass-from_list_all, list_all-from_All
 use Rattle.desk_text.specs.Path.{is_under, same_path}
 use Rattle.desk_policy.specs.Policy.{Content}
 use Rattle.desk_policy.specs.Verdict.{is_directory_among}
-use Rattle.desk_who.specs.Impact.{verdicts_at}
+use Rattle.desk_impact.specs.Impact.{verdicts_at}
 use Rattle.desk_impact.specs.Places.{ArePlaces, Directory, HasPlace, Others, Place, PlacesTellAll, dirs_below, dirs_of_both, is_home, mounts_of_both, places_at}
 use Rattle.desk_impact.proofs.Elsewhere.{decided_as_others}
 use Rattle.desk_impact.proofs.Same.{Path, contained, contains_first, contains_later, contains_map, same_is}

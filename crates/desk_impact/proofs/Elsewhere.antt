@@ -13,7 +13,7 @@ use Rattle.desk_policy.specs.Verdict.{granted_by, is_directory_among, is_in, lis
 use Rattle.desk_policy.specs.Weights.{is_greatest, selected, weight_of}
 use Rattle.desk_policy.specs.declared.row.Row.{Row}
 use Rattle.desk_policy.specs.declared.verdict.Denial.TheVariants.{NoFileSystem}
-use Rattle.desk_who.specs.Impact.{verdicts_at}
+use Rattle.desk_impact.specs.Impact.{verdicts_at}
 use Rattle.desk_impact.specs.Places.{Others, OtherPathsHaveNone, all_written, dirs_of_both, is_home, mounts_of_both, place_verdicts, verdict_elsewhere}
 use Rattle.desk_impact.proofs.Same.{Path}
 use Rattle.desk_impact.proofs.Under.{is_above, under_trans}

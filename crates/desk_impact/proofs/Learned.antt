@@ -10,9 +10,9 @@ use Rattle.desk_policy.specs.Verdict.{Grant, verdict_of}
 use Rattle.desk_policy.specs.declared.verdict.Denial.{Denial}
 use Rattle.desk_policy.specs.declared.verdict.Verdict.{Verdict}
 use Rattle.desk_who.specs.Breaking.{AreBreaches, AreBrokenStarts}
-use Rattle.desk_who.specs.Impact.{AreStartsOfBoth, IsImpact, change_value, verdicts_at}
+use Rattle.desk_impact.specs.Impact.{AreStartsOfBoth, IsImpact, change_value, verdicts_at}
 use Rattle.desk_who.specs.Who.{range_value}
-use Rattle.desk_who.specs.declared.changes.TwoVerdicts.{TwoVerdicts as KeptVerdicts}
+use Rattle.desk_impact.specs.declared.changes.TwoVerdicts.{TwoVerdicts as KeptVerdicts}
 use Rattle.desk_impact.specs.Places.{Others, place_verdict, place_verdicts, verdict_elsewhere}
 use Rattle.desk_impact.specs.PrivateKnown.{AreKnownBreaches, HasLearnedBreaches, HasLearnedChange, IsKnownAt, IsKnownChange, fs_number}
 use Rattle.desk_impact.specs.PrivatePlaces.{IsFree}

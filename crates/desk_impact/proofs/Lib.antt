@@ -1,5 +1,8 @@
 pub mod Same
 pub mod Gathered
+pub mod Telling
+pub mod ToldChanges
+pub mod Unchanged
 pub mod Ordered
 pub mod Searched
 pub mod Numbered
@@ -11,6 +14,6 @@ pub mod OtherLines
 pub mod HavingOthers
 pub mod Breached
 pub mod Scoped
-pub mod Beside
+pub mod Together
 pub mod WrittenLines
 pub mod Learned

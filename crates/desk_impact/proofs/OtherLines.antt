@@ -18,8 +18,8 @@ use Rattle.desk_policy.specs.Weights.{selected}
 use Rattle.desk_policy.specs.declared.row.Row.{Row}
 use Rattle.desk_policy.specs.declared.verdict.Denial.{Denial}
 use Rattle.desk_policy.specs.declared.verdict.Denial.TheVariants.{NoFileSystem, NoLine, NotListed}
-use Rattle.desk_who.specs.Impact.{HasNoLine, IsImpact, IsNotListed, SameSayingsAreNoChange, TwoVerdicts, saying}
-use Rattle.desk_who.specs.ImpactPrints.{impact_text, with_verdict}
+use Rattle.desk_impact.specs.Impact.{HasNoLine, IsImpact, IsNotListed, SameSayingsAreNoChange, TwoVerdicts, saying}
+use Rattle.desk_impact.specs.ImpactPrints.{impact_text, with_verdict}
 use Rattle.desk_who.specs.Runs.{Run}
 use Rattle.desk_who.specs.WhoPrints.{range_line}
 use Rattle.desk_impact.specs.Places.{AreInOrder, ArePlaces, Directory, Others, Place, all_written, dirs_of_both, place_verdict, place_verdicts, verdict_elsewhere}

@@ -11,9 +11,9 @@ use Rattle.std.proofs.lemmas.List.Sums.{count_by-le-length, length-filter, sum_b
 use Rattle.desk_text.specs.Path.{is_under, same_path}
 use Rattle.desk_policy.specs.Policy.{Content}
 use Rattle.desk_policy.specs.Verdict.{is_directory_among}
-use Rattle.desk_who.specs.Impact.{IsImpact, ThoseThatMatter, TwoVerdicts, change_value, verdicts_at}
+use Rattle.desk_impact.specs.Impact.{IsImpact, ThoseThatMatter, TwoVerdicts, change_value, verdicts_at}
 use Rattle.desk_who.specs.Runs.{HasValue, Run}
-use Rattle.desk_who.specs.declared.changes.TwoVerdicts.{TwoVerdicts as KeptVerdicts}
+use Rattle.desk_impact.specs.declared.changes.TwoVerdicts.{TwoVerdicts as KeptVerdicts}
 use Rattle.desk_who.specs.declared.runs.Run.{Run as KeptRun}
 use Rattle.desk_impact.specs.Places.{ArePlaces, Others, Place, dirs_of_both, is_home, mounts_of_both, place_of, place_verdicts}
 use Rattle.desk_impact.specs.PrivatePlaces.{IsFree}

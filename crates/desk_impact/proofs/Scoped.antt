@@ -11,7 +11,7 @@ use Rattle.desk_policy.specs.Policy.{Content}
 use Rattle.desk_policy.specs.Verdict.{Grant, is_directory_among, verdict_of}
 use Rattle.desk_policy.specs.declared.verdict.Denial.{Denial}
 use Rattle.desk_who.specs.Breaking.{NoBreachIsAllKept}
-use Rattle.desk_who.specs.Impact.{TwoVerdicts}
+use Rattle.desk_impact.specs.Impact.{TwoVerdicts}
 use Rattle.desk_who.specs.Runs.{Run}
 use Rattle.desk_impact.specs.Places.{Directory, Others, Place, all_written, dirs_below, dirs_of_both, is_home, mounts_of_both, place_verdict, places_at}
 use Rattle.desk_impact.specs.Sections.{AreBreachesAt, AreBreachesIn, ArePlacesBelow, HasPathFor, HasPlaceFor, NoSectionIsAllKept, PlaceBreaches, PlacesTellScope, StandsFor, has_breach, is_in_scope, roots_below}

@@ -1,3 +1,7 @@
+pub mod Impact
+pub mod ImpactPrints
+pub mod Beside
+pub mod PrivateBeside
 pub mod Places
 pub mod PrivatePlaces
 pub mod Report

@@ -10,7 +10,7 @@ use Rattle.desk_policy.specs.Verdict.{Grant, is_directory_among, verdict_among, 
 use Rattle.desk_policy.specs.Weights.{selected}
 use Rattle.desk_policy.specs.declared.verdict.Denial.{Denial}
 use Rattle.desk_policy.specs.declared.verdict.Denial.TheVariants.{NoFileSystem}
-use Rattle.desk_who.specs.Impact.{TwoVerdicts, verdicts_at}
+use Rattle.desk_impact.specs.Impact.{TwoVerdicts, verdicts_at}
 use Rattle.desk_impact.specs.declared.places.Place.{Place as LentPlace}
 use Rattle.desk_impact.specs.declared.places.Place.TheVariants as lent
 

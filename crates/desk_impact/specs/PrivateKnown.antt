@@ -8,9 +8,9 @@ use Rattle.desk_policy.specs.Verdict.{Grant}
 use Rattle.desk_policy.specs.declared.verdict.Denial.{Denial}
 use Rattle.desk_policy.specs.declared.verdict.Verdict.{Verdict}
 use Rattle.desk_who.specs.Breaking.{AreBreaches, AreBrokenStarts}
-use Rattle.desk_who.specs.Impact.{AreStartsOfBoth, IsImpact, change_value}
+use Rattle.desk_impact.specs.Impact.{AreStartsOfBoth, IsImpact, change_value}
 use Rattle.desk_who.specs.Who.{range_value}
-use Rattle.desk_who.specs.declared.changes.TwoVerdicts.{TwoVerdicts as KeptVerdicts}
+use Rattle.desk_impact.specs.declared.changes.TwoVerdicts.{TwoVerdicts as KeptVerdicts}
 use Rattle.desk_impact.specs.Places.{Others, place_verdict, place_verdicts}
 use Rattle.desk_impact.specs.declared.known.Known.{Known}
 

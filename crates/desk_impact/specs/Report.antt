@@ -5,8 +5,8 @@ use Rattle.std.specs.List.{flat_map}
 use Rattle.std.specs.String.{string_bytes}
 use Rattle.desk_text.specs.Path.{path_text}
 use Rattle.desk_policy.specs.Policy.{Content}
-use Rattle.desk_who.specs.Impact.{IsImpact, ThoseThatMatter, TwoVerdicts}
-use Rattle.desk_who.specs.ImpactPrints.{impact_text}
+use Rattle.desk_impact.specs.Impact.{IsImpact, ThoseThatMatter, TwoVerdicts}
+use Rattle.desk_impact.specs.ImpactPrints.{impact_text}
 use Rattle.desk_who.specs.Runs.{Run}
 use Rattle.desk_impact.specs.Places.{ArePlaces, Directory, Others, Place, place_verdicts}
 use Rattle.desk_impact.specs.declared.report.Report.{Report}

@@ -1,32 +1,42 @@
-//! What another policy would change, of every directory and for every client; and what is not as expected of a directory and of
-//! all below it.
+//! What another policy would change, for the clients of one directory and of every directory; and what is not as expected of a
+//! directory and of all below it.
 //!
-//! Its promise: [`impact_report`] tells, place by place, the addresses of which two policies say something else, and how many
-//! ranges of them matter to a client. Its laws say that no path is left out: one under a mount point is decided on as one of
-//! the places is, and any other is in no file system. [`lines_report`] gives the same report of policies that differ in the lines
-//! of one file system, and asks for verdicts there alone. [`breaches_in`] lists, place by place, the addresses whose verdicts break
-//! what is expected: none exactly if all is kept.
+//! Its promise: [`impact`] lists just the addresses of which two policies say something else, [`those_that_matter`] those at which
+//! a mount is granted by one of them alone, or on other terms. [`impact_report`] tells these, place by place, and how many ranges
+//! of them matter to a client. Its laws say that no path is left out: one under a mount point is decided on as one of the places
+//! is, and any other is in no file system. [`lines_report`] gives the same report of policies that differ in the lines of one file
+//! system, and asks for verdicts there alone. [`breaches_in`] lists, place by place, the addresses whose verdicts break what is
+//! expected: none exactly if all is kept.
 //!
 //! ```text
+//! let changes = impact(alloc, &old, &new, &path)?;    // none, if both policies say the same of every client
 //! let report = impact_report(alloc, desk.view(), &new, false)?;
 //! report.text         // "== /u2\n- 0.0.0.0-.. denied 2 NoLine /u2\n+ 0.0.0.0-.. granted line 1 ..\n1 change\n"
 //! report.mattering    // 1
 //! ```
 #![tactic(auto)]
 
+pub mod beside;
+pub mod change_prints;
+pub mod changes;
 mod known;
 pub mod laws;
 mod place_breaches;
 mod place_changes;
 pub mod places;
 pub mod report;
+mod sayings;
 pub mod sections;
 mod unwritten;
 mod writings;
 
+pub use beside::impact_beside;
+pub use change_prints::impact_text;
+pub use changes::{Change, TwoVerdicts, impact, starts_of_both, those_that_matter};
 pub use laws::{
-    mounts_have_others, no_section_is_all_kept, other_paths_have_none, paths_have_homes,
-    places_tell_all, places_tell_scope,
+    impacts_are_unique, impacts_tell_changes, impacts_tell_effects, mounts_have_others,
+    no_section_is_all_kept, other_paths_have_none, paths_have_homes, places_tell_all,
+    places_tell_scope, same_sayings_are_no_change,
 };
 pub use places::{Place, places_of_both};
 pub use report::{Report, impact_report, lines_report, push_heading};

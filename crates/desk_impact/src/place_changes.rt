@@ -2,20 +2,22 @@
 
 ghost use Rattle.std.specs.Prelude.{◌≡◌, All, IfOk, OnOk, map};
 ghost use Rattle.desk_tables.specs.FileSystems.{fs_of};
-ghost use Rattle.desk_who.specs.Impact.{IsImpact, change_value, verdicts_at};
+ghost use Rattle.desk_impact.specs.Impact.{IsImpact, change_value, verdicts_at};
 ghost use Rattle.desk_impact.specs.Places.{AreInOrder, place_of, place_verdicts};
 ghost use Rattle.desk_impact.specs.PrivateKnown.{HasLearnedChange, IsKnownChange, fs_number};
 ghost use Rattle.desk_impact.specs.PrivatePlaces.{paths_in};
 ghost use Rattle.desk_impact.specs.PrivateReport.{taken_by};
 ghost use Rattle.desk_impact.specs.PrivateWritings.{AreWritings};
 
+use crate::beside::impact_beside;
+use crate::changes::{Change, TwoVerdicts, impact, starts_of_both};
 use crate::known::{Known, copied, known_place};
 use crate::places::{Place, path_of};
 use crate::unwritten::free_path;
 use crate::writings::{Writing, writers};
 use desk_policy::PolicyView;
 use desk_text::{Path, Sequence};
-use desk_who::{Change, TwoVerdicts, impact, impact_beside, starts_of_both, starts_within};
+use desk_who::starts_within;
 use std::alloc::{AllocError, Global};
 
 /// Lists the changes of a place. What is found of the directories that no line writes is known from then on.

@@ -3,18 +3,20 @@
 ghost use Rattle.std.specs.Prelude.{◌≡◌, ◌<◌, ◌++◌, IfOk, OnOk, if◌then◌else◌, length, map};
 ghost use Rattle.std.specs.String.{string_bytes};
 ghost use Rattle.desk_policy.specs.Policy.{with_lines_of};
-ghost use Rattle.desk_who.specs.Impact.{IsImpact, change_value};
+ghost use Rattle.desk_impact.specs.Impact.{IsImpact, change_value};
 ghost use Rattle.desk_impact.specs.Places.{place_of, place_verdicts};
 ghost use Rattle.desk_impact.specs.PrivateReport.{IsReportOf, IsTold};
 ghost use Rattle.desk_impact.specs.Report as spec;
 ghost use Rattle.desk_impact.specs.Report.{IsReport};
 
+use crate::change_prints::impact_text;
+use crate::changes::{Change, those_that_matter};
+use crate::laws::same_sayings_are_no_change;
 use crate::place_changes::changes_at;
 use crate::places::{Place, places_in, places_of_both, places_with, taken_paths};
 use crate::writings::writings_of_both;
 use desk_policy::{Policy, PolicyView};
 use desk_tables::FsId;
-use desk_who::{Change, impact_text, same_sayings_are_no_change, those_that_matter};
 use std::alloc::{AllocError, Global};
 
 /// What another policy would change: the printed text, and how many of the changes matter to a client.

@@ -1,4 +1,3 @@
-pub mod EditAnswers
 pub mod FileLists
 pub mod Foresight
 pub mod NamedMounts

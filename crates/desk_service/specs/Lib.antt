@@ -6,3 +6,4 @@ pub mod PrivateFiles
 pub mod Questions
 pub mod Readable
 pub mod Refused
+pub mod Sites

@@ -19,6 +19,7 @@ use Rattle.desk_store.specs.Desk.{History, LeavesTables, Shown, StaysAsItWas, re
 use Rattle.desk_store.specs.declared.desk.Signature.{Signature}
 use Rattle.desk_service.specs.Files.{AreListed, ListedFiles, files_of}
 use Rattle.desk_service.specs.Foreseeing.{Foreseen, IsForeseen, IsRefusedText, foreseen_of}
+use Rattle.desk_service.specs.Sites.{IsForeseenSite, IsSiteOf, WholeSite, site_of}
 use Rattle.desk_service.specs.declared.questions.Answer.{Answer as LentAnswer}
 use Rattle.desk_service.specs.declared.questions.Answer.TheVariants as lent_answer
 use Rattle.desk_service.specs.declared.questions.FileText.{FileText}
@@ -29,8 +30,8 @@ use Rattle.desk_service.specs.declared.questions.Question.{Question as LentQuest
 use Rattle.desk_service.specs.declared.questions.Question.TheVariants as lent
 
 -- a question: by the policy in force, whether a client may mount a path, what it may mount, all exports, and who may mount a path; of
--- a file, its text as of a revision or else the newest, the list of its revisions, and its proposal; which files there are; and what
--- would be in force if a file had a text, or that of its proposal
+-- a file, its text as of a revision or else the newest, the list of its revisions, and its proposal; which files there are; what
+-- would be in force if a file had a text, or that of its proposal; and the whole site in force, or as it would be with such a text
 pub data Question : Type 0 where
   Mount : ℕ → List (List ℕ) → Question
   Listing : ℕ → Question
@@ -42,6 +43,9 @@ pub data Question : Type 0 where
   Files : Question
   Foresee : List ℕ → List ℕ → Question
   ForeseeProposal : List ℕ → Question
+  Site : Question
+  ForeseeSite : List ℕ → List ℕ → Question
+  ForeseeProposedSite : List ℕ → Question
 
 -- a question by value
 abbrev pub question_of : LentQuestion → Question
@@ -55,10 +59,13 @@ question_of (lent.Proposal name) = Proposal name.now
 question_of lent.Files = Files
 question_of (lent.Foresee name text) = Foresee name.now text.now
 question_of (lent.ForeseeProposal name) = ForeseeProposal name.now
+question_of lent.Site = Site
+question_of (lent.ForeseeSite name text) = ForeseeSite name.now text.now
+question_of (lent.ForeseeProposedSite name) = ForeseeProposedSite name.now
 
 -- an answer: by the policy in force, with that policy, a verdict, what a client may mount, all exports, and the verdicts on all
--- clients by ranges; a text, a list of revisions, a proposal, or that there is none; the files; and what is foreseen of a text, or why
--- the file cannot have it
+-- clients by ranges; a text, a list of revisions, a proposal, or that there is none; the files; what is foreseen of a text, or why
+-- the file cannot have it; and a whole site
 pub data Answer : Type 0 where
   VerdictIs : Content → Result Grant Denial → Answer
   ListingIs : Content → List ShownSystem → Answer
@@ -70,6 +77,7 @@ pub data Answer : Type 0 where
   NoRevision : Answer
   FilesAre : ListedFiles → Answer
   ForeseenIs : Foreseen → Answer
+  SiteIs : WholeSite → Answer
   RefusedBy : Refusal → Answer
 
 -- an answer by value
@@ -84,6 +92,7 @@ answer_of in_force (lent_answer.Proposal proposal) = ProposalIs proposal
 answer_of in_force lent_answer.NoRevision = NoRevision
 answer_of in_force (lent_answer.Files listed) = FilesAre (files_of listed)
 answer_of in_force (lent_answer.Foreseen foreseen) = ForeseenIs (foreseen_of in_force foreseen)
+answer_of in_force (lent_answer.Site site) = SiteIs (site_of in_force site)
 answer_of in_force (lent_answer.Refused refusal) = RefusedBy refusal
 
 -- a policy that newest revisions put in force is so
@@ -143,6 +152,22 @@ abbrev pub ForeseesProposal : Newest → List ℕ → Option Pending → Answer 
 ForeseesProposal newest file (Some p) answer = ForeseesText newest file p.body (Some p) answer
 ForeseesProposal newest file None answer = answer ≡ NoRevision
 
+-- this is the site that newest revisions put in force
+abbrev pub IsSite : Newest → Answer → Type 0
+IsSite newest (SiteIs site) = IsSiteOf (site_in newest) site
+IsSite newest answer = ⊥
+
+-- the site with a text of a file, by newest revisions; or why the file cannot have it
+abbrev pub ForeseesSite : Newest → List ℕ → List ℕ → Answer → Type 0
+ForeseesSite newest file text (SiteIs site) = IsForeseenSite newest file text site
+ForeseesSite newest file text (RefusedBy refusal) = IsRefusedText newest file text refusal
+ForeseesSite newest file text answer = ⊥
+
+-- the site with the text of a proposal; or that there is none
+abbrev pub ForeseesProposedSite : Newest → List ℕ → Option Pending → Answer → Type 0
+ForeseesProposedSite newest file (Some p) answer = ForeseesSite newest file p.body answer
+ForeseesProposedSite newest file None answer = answer ≡ NoRevision
+
 -- The answer to a question by a history: of the policy in force by it, or of what it has of files.
 abbrev pub AnswersByHistory : History → Question → Answer → Type 0
 AnswersByHistory history (Mount address path) answer = TellsInForce (newest_of history) (λ content. answer ≡ VerdictIs content (verdict_of content address path))
@@ -155,6 +180,9 @@ AnswersByHistory history (Proposal file) answer = answer ≡ proposal_answer ((s
 AnswersByHistory history Files answer = AreFiles history answer
 AnswersByHistory history (Foresee file text) answer = ForeseesText (newest_of history) file text None answer
 AnswersByHistory history (ForeseeProposal file) answer = ForeseesProposal (newest_of history) file ((standing_of history).proposals file) answer
+AnswersByHistory history Site answer = IsSite (newest_of history) answer
+AnswersByHistory history (ForeseeSite file text) answer = ForeseesSite (newest_of history) file text answer
+AnswersByHistory history (ForeseeProposedSite file) answer = ForeseesProposedSite (newest_of history) file ((standing_of history).proposals file) answer
 
 -- a question takes statements: one for the text of a numbered revision, and one for a list of revisions
 abbrev pub takes_statements : Question → Bool

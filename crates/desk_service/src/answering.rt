@@ -11,6 +11,7 @@ ghost use Rattle.desk_service.specs.Questions.{AnswersByHistory, IsLookedUp, IsR
 use crate::files::files_answer;
 use crate::foreseeing::{foresee_proposal, foresee_text};
 use crate::questions::{Answer, Looked, Question};
+use crate::sites::{foresee_proposed_site, foresee_site_text, site_answer};
 use crate::texts::{newest_text, proposal_answer, revisions_looked, text_looked};
 use desk_policy::{PolicyView, listing};
 use desk_store::{Desk, DeskError};
@@ -94,6 +95,9 @@ fn answer_kept<'a, S: Alter + Drop, V: PolicyView + Drop>(
         Question::Files => files_answer(alloc, desk),
         Question::Foresee(name, text) => foresee_text(alloc, desk, name, text),
         Question::ForeseeProposal(name) => foresee_proposal(alloc, desk, name),
+        Question::Site => Ok(site_answer(desk)),
+        Question::ForeseeSite(name, text) => foresee_site_text(alloc, desk, name, text),
+        Question::ForeseeProposedSite(name) => foresee_proposed_site(alloc, desk, name),
         // This takes statements.
         Question::Revisions(_) => unreachable!(),
     }

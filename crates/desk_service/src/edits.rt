@@ -1,16 +1,16 @@
 //! Edits, and their replies.
 
-ghost use Rattle.std.specs.Prelude.{◌≡◌, false};
+ghost use Rattle.std.specs.Prelude.{◌≡◌};
 ghost use Rattle.sqlite.specs.Held.{state};
 ghost use Rattle.desk_core.specs.Edit.{asked};
 ghost use Rattle.desk_store.specs.Desk.{IsEdited};
-ghost use Rattle.desk_service.specs.Edits.{PutsBy, PutsOver};
+ghost use Rattle.desk_service.specs.Edits.{PutsBy};
 ghost use Rattle.desk_service.specs.Edits as spec;
 
 use desk_core::Edit;
 use desk_policy::PolicyView;
 use desk_store::{Desk, DeskError, Done};
-use sqlite::{Alter, Connection};
+use sqlite::Alter;
 use std::alloc::Global;
 
 /// The replies to an edit that is not refused, of whatever form. All four are made before the edit, so that no edit that is
@@ -68,25 +68,4 @@ fn edited<S: Alter + Drop, V: PolicyView + Drop>(
     ensures { IsEdited (state S.Store desk.old.conn) (state S.Store desk.new.conn) desk.old.state desk.new.state (asked edit.now) result }
 {
     desk.edit(alloc, edit)
-}
-
-/// Opens a desk on the database of a connection, and makes an edit of it. The desk is handed back beside the reply, since a
-/// refusal may have to be told with its texts; and the connection beside why no desk is opened.
-pub fn put_over<S: Alter + Drop, V: PolicyView + Drop, T: Drop>(
-    alloc: Global,
-    conn: Connection<S>,
-    edit: &Edit<'_>,
-    replies: Replies<T>,
-) -> Result<(Result<T, DeskError>, Desk<S, V>), (DeskError, Connection<S>)>
-    requires { (state S.Store conn).in_transaction ≡ false }
-    ensures { PutsOver S.Store conn (asked edit.now) replies result }
-{
-    let opened: Result<Desk<S, V>, _> = Desk::open(alloc, conn);
-    match opened {
-        Ok(mut desk) => {
-            let answer = put(alloc, &mut desk, edit, replies);
-            Ok((answer, desk))
-        }
-        Err(both) => Err(both),
-    }
 }

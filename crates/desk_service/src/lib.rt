@@ -22,13 +22,15 @@ pub mod laws;
 pub mod questions;
 pub mod readable;
 pub mod refused;
+pub mod sites;
 mod texts;
 
 pub use answering::{answer, look_up};
-pub use edits::{Replies, put, put_over};
+pub use edits::{Replies, put};
 pub use files::{ListedFile, ListedFiles, Mark};
 pub use foreseeing::Foreseen;
-pub use laws::edits_put_what_was_foreseen;
+pub use laws::{edits_put_the_site_that_was_foreseen, edits_put_what_was_foreseen};
 pub use questions::{Answer, FileText, Looked, ProposalText, Question};
 pub use readable::read_by_second;
 pub use refused::Refused;
+pub use sites::WholeSite;

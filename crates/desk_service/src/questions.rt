@@ -2,6 +2,7 @@
 
 use crate::files::ListedFiles;
 use crate::foreseeing::Foreseen;
+use crate::sites::WholeSite;
 use desk_core::Refusal;
 use desk_exports::Profile;
 use desk_policy::{Policy, Shown, Verdict};
@@ -32,6 +33,12 @@ pub enum Question<'a> {
     Foresee(&'a str, &'a str),
     /// What would be in force if the file of this name had the text of its proposal.
     ForeseeProposal(&'a str),
+    /// The whole site in force.
+    Site,
+    /// The whole site as it would be if the file of this name had this text.
+    ForeseeSite(&'a str, &'a str),
+    /// The whole site as it would be if the file of this name had the text of its proposal.
+    ForeseeProposedSite(&'a str),
 }
 
 /// What the statements of a question found.
@@ -65,6 +72,7 @@ pub enum Answer<'a, V> {
     NoRevision,
     Files(ListedFiles<'a>),
     Foreseen(Foreseen<'a, V>),
+    Site(WholeSite<'a, V>),
     /// The file cannot have the text that was to be foreseen.
     Refused(Refusal),
 }

@@ -13,14 +13,14 @@ use Rattle.desk_policy.specs.Verdict.{Grant}
 use Rattle.desk_policy.specs.declared.verdict.Denial.{Denial}
 use Rattle.desk_policy.specs.declared.verdict.Denial.TheVariants.{NoFileSystem, NoLine, NotListed}
 
-abbrev pub IsSameOrNot : {A : Type 0} → A → A → Type 0
+abbrev IsSameOrNot : {A : Type 0} → A → A → Type 0
 IsSameOrNot x y = (x ≡ y) ⊎ (x ≢ y)
 
 -- by a function that tells values apart, and keeps equal ones equal
-pub by_part : {A B : Type 0} (x y : A) (part : A → B) → IsSameOrNot (part x) (part y) → (part x ≡ part y → IsSameOrNot x y) → IsSameOrNot x y
+by_part : {A B : Type 0} (x y : A) (part : A → B) → IsSameOrNot (part x) (part y) → (part x ≡ part y → IsSameOrNot x y) → IsSameOrNot x y
 by_part x y part compared next = elim compared as (λ _. IsSameOrNot x y) [ inl is ↦ next is | inr apart ↦ inr (λ e. apart (ap part e)) ]
 
-pub two_lists : {A : Type 0} → ((x y : A) → IsSameOrNot x y) → (xs ys : List A) → IsSameOrNot xs ys
+two_lists : {A : Type 0} → ((x y : A) → IsSameOrNot x y) → (xs ys : List A) → IsSameOrNot xs ys
 two_lists compare [] [] = inl refl
 two_lists compare [] (y ∷ ys) = inr (λ e. cc)
 two_lists compare (x ∷ xs) [] = inr (λ e. cc)
@@ -70,7 +70,7 @@ two_mappings (Root x) (All y) = inr (λ e. cc)
 two_mappings (All x) (Root y) = inr (λ e. cc)
 two_mappings (All x) (All y) = elim (two_creds x y) as (λ _. IsSameOrNot (All x) (All y)) [ inl is ↦ inl (ap All is) | inr apart ↦ inr (λ e. apart (cc)) ]
 
-pub two_terms : (x y : Terms) → IsSameOrNot x y
+two_terms : (x y : Terms) → IsSameOrNot x y
 two_terms x y =
     by_part x y (λ terms. terms.ro) (two_bools x.ro y.ro)
     (λ ro. by_part x y (λ terms. terms.flavours) (two_lists two_flavours x.flavours y.flavours)

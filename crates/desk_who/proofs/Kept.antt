@@ -1,4 +1,4 @@
--- What lists of breaches tell: of runs that have a value or none, those that have one.
+-- What runs with a value tell: of runs that have a value or none, those that have one; and so what lists of breaches tell.
 use Rattle.std.proofs.Common.{◌≡◌, ℕ, ◌<◌, ◌^◌, ◌||◌, Bool, true, false, cond, List, [], ◌∷◌, sym, ◌∙◌, ap, subst, refl, inl, inr, arith}
 use Rattle.std.specs.Prelude.{Option, Some, None, Result, find}
 use Rattle.std.specs.List.{AllByRecursion, list_any}
@@ -6,8 +6,8 @@ use Rattle.std.specs.Option.{option_map}
 use Rattle.std.proofs.lemmas.Bool.{and_parts, cases_Bool, leb-true, true≢false}
 use Rattle.desk_policy.specs.Verdict.{Grant}
 use Rattle.desk_policy.specs.declared.verdict.Denial.{Denial}
-use Rattle.desk_who.specs.Breaking.{BreachesAreUnique, BreachesTellAddresses, NoBreachIsAllKept, broken_at, those_with_value}
-use Rattle.desk_who.specs.Runs.{Ascend, HasValue, Run, holds}
+use Rattle.desk_who.specs.Breaking.{BreachesAreUnique, BreachesTellAddresses, NoBreachIsAllKept, broken_at}
+use Rattle.desk_who.specs.Runs.{Ascend, HasValue, Run, RunsTellValues, RunsWithValueAreUnique, holds, those_with_value}
 use Rattle.desk_who.proofs.Chain.{unique_runs}
 
 -- ---- runs with a value or none, by whether the first has one
@@ -86,6 +86,18 @@ module _ {A : Type 0} where
       (sym (value.values run.first (omega arith) value.proper) ∙ none run.first (omega (arith, value.addresses, value.proper))) (none_has value_at none runs values.1)
 
 -- ---- laws
+module _ {A : Type 0} where
+  pub runs_tell_values : RunsTellValues A
+  runs_tell_values value_at runs are = (
+    subst Ascend (sym are.are) (ascending are.whole are.runs.ascend),
+    λ address fits. ap (λ rs. option_map (λ (run : Run A). run.value) (find (holds address) rs)) are.are
+        ∙ told value_at address are.whole are.runs.values (are.runs.complete address fits),
+  )
+
+  pub runs_with_value_are_unique : RunsWithValueAreUnique A
+  runs_with_value_are_unique value_at runs other are are' =
+      are'.are ∙ ap those_with_value (unique_runs value_at are.whole are'.whole are.runs are'.runs) ∙ sym are.are
+
 abbrev Verdict : Type 0
 Verdict = Result Grant Denial
 
@@ -100,15 +112,10 @@ none_is_kept breaks verdict_at address none = from (breaks address (verdict_at a
     from false verdict none = refl
 
 pub breaches_tell_addresses : BreachesTellAddresses
-breaches_tell_addresses breaks verdict_at ranges are = (
-  subst Ascend (sym are.are) (ascending are.whole are.runs.ascend),
-  λ address fits. ap (λ rs. option_map (λ (range : Run Verdict). range.value) (find (holds address) rs)) are.are
-      ∙ told (broken_at breaks verdict_at) address are.whole are.runs.values (are.runs.complete address fits),
-)
+breaches_tell_addresses breaks verdict_at ranges are = runs_tell_values (broken_at breaks verdict_at) ranges are
 
 pub breaches_are_unique : BreachesAreUnique
-breaches_are_unique breaks verdict_at ranges other are are' =
-    are'.are ∙ ap those_with_value (unique_runs (broken_at breaks verdict_at) are.whole are'.whole are.runs are'.runs) ∙ sym are.are
+breaches_are_unique breaks verdict_at ranges other are are' = runs_with_value_are_unique (broken_at breaks verdict_at) ranges other are are'
 
 pub no_breach_is_all_kept : NoBreachIsAllKept
 no_breach_is_all_kept breaks verdict_at ranges are = (

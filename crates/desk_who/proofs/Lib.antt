@@ -2,15 +2,11 @@ pub mod Chain
 pub mod Existence
 pub mod Going
 pub mod Gathered
-pub mod Joined
 pub mod Steady
 pub mod Discrete
 pub mod WhoLaws
-pub mod Telling
-pub mod Unchanged
 pub mod Kept
 pub mod Partial
-pub mod ToldChanges
 pub mod Within
 pub mod Slices
 pub mod Held

@@ -8,20 +8,13 @@ use Rattle.std.proofs.lemmas.List.Folds.{list_any-append}
 use Rattle.desk_text.specs.AddrSet.{is_among, sorted_set}
 use Rattle.desk_text.specs.Laws.{IsSetOf, SortedSetsAreUnique}
 use Rattle.desk_who.specs.Beside.{GoTogether}
-use Rattle.desk_who.specs.Breaking.{those_with_value}
 use Rattle.desk_who.specs.PrivateBeside.{AreRanges, bounds_of, held_value}
 use Rattle.desk_who.specs.PrivateStarts.{has_one_before, kept}
-use Rattle.desk_who.specs.Runs.{AreRuns, AreStartsOf, HasValue, Run, holds, is_asked, run_value}
+use Rattle.desk_who.specs.Runs.{AreRunsWithValue, AreStartsOf, HasValue, Run, holds, is_asked, run_value, those_with_value}
 use Rattle.desk_who.specs.declared.runs.Run.{Run as KeptRun}
 use Rattle.desk_who.proofs.Chain.{Chain, chain_of_runs}
 use Rattle.desk_who.proofs.Kept.{ascending, told}
 use Rattle.desk_who.proofs.Steady.{absent, not_among_all, not_here, not_there, passes, zero_not_kept}
-
--- the ranges at which a function has a value: of its runs, those that have one
-pub record ArePartial {A : Type 0} (value_at : ℕ → Option A) (ranges : List (Run A)) : Type 0 where
-  pub whole : List (Run (Option A))
-  pub runs : AreRuns value_at whole
-  pub are : ranges ≡ those_with_value whole
 
 -- ---- where ranges begin and end
 -- none of the ranges begins at this address, or ends before it
@@ -143,7 +136,7 @@ module _ {A : Type 0} (value_at : ℕ → Option A) where
       ends [] chain is = omega (arith, chain)
       ends (next ∷ later) chain is = chain.0.cut address (sym is) (sym same ∙ ap value_at (sym is))
 
-  module _ (ranges : List (Run A)) (are : ArePartial value_at ranges) where
+  module _ (ranges : List (Run A)) (are : AreRunsWithValue value_at ranges) where
     pub partial_ranges : AreRanges ranges
     partial_ranges = subst AreRanges (sym are.are) (record { proper = those_proper value_at are.whole are.runs.values; ascend = ascending are.whole are.runs.ascend })
 
@@ -155,7 +148,7 @@ module _ {A : Type 0} (value_at : ℕ → Option A) where
         subst (NoBound (address + 1)) (sym are.are) (those_bound (address + 1) are.whole (stays address 0 are.whole (2 ^ 32) same fits (chain_of_runs value_at are.whole are.runs)))
 
 -- ---- a function that goes with another
-module _ {A : Type 0} (value_at other_at : ℕ → Option A) (ranges : List (Run A)) (decided set : List ℕ) (sets : SortedSetsAreUnique) (are : ArePartial other_at ranges)
+module _ {A : Type 0} (value_at other_at : ℕ → Option A) (ranges : List (Run A)) (decided set : List ℕ) (sets : SortedSetsAreUnique) (are : AreRunsWithValue other_at ranges)
     (go : GoTogether value_at other_at decided) (is : set ≡ sorted_set (flat_map bounds_of ranges ++ decided)) where
   made : IsSetOf (flat_map bounds_of ranges ++ decided) set
   made = (sets (flat_map bounds_of ranges ++ decided) set).1 is

@@ -8,7 +8,6 @@ use Rattle.std.proofs.lemmas.Map.Keys.{below_from_sorted, sorted_from_strictly_i
 use Rattle.desk_text.specs.Address.{number_of}
 use Rattle.desk_text.specs.declared.address.Addr.{Addr}
 use Rattle.desk_who.specs.PrivateStarts.{is_between}
-use Rattle.desk_who.proofs.Telling.{map-filter}
 
 module _ {X : Type 0} (p : X → Bool) where
   abbrev PassUpTo : List X → ℕ → Type 0
@@ -42,6 +41,16 @@ module _ {X : Type 0} (p : X → Bool) where
       let fails : p x ≡ false = point.0 0 x (omega arith) (omega arith) in
       ap (λ b. cond b (x ∷ filter p xs) (filter p xs)) fails
       ∙ last_pass xs k (λ i d low high. point.0 (suc i) d (omega arith) (omega arith), λ i d low high. point.1 (suc i) d (omega arith) (omega arith)) (omega arith)
+
+-- what is kept of lent values is what is kept of them by value
+map-filter : {X Y : Type 0} (f : X → Y) (test : Y → Bool) (xs : List X) → map f (filter (λ x. test (f x)) xs) ≡ filter test (map f xs)
+map-filter f test [] = refl
+map-filter f test (x ∷ xs) =
+    let rest = map-filter f test xs in
+    elim (cases_Bool (test (f x))) as (λ _. map f (filter (λ y. test (f y)) (x ∷ xs)) ≡ filter test (map f (x ∷ xs))) [
+      | inl is ↦ rw is (ap (λ ys. f x ∷ ys) rest)
+      | inr not ↦ rw not rest
+    ]
 
 -- what passes two tests passes one of what passes the other
 filter_both : {X : Type 0} (p q : X → Bool) (xs : List X) → filter (λ x. p x && q x) xs ≡ filter p (filter q xs)

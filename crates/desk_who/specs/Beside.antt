@@ -1,15 +1,15 @@
 -- What is found for a path, from what is found where the verdicts are mostly the same. (this project's own)
-use Rattle.std.specs.Prelude.{◌≡◌, ◌⊎◌, ℕ, ◌+◌, ◌<◌, ◌^◌, Bool, true, false, List, None, Result}
+use Rattle.std.specs.Prelude.{◌≡◌, ◌⊎◌, ℕ, ◌+◌, ◌<◌, ◌^◌, Bool, true, false, List, None, Option, Result}
 use Rattle.std.specs.List.{AllByRecursion}
+use Rattle.std.specs.Option.{option_map}
 use Rattle.desk_text.specs.AddrSet.{is_among}
-use Rattle.desk_policy.specs.Policy.{Content}
+use Rattle.desk_text.specs.declared.address.Addr.{Addr}
 use Rattle.desk_policy.specs.Verdict.{Grant}
 use Rattle.desk_policy.specs.Weights.{weight_of}
 use Rattle.desk_policy.specs.declared.row.Row.{Row}
 use Rattle.desk_policy.specs.declared.verdict.Denial.{Denial}
 use Rattle.desk_who.specs.Breaking.{AreBreaches, broken_at}
-use Rattle.desk_who.specs.Impact.{IsImpact, TwoVerdicts}
-use Rattle.desk_who.specs.Runs.{Run}
+use Rattle.desk_who.specs.Runs.{AreRunsWithValue, Finds, Run}
 use Rattle.desk_who.specs.Starts.{IsSteadyLine}
 
 -- two functions of addresses have the same value at an address, and the same one at the next
@@ -28,10 +28,12 @@ abbrev pub GoTogether : {A : Type 0} → (ℕ → A) → (ℕ → A) → List �
 GoTogether value_at other_at decided =
     (address : ℕ) → address + 1 < 2 ^ 32 → is_among (address + 1) decided ≡ false → AreAlike value_at other_at address ⊎ NeitherChanges value_at other_at address
 
--- Given the changes of other verdicts, which go together with these except at the decided addresses, these are the changes.
-abbrev pub IsImpactBeside : Content → Content → (ℕ → TwoVerdicts) → List (Run TwoVerdicts) → List ℕ → List (Run TwoVerdicts) → Type 0
-IsImpactBeside before after verdicts others decided changes =
-    (other_at : ℕ → TwoVerdicts) → IsImpact before after other_at others → GoTogether verdicts other_at decided → IsImpact before after verdicts changes
+-- Given the runs with a value of another function of addresses, which goes together with one except at the decided addresses, and
+-- what is found for these and for the first of all: the runs at which that one has a value.
+abbrev pub AreRunsBeside : {T A : Type 0} → (T → A) → (Addr → Option T → Type 0) → List (Run A) → List ℕ → List (Run A) → Type 0
+AreRunsBeside {T} {A} meaning found others decided runs =
+    (value_at other_at : ℕ → Option A) → Finds (option_map meaning) found decided value_at → AreRunsWithValue other_at others → GoTogether value_at other_at decided
+    → AreRunsWithValue value_at runs
 
 -- Given the breaches of other verdicts, which break what is expected together with these except at the decided addresses, these
 -- are the breaches.

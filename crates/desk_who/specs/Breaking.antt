@@ -1,12 +1,11 @@
 -- For whom the verdicts on a path break what is expected. (this project's own)
 use Rattle.std.specs.Prelude.{◌≡◌, ◌↔◌, ℕ, ◌<◌, ◌^◌, Bool, false, List, [], Option, None, Some, Result, find, if◌then◌else◌}
-use Rattle.std.specs.List.{filter_map}
 use Rattle.std.specs.Option.{option_map}
 use Rattle.desk_tables.specs.FileSystems.{fs_of}
 use Rattle.desk_policy.specs.Policy.{Content}
 use Rattle.desk_policy.specs.Verdict.{Grant, verdict_of}
 use Rattle.desk_policy.specs.declared.verdict.Denial.{Denial}
-use Rattle.desk_who.specs.Runs.{AreRuns, AreStartsOf, Ascend, Run, holds}
+use Rattle.desk_who.specs.Runs.{AreRunsWithValue, AreStartsOf, Ascend, Run, holds}
 
 -- the verdict of an address, if the address breaks what is expected by it
 abbrev pub broken_at : (ℕ → Result Grant Denial → Bool) → (ℕ → Result Grant Denial) → ℕ → Option (Result Grant Denial)
@@ -18,20 +17,10 @@ abbrev pub AreBrokenStarts : (ℕ → Result Grant Denial → Bool) → Content 
 AreBrokenStarts breaks content path starts =
     (other : List (List ℕ)) → fs_of content.table other ≡ fs_of content.table path → AreStartsOf (broken_at breaks (λ address. verdict_of content address other)) starts
 
--- a run with a value, if it has one
-abbrev pub with_value : {A : Type 0} → Run (Option A) → Option (Run A)
-with_value run = option_map (λ value. record { first = run.first; last = run.last; value = value }) run.value
-
--- those of the runs that have a value, each with it
-abbrev pub those_with_value : {A : Type 0} → List (Run (Option A)) → List (Run A)
-those_with_value runs = filter_map with_value runs
-
 -- Of the longest ranges of addresses that all break what is expected by one verdict, or all keep it, those that break it, each
 -- with its verdict.
-pub record AreBreaches (breaks : ℕ → Result Grant Denial → Bool) (verdict_at : ℕ → Result Grant Denial) (ranges : List (Run (Result Grant Denial))) : Type 0 where
-  pub whole : List (Run (Option (Result Grant Denial)))
-  pub runs : AreRuns (broken_at breaks verdict_at) whole
-  pub are : ranges ≡ those_with_value whole
+abbrev pub AreBreaches : (ℕ → Result Grant Denial → Bool) → (ℕ → Result Grant Denial) → List (Run (Result Grant Denial)) → Type 0
+AreBreaches breaks verdict_at ranges = AreRunsWithValue (broken_at breaks verdict_at) ranges
 
 -- The ranges hold no address twice; the range that holds an address gives its verdict, and the address breaks what is expected by
 -- it; an address that no range holds keeps it.

@@ -3,8 +3,6 @@ pub mod Starts
 pub mod PrivateStarts
 pub mod Who
 pub mod WhoPrints
-pub mod Impact
-pub mod ImpactPrints
 pub mod Breaking
 pub mod Beside
 pub mod PrivateBeside

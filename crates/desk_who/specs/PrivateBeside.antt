@@ -1,9 +1,7 @@
 -- What the private contracts of beside cite.
-use Rattle.std.specs.Prelude.{◌≡◌, ℕ, ◌+◌, ◌≤◌, List, [], ◌∷◌, Option, None, Some, find}
+use Rattle.std.specs.Prelude.{ℕ, ◌+◌, ◌≤◌, List, [], ◌∷◌, Option, find}
 use Rattle.std.specs.List.{AllByRecursion}
 use Rattle.std.specs.Option.{option_map}
-use Rattle.desk_policy.specs.Policy.{Content}
-use Rattle.desk_who.specs.Impact.{SayOtherwise, TwoVerdicts}
 use Rattle.desk_who.specs.PrivateStarts.{kept}
 use Rattle.desk_who.specs.Runs.{Ascend, Run, holds}
 
@@ -19,8 +17,3 @@ pub record AreRanges {A : Type 0} (ranges : List (Run A)) : Type 0 where
 -- the value of the range that holds an address, if one does
 abbrev pub held_value : {A : Type 0} → ℕ → List (Run A) → Option A
 held_value address ranges = option_map (λ range. range.value) (find (holds address) ranges)
-
--- two verdicts, if these policies say something else by them
-pub record IsTold (before after : Content) (verdicts : TwoVerdicts) (found : Option TwoVerdicts) : Type 0 where
-  pub told : SayOtherwise before after verdicts → found ≡ Some verdicts
-  pub silent : (SayOtherwise before after verdicts → ⊥) → found ≡ None

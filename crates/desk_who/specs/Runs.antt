@@ -1,8 +1,9 @@
 -- A function of addresses as the list of its runs: the longest ranges of addresses at which it has one value. (this
 -- project's own)
-use Rattle.std.specs.Prelude.{◌≡◌, ◌≢◌, ℕ, ◌+◌, ◌<◌, ◌≤◌, ◌^◌, ◌&&◌, ◌||◌, ◌==◌, nat_le, Bool, true, false, List, [], ◌∷◌, map}
-use Rattle.std.specs.List.{AllByRecursion, list_any}
+use Rattle.std.specs.Prelude.{◌≡◌, ◌≢◌, ◌⊎◌, ℕ, ◌+◌, ◌<◌, ◌≤◌, ◌^◌, ◌&&◌, ◌||◌, ◌==◌, nat_le, Bool, true, false, List, [], ◌∷◌, Option, None, Some, filter, find, if◌then◌else◌, map}
+use Rattle.std.specs.List.{AllByRecursion, filter_map, list_any}
 use Rattle.std.specs.List.Sorted.{IsStrictlyIncreasing}
+use Rattle.std.specs.Option.{option_map}
 use Rattle.desk_text.specs.Address.{number_of}
 use Rattle.desk_text.specs.AddrSet.{is_among}
 use Rattle.desk_text.specs.declared.address.Addr.{Addr}
@@ -69,6 +70,48 @@ abbrev pub AreRunsFound : {T A : Type 0} → (T → A) → (Addr → T → Type 
 AreRunsFound {T} {A} meaning found starts runs =
     (value_at : ℕ → A) → Finds meaning found starts value_at → AreStartsOf value_at starts → AreRuns value_at (map (run_value meaning) runs)
 
+-- a run with a value, if it has one
+abbrev pub with_value : {A : Type 0} → Run (Option A) → Option (Run A)
+with_value run = option_map (λ value. record { first = run.first; last = run.last; value = value }) run.value
+
+-- those of the runs that have a value, each with it
+abbrev pub those_with_value : {A : Type 0} → List (Run (Option A)) → List (Run A)
+those_with_value runs = filter_map with_value runs
+
+-- The runs at which a function of addresses has a value: of all its runs those that have one, each with it.
+pub record AreRunsWithValue {A : Type 0} (value_at : ℕ → Option A) (those : List (Run A)) : Type 0 where
+  pub whole : List (Run (Option A))
+  pub runs : AreRuns value_at whole
+  pub are : those ≡ those_with_value whole
+
 -- A function of addresses with values of this kind has at most one list of runs.
 abbrev pub RunsAreUnique : Type 0 → Type 0
 RunsAreUnique A = (value_at : ℕ → A) (runs other : List (Run A)) → AreRuns value_at runs → AreRuns value_at other → other ≡ runs
+
+-- any two values of this kind are the same or not
+abbrev pub AreDiscrete : Type 0 → Type 0
+AreDiscrete A = (value other : A) → (value ≡ other) ⊎ (value ≢ other)
+
+-- A function of addresses has runs, if any two values of this kind are the same or not.
+abbrev pub RunsExist : Type 0 → Type 0
+RunsExist A = AreDiscrete A → (value_at : ℕ → A) → (runs : List (Run A)) × AreRuns value_at runs
+
+-- a value, if it passes a test
+abbrev pub passing : {A : Type 0} → (A → Bool) → A → Option A
+passing test value = if test value then Some value else None
+
+-- Of the runs of a function of addresses, those whose value passes a test are the runs at which it has a value that passes.
+abbrev pub RunsPassTests : Type 0 → Type 0
+RunsPassTests A =
+    AreDiscrete A → (test : A → Bool) (value_at : ℕ → A) (runs : List (Run A)) → AreRuns value_at runs
+    → AreRunsWithValue (λ address. passing test (value_at address)) (filter (λ run. test run.value) runs)
+
+-- Runs with a value hold no address twice; the run that holds an address gives its value, and an address that none holds has none.
+abbrev pub RunsTellValues : Type 0 → Type 0
+RunsTellValues A =
+    (value_at : ℕ → Option A) (runs : List (Run A)) → AreRunsWithValue value_at runs
+    → Ascend runs × ((address : ℕ) → address < 2 ^ 32 → option_map (λ run. run.value) (find (holds address) runs) ≡ value_at address)
+
+-- There is at most one list of runs with a value.
+abbrev pub RunsWithValueAreUnique : Type 0 → Type 0
+RunsWithValueAreUnique A = (value_at : ℕ → Option A) (runs other : List (Run A)) → AreRunsWithValue value_at runs → AreRunsWithValue value_at other → other ≡ runs

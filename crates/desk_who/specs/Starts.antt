@@ -24,3 +24,10 @@ pub record AreStarts (rows : List Row) (starts : List ℕ) : Type 0 where
 abbrev pub AreStartsUnder : Content → List (List ℕ) → List ℕ → Type 0
 AreStartsUnder content path starts =
     (other : List (List ℕ)) → fs_of content.table other ≡ fs_of content.table path → AreStartsOf (λ address. verdict_of content address other) starts
+
+-- ascending addresses, among them each of two lists; the first address of all is one of them only if one of the lists has it
+pub record AreJoined (starts others all : List ℕ) : Type 0 where
+  pub ascend : IsStrictlyIncreasing all
+  pub behind : is_among 0 starts ≡ false → is_among 0 others ≡ false → is_among 0 all ≡ false
+  pub own : (address : ℕ) → is_among address all ≡ false → is_among address starts ≡ false
+  pub other : (address : ℕ) → is_among address all ≡ false → is_among address others ≡ false

@@ -13,7 +13,6 @@ use crate::ranges::Range;
 use crate::runs::{longest_runs, those_with_value};
 use crate::starts::{joined, starts_under};
 use desk_policy::{Policy, PolicyView, Verdict};
-use desk_text::laws::sorted_sets_are_unique;
 use desk_text::{Addr, AddrSet, Path};
 use std::alloc::{AllocError, Global};
 
@@ -77,7 +76,6 @@ pub fn broken_starts<E: Expected>(
 ) -> Result<AddrSet, AllocError>
     ensures { IfOk result (AreBrokenStarts (E.breaks expected.now) policy.now path.now) }
 {
-    sorted_sets_are_unique();
     let own = starts_under(alloc, policy, path)?;
     joined(own, expected.starts())
 }

@@ -1,15 +1,39 @@
 //! What the definitions of this crate keep, each as a function that does nothing.
 
 ghost use Rattle.desk_who.specs.Breaking.{BreachesAreUnique, BreachesTellAddresses, NoBreachIsAllKept};
-ghost use Rattle.desk_who.specs.Impact.{ImpactsAreUnique, ImpactsTellChanges, ImpactsTellEffects, SameSayingsAreNoChange};
-ghost use Rattle.desk_who.specs.Runs.{RunsAreUnique};
-ghost use Rattle.desk_who.specs.Who.{RangesTellVerdicts, ThereIsOneList};
+ghost use Rattle.desk_who.specs.Runs.{RunsAreUnique, RunsExist, RunsPassTests, RunsTellValues, RunsWithValueAreUnique};
+ghost use Rattle.desk_who.specs.Who.{RangesTellVerdicts, ThereIsOneList, VerdictsAreDiscrete};
 
 use crate::runs::Alike;
 
 /// A function of addresses has at most one list of runs, whatever its values mean.
 pub fn runs_are_unique<T: Alike>()
     ensures { RunsAreUnique T.Meaning }
+{}
+
+/// A function of addresses has runs, whatever its values mean, if any two meanings are the same or not.
+pub fn runs_exist<T: Alike>()
+    ensures { RunsExist T.Meaning }
+{}
+
+/// Those of the runs whose value passes a test are the runs at which a function of addresses has a value that passes.
+pub fn runs_pass_tests<T: Alike>()
+    ensures { RunsPassTests T.Meaning }
+{}
+
+/// Runs with a value hold just the addresses that have one, and none of them twice.
+pub fn runs_tell_values<T: Alike>()
+    ensures { RunsTellValues T.Meaning }
+{}
+
+/// A function of addresses has at most one list of runs with a value.
+pub fn runs_with_value_are_unique<T: Alike>()
+    ensures { RunsWithValueAreUnique T.Meaning }
+{}
+
+/// Any two verdicts are the same or not.
+pub fn verdicts_are_discrete()
+    ensures { VerdictsAreDiscrete }
 {}
 
 /// Every policy and path have exactly one list of ranges.
@@ -20,27 +44,6 @@ pub fn there_is_one_list()
 /// The range that holds an address gives the address's own verdict.
 pub fn ranges_tell_verdicts()
     ensures { RangesTellVerdicts }
-{}
-
-/// A list of changes holds just the addresses of which the two policies say something else.
-pub fn impacts_tell_changes()
-    ensures { ImpactsTellChanges }
-{}
-
-/// Those of the changes that matter hold just the addresses at which a mount is granted by one of the policies alone, or on
-/// other terms.
-pub fn impacts_tell_effects()
-    ensures { ImpactsTellEffects }
-{}
-
-/// Two policies and a path have one list of changes.
-pub fn impacts_are_unique()
-    ensures { ImpactsAreUnique }
-{}
-
-/// Verdicts that say the same at each address have no change.
-pub fn same_sayings_are_no_change()
-    ensures { SameSayingsAreNoChange }
 {}
 
 /// A list of breaches holds just the addresses whose verdict breaks what is expected, and none of them twice.

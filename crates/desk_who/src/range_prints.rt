@@ -22,8 +22,8 @@ pub fn who_text(alloc: Global, policy: &Policy, ranges: &[Range]) -> Result<Stri
     Ok(text)
 }
 
-/// Writes a line.
-pub(crate) fn push_range(
+/// Writes a range under the policy, as the line that `who_text` has for it.
+pub fn push_range(
     alloc: Global,
     policy: &Policy,
     range: &Range,

@@ -4,8 +4,7 @@ ghost use Rattle.std.specs.Prelude.{◌≡◌, false, IfOk, Option, map};
 ghost use Rattle.std.specs.Bool.{Decides};
 ghost use Rattle.std.specs.Option.{option_map};
 ghost use Rattle.desk_text.specs.AddrSet.{is_among};
-ghost use Rattle.desk_who.specs.Breaking.{those_with_value};
-ghost use Rattle.desk_who.specs.Runs.{AreRunsFound, run_value};
+ghost use Rattle.desk_who.specs.Runs.{AreRunsFound, run_value, those_with_value};
 
 use desk_text::{Addr, AddrSet};
 use std::alloc::{AllocError, Global};

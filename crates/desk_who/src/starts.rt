@@ -4,12 +4,12 @@ ghost use Rattle.std.specs.Prelude.{◌≡◌, ◌++◌, ◌+◌, ◌∷◌, ◌
 ghost use Rattle.std.specs.List.{flat_map};
 ghost use Rattle.std.specs.List.Sorted.{IsStrictlyIncreasing};
 ghost use Rattle.desk_text.specs.Address.{number_of};
-ghost use Rattle.desk_text.specs.AddrSet.{is_among, sorted_set};
+ghost use Rattle.desk_text.specs.AddrSet.{is_among};
 ghost use Rattle.desk_text.specs.Network.{IsBlock, last_of};
 ghost use Rattle.desk_policy.specs.Keys.{HasBlock};
 ghost use Rattle.desk_who.specs.Beside.{AreStartsWithin};
 ghost use Rattle.desk_who.specs.PrivateStarts.{around, is_between, kept, starts_of, within};
-ghost use Rattle.desk_who.specs.Starts.{AreStarts, AreStartsUnder};
+ghost use Rattle.desk_who.specs.Starts.{AreJoined, AreStarts, AreStartsUnder};
 
 use desk_exports::Clients;
 use desk_policy::{Policy, Row, RowAddrs};
@@ -32,11 +32,7 @@ pub fn starts_among(alloc: Global, rows: &[Row]) -> Result<AddrSet, AllocError>
 
 /// Gathers the addresses at which the verdict on a path may change, and so on each path of its file system: those at which the
 /// lines of that begin or cease to match.
-pub(crate) fn starts_under(
-    alloc: Global,
-    policy: &Policy,
-    path: &Path,
-) -> Result<AddrSet, AllocError>
+pub fn starts_under(alloc: Global, policy: &Policy, path: &Path) -> Result<AddrSet, AllocError>
     ensures { IfOk result (AreStartsUnder policy.now path.now) }
 {
     match policy.filesystems().of(path) {
@@ -62,9 +58,10 @@ pub fn starts_within(alloc: Global, starts: &AddrSet, rows: &[&Row]) -> Result<A
 }
 
 /// Joins two sets of addresses.
-pub(crate) fn joined(starts: AddrSet, others: &AddrSet) -> Result<AddrSet, AllocError>
-    ensures { IfOk result (λ all. all ≡ sorted_set (starts ++ others.now)) }
+pub fn joined(starts: AddrSet, others: &AddrSet) -> Result<AddrSet, AllocError>
+    ensures { IfOk result (AreJoined starts others.now) }
 {
+    sorted_sets_are_unique();
     let mut all = starts.into_vec();
     all.extend_from_slice(others.as_slice())?;
     Ok(AddrSet::from_vec(all))

@@ -2,7 +2,7 @@
 use Rattle.std.proofs.Common.{Global, Result, String, subst, sym}
 use Rattle.desk_store.specs.declared.error.DeskError.{DeskError}
 use Rattle.cli_edits.specs.PutCommand.{PrintsReply}
-use Rattle.cli_desk.specs.Refusals.{IsRefusedBy}
+use Rattle.cli_desk.specs.RefusalNotes.{IsRefusedBy}
 use Rattle.cli_edits.proofs.put_command.reply_printed.Goals as goal
 
 pub returns-in-Err-Refused : goal.returns-in-Err-Refused

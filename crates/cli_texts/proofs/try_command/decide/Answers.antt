@@ -10,8 +10,8 @@ use Rattle.desk_policy.specs.Parsing.{read_whole_with}
 use Rattle.desk_policy.specs.Policy.{Content}
 use Rattle.desk_policy.specs.View.{IsFaultOf}
 use Rattle.desk_policy.specs.declared.site_fault.SiteFault.{SiteFault}
-use Rattle.desk_check.specs.TryText.{Tries}
 use Rattle.cli_texts.specs.TryCommand.{PrintsVerdict}
+use Rattle.cli_verdict.specs.TryText.{Tries}
 use Rattle.cli_texts.specs.WholeTables.{GivesOrFault, policy_of}
 use Rattle.cli_texts.proofs.Viewed.{read_known}
 use Rattle.cli_texts.proofs.try_command.decide.Goals as goal

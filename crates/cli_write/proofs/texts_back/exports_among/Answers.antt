@@ -4,7 +4,7 @@ use Rattle.std.proofs.lemmas.List.{take_all}
 use Rattle.desk_text.specs.Path.{path_text}
 use Rattle.desk_tables.specs.declared.filesystems.Mount.{Mount}
 use Rattle.desk_core.specs.Head.{newest_in}
-use Rattle.desk_join.specs.Joining.{stored_file}
+use Rattle.desk_split.specs.Joining.{stored_file}
 use Rattle.cli_write.specs.TextsBack.{exports_among, stored_exports}
 use Rattle.cli_write.proofs.Gathering.{finds_next}
 use Rattle.cli_write.proofs.texts_back.exports_among.Goals as goal

@@ -1,7 +1,7 @@
 -- The exports files of the file systems so far.
 use Rattle.std.proofs.Common.{◌≡◌, map, take}
 use Rattle.desk_core.specs.Head.{newest_in}
-use Rattle.desk_join.specs.Joining.{stored_file}
+use Rattle.desk_split.specs.Joining.{stored_file}
 use Rattle.cli_write.specs.TextsBack.{exports_among}
 use Rattle.cli_write.proofs.texts_back.exports_among.Given as goal
 

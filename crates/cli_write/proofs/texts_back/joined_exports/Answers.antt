@@ -1,7 +1,7 @@
 use Rattle.std.proofs.Common.{◌∙◌, ap, map, List}
 use Rattle.desk_tables.specs.declared.filesystems.Mount.{Mount}
 use Rattle.desk_core.specs.Head.{newest_in}
-use Rattle.desk_join.specs.Joining.{joined, stored_file}
+use Rattle.desk_split.specs.Joining.{joined, stored_file}
 use Rattle.cli_write.specs.TextsBack.{exports_among}
 use Rattle.cli_write.proofs.texts_back.joined_exports.Goals as goal
 

@@ -1,5 +1,5 @@
 -- The first finding has its slice.
-use Rattle.desk_check.specs.Finding.{HasSlice}
+use Rattle.desk_findings.specs.Finding.{HasSlice}
 use Rattle.desk_check.proofs.ToldFindings.{first}
 use Rattle.desk_check.proofs.told_fault.told_first.Goals as goal
 

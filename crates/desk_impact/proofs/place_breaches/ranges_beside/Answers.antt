@@ -7,7 +7,7 @@ use Rattle.desk_who.specs.Beside.{AreBreachesBeside, AreStartsWithin}
 use Rattle.desk_who.specs.Breaking.{AreBreaches}
 use Rattle.desk_who.specs.Who.{range_value}
 use Rattle.desk_impact.specs.Places.{Others, place_verdict}
-use Rattle.desk_impact.proofs.Beside.{breaches_go}
+use Rattle.desk_impact.proofs.Together.{breaches_go}
 use Rattle.desk_impact.proofs.place_breaches.ranges_beside.Goals as goal
 
 pub writers-requires : goal.writers-requires

@@ -2,8 +2,8 @@ use Rattle.std.proofs.Common.{◌≡◌, ◌∙◌, IfOk, ap, map, subst, sym}
 use Rattle.std.proofs.lemmas.List.{get_or_default}
 use Rattle.std.proofs.lemmas.Result.{IfOk-weaker}
 use Rattle.desk_tables.specs.FileSystems.{fs_of}
-use Rattle.desk_who.specs.Impact.{IsImpact, change_value}
-use Rattle.desk_who.specs.declared.changes.TwoVerdicts.{TwoVerdicts as KeptVerdicts}
+use Rattle.desk_impact.specs.Impact.{IsImpact, change_value}
+use Rattle.desk_impact.specs.declared.changes.TwoVerdicts.{TwoVerdicts as KeptVerdicts}
 use Rattle.desk_impact.specs.Places.{Others, place_of, place_verdicts}
 use Rattle.desk_impact.specs.PrivateKnown.{IsKnownChange}
 use Rattle.desk_impact.specs.PrivatePlaces.{path_of}

@@ -2,10 +2,11 @@ use Rattle.std.proofs.Common.{◌≡◌, ◌∙◌, Bor, map, refl, subst, sym}
 use Rattle.std.proofs.lemmas.Result.{IfOk-weaker}
 use Rattle.desk_tables.specs.FileSystems.{fs_of}
 use Rattle.desk_policy.specs.declared.row.Row.{Row}
-use Rattle.desk_who.specs.Beside.{AreStartsWithin, IsImpactBeside}
-use Rattle.desk_who.specs.Impact.{IsImpact, change_value, verdicts_at}
+use Rattle.desk_who.specs.Beside.{AreStartsWithin}
+use Rattle.desk_impact.specs.Beside.{IsImpactBeside}
+use Rattle.desk_impact.specs.Impact.{IsImpact, change_value, verdicts_at}
 use Rattle.desk_impact.specs.Places.{Others, place_verdicts}
-use Rattle.desk_impact.proofs.Beside.{verdicts_go}
+use Rattle.desk_impact.proofs.Together.{verdicts_go}
 use Rattle.desk_impact.proofs.place_changes.changes_beside.Goals as goal
 
 pub writers-requires : goal.writers-requires

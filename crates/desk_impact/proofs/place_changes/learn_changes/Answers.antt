@@ -1,8 +1,8 @@
 use Rattle.std.proofs.Common.{◌≡◌, ◌-◌, ◌∷◌, ◌∙◌, [], ap, arith, length, length-append, map, subst, sym}
 use Rattle.desk_tables.specs.FileSystems.{fs_of}
 use Rattle.desk_policy.specs.Policy.{Content}
-use Rattle.desk_who.specs.Impact.{AreStartsOfBoth, IsImpact, change_value, verdicts_at}
-use Rattle.desk_who.specs.declared.changes.TwoVerdicts.{TwoVerdicts as KeptVerdicts}
+use Rattle.desk_impact.specs.Impact.{AreStartsOfBoth, IsImpact, change_value, verdicts_at}
+use Rattle.desk_impact.specs.declared.changes.TwoVerdicts.{TwoVerdicts as KeptVerdicts}
 use Rattle.desk_impact.specs.PrivateKnown.{HasLearnedChange, fs_number}
 use Rattle.desk_impact.specs.PrivatePlaces.{paths_in}
 use Rattle.desk_impact.specs.declared.known.Known.{Known}

@@ -2,7 +2,7 @@ use Rattle.std.proofs.Common.{arith, map, subst, sym}
 use Rattle.std.specs.List.{All}
 use Rattle.std.specs.String.{string_bytes}
 use Rattle.std.proofs.lemmas.List.Elements.{All-nil}
-use Rattle.desk_who.specs.Impact.{IsImpact, change_value}
+use Rattle.desk_impact.specs.Impact.{IsImpact, change_value}
 use Rattle.desk_impact.specs.Places.{AreInOrder, place_of, place_verdicts}
 use Rattle.desk_impact.specs.PrivateKnown.{IsKnownChange}
 use Rattle.desk_impact.specs.PrivatePlaces.{paths_in}

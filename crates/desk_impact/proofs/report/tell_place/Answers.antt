@@ -1,8 +1,8 @@
 use Rattle.std.proofs.Common.{◌≡◌, ◌++◌, ◌∙◌, List, ap, arith, cond, map, refl}
 use Rattle.std.specs.String.{string_bytes}
 use Rattle.std.proofs.lemmas.List.{length-map}
-use Rattle.desk_who.specs.Impact.{ThoseThatMatter, change_value}
-use Rattle.desk_who.specs.declared.changes.TwoVerdicts.{TwoVerdicts}
+use Rattle.desk_impact.specs.Impact.{ThoseThatMatter, change_value}
+use Rattle.desk_impact.specs.declared.changes.TwoVerdicts.{TwoVerdicts}
 use Rattle.desk_who.specs.declared.runs.Run.{Run}
 use Rattle.desk_impact.specs.Places.{place_of}
 use Rattle.desk_impact.proofs.Reporting.{fewer, section_is}

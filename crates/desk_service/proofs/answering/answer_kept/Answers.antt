@@ -39,3 +39,15 @@ returns-in-Foresee g c = λ history pending stands.
 pub returns-in-ForeseeProposal : goal.returns-in-ForeseeProposal
 returns-in-ForeseeProposal g c = λ history pending stands.
     subst (λ (q : Question). IfOk c.foresee_proposal.result (λ answer. AnswersByHistory history q (answer_of g.V.PolicyView.in_force answer))) (sym (ap question_of c.in-ForeseeProposal.is)) (c.foresee_proposal.ensures history pending stands)
+
+pub returns-in-Site : goal.returns-in-Site
+returns-in-Site g c = λ history pending stands.
+    subst (λ (q : Question). AnswersByHistory history q (answer_of g.V.PolicyView.in_force c.site_answer.result)) (sym (ap question_of c.in-Site.is)) (c.site_answer.ensures history pending stands)
+
+pub returns-in-ForeseeSite : goal.returns-in-ForeseeSite
+returns-in-ForeseeSite g c = λ history pending stands.
+    subst (λ (q : Question). IfOk c.foresee_site_text.result (λ answer. AnswersByHistory history q (answer_of g.V.PolicyView.in_force answer))) (sym (ap question_of c.in-ForeseeSite.is)) (c.foresee_site_text.ensures history pending stands)
+
+pub returns-in-ForeseeProposedSite : goal.returns-in-ForeseeProposedSite
+returns-in-ForeseeProposedSite g c = λ history pending stands.
+    subst (λ (q : Question). IfOk c.foresee_proposed_site.result (λ answer. AnswersByHistory history q (answer_of g.V.PolicyView.in_force answer))) (sym (ap question_of c.in-ForeseeProposedSite.is)) (c.foresee_proposed_site.ensures history pending stands)

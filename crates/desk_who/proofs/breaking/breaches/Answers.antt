@@ -5,8 +5,8 @@ use Rattle.std.proofs.lemmas.Result.{IfOk-weaker}
 use Rattle.desk_policy.specs.Verdict.{Grant, verdict_of, verdict_result}
 use Rattle.desk_policy.specs.declared.verdict.Denial.{Denial}
 use Rattle.desk_policy.specs.declared.verdict.Verdict.{Verdict}
-use Rattle.desk_who.specs.Breaking.{AreBreaches, broken_at, those_with_value}
-use Rattle.desk_who.specs.Runs.{run_value}
+use Rattle.desk_who.specs.Breaking.{AreBreaches, broken_at}
+use Rattle.desk_who.specs.Runs.{run_value, those_with_value}
 use Rattle.desk_who.specs.Who.{range_value}
 use Rattle.desk_who.specs.declared.runs.Run.{Run}
 use Rattle.desk_who.proofs.breaking.breaches.Goals as goal

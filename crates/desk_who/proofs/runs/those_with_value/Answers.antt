@@ -3,8 +3,7 @@ use Rattle.std.specs.Prelude.{Option}
 use Rattle.std.specs.Option.{option_map}
 use Rattle.std.proofs.lemmas.List.{append-nil, map-append, take_more}
 use Rattle.std.proofs.lemmas.List.Elements.{filter_map-append}
-use Rattle.desk_who.specs.Breaking.{those_with_value, with_value}
-use Rattle.desk_who.specs.Runs.{Run, run_value}
+use Rattle.desk_who.specs.Runs.{Run, run_value, those_with_value, with_value}
 use Rattle.desk_who.specs.declared.runs.Run.{Run as KeptRun}
 use Rattle.desk_who.proofs.runs.those_with_value.Goals as goal
 use Rattle.desk_who.proofs.runs.those_with_value.Goals.{in-Some+in_ok-push, in_default}

@@ -1,8 +1,7 @@
 -- Those of the runs so far that have a value.
 use Rattle.std.proofs.Common.{◌≡◌, map, take}
 use Rattle.std.specs.Option.{option_map}
-use Rattle.desk_who.specs.Breaking.{those_with_value}
-use Rattle.desk_who.specs.Runs.{run_value}
+use Rattle.desk_who.specs.Runs.{run_value, those_with_value}
 use Rattle.desk_who.proofs.runs.those_with_value.Given as goal
 
 abbrev pub invariant-loop-run : goal.invariant-loop-run

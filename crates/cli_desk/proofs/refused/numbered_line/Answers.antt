@@ -1,6 +1,0 @@
-use Rattle.std.proofs.Common.{rules}
-use Rattle.std.proofs.lemmas.List.{append_assoc}
-use Rattle.cli_desk.proofs.refused.numbered_line.Goals as goal
-
-pub returns : goal.returns
-returns c = search (rules, append_assoc)

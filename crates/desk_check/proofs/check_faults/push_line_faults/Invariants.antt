@@ -1,8 +1,0 @@
--- The findings so far are those of the faults so far.
-use Rattle.std.proofs.Common.{◌≡◌, ◌++◌, map, take}
-use Rattle.desk_check.specs.CheckFaults.{tell_line}
-use Rattle.desk_check.specs.Told.{told}
-use Rattle.desk_check.proofs.check_faults.push_line_faults.Given as goal
-
-abbrev pub invariant-loop-one : goal.invariant-loop-one
-invariant-loop-one l = map told l.found ≡ map told l.initial.found ++ map (tell_line l.source) (take l.one-index l.faults)

@@ -1,5 +1,0 @@
-use Rattle.desk_exports.proofs.SplitWords.{split_keeps_words}
-use Rattle.desk_exports.proofs.laws.split_keeps_words.Goals as goal
-
-pub returns : goal.returns
-returns c = split_keeps_words

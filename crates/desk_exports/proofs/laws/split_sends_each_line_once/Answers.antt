@@ -1,5 +1,0 @@
-use Rattle.desk_exports.proofs.SplitLines.{split_sends_each_line_once}
-use Rattle.desk_exports.proofs.laws.split_sends_each_line_once.Goals as goal
-
-pub returns : goal.returns
-returns c = split_sends_each_line_once

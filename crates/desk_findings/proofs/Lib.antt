@@ -1,0 +1,4 @@
+pub mod FoundFaults
+pub mod FoundSlices
+pub mod OneFaults
+pub mod PlacedWords

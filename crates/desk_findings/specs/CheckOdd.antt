@@ -1,0 +1,72 @@
+-- What `check` tells of texts without a fault: the lines that contradict an earlier one, and the words that are odd. (this
+-- project's own)
+use Rattle.std.specs.Prelude.{◌≡◌, ℕ, ◌++◌, List, [], ◌∷◌, IfSome, map}
+use Rattle.std.specs.List.{IsAmong}
+use Rattle.std.specs.List.Sorted.{IsNonDecreasingBy, IsPermutation}
+use Rattle.desk_text.specs.Lines.{LogicalLine, logical_lines}
+use Rattle.desk_text.specs.Place.{IsOfLine, LiesIn}
+use Rattle.desk_text.specs.declared.place.Place.{Place}
+use Rattle.desk_policy.specs.Contradiction.{AreContradictions}
+use Rattle.desk_policy.specs.declared.contradiction.Contradiction.{Contradiction}
+use Rattle.desk_policy.specs.declared.row.Row.{Row}
+use Rattle.desk_policy.specs.declared.warning.Warning.{Warning}
+use Rattle.desk_findings.specs.CheckFaults.{Tells}
+use Rattle.desk_findings.specs.Told.{Told, tell}
+use Rattle.desk_findings.specs.declared.check_faults.Source.{Source}
+use Rattle.desk_findings.specs.declared.check_odd.Odd.{Odd}
+use Rattle.desk_findings.specs.declared.check_odd.Spot.{Spot}
+use Rattle.desk_findings.specs.declared.finding.Matter.{Matter}
+use Rattle.desk_findings.specs.declared.finding.Matter.TheVariants as matter
+
+-- what is odd about the line of a number
+pub record OddLine : Type 0 where
+  pub line : ℕ
+  pub matter : Matter
+
+abbrev pub odd_at : Odd → OddLine
+odd_at odd = record { line = odd.line; matter = odd.matter }
+
+abbrev pub odd_of_spot : Spot → OddLine
+odd_of_spot spot = record { line = spot.line; matter = spot.matter }
+
+abbrev pub odd_of_contradiction : Contradiction → OddLine
+odd_of_contradiction one = record { line = one.line; matter = matter.Contradiction one.other one.address }
+
+abbrev pub odd_of_warning : Warning → OddLine
+odd_of_warning one = record { line = one.line; matter = matter.Warning one.kind }
+
+-- the place lies in the text, on a physical line of this logical line
+pub record IsOn (text : List ℕ) (line : LogicalLine) (place : Place) : Type 0 where
+  pub own : IsOfLine line place
+  pub lies : LiesIn text place
+
+-- the place lies in the text, on a physical line of the logical line of this number
+pub record IsOnNumbered (text : List ℕ) (number : ℕ) (place : Place) : Type 0 where
+  pub line : LogicalLine
+  pub among : IsAmong (logical_lines text) line
+  pub same : line.number ≡ number
+  pub on : IsOn text line place
+
+-- what is odd is told on its own line
+abbrev pub IsSpot : List ℕ → Spot → Type 0
+IsSpot text spot = IfSome spot.place (IsOnNumbered text spot.line)
+
+abbrev pub tell_spot : Source → Spot → Told
+tell_spot source spot = tell source spot.place spot.matter
+
+-- What is told is this, in the order of its lines, each on its own line.
+pub record TellInOrder (source : Source) (given : List OddLine) (all : List Told) : Type 0 where
+  pub odds : List OddLine
+  pub same : IsPermutation given odds
+  pub order : IsNonDecreasingBy (λ odd. odd.line) odds
+  pub tell : Tells odd_of_spot (IsSpot source.text.now) (tell_spot source) odds all
+
+-- what is told are these contradictions and warnings of a text, in that order
+abbrev pub TellOdds : Source → List Contradiction → List Warning → List Told → Type 0
+TellOdds source contradictions warnings all = TellInOrder source (map odd_of_contradiction contradictions ++ map odd_of_warning warnings) all
+
+-- these are the contradictions of each of these files in turn
+abbrev pub AreContradictionsIn : List (List Row) → List Contradiction → Type 0
+AreContradictionsIn [] found = found ≡ []
+AreContradictionsIn (rows ∷ files) found =
+    (own : List Contradiction) × (others : List Contradiction) × (AreContradictions rows rows own × (AreContradictionsIn files others × (found ≡ own ++ others)))

@@ -1,0 +1,9 @@
+pub mod CheckFaults
+pub mod CheckOdd
+pub mod CheckSite
+pub mod CheckText
+pub mod Finding
+pub mod OneFault
+pub mod OneSiteFault
+pub mod PrivateCheckOdd
+pub mod Told

@@ -1,0 +1,322 @@
+//! What `check` finds in texts without a fault: lines that contradict an earlier one, and words that are odd.
+
+ghost use Rattle.std.specs.Prelude.{◌≡◌, ℕ, ◌++◌, All, IfOk, IfSome, List, OnOk, map};
+ghost use Rattle.std.specs.List.{IsAmong};
+ghost use Rattle.std.specs.List.Sorted.{IsNonDecreasingBy, IsPermutation};
+ghost use Rattle.desk_text.specs.Lines.{IsReadable, LogicalLine, logical_lines};
+ghost use Rattle.desk_policy.specs.Policy.{AreAscending};
+ghost use Rattle.desk_findings.specs.CheckFaults.{Adds};
+ghost use Rattle.desk_findings.specs.CheckOdd.{AreContradictionsIn, IsOn, IsSpot, TellInOrder, TellOdds, odd_at, odd_of_contradiction, odd_of_spot, odd_of_warning, tell_spot};
+ghost use Rattle.desk_findings.specs.PrivateCheckOdd.{AreWordsIn};
+ghost use Rattle.desk_findings.specs.Told.{told};
+
+use crate::check_faults::{Front, Source, finding_behind, lines_of};
+use crate::finding::{Finding, Matter};
+use desk_exports::client_places;
+use desk_netgroup::member_places;
+use desk_policy::{Contradiction, Row, Warning, contradictions};
+use desk_text::{Line, Place, ReadError, Sequence, Word, logical_lines, words};
+use std::alloc::{AllocError, Global};
+
+/// What an odd word of a line is counted among.
+#[derive(Clone, Copy, PartialEq, Eq)]
+pub enum Among {
+    /// All words, as exports files and the text of the file systems have them.
+    Words,
+    /// The clients that an exports line writes: its names, or its network.
+    Clients,
+    /// The members of a netgroup line.
+    Members,
+}
+
+/// What is odd about the line of this number, and the word that it is told at: the one of this index, from 0.
+#[derive(Clone, Copy)]
+pub struct Odd {
+    pub line: u32,
+    pub matter: Matter,
+    pub among: Among,
+    pub index: usize,
+}
+
+/// What is odd about the line of this number, at its place.
+#[derive(Clone, Copy)]
+pub struct Spot {
+    pub line: u32,
+    pub place: Option<Place>,
+    pub matter: Matter,
+}
+
+/// Where the words of the line of this number stand that the last odd one is among.
+#[derive(Drop)]
+struct PlacedWords {
+    line: u32,
+    among: Among,
+    places: Vec<Place>,
+}
+
+/// Adds these contradictions and warnings of a text, in the order of their lines. The warnings count their words among these.
+pub fn push_odds<'a>(
+    alloc: Global,
+    source: Source<'a>,
+    among: Among,
+    contradictions: &[Contradiction],
+    warnings: &[Warning],
+    found: &mut Sequence<Finding<'a>>,
+) -> Result<(), AllocError>
+    requires { IsReadable source.text.now }
+    ensures { OnOk result (Adds (TellOdds source.entry contradictions.now warnings.now) found.old found.new) }
+{
+    let odds = odds_of(alloc, among, contradictions, warnings)?;
+    push_in_order(alloc, source, odds, found)?;
+    Ok(())
+}
+
+/// Adds what is odd about a text, in the order of its lines.
+pub fn push_in_order<'a>(
+    alloc: Global,
+    source: Source<'a>,
+    odds: Vec<Odd>,
+    found: &mut Sequence<Finding<'a>>,
+) -> Result<(), AllocError>
+    requires { IsReadable source.text.now }
+    ensures { OnOk result (Adds (TellInOrder source.entry (map odd_at odds.items)) found.old found.new) }
+{
+    let odds = by_line(odds)?;
+    let spots = spots_of(alloc, source.text, odds.as_slice())?;
+    push_spots(alloc, source, spots.as_slice(), found)?;
+    Ok(())
+}
+
+/// Lists the contradictions of each file system.
+pub fn contradictions_in(
+    alloc: Global,
+    files: &[Sequence<Row>],
+) -> Result<Sequence<Contradiction>, AllocError>
+    requires { All AreAscending files.now }
+    ensures { IfOk result (AreContradictionsIn files.now) }
+{
+    let mut found = Sequence::new(alloc);
+    for rows in files {
+        let more = contradictions(alloc, rows.as_slice())?;
+        push_contradictions(more.as_slice(), &mut found)?;
+    }
+    Ok(found)
+}
+
+/// Adds contradictions.
+fn push_contradictions(
+    more: &[Contradiction],
+    found: &mut Sequence<Contradiction>,
+) -> Result<(), AllocError>
+    ensures { OnOk result (found.new ≡ found.old ++ more.now) }
+{
+    for one in more {
+        found.push(*one)?;
+    }
+    Ok(())
+}
+
+/// Lists what contradictions and warnings say. The warnings count their words among these.
+fn odds_of(
+    alloc: Global,
+    among: Among,
+    contradictions: &[Contradiction],
+    warnings: &[Warning],
+) -> Result<Vec<Odd>, AllocError>
+    ensures { IfOk result (λ odds. map odd_at odds.items ≡ map odd_of_contradiction contradictions.now ++ map odd_of_warning warnings.now) }
+{
+    let mut odds = odds_of_contradictions(alloc, contradictions)?;
+    for warning in warnings {
+        odds.push(Odd {
+            line: warning.line,
+            matter: Matter::Warning(warning.kind),
+            among,
+            index: warning.index,
+        })?;
+    }
+    Ok(odds)
+}
+
+/// Lists what contradictions say, each at the first word of its line.
+fn odds_of_contradictions(
+    alloc: Global,
+    contradictions: &[Contradiction],
+) -> Result<Vec<Odd>, AllocError>
+    ensures { IfOk result (λ odds. map odd_at odds.items ≡ map odd_of_contradiction contradictions.now) }
+{
+    let mut odds = Vec::new(alloc);
+    for one in contradictions {
+        odds.push(Odd {
+            line: one.line,
+            matter: Matter::Contradiction(one.other, one.address),
+            among: Among::Words,
+            index: 0,
+        })?;
+    }
+    Ok(odds)
+}
+
+/// Puts what is odd into the order of its lines.
+fn by_line(mut odds: Vec<Odd>) -> Result<Vec<Odd>, AllocError>
+    ensures same { IfOk result (λ sorted. IsPermutation odds.items sorted.items) }
+    ensures order { IfOk result (λ sorted. IsNonDecreasingBy (λ (odd : Odd). odd.line) sorted.items) }
+{
+    odds.sort_by_key(|odd| odd.line)?;
+    Ok(odds)
+}
+
+/// Finds the place of each remark about a text, in the order of their lines.
+fn spots_of(alloc: Global, text: &str, odds: &[Odd]) -> Result<Vec<Spot>, AllocError>
+    requires { IsReadable text.now }
+    ensures same { IfOk result (λ spots. map odd_of_spot spots.items ≡ map odd_at odds.now) }
+    ensures places { IfOk result (λ spots. All (IsSpot text.now) spots.items) }
+{
+    let lines = logical_lines(alloc, text)?;
+    let mut spots = Vec::new(alloc);
+    let mut last = PlacedWords {
+        line: 0,
+        among: Among::Words,
+        places: Vec::new(alloc),
+    };
+    for odd in odds {
+        spots.push(spot_of(alloc, lines.as_slice(), *odd, &mut last)?)?;
+    }
+    drop(last);
+    drop(lines);
+    Ok(spots)
+}
+
+/// Finds the place of what is odd in these lines.
+fn spot_of(
+    alloc: Global,
+    lines: &[Line],
+    odd: Odd,
+    last: &mut PlacedWords,
+) -> Result<Spot, AllocError>
+    requires { AreWordsIn lines.now last.old }
+    ensures same { IfOk result (λ spot. odd_of_spot spot ≡ odd_at odd) }
+    ensures place { IfOk result (λ spot. (text : List ℕ) → lines.now ≡ logical_lines text → IsSpot text spot) }
+    ensures last { OnOk result (AreWordsIn lines.now last.new) }
+{
+    let Some(line) = line_numbered(lines, odd.line) else {
+        return Ok(spot_at(odd, None));
+    };
+    place_words(alloc, line, odd.among, last)?;
+    match last.places.get(odd.index) {
+        Some(place) => Ok(spot_at(odd, Some(*place))),
+        None => Ok(spot_at(odd, Some(Place::of_first_line(line)))),
+    }
+}
+
+/// Finds where these words of a line stand, unless they were placed last.
+fn place_words(
+    alloc: Global,
+    line: &Line,
+    among: Among,
+    last: &mut PlacedWords,
+) -> Result<(), AllocError>
+    ensures line { OnOk result (last.new.line ≡ line.now.number) }
+    ensures places { OnOk result ((lines : List LogicalLine) → IsAmong lines line.now → AreWordsIn lines last.old → AreWordsIn lines last.new) }
+{
+    if last.line == line.number() && last.among == among {
+        return Ok(());
+    }
+    let places = word_places(alloc, line, among)?;
+    *last = PlacedWords {
+        line: line.number(),
+        among,
+        places,
+    };
+    Ok(())
+}
+
+/// Finds the line of this number.
+fn line_numbered<'a, 't>(lines: &'a [Line<'t>], number: u32) -> Option<&'a Line<'t>>
+    ensures number { IfSome result (λ line. line.now.number ≡ number) }
+    ensures member { IfSome result (λ line. IsAmong lines.now line.now) }
+{
+    let at = lines.partition_point(|line| line.number() < number);
+    match lines.get(at) {
+        Some(line) => {
+            if line.number() == number {
+                Some(line)
+            } else {
+                None
+            }
+        }
+        None => None,
+    }
+}
+
+/// Lists the places of these words of a line.
+fn word_places(alloc: Global, line: &Line, among: Among) -> Result<Vec<Place>, AllocError>
+    ensures { IfOk result (λ places. (text : List ℕ) → IsAmong (logical_lines text) line.now → All (IsOn text line.now) places.items) }
+{
+    match among {
+        Among::Words => all_places(alloc, line),
+        Among::Clients => client_places(alloc, line),
+        Among::Members => member_places(alloc, line),
+    }
+}
+
+/// Lists the places of all words of a line. There are none if a quote does not close.
+fn all_places(alloc: Global, line: &Line) -> Result<Vec<Place>, AllocError>
+    ensures { IfOk result (λ places. (text : List ℕ) → IsAmong (logical_lines text) line.now → All (IsOn text line.now) places.items) }
+{
+    let Ok(words) = ReadError::split(words(alloc, line))? else {
+        return Ok(Vec::new(alloc));
+    };
+    let places = places_of(alloc, line, words.as_slice());
+    drop(words);
+    places
+}
+
+/// Lists the places of words of a line.
+fn places_of(alloc: Global, line: &Line, words: &[Word]) -> Result<Vec<Place>, AllocError>
+    ensures { IfOk result (λ places. (text : List ℕ) → IsAmong (logical_lines text) line.now → All (IsOn text line.now) places.items) }
+{
+    let mut places = Vec::new(alloc);
+    for word in words {
+        places.push(Place::of_word(line, word))?;
+    }
+    Ok(places)
+}
+
+/// Makes the spot of what is odd at this place.
+fn spot_at(odd: Odd, place: Option<Place>) -> Spot
+    ensures { result ≡ record { line = odd.line; place = place; matter = odd.matter } }
+{
+    Spot {
+        line: odd.line,
+        place,
+        matter: odd.matter,
+    }
+}
+
+/// Adds the findings of these spots.
+fn push_spots<'a>(
+    alloc: Global,
+    source: Source<'a>,
+    spots: &[Spot],
+    found: &mut Sequence<Finding<'a>>,
+) -> Result<(), AllocError>
+    ensures { OnOk result (map told found.new ≡ map told found.old ++ map (tell_spot source.entry) spots.now) }
+{
+    let lines = lines_of(alloc, source.text)?;
+    let mut front = Front {
+        line: 0,
+        bytes: 0,
+        characters: 0,
+    };
+    for spot in spots {
+        let finding = finding_behind(
+            source.path,
+            lines.as_slice(),
+            spot.place,
+            spot.matter,
+            &mut front,
+        );
+        found.push(finding)?;
+    }
+    Ok(())
+}

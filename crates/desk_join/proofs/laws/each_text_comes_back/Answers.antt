@@ -1,5 +1,0 @@
-use Rattle.desk_join.proofs.Joins.{each_text_comes_back}
-use Rattle.desk_join.proofs.laws.each_text_comes_back.Goals as goal
-
-pub returns : goal.returns
-returns c = each_text_comes_back c.split_keeps_words.ensures

@@ -1,5 +1,0 @@
-use Rattle.desk_join.proofs.Joins.{join_keeps_words}
-use Rattle.desk_join.proofs.laws.join_keeps_words.Goals as goal
-
-pub returns : goal.returns
-returns c = join_keeps_words

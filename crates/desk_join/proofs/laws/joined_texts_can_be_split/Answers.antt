@@ -1,5 +1,0 @@
-use Rattle.desk_join.proofs.Joins.{joined_texts_can_be_split}
-use Rattle.desk_join.proofs.laws.joined_texts_can_be_split.Goals as goal
-
-pub returns : goal.returns
-returns c = joined_texts_can_be_split c.split_keeps_words.ensures

@@ -1,0 +1,5 @@
+pub mod SplitFault
+pub mod Splitting
+pub mod Joining
+pub mod Laws
+pub mod PrivateSplitting
