@@ -85,6 +85,12 @@ def foreseen(name, text, out, status, *options):
     return Command(words, out, status, database="first", text=text, title=title)
 
 
+def audited(words, given, out, status, database="first", text=""):
+    """What the site of a database breaks of these expectations, or would with a text."""
+    title = f"`{' '.join(words)}` of the database {database!r}, which is answered {out.split(chr(10))[0]!r}"
+    return Command(words, out, status, given, database, text, title=title)
+
+
 def files_with(others):
     """What `files` prints of each file of the sample site, where these are told otherwise."""
     return [others.get(name, f"{name} rev 1 site\n") for name in NAMES]
@@ -127,6 +133,13 @@ EXPORTS = """\
 
 NESTED = "/a -network 10.0.0.0/8 -ro\n/a -network 10.255.255.255/32 -ro\n/a -sec=krb5\n"
 NO_PROPOSAL = "refused 111 NoRevision\n"
+PROMISED = "everybody but 131.104.48.0/24 may not mount /u2/...\neverybody but friends may not root /usr/...\n"
+BROKEN = """\
+-:1: broken: everybody but 131.104.48.0/24 may not mount /u2/...
+== /u2
+10.0.0.9-10.0.0.9 granted line 1 ro sec=sys root=65534:65533
+2 expectations, 1 broken
+"""
 FORESEEN = """\
 == /u
 - 0.0.0.0-131.104.47.255 denied 2 NoLine /u
@@ -257,6 +270,34 @@ COMMANDS = {
             title="`compare` with a text that has a fault",
         ),
     ],
+    "test": [
+        Command(
+            ["test", "TEXT", "-", "/usr", "/home"],
+            "-:2: broken: everybody may not mount /usr/local/...\n"
+            "== /usr/local\n"
+            "10.0.0.5-10.0.0.5 granted line 1 ro sec=sys root=65534:65533\n"
+            "2 expectations, 1 broken\n",
+            1,
+            given="10.0.0.6 may write /usr\neverybody may not mount /usr/local/...\n",
+            text="/usr /usr/local -ro 10.0.0.5\n/usr 10.0.0.6\n/home -alldirs\n",
+        ),
+        Command(
+            ["test", "TEXT", "-", "/home", "--json"],
+            '[{"dir":"/home","expectation":"10.0.0.5 may krb5 /home","first":"10.0.0.5","kind":"broken","last":"10.0.0.5","line":1,'
+            f'"others":false,"path":"-","verdict":"granted line 1 {STANDARD}"}}]\n',
+            1,
+            given="10.0.0.5 may krb5 /home\n",
+            text="/home -alldirs\n",
+        ),
+        Command(
+            ["test", "TEXT", "-", "/home"],
+            "fault expectations line 1 rule 6 UnknownName\n",
+            3,
+            given="friends may mount /home\n",
+            text="/home -alldirs\n",
+            title="`test` with expectations that have a fault",
+        ),
+    ],
     "who": [
         Command(
             ["who", "DB", "/u2/x"],
@@ -283,6 +324,13 @@ COMMANDS = {
         foreseen("hosts", CONTRADICTING, "fault exports:/usr line 2 rule 26 Contradiction line 1 address 131.104.48.16\n", 3),
         asked_of("proposed", ["impact", "DB", "exports:/u", "--proposal"], FORESEEN, 1),
         asked_of("guarded", ["impact", "DB", "exports:/u", "--proposal"], NO_PROPOSAL, 1),
+    ],
+    "audit": [
+        audited(["audit", "DB", "-"], PROMISED, "2 expectations, 0 broken\n", 0),
+        audited(["audit", "DB", "-", "exports:/u2", "TEXT"], PROMISED, BROKEN, 1, text="/u2 -ro 10.0.0.9\n"),
+        audited(["audit", "DB", "-", "exports:/u", "--proposal", "--json"], PROMISED, "[]\n", 0, "proposed"),
+        audited(["audit", "DB", "-", "exports:/u", "--proposal"], PROMISED, NO_PROPOSAL, 1, "guarded"),
+        audited(["audit", "DB", "-"], "doc may read /u\n", "fault expectations line 1 rule 3 BadAction\n", 3),
     ],
     "proposal": [
         asked_of("proposed", ["proposal", "DB", "exports:/u"], PROPOSED),

@@ -5,7 +5,7 @@ _exportdesk()
     local command=${COMP_WORDS[1]} count=0 is_value=no place
     COMPREPLY=()
     if [ "$COMP_CWORD" -eq 1 ]; then
-        choices='try split check clients compare init ask show exports who put impact log cat proposal files write serve --help --version'
+        choices='try split check clients compare test init ask show exports who put impact audit log cat proposal files write serve --help --version'
         mapfile -t COMPREPLY < <(compgen -W "$choices" -- "$word")
         return
     fi
@@ -29,9 +29,11 @@ _exportdesk()
     check) choices='--hosts --networks --passwd --group --netgroup --site --brief --strict --json --help' ;;
     clients) choices='--hosts --networks --passwd --group --netgroup --help' ;;
     compare) choices='--hosts --networks --passwd --group --netgroup --all --help' ;;
+    test) choices='--hosts --networks --passwd --group --netgroup --json --help' ;;
     ask) choices='--as --help' ;;
     put) choices='--base --caller --key --key-file --help' ;;
     impact) choices='--all --proposal --help' ;;
+    audit) choices='--proposal --json --help' ;;
     cat) choices='--rev --help' ;;
     serve) choices='--port --connections --timeout --help' ;;
     esac
@@ -51,8 +53,9 @@ _exportdesk()
         check:--passwd:* | clients:--group:* | clients:--hosts:* | clients:--netgroup:* | \
         clients:--networks:* | clients:--passwd:* | compare:--group:* | compare:--hosts:* | \
         compare:--netgroup:* | compare:--networks:* | compare:--passwd:* | put:--key-file:* | \
-        try:--group:* | try:--hosts:* | try:--netgroup:* | try:--networks:* | \
-        try:--passwd:*)
+        test:--group:* | test:--hosts:* | test:--netgroup:* | test:--networks:* | \
+        test:--passwd:* | try:--group:* | try:--hosts:* | try:--netgroup:* | \
+        try:--networks:* | try:--passwd:*)
         compopt -o filenames
         mapfile -t COMPREPLY < <(compgen -f -- "$word")
         ;;
@@ -66,7 +69,7 @@ _exportdesk()
     *:-?*) mapfile -t COMPREPLY < <(compgen -W "$choices" -- "$word") ;;
     *)
         case $command:$count in
-        put:1 | impact:1 | log:1 | cat:1 | proposal:1)
+        put:1 | impact:1 | audit:2 | log:1 | cat:1 | proposal:1)
             choices='custodians filesystems hosts networks passwd group netgroup exports:'
             mapfile -t COMPREPLY < <(compgen -W "$choices" -- "$word")
             [ "${COMPREPLY[*]}" != exports: ] || compopt -o nospace
@@ -75,14 +78,15 @@ _exportdesk()
         esac
         compopt -o filenames
         case $command:$count in
-        try:0 | split:0 | split:1 | check:0 | clients:0 | compare:0 | compare:1 | init:0 | \
-            ask:0 | show:0 | exports:0 | who:0 | put:0 | put:2 | impact:0 | impact:2 | \
-            log:0 | cat:0 | proposal:0 | files:0 | write:0 | serve:0)
+        try:0 | split:0 | split:1 | check:0 | clients:0 | compare:0 | compare:1 | test:0 | \
+            test:1 | init:0 | ask:0 | show:0 | exports:0 | who:0 | put:0 | put:2 | \
+            impact:0 | impact:2 | audit:0 | audit:1 | audit:3 | log:0 | cat:0 | proposal:0 | \
+            files:0 | write:0 | serve:0)
             mapfile -t COMPREPLY < <(compgen -f -- "$word")
             ;;
         try:1 | ask:1 | show:1) ;;
         try:2 | clients:1 | init:1 | ask:2 | who:1 | write:1 | try:* | check:* | \
-            clients:* | compare:*)
+            clients:* | compare:* | test:*)
             mapfile -t COMPREPLY < <(compgen -d -- "$word")
             ;;
         esac

@@ -14,13 +14,15 @@ use Rattle.cli_output.specs.declared.printed.Printed.{Printed}
 use Rattle.cli_words.specs.Commands.{AskForHelp, command_found, faults_of}
 use Rattle.cli_words.specs.LineWords.{IsBadWord, words_of}
 use Rattle.cli_words.specs.declared.commands.Subcommand.{Subcommand}
-use Rattle.cli_words.specs.declared.commands.Subcommand.TheVariants.{Ask, Cat, Check, Clients, Compare, Exports, Files, Impact, Init, Log, Proposal, Put, Serve, Show, Split, Try, Who, Write}
+use Rattle.cli_words.specs.declared.commands.Subcommand.TheVariants.{Ask, Audit, Cat, Check, Clients, Compare, Exports, Files, Impact, Init, Log, Proposal, Put, Serve, Show, Split, Test, Try, Who, Write}
 use Rattle.cli_files.specs.Input.{first_line}
 use Rattle.cli_texts.specs.CheckCommand.{AnswersCheck}
 use Rattle.cli_texts.specs.ClientsCommand.{AnswersClients}
 use Rattle.cli_texts.specs.CompareCommand.{AnswersCompare}
 use Rattle.cli_texts.specs.SplitCommand.{AnswersSplit}
+use Rattle.cli_texts.specs.TestCommand.{AnswersTest}
 use Rattle.cli_texts.specs.TryCommand.{AnswersTry}
+use Rattle.cli_questions.specs.AuditCommand.{AnswersAudit}
 use Rattle.cli_questions.specs.QuestionCommands.{AnswersAsk, AnswersCat, AnswersExports, AnswersFiles, AnswersImpact, AnswersLog, AnswersProposal, AnswersShow, AnswersWho}
 use Rattle.cli_edits.specs.InitCommand.{AnswersInit}
 use Rattle.cli_edits.specs.PutCommand.{AnswersPut}
@@ -48,6 +50,7 @@ AnswersGiven Split rows known result = AnswersSplit rows known result
 AnswersGiven Check rows known result = AnswersCheck rows known result
 AnswersGiven Clients rows known result = AnswersClients rows known result
 AnswersGiven Compare rows known result = AnswersCompare rows known result
+AnswersGiven Test rows known result = AnswersTest rows known result
 AnswersGiven Init rows known result = AnswersInit rows known result
 AnswersGiven Ask rows known result = AnswersAsk rows result
 AnswersGiven Show rows known result = AnswersShow rows result
@@ -55,6 +58,7 @@ AnswersGiven Exports rows known result = AnswersExports rows result
 AnswersGiven Who rows known result = AnswersWho rows result
 AnswersGiven Put rows known result = AnswersPut rows known result
 AnswersGiven Impact rows known result = AnswersImpact rows known result
+AnswersGiven Audit rows known result = AnswersAudit rows known result
 AnswersGiven Log rows known result = AnswersLog rows result
 AnswersGiven Cat rows known result = AnswersCat rows result
 AnswersGiven Proposal rows known result = AnswersProposal rows result

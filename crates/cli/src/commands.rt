@@ -15,6 +15,7 @@ use cli_edits::put_command::run_put;
 use cli_files::input::{first_line, read_line};
 use cli_output::failure::{Failure, ReadFailure};
 use cli_output::printed::Printed;
+use cli_questions::audit_command::run_audit;
 use cli_questions::question_commands::{
     run_ask, run_cat, run_exports, run_files, run_impact, run_log, run_proposal, run_show, run_who,
 };
@@ -23,6 +24,7 @@ use cli_texts::check_command::run_check;
 use cli_texts::clients_command::run_clients;
 use cli_texts::compare_command::run_compare;
 use cli_texts::split_command::run_split;
+use cli_texts::test_command::run_test;
 use cli_texts::try_command::run_try;
 use cli_words::commands::Subcommand;
 use cli_words::line::command_line;
@@ -112,6 +114,7 @@ fn run_command<I: BufRead>(
         Subcommand::Check => run_check(rt, words, input),
         Subcommand::Clients => run_clients(rt, words, input),
         Subcommand::Compare => run_compare(rt, words, input),
+        Subcommand::Test => run_test(rt, words, input),
         Subcommand::Init => run_init(rt, words, input),
         Subcommand::Ask => run_ask(rt, words),
         Subcommand::Show => run_show(rt, words),
@@ -119,6 +122,7 @@ fn run_command<I: BufRead>(
         Subcommand::Who => run_who(rt, words),
         Subcommand::Put => run_put(rt, words, input),
         Subcommand::Impact => run_impact(rt, words, input),
+        Subcommand::Audit => run_audit(rt, words, input),
         Subcommand::Log => run_log(rt, words),
         Subcommand::Cat => run_cat(rt, words),
         Subcommand::Proposal => run_proposal(rt, words),

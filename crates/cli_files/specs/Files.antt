@@ -1,10 +1,11 @@
 -- The text of a file that a word names. (this project's own)
-use Rattle.std.specs.Prelude.{◌≡◌, ◌⊎◌, ℕ, nat_lt, Bool, false, count_by, List, Option, Some, None, [], ◌∷◌, ◌≢◌, IfSome, Result, Ok, Err, String, codes}
+use Rattle.std.specs.Prelude.{◌≡◌, ◌⊎◌, ℕ, nat_lt, Bool, true, false, count_by, List, Option, Some, None, [], ◌∷◌, ◌≢◌, IfSome, Result, Ok, Err, String, codes}
 use Rattle.std.specs.Str.{bytes_eq}
 use Rattle.std.specs.String.{string_bytes}
 use Rattle.cli_files.specs.Input.{text_of}
 use Rattle.cli_output.specs.Failure.{IsFileFailure, IsUnread}
 use Rattle.cli_output.specs.declared.failure.Failure.{Failure}
+use Rattle.cli_output.specs.declared.failure.Failure.TheVariants.{InputTwice}
 use Rattle.cli_output.specs.declared.failure.ReadFailure.TheVariants.{Text}
 use Rattle.cli_output.specs.declared.failure.TextFault.{TextFault}
 
@@ -83,3 +84,11 @@ is_input_if_given (Some word) = is_input word
 -- more than one of these files is to be standard input
 abbrev pub name_input_twice : List (List ℕ × Option (List ℕ)) → Bool
 name_input_twice files = nat_lt 1 (count_by (λ file. is_input_if_given file.1) files)
+
+-- the texts of files that are read in turn, unless two of them are to be standard input
+abbrev pub ReadsUnless : Bool → List (List ℕ × Option (List ℕ)) → Option (List ℕ) → Result (List (List ℕ)) Failure → Type 0
+ReadsUnless true files known read = read ≡ Err InputTwice
+ReadsUnless false files known read = ReadsInTurn files known read
+
+abbrev pub ReadsFiles : List (List ℕ × Option (List ℕ)) → Option (List ℕ) → Result (List (List ℕ)) Failure → Type 0
+ReadsFiles files known read = ReadsUnless (name_input_twice files) files known read

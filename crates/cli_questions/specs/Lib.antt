@@ -1,3 +1,4 @@
+pub mod AuditCommand
 pub mod FileLines
 pub mod PrivateAnswering
 pub mod QuestionCommands

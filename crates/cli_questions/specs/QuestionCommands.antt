@@ -16,7 +16,7 @@ use Rattle.cli_output.specs.Failure.{IsMissing}
 use Rattle.cli_words.specs.Values.{AnswersArgument, AnswersOwn, IsBadNumber, own_answer, revision_number}
 use Rattle.cli_words.specs.Words.{After, ByWord, is_set}
 use Rattle.cli_files.specs.Files.{HasText, LacksText}
-use Rattle.cli_questions.specs.Questions.{AnswersQuestion, Asked}
+use Rattle.cli_questions.specs.Questions.{AnswersQuestion, Asked, none_expected}
 
 -- HOST is parsed as an address, or refused
 abbrev pub ParsesHost : List ℕ → Result Addr Failure → Type 0
@@ -43,11 +43,11 @@ ParsesRevision (Some word) (Err failure) = (revision_number word ≡ None) × Is
 
 -- a question whose answer is printed plainly, or with as whom a client acts
 abbrev pub asking : Question → Option Cred → Asked
-asking question own = record { question = question; own = own; all = false }
+asking question own = record { question = question; own = own; all = false; expected = none_expected }
 
 -- a question on what would change, with the changes that matter to no client or without
 abbrev pub foreseeing : Question → Bool → Asked
-foreseeing question all = record { question = question; own = None; all = all }
+foreseeing question all = record { question = question; own = None; all = all; expected = none_expected }
 
 -- `ask DB HOST DIR [--as CRED]`: the words are parsed from left to right
 abbrev pub AnswersAsk : List Row → Result Printed Failure → Type 0

@@ -1,5 +1,5 @@
 -- What is asked of a database without changing it, and what is printed of the answers. (this project's own)
-use Rattle.std.specs.Prelude.{◌≡◌, ◌⊎◌, ℕ, ◌==◌, ◌++◌, ◌∷◌, Bool, List, [], Option, Result, Ok, Err, codes, if◌then◌else◌}
+use Rattle.std.specs.Prelude.{◌≡◌, ◌⊎◌, ℕ, ◌==◌, ◌++◌, ◌∷◌, Bool, false, List, [], Option, Result, Ok, Err, codes, if◌then◌else◌}
 use Rattle.std.specs.String.{string_bytes}
 use Rattle.sqlite.specs.Effect.{Database}
 use Rattle.desk_tables.specs.declared.credentials.Cred.{Cred}
@@ -20,20 +20,26 @@ use Rattle.cli_output.specs.declared.printed.Printed.{Printed}
 use Rattle.cli_verdict.specs.TryText.{answer_on}
 use Rattle.cli_verdict.specs.TryText.{Answer as Tried}
 use Rattle.cli_desk.specs.RefusalLines.{Says}
+use Rattle.cli_expectations.specs.Tested.{Expected, PrintsTested, expected_of}
 use Rattle.cli_questions.specs.FileLines.{files_text}
 use Rattle.cli_questions.specs.RevisionLines.{log_text}
 use Rattle.cli_questions.specs.declared.answering.Asked.{Asked as LentAsked}
 
--- a question with how its answer is printed: a verdict with as whom the client acts, if its credential is given; and what would change
--- with the changes that matter to no client, too
+-- a question with how its answer is printed: a verdict with as whom the client acts, if its credential is given; what would change
+-- with the changes that matter to no client, too; and of a site which of these expectations it breaks
 pub record Asked : Type 0 where
   pub question : Question
   pub own : Option Cred
   pub all : Bool
+  pub expected : Expected
 
 -- the same by value
 abbrev pub asked_of : LentAsked → Asked
-asked_of asked = record { question = question_of asked.question; own = asked.own.now; all = asked.all }
+asked_of asked = record { question = question_of asked.question; own = asked.own.now; all = asked.all; expected = expected_of asked.expected }
+
+-- no expectations, for a question that is not on a site
+abbrev pub none_expected : Expected
+none_expected = record { path = []; text = []; json = false }
 
 -- the file that a question is on; empty if it is on none
 abbrev pub file_in : Question → List ℕ
@@ -53,7 +59,7 @@ pub record PrintsChanges (asked : Asked) (foreseen : Foreseen) (printed : Printe
   pub prints : Prints (if report.mattering == 0 then 0 else 1) (string_bytes report.text) printed
 
 -- An answer is printed: a verdict as `try` does; a text as it is, of a revision or of a proposal; lists of revisions, of ranges and of
--- files in lines; what would change as a report; and a refusal as its line. No command asks for a whole site, of which nothing is printed.
+-- files in lines; what would change as a report; which expectations a site breaks, with its own tables; and a refusal as its line.
 abbrev pub PrintsAnswer : Asked → Answer → Printed → Type 0
 PrintsAnswer asked (VerdictIs content verdict) printed = PrintsVerdict (answer_on content asked.own verdict) printed
 PrintsAnswer asked (ListingIs content listing) printed = Prints 0 (listing_text content listing) printed
@@ -65,7 +71,7 @@ PrintsAnswer asked (ProposalIs proposal) printed = Prints 0 proposal.body printe
 PrintsAnswer asked NoRevision printed = Says refused.NoRevision printed
 PrintsAnswer asked (FilesAre listed) printed = Prints 0 (files_text listed) printed
 PrintsAnswer asked (ForeseenIs foreseen) printed = PrintsChanges asked foreseen printed
-PrintsAnswer asked (SiteIs site) printed = Prints 0 [] printed
+PrintsAnswer asked (SiteIs site) printed = PrintsTested site.tables site.content asked.expected printed
 PrintsAnswer asked (RefusedBy refusal) printed = Says (refused.Edit refusal) printed
 
 -- what is printed of a question by a history: its answer

@@ -8,6 +8,7 @@ ghost use Rattle.cli_questions.specs.Questions.{AnswersQuestion, asked_of};
 use crate::printing::print_answer;
 use cli_desk::desks::{CopiedDesk, open_copied_desk};
 use cli_desk::refusal_notes::refused_by_copy;
+use cli_expectations::expectations_file::ExpectationsFile;
 use cli_output::failure::Failure;
 use cli_output::printed::Printed;
 use desk_service::{Looked, Question, answer, look_up};
@@ -24,6 +25,8 @@ pub struct Asked<'a> {
     pub all: bool,
     /// The word that names the file of a text that is to be foreseen.
     pub file: &'a str,
+    /// What is expected of a site; of another question nothing.
+    pub expected: ExpectationsFile<'a>,
 }
 
 /// Answers a question by the database at a path.

@@ -1,4 +1,5 @@
-//! The commands that ask a database: what may be mounted, what its files say, which files there are, and what a text would change.
+//! The commands that ask a database: what may be mounted, what its files say, which files there are, what a text would change, and
+//! whether its site keeps what is expected of it.
 //!
 //! Its promise: each answers by the history that a copy of the database holds, and stores nothing: of version 1, the copy alone
 //! is migrated. What is asked, and the answers as data, are desk_service's; this crate parses the words and prints the answers.
@@ -9,6 +10,7 @@
 #![tactic(auto)]
 
 mod answering;
+pub mod audit_command;
 mod file_lines;
 mod notes;
 mod printing;

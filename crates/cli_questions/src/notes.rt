@@ -23,7 +23,9 @@ pub(crate) fn no_revision_note(
         Question::Text(name, None) | Question::Revisions(name) => {
             format!(in alloc; "exportdesk: NAME {name:?}: it has no revision\n")
         }
-        Question::Proposal(name) | Question::ForeseeProposal(name) => {
+        Question::Proposal(name)
+        | Question::ForeseeProposal(name)
+        | Question::ForeseeProposedSite(name) => {
             format!(in alloc; "exportdesk: NAME {name:?}: it has no proposal\n")
         }
         _ => Ok(String::new(alloc)),
@@ -81,7 +83,10 @@ pub(crate) fn foreseen_note(
 /// Returns the name of the file whose text is foreseen.
 fn foreseen_name<'a>(question: Question<'a>) -> &'a str {
     match question {
-        Question::Foresee(name, _) | Question::ForeseeProposal(name) => name,
+        Question::Foresee(name, _)
+        | Question::ForeseeProposal(name)
+        | Question::ForeseeSite(name, _)
+        | Question::ForeseeProposedSite(name) => name,
         _ => "",
     }
 }
@@ -109,13 +114,15 @@ fn fault_note(
     fault: &SiteFault,
 ) -> Result<String, AllocError> {
     match question {
-        Question::Foresee(file, text) => edit_fault_note(
+        Question::Foresee(file, text) | Question::ForeseeSite(file, text) => edit_fault_note(
             alloc,
             desk,
             NewText { file, text },
             fault,
         ),
-        Question::ForeseeProposal(file) => proposal_fault_note(alloc, desk, file, fault),
+        Question::ForeseeProposal(file) | Question::ForeseeProposedSite(file) => {
+            proposal_fault_note(alloc, desk, file, fault)
+        }
         _ => Ok(String::new(alloc)),
     }
 }

@@ -19,6 +19,7 @@ use crate::revision_lines::log_text;
 use cli_desk::View;
 use cli_desk::desks::CopiedDesk;
 use cli_desk::refusal_lines::refused;
+use cli_expectations::tested::print_tested;
 use cli_output::failure::Failure;
 use cli_output::printed::Printed;
 use cli_verdict::printed_verdict;
@@ -166,7 +167,7 @@ fn report_of(alloc: Global, foreseen: &Foreseen<'_, View>, all: bool) -> Result<
     }
 }
 
-/// Prints nothing: no command asks for a whole site.
+/// Prints which expectations a site breaks.
 fn print_site(
     alloc: Global,
     asked: Asked<'_>,
@@ -174,9 +175,5 @@ fn print_site(
 ) -> Result<Printed, Failure>
     ensures { TriesToPrint (asked_of asked.entry) (SiteIs (site_of (λ content. content) site.now)) result }
 {
-    Ok(Printed {
-        status: 0,
-        text: String::new(alloc),
-        note: String::new(alloc),
-    })
+    Ok(print_tested(alloc, site.tables(), site.view(), asked.expected)?)
 }

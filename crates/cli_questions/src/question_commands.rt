@@ -6,10 +6,12 @@ ghost use Rattle.std.specs.Option.{option_map};
 ghost use Rattle.desk_service.specs.Questions.{question_of};
 ghost use Rattle.cli_words.specs.Words.{rows_in};
 ghost use Rattle.cli_questions.specs.QuestionCommands as spec;
-ghost use Rattle.cli_questions.specs.Questions.{asked_of};
+ghost use Rattle.cli_expectations.specs.Tested.{expected_of};
+ghost use Rattle.cli_questions.specs.Questions.{asked_of, none_expected};
 
 use crate::answering::{Asked, answer_question};
 use clap::ArgMatches;
+use cli_expectations::expectations_file::ExpectationsFile;
 use cli_files::files::read_if_given;
 use cli_output::failure::Failure;
 use cli_output::printed::Printed;
@@ -117,6 +119,7 @@ fn asking<'a>(question: Question<'a>, own: &'a Option<Cred>) -> Asked<'a>
         own,
         all: false,
         file: "",
+        expected: nothing_expected(),
     }
 }
 
@@ -191,5 +194,17 @@ fn foreseeing<'a>(
         own,
         all,
         file,
+        expected: nothing_expected(),
+    }
+}
+
+/// Returns no expectations, for a question that is not on a site.
+fn nothing_expected() -> ExpectationsFile<'static>
+    ensures { expected_of result ≡ none_expected }
+{
+    ExpectationsFile {
+        path: "",
+        text: "",
+        json: false,
     }
 }

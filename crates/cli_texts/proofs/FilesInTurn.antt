@@ -1,10 +1,10 @@
 -- Files that are read in turn, some by one function and the rest after it.
 use Rattle.std.proofs.Common.{◌≡◌, ◌++◌, ℕ, Bool, false, List, [], ◌∷◌, Option, Result, Ok, Err, inl, inr, map, subst, sym}
 use Rattle.desk_findings.specs.declared.check_faults.Source.{Source}
-use Rattle.cli_files.specs.Files.{ReadsInTurn, name_input_twice}
+use Rattle.cli_files.specs.Files.{ReadsFiles, ReadsInTurn, ReadsUnless, name_input_twice}
 use Rattle.cli_output.specs.declared.failure.Failure.{Failure}
 use Rattle.cli_texts.specs.PrivateTableFiles.{ReadsTo}
-use Rattle.cli_texts.specs.TableFiles.{AreRead, ReadsFiles, ReadsUnless, given_path, paths_in, texts_in}
+use Rattle.cli_texts.specs.TableFiles.{AreRead, given_path, paths_in, texts_in}
 
 -- all have texts
 pub reads_on : (files rest : List (List ℕ × Option (List ℕ))) (known left : Option (List ℕ)) (texts more : List (List ℕ)) → ReadsTo files known texts left → ReadsInTurn rest left (Ok more) → ReadsInTurn (files ++ rest) known (Ok (texts ++ more))

@@ -1,5 +1,5 @@
 -- What `compare` prints, by its words and files. (this project's own)
-use Rattle.std.specs.Prelude.{◌⊎◌, ℕ, ◌==◌, Bool, List, Option, Result, codes, if◌then◌else◌}
+use Rattle.std.specs.Prelude.{◌⊎◌, ℕ, ◌==◌, Bool, List, Option, Some, Result, codes, if◌then◌else◌}
 use Rattle.std.specs.String.{string_bytes}
 use Rattle.clap.specs.Words.{Row}
 use Rattle.desk_tables.specs.declared.filesystems.Mount.{Mount}
@@ -11,13 +11,13 @@ use Rattle.desk_findings.specs.declared.check_text.WholeSources.{WholeSources}
 use Rattle.cli_output.specs.declared.failure.Failure.{Failure}
 use Rattle.cli_output.specs.declared.printed.Printed.{Printed}
 use Rattle.cli_words.specs.Words.{After, ByWord, is_set}
-use Rattle.cli_texts.specs.ComparedFiles.{compared_files, compared_list, whole_after, whole_before}
+use Rattle.cli_texts.specs.TwoFiles.{two_files, two_list, whole_first, whole_second}
 use Rattle.cli_texts.specs.FaultyTexts.{AnswersOrFault, PrintsFault}
 use Rattle.cli_texts.specs.MountWords.{ReadsMounts}
 use Rattle.cli_texts.specs.Printing.{PrintsAlone}
 use Rattle.cli_texts.specs.TableFiles.{ReadsSources}
 use Rattle.cli_texts.specs.WholeTables.{Writes, policy_of}
-use Rattle.cli_texts.specs.declared.compared_files.ComparedSources.{ComparedSources}
+use Rattle.cli_texts.specs.declared.two_files.TwoSources.{TwoSources}
 
 -- what changes from a policy to the one that an exports text is read as is printed; the status is 0 if nothing matters to a client
 pub record PrintsChanges (before : Content) (read : Result Content SiteFault) (all : Bool) (printed : Printed) : Type 0 where
@@ -34,14 +34,18 @@ pub record PrintsComparison (table : List Mount) (all : Bool) (old new : WholeSo
   pub prints : PrintsChanges before (policy_of new table) all printed ⊎ PrintsFault new table printed
 
 -- the answer by the texts of the files; a fault of a table or of OLD comes before one of NEW
-abbrev pub AnswersTexts : Bool → List Mount → ComparedSources → Result Printed Failure → Type 0
+abbrev pub AnswersTexts : Bool → List Mount → TwoSources → Result Printed Failure → Type 0
 AnswersTexts all table sources result =
-    AnswersOrFault (PrintsComparison table all (whole_before sources) (whole_after sources)) (whole_before sources) table result
+    AnswersOrFault (PrintsComparison table all (whole_first sources) (whole_second sources)) (whole_first sources) table result
+
+-- OLD and NEW, and the tables before them
+abbrev pub compared_files : List Row → List ℕ → List ℕ → List (List ℕ × Option (List ℕ))
+compared_files rows old new = two_files rows (codes "OLD", Some old) (codes "NEW", Some new)
 
 -- the answer with these file systems: the files are read after them
 abbrev pub AnswersByFiles : List Row → Option (List ℕ) → List ℕ → List ℕ → List Mount → Result Printed Failure → Type 0
 AnswersByFiles rows known old new table result =
-    After (ReadsSources compared_list (compared_files rows old new) known) (AnswersTexts (is_set (codes "all") rows) table) result
+    After (ReadsSources two_list (compared_files rows old new) known) (AnswersTexts (is_set (codes "all") rows) table) result
 
 -- the answer of `compare` to its words
 abbrev pub AnswersCompare : List Row → Option (List ℕ) → Result Printed Failure → Type 0

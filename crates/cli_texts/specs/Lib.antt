@@ -1,7 +1,6 @@
 pub mod CheckCommand
 pub mod ClientsCommand
 pub mod CompareCommand
-pub mod ComparedFiles
 pub mod FaultLine
 pub mod FaultyTexts
 pub mod MountWords
@@ -10,6 +9,8 @@ pub mod PrivateTableFiles
 pub mod SplitCommand
 pub mod SplitText
 pub mod TableFiles
+pub mod TestCommand
 pub mod TryCommand
+pub mod TwoFiles
 pub mod WholeFiles
 pub mod WholeTables

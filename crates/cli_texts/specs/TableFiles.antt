@@ -1,12 +1,11 @@
 -- The files that a command reads: in which order, and as which sources; those of the tables among them. (this project's own)
-use Rattle.std.specs.Prelude.{◌≡◌, ◌≤◌, ℕ, Bool, true, false, List, [], ◌∷◌, Option, Result, Ok, Err, String, codes, length, map, unwrap_or}
+use Rattle.std.specs.Prelude.{◌≡◌, ◌≤◌, ℕ, List, [], ◌∷◌, Option, Result, Ok, Err, String, codes, length, map, unwrap_or}
 use Rattle.std.specs.String.{string_bytes}
 use Rattle.clap.specs.Words.{Row, first_of}
 use Rattle.desk_policy.specs.declared.per_table.PerTable.{PerTable}
 use Rattle.desk_findings.specs.declared.check_faults.Source.{Source}
 use Rattle.cli_output.specs.declared.failure.Failure.{Failure}
-use Rattle.cli_output.specs.declared.failure.Failure.TheVariants.{InputTwice}
-use Rattle.cli_files.specs.Files.{ReadsInTurn, name_input_twice}
+use Rattle.cli_files.specs.Files.{ReadsFiles}
 
 -- the files of the tables, each with the option that names it, in the order in which they are read
 abbrev pub table_files : List Row → List (List ℕ × Option (List ℕ))
@@ -25,14 +24,6 @@ table_list tables = tables.hosts ∷ tables.networks ∷ tables.passwd ∷ table
 -- the text is not over the limit
 abbrev pub IsShort : {A : Type 0} → String A → Type 0
 IsShort text = length (string_bytes text) ≤ 16777216
-
--- the texts of files that are read in turn, unless two of them are to be standard input
-abbrev pub ReadsUnless : Bool → List (List ℕ × Option (List ℕ)) → Option (List ℕ) → Result (List (List ℕ)) Failure → Type 0
-ReadsUnless true files known read = read ≡ Err InputTwice
-ReadsUnless false files known read = ReadsInTurn files known read
-
-abbrev pub ReadsFiles : List (List ℕ × Option (List ℕ)) → Option (List ℕ) → Result (List (List ℕ)) Failure → Type 0
-ReadsFiles files known read = ReadsUnless (name_input_twice files) files known read
 
 -- the path of a file; of one that is not given the empty one, which no finding shows
 abbrev pub given_path : List ℕ × Option (List ℕ) → List ℕ

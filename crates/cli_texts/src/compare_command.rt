@@ -10,10 +10,10 @@ ghost use Rattle.cli_texts.specs.FaultyTexts.{AnswersOrFault};
 ghost use Rattle.cli_texts.specs.WholeTables.{GivesOrFault, policy_of};
 
 use crate::View;
-use crate::compared_files::{ComparedSources, compared_sources, read_compared_texts};
 use crate::faulty_texts::answer_error;
 use crate::mount_words::read_filesystems;
 use crate::printing::print_alone;
+use crate::two_files::{NamedFile, TwoSources, read_two_texts, two_sources};
 use crate::whole_tables::view_of;
 use clap::ArgMatches;
 use cli_output::failure::Failure;
@@ -38,8 +38,16 @@ pub fn run_compare<I: BufRead>(
     let before = required(words, "OLD")?;
     let after = required(words, "NEW")?;
     let filesystems = read_filesystems(rt.alloc(), words)?;
-    let texts = read_compared_texts(rt, words, before, after, input)?;
-    let sources = compared_sources(words, before, after, &texts);
+    let before = NamedFile {
+        argument: "OLD",
+        path: before,
+    };
+    let after = NamedFile {
+        argument: "NEW",
+        path: after,
+    };
+    let texts = read_two_texts(rt, words, before, after, input)?;
+    let sources = two_sources(words, before, after, &texts);
     answer_texts(rt.alloc(), is_set(words, "all"), &filesystems, sources)
 }
 
@@ -48,16 +56,16 @@ fn answer_texts(
     alloc: Global,
     all: bool,
     filesystems: &FileSystems,
-    sources: ComparedSources<'_>,
+    sources: TwoSources<'_>,
 ) -> Result<Printed, Failure>
     requires tables { AreReadable sources.tables }
-    requires before { IsReadable sources.before.text.now }
-    requires after { IsReadable sources.after.text.now }
+    requires first { IsReadable sources.first.text.now }
+    requires second { IsReadable sources.second.text.now }
     ensures { AnswersTexts all filesystems.now sources.entry result }
 {
     match read_sources(alloc, sources.tables) {
         Ok(tables) => compare(alloc, all, filesystems, &tables, sources),
-        Err(error) => answer_error(alloc, sources.whole_before(), filesystems, error),
+        Err(error) => answer_error(alloc, sources.whole_first(), filesystems, error),
     }
 }
 
@@ -67,24 +75,24 @@ fn compare(
     all: bool,
     filesystems: &FileSystems,
     tables: &SiteTables,
-    sources: ComparedSources<'_>,
+    sources: TwoSources<'_>,
 ) -> Result<Printed, Failure>
     requires tables { AreReadable sources.tables }
-    requires before { IsReadable sources.before.text.now }
-    requires after { IsReadable sources.after.text.now }
+    requires first { IsReadable sources.first.text.now }
+    requires second { IsReadable sources.second.text.now }
     requires known { tables_of sources.tables ≡ Ok tables.now }
     ensures { AnswersTexts all filesystems.now sources.entry result }
 {
-    match view_of(alloc, sources.whole_before(), tables, filesystems) {
+    match view_of(alloc, sources.whole_first(), tables, filesystems) {
         Ok(before) => compare_with(
             alloc,
             &before,
             all,
             filesystems,
             tables,
-            sources.whole_after(),
+            sources.whole_second(),
         ),
-        Err(error) => answer_error(alloc, sources.whole_before(), filesystems, error),
+        Err(error) => answer_error(alloc, sources.whole_first(), filesystems, error),
     }
 }
 

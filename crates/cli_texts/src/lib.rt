@@ -1,9 +1,9 @@
-//! The commands on texts: `try`, `split`, `check`, `clients` and `compare`.
+//! The commands on texts: `try`, `split`, `check`, `clients`, `compare` and `test`.
 //!
 //! Its promise: [`try_command::run_try`] grants a mount only if the verdict over the bytes of its files grants it;
-//! [`split_command::run_split`], [`check_command::run_check`], [`clients_command::run_clients`] and
-//! [`compare_command::run_compare`] print likewise what the bytes of the files that their words name come to, or say why a file
-//! has no text.
+//! [`split_command::run_split`], [`check_command::run_check`], [`clients_command::run_clients`],
+//! [`compare_command::run_compare`] and [`test_command::run_test`] print likewise what the bytes of the files that their words
+//! name come to, or say why a file has no text.
 //!
 //! ```text
 //! // for the words `split - filesystems`
@@ -15,7 +15,6 @@ pub mod check_command;
 mod check_site_files;
 pub mod clients_command;
 pub mod compare_command;
-mod compared_files;
 mod fault_line;
 mod faulty_texts;
 mod mount_words;
@@ -23,7 +22,9 @@ mod printing;
 pub mod split_command;
 mod split_text;
 mod table_files;
+pub mod test_command;
 pub mod try_command;
+mod two_files;
 mod whole_files;
 mod whole_tables;
 

@@ -3,10 +3,10 @@
 ghost use Rattle.std.specs.Prelude.{◌≡◌, IfOk, map};
 ghost use Rattle.std.specs.Result.{result_map_both};
 ghost use Rattle.desk_text.specs.Lines.{IsReadable};
-ghost use Rattle.cli_files.specs.Files.{name_input_twice};
+ghost use Rattle.cli_files.specs.Files.{ReadsFiles, name_input_twice};
 ghost use Rattle.cli_words.specs.Words.{rows_in};
 ghost use Rattle.cli_texts.specs.SplitCommand.{AnswersSplit, AnswersTexts, AreBothShort, PrintsSplitFault, split_files, split_list, split_texts};
-ghost use Rattle.cli_texts.specs.TableFiles.{ReadsFiles, given_path, paths_in, texts_in};
+ghost use Rattle.cli_texts.specs.TableFiles.{given_path, paths_in, texts_in};
 
 use crate::printing::{end_line, print_alone};
 use crate::split_text::split_text;

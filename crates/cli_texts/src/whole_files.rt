@@ -4,9 +4,9 @@ ghost use Rattle.std.specs.Prelude.{◌≡◌, IfOk, map};
 ghost use Rattle.std.specs.Result.{result_map_both};
 ghost use Rattle.desk_text.specs.Lines.{IsReadable};
 ghost use Rattle.desk_findings.specs.CheckFaults.{AreReadable};
-ghost use Rattle.cli_files.specs.Files.{name_input_twice};
+ghost use Rattle.cli_files.specs.Files.{ReadsFiles, name_input_twice};
 ghost use Rattle.cli_words.specs.Words.{rows_in};
-ghost use Rattle.cli_texts.specs.TableFiles.{ReadsFiles, given_path, paths_in, texts_in};
+ghost use Rattle.cli_texts.specs.TableFiles.{given_path, paths_in, texts_in};
 ghost use Rattle.cli_texts.specs.WholeFiles.{AreShort, whole_files, whole_list, whole_texts};
 
 use crate::table_files::{inputs, read_tables, table_inputs, table_sources};

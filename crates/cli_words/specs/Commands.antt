@@ -10,7 +10,7 @@ use Rattle.cli_words.specs.declared.arguments.Kind.{Kind}
 use Rattle.cli_words.specs.declared.arguments.Kind.TheVariants as kind
 use Rattle.cli_words.specs.declared.commands.CommandRow as code
 use Rattle.cli_words.specs.declared.commands.Subcommand.{Subcommand}
-use Rattle.cli_words.specs.declared.commands.Subcommand.TheVariants.{Ask, Cat, Check, Clients, Compare, Exports, Files, Impact, Init, Log, Proposal, Put, Serve, Show, Split, Try, Who, Write}
+use Rattle.cli_words.specs.declared.commands.Subcommand.TheVariants.{Ask, Audit, Cat, Check, Clients, Compare, Exports, Files, Impact, Init, Log, Proposal, Put, Serve, Show, Split, Test, Try, Who, Write}
 
 -- a word that is required, and taken as it is
 abbrev pub word : List ℕ → Rule
@@ -63,6 +63,7 @@ commands =
     ∷ row Check (codes "check") (optional_word (codes "FILE") ∷ optional_words (codes "MOUNT") ∷ []) true (option (codes "site") ∷ flag (codes "brief") ∷ flag (codes "strict") ∷ flag (codes "json") ∷ [])
     ∷ row Clients (codes "clients") (word (codes "FILE") ∷ word (codes "DIR") ∷ words (codes "MOUNT") ∷ []) true []
     ∷ row Compare (codes "compare") (word (codes "OLD") ∷ word (codes "NEW") ∷ words (codes "MOUNT") ∷ []) true (flag (codes "all") ∷ [])
+    ∷ row Test (codes "test") (word (codes "FILE") ∷ word (codes "EXPECTATIONS") ∷ words (codes "MOUNT") ∷ []) true (flag (codes "json") ∷ [])
     ∷ row Init (codes "init") (word (codes "DB") ∷ word (codes "DIR") ∷ []) false []
     ∷ row Ask (codes "ask") (word (codes "DB") ∷ word (codes "HOST") ∷ word (codes "DIR") ∷ []) false (option (codes "as") ∷ [])
     ∷ row Show (codes "show") (word (codes "DB") ∷ word (codes "HOST") ∷ []) false []
@@ -70,6 +71,7 @@ commands =
     ∷ row Who (codes "who") (word (codes "DB") ∷ word (codes "DIR") ∷ []) false []
     ∷ row Put (codes "put") (word (codes "DB") ∷ word (codes "NAME") ∷ word (codes "FILE") ∷ []) false (required_option (codes "base") ∷ required_option (codes "caller") ∷ option (codes "key") ∷ option (codes "key-file") ∷ [])
     ∷ row Impact (codes "impact") (word (codes "DB") ∷ word (codes "NAME") ∷ optional_word (codes "FILE") ∷ []) false (flag (codes "all") ∷ flag (codes "proposal") ∷ [])
+    ∷ row Audit (codes "audit") (word (codes "DB") ∷ word (codes "EXPECTATIONS") ∷ optional_word (codes "NAME") ∷ optional_word (codes "FILE") ∷ []) false (flag (codes "proposal") ∷ flag (codes "json") ∷ [])
     ∷ row Log (codes "log") (word (codes "DB") ∷ word (codes "NAME") ∷ []) false []
     ∷ row Cat (codes "cat") (word (codes "DB") ∷ word (codes "NAME") ∷ []) false (option (codes "rev") ∷ [])
     ∷ row Proposal (codes "proposal") (word (codes "DB") ∷ word (codes "NAME") ∷ []) false []

@@ -17,6 +17,7 @@ pub enum Subcommand {
     Check,
     Clients,
     Compare,
+    Test,
     Init,
     Ask,
     Show,
@@ -24,6 +25,7 @@ pub enum Subcommand {
     Who,
     Put,
     Impact,
+    Audit,
     Log,
     Cat,
     Proposal,
@@ -81,6 +83,18 @@ const ALL: Argument = Argument {
     help: "Lists the ranges whose line or reason alone changes, too",
 };
 
+const EXPECTATIONS: Argument = Argument {
+    name: "EXPECTATIONS",
+    kind: Kind::Word,
+    help: "The text of the expectations; - is standard input",
+};
+
+const BREACHES_JSON: Argument = Argument {
+    name: "json",
+    kind: Kind::Flag,
+    help: "Prints what is broken as one compact JSON list",
+};
+
 const DB: Argument = Argument {
     name: "DB",
     kind: Kind::Word,
@@ -123,7 +137,7 @@ pub static TABLES: [Argument; 5] = [
 ];
 
 /// The commands, in the order of the help.
-pub static COMMANDS: [CommandRow; 18] = [
+pub static COMMANDS: [CommandRow; 20] = [
     CommandRow {
         command: Subcommand::Try,
         name: "try",
@@ -213,6 +227,13 @@ pub static COMMANDS: [CommandRow; 18] = [
         ],
         tables: true,
         options: &[ALL],
+    },
+    CommandRow {
+        command: Subcommand::Test,
+        name: "test",
+        words: &[FILE, EXPECTATIONS, MOUNTS],
+        tables: true,
+        options: &[BREACHES_JSON],
     },
     CommandRow {
         command: Subcommand::Init,
@@ -316,6 +337,33 @@ pub static COMMANDS: [CommandRow; 18] = [
                 kind: Kind::Flag,
                 help: "Takes the pending proposal of the file for the new text",
             },
+        ],
+    },
+    CommandRow {
+        command: Subcommand::Audit,
+        name: "audit",
+        words: &[
+            DB,
+            EXPECTATIONS,
+            Argument {
+                name: "NAME",
+                kind: Kind::MaybeWord,
+                help: "The name of a file that would have another text",
+            },
+            Argument {
+                name: "FILE",
+                kind: Kind::MaybeWord,
+                help: "That text; - is standard input",
+            },
+        ],
+        tables: false,
+        options: &[
+            Argument {
+                name: "proposal",
+                kind: Kind::Flag,
+                help: "Takes the pending proposal of the file for that text",
+            },
+            BREACHES_JSON,
         ],
     },
     CommandRow {

@@ -67,6 +67,18 @@ pub(crate) fn help_of(command: Subcommand) -> Help {
              client; 1 something does; 3 a text has a fault.",
             ),
         },
+        Subcommand::Test => Help {
+            about: "Tests whether an exports file keeps what is expected of it",
+            usage: None,
+            end: Some(
+                "EXPECTATIONS has a line for each: WHOM [but NAME..] may [not] ACTION DIR.., as in\n\
+             `everybody but adm may not write /usr/...`, where /usr/... is /usr and all below it. ACTION is mount, write,\n\
+             root, sys, krb5, krb5i or krb5p. For each that is broken it prints `FILE:LINE: broken: WORDS`, and below it,\n\
+             for each directory where it is, a line `== DIR` and a line for each range of addresses, as clients does. The\n\
+             last line counts. Standard error names the directories that are in no file system. A table that is not given\n\
+             is empty. One file may be -, standard input. Status: 0 all hold; 1 some are broken; 3 a text has a fault.",
+            ),
+        },
         Subcommand::Init => Help {
             about: "Makes a database of a site's files",
             usage: None,
@@ -122,6 +134,17 @@ pub(crate) fn help_of(command: Subcommand) -> Help {
              text behind `+ `. The last line counts: a change of a line or a reason alone does not matter to a client.\n\
              NAME is as in put; no key is asked. Status: 0 nothing changes for a client; 1 something does, the text is\n\
              refused, or there is no proposal; 3 the text has a fault.",
+            ),
+        },
+        Subcommand::Audit => Help {
+            about: "Tests whether the newest files keep what is expected of them",
+            usage: Some(
+                "exportdesk audit [OPTIONS] <DB> <EXPECTATIONS>\n       exportdesk audit [OPTIONS] <DB> <EXPECTATIONS> <NAME> <FILE>\n       exportdesk audit [OPTIONS] <DB> <EXPECTATIONS> <NAME> --proposal",
+            ),
+            end: Some(
+                "EXPECTATIONS, and what is printed, are as in test. With NAME and FILE, or --proposal, the site is tested as\n\
+             put would put it in force: NAME is as in put; no key is asked, and nothing is stored. Status: 0 all hold;\n\
+             1 some are broken, the text is refused, or there is no proposal; 3 a text has a fault.",
             ),
         },
         Subcommand::Log => Help {

@@ -99,9 +99,9 @@ fn program<'a>(alloc: Global) -> Command<'a>
         .about("Decides who may mount what, by the exports files of mountd(8)")
         .after_help(
             "Without words, the first line of standard input gives them, and the file - is the rest.\n\n\
-             Status: 0 granted or done, or help was printed; 1 denied, something changes, or refused by the rules of\n\
-             edits; 2 bad words, or a file that cannot be read or written; 3 a text has a fault; 4 out of memory, a\n\
-             database that cannot be used, or the output could not be written.\n\
+             Status: 0 granted or done, or help was printed; 1 denied, something changes or is not as expected, or\n\
+             refused by the rules of edits; 2 bad words, or a file that cannot be read or written; 3 a text has a\n\
+             fault; 4 out of memory, a database that cannot be used, or the output could not be written.\n\
              docs/RULES.md explains each rule that an exports text can break.",
         )
         .disable_help_subcommand(true)

@@ -2,8 +2,8 @@
 use Rattle.std.proofs.Common.{Bool, Err, Ok, refl, subst}
 use Rattle.std.proofs.lemmas.Result.{err_from_is_err_and}
 use Rattle.cli_words.specs.Words.{rows_in}
-use Rattle.cli_texts.specs.CompareCommand.{AnswersTexts}
-use Rattle.cli_texts.specs.ComparedFiles.{compared_files, compared_list, compared_texts}
+use Rattle.cli_texts.specs.CompareCommand.{AnswersTexts, compared_files}
+use Rattle.cli_texts.specs.TwoFiles.{two_list, two_texts}
 use Rattle.cli_texts.proofs.FilesInTurn.{lent}
 use Rattle.cli_texts.proofs.FoundWords.{by_found}
 use Rattle.cli_texts.proofs.compare_command.run_compare.Goals as goal
@@ -20,14 +20,14 @@ returns-in_err-texts g c =
 
 pub returns : goal.returns
 returns g c =
-    let sources = c.compared_sources-sources in
+    let sources = c.two_sources-sources in
     by_found _ _ _ _ c.in_ok-before.ensures (by_found _ _ _ _ c.in_ok-after.ensures
     (record {
       step = Ok c.in_ok-filesystems.filesystems;
       is = c.in_ok-filesystems.ensures;
       next = record {
         step = Ok sources.result;
-        is = lent (compared_files (rows_in c.args.words.now) c.in_ok-before.before.now c.in_ok-after.after.now) (g.I.Read.remaining c.args.input.now) (compared_texts c.in_ok-texts.texts) (compared_list sources.result) sources.ensures.paths sources.ensures.texts c.in_ok-texts.ensures.texts;
+        is = lent (compared_files (rows_in c.args.words.now) c.in_ok-before.before.now c.in_ok-after.after.now) (g.I.Read.remaining c.args.input.now) (two_texts c.in_ok-texts.texts) (two_list sources.result) sources.ensures.paths sources.ensures.texts c.in_ok-texts.ensures.texts;
         next = subst (λ (all : Bool). AnswersTexts all c.in_ok-filesystems.filesystems sources.result c.answer_texts.result) c.is_set.ensures c.answer_texts.ensures;
       };
     }))

@@ -1,0 +1,53 @@
+-- How the fault of a text of expectations is printed. (this project's own)
+use Rattle.std.specs.Prelude.{◌≡◌, ℕ, ◌+◌, List, [], ◌∷◌, ◌++◌, Some, codes, length, slice_range, take}
+use Rattle.std.specs.Fmt.{decimal}
+use Rattle.std.specs.Str.{chars}
+use Rattle.std.specs.String.{string_bytes}
+use Rattle.desk_text.specs.Place.{line_at}
+use Rattle.desk_text.specs.declared.place.Place.{Place}
+use Rattle.desk_text.specs.declared.reading.LineFault.{LineFault}
+use Rattle.desk_expect.specs.Rules.{rule_name, rule_number, rule_sentence}
+use Rattle.desk_expect.specs.declared.rules.PlacedFault.{PlacedFault}
+use Rattle.desk_expect.specs.declared.rules.Rule.{Rule}
+use Rattle.desk_check.specs.FindingPrints.{marked_line}
+use Rattle.desk_check.specs.ShownText.{shown_text}
+use Rattle.cli_output.specs.Printed.{Prints}
+use Rattle.cli_output.specs.declared.printed.Printed.{Printed}
+
+-- the number of a faulty line, and the rule that it breaks
+abbrev pub line_text : ℕ → List ℕ
+line_text line = codes "fault expectations line " ++ decimal line
+
+abbrev pub broken_rule : Rule → List ℕ
+broken_rule rule = codes " rule " ++ decimal (rule_number rule) ++ 32 ∷ rule_name rule ++ 10 ∷ []
+
+-- the line of a fault, as `fault expectations line 4 rule 6 UnknownName`
+abbrev pub fault_line : LineFault Rule → List ℕ
+fault_line fault = line_text fault.line ++ broken_rule fault.rule
+
+-- where it is, as `promises:4:15: `
+abbrev pub position_text : List ℕ → List ℕ → Place → List ℕ
+position_text path line place = shown_text path ++ 58 ∷ decimal place.line ++ 58 ∷ decimal (1 + length (chars (take place.start line))) ++ codes ": "
+
+-- which rule it breaks, as `fault 6 UnknownName: `
+abbrev pub rule_text : Rule → List ℕ
+rule_text rule = codes "fault " ++ decimal (rule_number rule) ++ 32 ∷ rule_name rule ++ codes ": "
+
+-- the slice at fault, in quotes
+abbrev pub slice_text : List ℕ → Place → List ℕ
+slice_text line place = codes "\"" ++ shown_text (slice_range line place.start place.end) ++ codes "\""
+
+-- what is said of it
+abbrev pub sentence_text : Rule → List ℕ
+sentence_text rule = 32 ∷ rule_sentence rule ++ 10 ∷ []
+
+-- The fault in the form in which `check` prints a finding, as `promises:4:15: fault 6 UnknownName: "freinds" is not a known netgroup or
+-- host: ..`; and below it the physical line, with carets under the slice.
+abbrev pub finding_text : List ℕ → List ℕ → PlacedFault → List ℕ
+finding_text path line placed =
+    position_text path line placed.place ++ rule_text placed.fault.rule ++ slice_text line placed.place ++ sentence_text placed.fault.rule ++ marked_line line (Some placed.place)
+
+-- the fault of a text is printed in a line, and standard error shows it
+pub record PrintsFault (path text : List ℕ) (placed : PlacedFault) (printed : Printed) : Type 0 where
+  pub prints : Prints 3 (fault_line placed.fault) printed
+  pub shows : string_bytes printed.note ≡ finding_text path (line_at text placed.place.line) placed

@@ -1,0 +1,5 @@
+pub mod BreachesJson
+pub mod FaultPrints
+pub mod Laws
+pub mod PrivateBreachesJson
+pub mod Tested

@@ -1,0 +1,118 @@
+//! The fault of a text of expectations, as it is printed: its line, and on standard error what `check` would print of it.
+
+ghost use Rattle.std.specs.Prelude.{◌≡◌, ◌++◌, IfOk, OnOk};
+ghost use Rattle.std.specs.String.{string_bytes};
+ghost use Rattle.desk_text.specs.Place.{LiesIn, LiesWithin, line_at};
+ghost use Rattle.cli_expectations.specs.FaultPrints as spec;
+ghost use Rattle.cli_expectations.specs.FaultPrints.{PrintsFault};
+
+use cli_output::printed::Printed;
+use desk_check::{push_marked_line, push_shown};
+use desk_expect::{PlacedFault, Rule};
+use desk_findings::{line_at, lines_of};
+use desk_text::{LineFault, Place};
+use std::alloc::{AllocError, Global};
+
+/// Prints the fault of a text of expectations, with the status 3.
+pub fn print_fault(
+    alloc: Global,
+    path: &str,
+    text: &str,
+    placed: PlacedFault,
+) -> Result<Printed, AllocError>
+    requires { LiesIn text.now placed.place }
+    ensures { IfOk result (PrintsFault path.now text.now placed) }
+{
+    let lines = lines_of(alloc, text)?;
+    let line = line_at(lines.as_slice(), placed.place.line);
+    let note = finding_text(alloc, path, line, placed)?;
+    let text = fault_text(alloc, placed.fault)?;
+    Ok(Printed {
+        status: 3,
+        text,
+        note,
+    })
+}
+
+/// Writes the line of a fault.
+fn fault_text(alloc: Global, fault: LineFault<Rule>) -> Result<String, AllocError>
+    ensures { IfOk result (λ text. string_bytes text ≡ spec.fault_line fault) }
+{
+    let mut text = String::new(alloc);
+    push_line_number(fault.line, &mut text)?;
+    push_broken_rule(fault.rule, &mut text)?;
+    Ok(text)
+}
+
+/// Adds the number of the faulty line.
+fn push_line_number(line: u32, text: &mut String) -> Result<(), AllocError>
+    ensures { OnOk result (string_bytes text.new ≡ string_bytes text.old ++ spec.line_text line) }
+{
+    write!(text, "fault expectations line {line}")
+}
+
+/// Adds the rule that it breaks.
+fn push_broken_rule(rule: Rule, text: &mut String) -> Result<(), AllocError>
+    ensures { OnOk result (string_bytes text.new ≡ string_bytes text.old ++ spec.broken_rule rule) }
+{
+    let number = rule.number();
+    let name = rule.name();
+    write!(text, " rule {number} {name}\n")
+}
+
+/// Writes what `check` would print of a fault: where it is and what the slice breaks, and the line with carets under the slice.
+fn finding_text(
+    alloc: Global,
+    path: &str,
+    line: &str,
+    placed: PlacedFault,
+) -> Result<String, AllocError>
+    requires { LiesWithin line.now placed.place }
+    ensures { IfOk result (λ text. string_bytes text ≡ spec.finding_text path.now line.now placed) }
+{
+    let mut text = String::new(alloc);
+    push_position(path, line, placed.place, &mut text)?;
+    push_rule(placed.fault.rule, &mut text)?;
+    push_slice(line, placed.place, &mut text)?;
+    push_sentence(placed.fault.rule, &mut text)?;
+    push_marked_line(line, placed.place, &mut text)?;
+    Ok(text)
+}
+
+/// Adds where a fault is: its path, line and column.
+fn push_position(path: &str, line: &str, place: Place, text: &mut String) -> Result<(), AllocError>
+    requires { LiesWithin line.now place }
+    ensures { OnOk result (string_bytes text.new ≡ string_bytes text.old ++ spec.position_text path.now line.now place) }
+{
+    let number = place.line;
+    let column = place.column(line);
+    push_shown(path, text)?;
+    write!(text, ":{number}:{column}: ")
+}
+
+/// Adds which rule it breaks.
+fn push_rule(rule: Rule, text: &mut String) -> Result<(), AllocError>
+    ensures { OnOk result (string_bytes text.new ≡ string_bytes text.old ++ spec.rule_text rule) }
+{
+    let number = rule.number();
+    let name = rule.name();
+    write!(text, "fault {number} {name}: ")
+}
+
+/// Adds the slice at fault, in quotes.
+fn push_slice(line: &str, place: Place, text: &mut String) -> Result<(), AllocError>
+    requires { LiesWithin line.now place }
+    ensures { OnOk result (string_bytes text.new ≡ string_bytes text.old ++ spec.slice_text line.now place) }
+{
+    text.push('"')?;
+    push_shown(&line[place.start..place.end], text)?;
+    text.push('"')
+}
+
+/// Adds what is said of it.
+fn push_sentence(rule: Rule, text: &mut String) -> Result<(), AllocError>
+    ensures { OnOk result (string_bytes text.new ≡ string_bytes text.old ++ spec.sentence_text rule) }
+{
+    let sentence = rule.sentence();
+    write!(text, " {sentence}\n")
+}

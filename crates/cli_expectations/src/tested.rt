@@ -1,0 +1,104 @@
+//! Whether a policy keeps what a text expects of it.
+
+ghost use Rattle.std.specs.Prelude.{◌≡◌, IfOk, true};
+ghost use Rattle.std.specs.String.{string_bytes};
+ghost use Rattle.desk_expect.specs.Outside.{outside_in, outside_text};
+ghost use Rattle.cli_expectations.specs.Tested.{IsShownReport, PrintsKept, PrintsTested, expected_of};
+
+use crate::breaches_json::breaches_json;
+use crate::expectations_file::ExpectationsFile;
+use crate::fault_prints::print_fault;
+use cli_output::printed::Printed;
+use desk_expect::{
+    Expectation, TestReport, find_broken, find_outside, outside_text, read_expectations,
+    test_report,
+};
+use desk_policy::{Policy, PolicyView, SiteTables};
+use desk_text::ReadError;
+use std::alloc::{AllocError, Global};
+
+/// Prints which expectations of a text a policy breaks, as text or as JSON: the status is 0 if it breaks none, and else 1. Names are
+/// looked up in these tables. A fault of the text is printed with the status 3.
+pub fn print_tested<V: PolicyView>(
+    alloc: Global,
+    tables: &SiteTables,
+    view: &V,
+    file: ExpectationsFile<'_>,
+) -> Result<Printed, AllocError>
+    ensures { IfOk result (PrintsTested tables.now (V.in_force view.now) (expected_of file.entry)) }
+{
+    match read_expectations(alloc, file.text, &tables.netgroups, &tables.hosts) {
+        Ok(expectations) => print_kept(alloc, view, file.path, file.json, expectations.as_slice()),
+        Err(ReadError::Fault(placed)) => print_fault(alloc, file.path, file.text, placed),
+        Err(ReadError::Memory) => Err(AllocError),
+    }
+}
+
+/// Prints which of these expectations of a file a policy breaks. Standard error names the directories that no file system has anything
+/// of.
+fn print_kept<V: PolicyView>(
+    alloc: Global,
+    view: &V,
+    file: &str,
+    json: bool,
+    expectations: &[Expectation],
+) -> Result<Printed, AllocError>
+    ensures { IfOk result (PrintsKept (V.in_force view.now) file.now json expectations.now) }
+{
+    let note = outside_note(alloc, view.policy(), file, expectations)?;
+    let report = shown_report(alloc, view, file, json, expectations)?;
+    Ok(Printed {
+        status: if report.broken == 0 { 0 } else { 1 },
+        text: report.text,
+        note,
+    })
+}
+
+/// Names the directories of these expectations that no file system of a policy has anything of.
+fn outside_note(
+    alloc: Global,
+    policy: &Policy,
+    file: &str,
+    expectations: &[Expectation],
+) -> Result<String, AllocError>
+    ensures { IfOk result (λ note. string_bytes note ≡ outside_text file.now (outside_in policy.now.table expectations.now)) }
+{
+    let outside = find_outside(alloc, policy.filesystems(), expectations)?;
+    outside_text(alloc, file, outside.as_slice())
+}
+
+/// Reports which of these expectations a policy breaks, as text or as JSON.
+fn shown_report<V: PolicyView>(
+    alloc: Global,
+    view: &V,
+    file: &str,
+    json: bool,
+    expectations: &[Expectation],
+) -> Result<TestReport, AllocError>
+    ensures { IfOk result (IsShownReport (V.in_force view.now) file.now json expectations.now) }
+{
+    if json {
+        json_report(alloc, view, file, expectations)
+    } else {
+        test_report(alloc, view, file, expectations)
+    }
+}
+
+/// Reports the same as JSON.
+fn json_report<V: PolicyView>(
+    alloc: Global,
+    view: &V,
+    file: &str,
+    expectations: &[Expectation],
+) -> Result<TestReport, AllocError>
+    ensures { IfOk result (IsShownReport (V.in_force view.now) file.now true expectations.now) }
+{
+    let broken = find_broken(alloc, view, expectations)?;
+    let text = breaches_json(alloc, view.policy(), file, broken.as_slice())?;
+    let count = broken.len();
+    drop(broken);
+    Ok(TestReport {
+        text,
+        broken: count,
+    })
+}

@@ -1,0 +1,41 @@
+-- The files of two texts and of the tables beside them. (this project's own)
+use Rattle.std.specs.Prelude.{ℕ, ◌++◌, List, [], ◌∷◌, Option, Some, map}
+use Rattle.std.specs.String.{string_bytes}
+use Rattle.clap.specs.Words.{Row}
+use Rattle.desk_policy.specs.PerTable.{EachTable}
+use Rattle.desk_findings.specs.declared.check_faults.Source.{Source}
+use Rattle.desk_findings.specs.declared.check_text.WholeSources.{WholeSources}
+use Rattle.cli_texts.specs.TableFiles.{IsShort, table_files, table_list}
+use Rattle.cli_texts.specs.declared.two_files.NamedFile.{NamedFile}
+use Rattle.cli_texts.specs.declared.two_files.TwoSources.{TwoSources}
+use Rattle.cli_texts.specs.declared.two_files.TwoTexts.{TwoTexts}
+
+-- a file with the argument that names it
+abbrev pub named : NamedFile → List ℕ × Option (List ℕ)
+named file = (file.argument.now, Some file.path.now)
+
+-- the files in the order in which they are read: those of the tables, and then the two
+abbrev pub two_files : List Row → List ℕ × Option (List ℕ) → List ℕ × Option (List ℕ) → List (List ℕ × Option (List ℕ))
+two_files rows first second = table_files rows ++ first ∷ second ∷ []
+
+-- the sources of these files, in that order
+abbrev pub two_list : TwoSources → List Source
+two_list sources = table_list sources.tables ++ sources.first ∷ sources.second ∷ []
+
+-- their texts, in that order
+abbrev pub two_texts : TwoTexts → List (List ℕ)
+two_texts texts = map string_bytes (table_list texts.tables ++ texts.first ∷ texts.second ∷ [])
+
+-- no text is over the limit
+pub record AreAllShort (texts : TwoTexts) : Type 0 where
+  pub tables : EachTable IsShort texts.tables
+  pub first : IsShort texts.first
+  pub second : IsShort texts.second
+
+-- the first, as an exports text with the tables
+abbrev pub whole_first : TwoSources → WholeSources
+whole_first sources = record { tables = sources.tables; exports = sources.first }
+
+-- the second, with the same tables
+abbrev pub whole_second : TwoSources → WholeSources
+whole_second sources = record { tables = sources.tables; exports = sources.second }
