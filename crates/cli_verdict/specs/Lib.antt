@@ -1,1 +1,2 @@
 pub mod TryText
+pub mod Explaining
