@@ -187,6 +187,15 @@ COMMANDS = {
             CONTRADICTION.format(""),
             f"granted line 1 {STANDARD}\n",
         ),
+        tried(
+            ["try", "-", "10.0.0.5", "/a/x", "/a", "--why"],
+            "/a 10.0.0.5\n/a /a/x -network 10.0.0.0/8\n/a gone\n",
+            "denied 3 NotListed /a line 1\n"
+            "line 1 name 10.0.0.5: decides, does not list /a/x\n"
+            "line 2 network 10.0.0.0/8: outweighed by line 1, lists /a/x\n"
+            "lines of /a that match 10.0.0.5: 2 of 3, 1 for nobody\n",
+            1,
+        ),
         granted_as("bin:", "3:"),
         granted_as("bin", "3:7"),
         granted_as("root", "0:0:5"),
@@ -205,6 +214,15 @@ COMMANDS = {
     "ask": [
         Command(
             ["ask", "DB", "131.104.48.16", "/usr"], "granted line 2 rw sec=sys root=1:1:5\n", database="first"
+        ),
+        Command(
+            ["ask", "DB", "131.104.48.20", "/u2/x", "--why"],
+            "denied 3 NotListed /u2 line 1\n"
+            "line 1 name friends: decides, does not list /u2/x\n"
+            "line 2 network 131.104.48.0/24: outweighed by line 1, lists /u2/x\n"
+            "lines of /u2 that match 131.104.48.20: 2 of 2\n",
+            1,
+            database="first",
         ),
     ],
     "show": [Command(["show", "DB", "131.104.48.20"], SHOWN, database="first")],

@@ -25,12 +25,12 @@ _exportdesk()
         esac
     done
     case $command in
-    try) choices='--hosts --networks --passwd --group --netgroup --as --help' ;;
+    try) choices='--hosts --networks --passwd --group --netgroup --as --why --help' ;;
     check) choices='--hosts --networks --passwd --group --netgroup --site --brief --strict --json --help' ;;
     clients) choices='--hosts --networks --passwd --group --netgroup --help' ;;
     compare) choices='--hosts --networks --passwd --group --netgroup --all --help' ;;
     test) choices='--hosts --networks --passwd --group --netgroup --json --help' ;;
-    ask) choices='--as --help' ;;
+    ask) choices='--as --why --help' ;;
     put) choices='--base --caller --key --key-file --help' ;;
     impact) choices='--all --proposal --help' ;;
     audit) choices='--proposal --json --help' ;;

@@ -1,5 +1,5 @@
 -- What the program answers to the words of a command, and how it ends. (this project's own)
-use Rattle.std.specs.Prelude.{◌≡◌, ◌≢◌, ◌⊎◌, ℕ, List, [], ◌∷◌, take, Option, Some, None, IfSome, Result, Ok, Err, IsErrAnd}
+use Rattle.std.specs.Prelude.{◌≡◌, ◌≢◌, ◌⊎◌, ℕ, List, [], ◌∷◌, take, Option, Some, None, IfSome, Result, Ok, Err, IsErrAnd, codes}
 use Rattle.std.specs.Io.BufRead.{take_through}
 use Rattle.clap.specs.Words.{Row}
 use Rattle.clap.specs.declared.error.ErrorKind.{ErrorKind}
@@ -69,7 +69,7 @@ AnswersGiven Serve rows known result = AnswersServe rows result
 -- the answer to what clap finds: that to the command, or that there is none
 abbrev pub AnswersFound : Option (Subcommand × List Row) → Option (List ℕ) → Result Printed Failure → Type 0
 AnswersFound (Some found) known result = AnswersGiven found.0 found.1 known result
-AnswersFound None known result = IsErrAnd result IsMissing
+AnswersFound None known result = IsErrAnd result (IsMissing (codes "the command"))
 
 -- the answer to words: that they are no command, or that to the command which they are
 abbrev pub AnswersCommand : List (List ℕ) → Option (List ℕ) → Result Printed Failure → Type 0

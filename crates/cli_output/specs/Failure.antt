@@ -13,10 +13,10 @@ IsRefusal argument word found (Argument bad) = (bad.argument.now ≡ argument) �
 IsRefusal argument word found Memory = Unit {0}
 IsRefusal argument word found failure = ⊥
 
--- the failure says that an argument is missing
-abbrev pub IsMissing : Failure → Type 0
-IsMissing (Missing argument) = Unit {0}
-IsMissing failure = ⊥
+-- the failure says that this argument is missing
+abbrev pub IsMissing : List ℕ → Failure → Type 0
+IsMissing argument (Missing named) = named.now ≡ argument
+IsMissing argument failure = ⊥
 
 -- the failure names this file, by the argument that names it, and why it could not be read; out of memory says nothing
 abbrev pub IsFileFailure : List ℕ → List ℕ → ReadFailure → Failure → Type 0

@@ -126,7 +126,7 @@ impl Failure {
 
     /// Returns the failure of an argument, as the usage names it, that is missing.
     pub fn of_missing(argument: &'static str) -> Failure
-        ensures { IsMissing result }
+        ensures { IsMissing argument.entry.now result }
     {
         Failure::Missing(argument)
     }

@@ -11,7 +11,7 @@ use Rattle.cli_output.specs.declared.failure.Failure.TheVariants.{BesideProposal
 use Rattle.cli_output.specs.declared.printed.Printed.{Printed}
 use Rattle.cli_words.specs.Words.{After, ByWord, is_set}
 use Rattle.cli_files.specs.Files.{ReadsFiles}
-use Rattle.cli_questions.specs.Questions.{AnswersQuestion, Asked}
+use Rattle.cli_questions.specs.Questions.{AnswersQuestion, Asked, Breaches}
 use Rattle.cli_questions.specs.declared.audit_command.AuditTexts.{AuditTexts}
 use Rattle.cli_questions.specs.declared.audit_command.AuditWords.{AuditWords as LentWords}
 
@@ -53,7 +53,7 @@ site_question words text = question_on words.name words.file text
 
 -- a question on a site, of which is printed which of these expectations it breaks
 abbrev pub auditing : Question → Expected → Asked
-auditing question expected = record { question = question; own = None; all = false; expected = expected }
+auditing question expected = record { question = question; own = None; all = false; wanted = Breaches expected }
 
 -- the answer by the text of EXPECTATIONS, and that of FILE
 abbrev pub AnswersTexts : AuditWords → AuditTexts → Result Printed Failure → Type 0
@@ -76,9 +76,9 @@ AnswersIf None None false words known result = AnswersFiles words known result
 AnswersIf (Some name) (Some file) false words known result = AnswersFiles words known result
 AnswersIf (Some name) None true words known result = AnswersFiles words known result
 AnswersIf name (Some file) true words known result = result ≡ Err BesideProposal
-AnswersIf (Some name) None false words known result = IsErrAnd result IsMissing
-AnswersIf None (Some file) false words known result = IsErrAnd result IsMissing
-AnswersIf None None true words known result = IsErrAnd result IsMissing
+AnswersIf (Some name) None false words known result = IsErrAnd result (IsMissing (codes "FILE"))
+AnswersIf None (Some file) false words known result = IsErrAnd result (IsMissing (codes "NAME"))
+AnswersIf None None true words known result = IsErrAnd result (IsMissing (codes "NAME"))
 
 abbrev pub AnswersBy : AuditWords → Bool → Option (List ℕ) → Result Printed Failure → Type 0
 AnswersBy words proposal known result = AnswersIf words.name words.file proposal words known result

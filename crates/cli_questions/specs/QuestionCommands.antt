@@ -7,7 +7,7 @@ use Rattle.desk_text.specs.declared.address.Addr.{Addr}
 use Rattle.desk_tables.specs.Groups.{read_groups}
 use Rattle.desk_tables.specs.Users.{read_users}
 use Rattle.desk_tables.specs.declared.credentials.Cred.{Cred}
-use Rattle.desk_service.specs.Questions.{Exports, Files, Foresee, ForeseeProposal, Listing, Mount, Proposal, Question, Revisions, Text, Who}
+use Rattle.desk_service.specs.Questions.{Exports, Files, Foresee, ForeseeProposal, Listing, Mount, Proposal, Question, Revisions, Site, Text, Who}
 use Rattle.cli_output.specs.declared.bad_argument.ArgumentFault.TheVariants as fault
 use Rattle.cli_output.specs.declared.failure.Failure.{Failure}
 use Rattle.cli_output.specs.declared.failure.Failure.TheVariants.{BesideProposal}
@@ -16,7 +16,7 @@ use Rattle.cli_output.specs.Failure.{IsMissing}
 use Rattle.cli_words.specs.Values.{AnswersArgument, AnswersOwn, IsBadNumber, own_answer, revision_number}
 use Rattle.cli_words.specs.Words.{After, ByWord, is_set}
 use Rattle.cli_files.specs.Files.{HasText, LacksText}
-use Rattle.cli_questions.specs.Questions.{AnswersQuestion, Asked, none_expected}
+use Rattle.cli_questions.specs.Questions.{AnswersQuestion, Asked, Reasons, nothing_wanted}
 
 -- HOST is parsed as an address, or refused
 abbrev pub ParsesHost : List ℕ → Result Addr Failure → Type 0
@@ -43,18 +43,23 @@ ParsesRevision (Some word) (Err failure) = (revision_number word ≡ None) × Is
 
 -- a question whose answer is printed plainly, or with as whom a client acts
 abbrev pub asking : Question → Option Cred → Asked
-asking question own = record { question = question; own = own; all = false; expected = none_expected }
+asking question own = record { question = question; own = own; all = false; wanted = nothing_wanted }
 
 -- a question on what would change, with the changes that matter to no client or without
 abbrev pub foreseeing : Question → Bool → Asked
-foreseeing question all = record { question = question; own = None; all = all; expected = none_expected }
+foreseeing question all = record { question = question; own = None; all = all; wanted = nothing_wanted }
 
--- `ask DB HOST DIR [--as CRED]`: the words are parsed from left to right
+-- the question of `ask`: the verdict alone is asked, or the whole site, of which the verdict is printed and why
+abbrev pub asking_mount : Bool → ℕ → List (List ℕ) → Option Cred → Asked
+asking_mount false address path own = asking (Mount address path) own
+asking_mount true address path own = record { question = Site; own = own; all = false; wanted = Reasons address path }
+
+-- `ask DB HOST DIR [--as CRED] [--why]`: the words are parsed from left to right
 abbrev pub AnswersAsk : List Row → Result Printed Failure → Type 0
 AnswersAsk rows =
     ByWord (codes "DB") rows (λ db. ByWord (codes "HOST") rows (λ host. ByWord (codes "DIR") rows (λ dir.
     After (ParsesHost host) (λ address. After (ParsesDir dir) (λ path. After (ParsesOwn (first_of (codes "as") rows)) (λ own.
-    AnswersQuestion db (asking (Mount (number_of address) path) own)))))))
+    AnswersQuestion db (asking_mount (is_set (codes "why") rows) (number_of address) path own)))))))
 
 -- `show DB HOST`
 abbrev pub AnswersShow : List Row → Result Printed Failure → Type 0
@@ -101,7 +106,7 @@ AnswersImpactBy db name all (Some file) true known result = result ≡ Err Besid
 AnswersImpactBy db name all (Some file) false known result =
     After (ReadsFile file known) (λ text. AnswersQuestion db (foreseeing (Foresee name text) all)) result
 AnswersImpactBy db name all None true known result = AnswersQuestion db (foreseeing (ForeseeProposal name) all) result
-AnswersImpactBy db name all None false known result = IsErrAnd result IsMissing
+AnswersImpactBy db name all None false known result = IsErrAnd result (IsMissing (codes "FILE"))
 
 -- `impact DB NAME FILE [--all]`, or `--proposal` in the place of FILE
 abbrev pub AnswersImpact : List Row → Option (List ℕ) → Result Printed Failure → Type 0

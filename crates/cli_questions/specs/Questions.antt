@@ -1,7 +1,8 @@
 -- What is asked of a database without changing it, and what is printed of the answers. (this project's own)
-use Rattle.std.specs.Prelude.{◌≡◌, ◌⊎◌, ℕ, ◌==◌, ◌++◌, ◌∷◌, Bool, false, List, [], Option, Result, Ok, Err, codes, if◌then◌else◌}
+use Rattle.std.specs.Prelude.{◌≡◌, ◌⊎◌, ℕ, ◌==◌, Bool, true, false, List, [], Option, Result, Ok, Err, codes, if◌then◌else◌}
 use Rattle.std.specs.String.{string_bytes}
 use Rattle.sqlite.specs.Effect.{Database}
+use Rattle.desk_text.specs.Address.{number_of}
 use Rattle.desk_tables.specs.declared.credentials.Cred.{Cred}
 use Rattle.desk_policy.specs.ListingPrints.{all_exports, listing_text}
 use Rattle.desk_who.specs.WhoPrints.{who_text}
@@ -11,35 +12,48 @@ use Rattle.desk_store.specs.Desk.{History}
 use Rattle.desk_store.specs.Open.{IsOurs, IsProject}
 use Rattle.desk_service.specs.Foreseeing.{Foreseen, content_after}
 use Rattle.desk_service.specs.Questions.{Answer, AnswersByHistory, ExportsAre, FilesAre, ForeseenIs, ListingIs, NoRevision, ProposalIs, Question, RangesAre, RefusedBy, RevisionsAre, SiteIs, Text, TextIs, VerdictIs, Proposal, Revisions, question_of}
+use Rattle.desk_service.specs.Sites.{WholeSite}
 use Rattle.desk_service.specs.declared.refused.Refused.TheVariants as refused
 use Rattle.cli_output.specs.Failure.{IsUnread}
 use Rattle.cli_output.specs.Printed.{Prints}
 use Rattle.cli_output.specs.declared.failure.Failure.{Failure}
 use Rattle.cli_output.specs.declared.failure.Failure.TheVariants.{Memory}
 use Rattle.cli_output.specs.declared.printed.Printed.{Printed}
-use Rattle.cli_verdict.specs.TryText.{answer_on}
+use Rattle.cli_verdict.specs.TryText.{answer_on, policy_answer}
 use Rattle.cli_verdict.specs.TryText.{Answer as Tried}
 use Rattle.cli_desk.specs.RefusalLines.{Says}
 use Rattle.cli_expectations.specs.Tested.{Expected, PrintsTested, expected_of}
 use Rattle.cli_questions.specs.FileLines.{files_text}
 use Rattle.cli_questions.specs.RevisionLines.{log_text}
 use Rattle.cli_questions.specs.declared.answering.Asked.{Asked as LentAsked}
+use Rattle.cli_questions.specs.declared.answering.Wanted.{Wanted as LentWanted}
+use Rattle.cli_questions.specs.declared.answering.Wanted.TheVariants as lent
+
+-- what is wanted of a site: which of these expectations it breaks; or whether an address may mount a path, and why
+pub data Wanted : Type 0 where
+  Breaches : Expected → Wanted
+  Reasons : ℕ → List (List ℕ) → Wanted
+
+-- the same by value
+abbrev pub wanted_of : LentWanted → Wanted
+wanted_of (lent.Breaches file) = Breaches (expected_of file)
+wanted_of (lent.Reasons address path) = Reasons (number_of address) path.now
 
 -- a question with how its answer is printed: a verdict with as whom the client acts, if its credential is given; what would change
--- with the changes that matter to no client, too; and of a site which of these expectations it breaks
+-- with the changes that matter to no client, too; and of a site what is wanted of it
 pub record Asked : Type 0 where
   pub question : Question
   pub own : Option Cred
   pub all : Bool
-  pub expected : Expected
+  pub wanted : Wanted
 
 -- the same by value
 abbrev pub asked_of : LentAsked → Asked
-asked_of asked = record { question = question_of asked.question; own = asked.own.now; all = asked.all; expected = expected_of asked.expected }
+asked_of asked = record { question = question_of asked.question; own = asked.own.now; all = asked.all; wanted = wanted_of asked.wanted }
 
--- no expectations, for a question that is not on a site
-abbrev pub none_expected : Expected
-none_expected = record { path = []; text = []; json = false }
+-- nothing is wanted of a site, by a question that is not on one
+abbrev pub nothing_wanted : Wanted
+nothing_wanted = Breaches (record { path = []; text = []; json = false })
 
 -- the file that a question is on; empty if it is on none
 abbrev pub file_in : Question → List ℕ
@@ -48,9 +62,16 @@ file_in (Revisions file) = file
 file_in (Proposal file) = file
 file_in question = []
 
--- a verdict is printed in a line: status 0 if it grants the mount, else 1
+-- the answer to whether a client may mount a path is printed: status 0 if it grants the mount, else 1
 abbrev pub PrintsVerdict : Tried → Printed → Type 0
-PrintsVerdict tried printed = Prints (if tried.granted then 0 else 1) (tried.line ++ 10 ∷ []) printed
+PrintsVerdict tried printed = Prints (if tried.granted then 0 else 1) tried.text printed
+
+-- what is wanted of a site is printed: which expectations it breaks; or the verdict by its policy, and why, with as whom the client acts
+-- if its credential is given. Names are looked up in its own tables.
+abbrev pub PrintsSite : WholeSite → Option Cred → Wanted → Printed → Type 0
+PrintsSite site own (Breaches expected) printed = PrintsTested site.tables site.content expected printed
+PrintsSite site own (Reasons address path) printed =
+    PrintsVerdict (policy_answer site.tables site.content (record { address = address; path = path; own = own; why = true })) printed
 
 -- a report of what would change is printed: status 0 if nothing changes for a client, else 1
 pub record PrintsChanges (asked : Asked) (foreseen : Foreseen) (printed : Printed) : Type 0 where
@@ -59,7 +80,7 @@ pub record PrintsChanges (asked : Asked) (foreseen : Foreseen) (printed : Printe
   pub prints : Prints (if report.mattering == 0 then 0 else 1) (string_bytes report.text) printed
 
 -- An answer is printed: a verdict as `try` does; a text as it is, of a revision or of a proposal; lists of revisions, of ranges and of
--- files in lines; what would change as a report; which expectations a site breaks, with its own tables; and a refusal as its line.
+-- files in lines; what would change as a report; what is wanted of a site; and a refusal as its line.
 abbrev pub PrintsAnswer : Asked → Answer → Printed → Type 0
 PrintsAnswer asked (VerdictIs content verdict) printed = PrintsVerdict (answer_on content asked.own verdict) printed
 PrintsAnswer asked (ListingIs content listing) printed = Prints 0 (listing_text content listing) printed
@@ -71,7 +92,7 @@ PrintsAnswer asked (ProposalIs proposal) printed = Prints 0 proposal.body printe
 PrintsAnswer asked NoRevision printed = Says refused.NoRevision printed
 PrintsAnswer asked (FilesAre listed) printed = Prints 0 (files_text listed) printed
 PrintsAnswer asked (ForeseenIs foreseen) printed = PrintsChanges asked foreseen printed
-PrintsAnswer asked (SiteIs site) printed = PrintsTested site.tables site.content asked.expected printed
+PrintsAnswer asked (SiteIs site) printed = PrintsSite site asked.own asked.wanted printed
 PrintsAnswer asked (RefusedBy refusal) printed = Says (refused.Edit refusal) printed
 
 -- what is printed of a question by a history: its answer

@@ -13,7 +13,17 @@ use cli_output::failure::Failure;
 use cli_output::printed::Printed;
 use desk_service::{Looked, Question, answer, look_up};
 use desk_tables::Cred;
+use desk_text::{Addr, Path};
 use std::alloc::Global;
+
+/// What is wanted of a site.
+#[derive(Clone, Copy)]
+pub enum Wanted<'a> {
+    /// Which of these expectations it breaks.
+    Breaches(ExpectationsFile<'a>),
+    /// Whether a client may mount a directory, and why.
+    Reasons(Addr, &'a Path),
+}
 
 /// A question, and how its answer is printed.
 #[derive(Clone, Copy)]
@@ -25,8 +35,8 @@ pub struct Asked<'a> {
     pub all: bool,
     /// The word that names the file of a text that is to be foreseen.
     pub file: &'a str,
-    /// What is expected of a site; of another question nothing.
-    pub expected: ExpectationsFile<'a>,
+    /// What is wanted of a site; of another question nothing.
+    pub wanted: Wanted<'a>,
 }
 
 /// Answers a question by the database at a path.

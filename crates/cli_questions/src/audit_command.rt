@@ -12,7 +12,7 @@ ghost use Rattle.cli_words.specs.Words.{rows_in};
 ghost use Rattle.cli_questions.specs.AuditCommand as spec;
 ghost use Rattle.cli_questions.specs.Questions.{asked_of};
 
-use crate::answering::{Asked, answer_question};
+use crate::answering::{Asked, Wanted, answer_question};
 use clap::ArgMatches;
 use cli_expectations::expectations_file::ExpectationsFile;
 use cli_files::files::{is_input, read_if_given};
@@ -162,6 +162,6 @@ fn auditing<'a>(
         own,
         all: false,
         file: words.file.unwrap_or(""),
-        expected,
+        wanted: Wanted::Breaches(expected),
     }
 }

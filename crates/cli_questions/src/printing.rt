@@ -8,11 +8,11 @@ ghost use Rattle.desk_service.specs.Foreseeing.{content_after, foreseen_of};
 ghost use Rattle.desk_service.specs.Questions.{ForeseenIs, SiteIs, answer_of, question_of};
 ghost use Rattle.desk_service.specs.Sites.{site_of};
 ghost use Rattle.cli_output.specs.Printed.{PrintsText};
-ghost use Rattle.cli_verdict.specs.TryText.{answer_on};
+ghost use Rattle.cli_verdict.specs.TryText as told;
 ghost use Rattle.cli_questions.specs.PrivateAnswering.{IsSound, TriesToPrint, TriesToPrintVerdict};
-ghost use Rattle.cli_questions.specs.Questions.{asked_of, file_in};
+ghost use Rattle.cli_questions.specs.Questions.{PrintsVerdict, asked_of, file_in};
 
-use crate::answering::Asked;
+use crate::answering::{Asked, Wanted};
 use crate::file_lines::files_text;
 use crate::notes::{foreseen_note, no_revision_note, proposal_note, refusal_note, text_note};
 use crate::revision_lines::log_text;
@@ -22,7 +22,7 @@ use cli_desk::refusal_lines::refused;
 use cli_expectations::tested::print_tested;
 use cli_output::failure::Failure;
 use cli_output::printed::Printed;
-use cli_verdict::printed_verdict;
+use cli_verdict::{MountQuestion, Tried, printed_verdict, tried_by};
 use desk_core::Foresight;
 use desk_impact::{Report, impact_report, lines_report};
 use desk_policy::{Policy, Verdict, all_exports, listing_text};
@@ -94,22 +94,28 @@ fn print_text(alloc: Global, text: Result<String, AllocError>) -> Result<Printed
     }
 }
 
-/// Prints a verdict in a line, as `try` does, with as whom the client acts if its credential is given.
+/// Prints a verdict, as `try` does, with as whom the client acts if its credential is given.
 fn print_verdict(
     alloc: Global,
     policy: &Policy,
     verdict: &Verdict<'_>,
     own: &Option<Cred>,
 ) -> Result<Printed, Failure>
-    ensures { TriesToPrintVerdict (answer_on policy.now own.now (verdict_result verdict.now)) result }
+    ensures { TriesToPrintVerdict (told.answer_on policy.now own.now (verdict_result verdict.now)) result }
 {
-    let mut tried = printed_verdict(alloc, policy, verdict, own)?;
-    tried.line.push('\n')?;
-    Ok(Printed {
+    let tried = printed_verdict(alloc, policy, verdict, own)?;
+    Ok(print_tried(alloc, tried))
+}
+
+/// Prints the answer to a client's question: the status is 0 if it grants the mount, else 1.
+fn print_tried(alloc: Global, tried: Tried) -> Printed
+    ensures { PrintsVerdict (told.answer_of tried) result }
+{
+    Printed {
         status: if tried.granted { 0 } else { 1 },
-        text: tried.line,
+        text: tried.text,
         note: String::new(alloc),
-    })
+    }
 }
 
 /// Prints the text of a revision. Standard error says who approved it, or that it is read by profile 1.
@@ -167,7 +173,7 @@ fn report_of(alloc: Global, foreseen: &Foreseen<'_, View>, all: bool) -> Result<
     }
 }
 
-/// Prints which expectations a site breaks.
+/// Prints what is wanted of a site: which expectations it breaks, or whether a client may mount a directory, and why.
 fn print_site(
     alloc: Global,
     asked: Asked<'_>,
@@ -175,5 +181,19 @@ fn print_site(
 ) -> Result<Printed, Failure>
     ensures { TriesToPrint (asked_of asked.entry) (SiteIs (site_of (λ content. content) site.now)) result }
 {
-    Ok(print_tested(alloc, site.tables(), site.view(), asked.expected)?)
+    match asked.wanted {
+        Wanted::Breaches(expected) => {
+            Ok(print_tested(alloc, site.tables(), site.view(), expected)?)
+        }
+        Wanted::Reasons(address, path) => {
+            let question = MountQuestion {
+                address,
+                path,
+                own: asked.own,
+                why: true,
+            };
+            let tried = tried_by(alloc, site.view(), site.tables(), question)?;
+            Ok(print_tried(alloc, tried))
+        }
+    }
 }

@@ -3,13 +3,13 @@
 
 ghost use Rattle.std.specs.Prelude.{◌≡◌, None, Some, false};
 ghost use Rattle.std.specs.Option.{option_map};
+ghost use Rattle.desk_text.specs.Address.{number_of};
 ghost use Rattle.desk_service.specs.Questions.{question_of};
 ghost use Rattle.cli_words.specs.Words.{rows_in};
 ghost use Rattle.cli_questions.specs.QuestionCommands as spec;
-ghost use Rattle.cli_expectations.specs.Tested.{expected_of};
-ghost use Rattle.cli_questions.specs.Questions.{asked_of, none_expected};
+ghost use Rattle.cli_questions.specs.Questions.{asked_of, nothing_wanted, wanted_of};
 
-use crate::answering::{Asked, answer_question};
+use crate::answering::{Asked, Wanted, answer_question};
 use clap::ArgMatches;
 use cli_expectations::expectations_file::ExpectationsFile;
 use cli_files::files::read_if_given;
@@ -19,10 +19,11 @@ use cli_words::values::{read_credential, read_host, read_number, read_path};
 use cli_words::words::{given, is_set, required};
 use desk_service::Question;
 use desk_tables::Cred;
+use desk_text::{Addr, Path};
 use std::alloc::Global;
 use std::io::BufRead;
 
-/// Answers `ask DB HOST DIR [--as CRED]`. The arguments are parsed from left to right, CRED without users and groups.
+/// Answers `ask DB HOST DIR [--as CRED] [--why]`. The arguments are parsed from left to right, CRED without users and groups.
 pub fn run_ask(rt: &HostRuntime, words: &ArgMatches<'_>) -> Result<Printed, Failure>
     ensures { spec.AnswersAsk (rows_in words.now) result }
 {
@@ -33,7 +34,25 @@ pub fn run_ask(rt: &HostRuntime, words: &ArgMatches<'_>) -> Result<Printed, Fail
     let address = read_host(alloc, host)?;
     let path = read_path(alloc, "DIR", dir)?;
     let own = read_credential(alloc, given(words, "as"), "", "")?;
-    answer_question(rt, db, asking(Question::Mount(address, &path), &own))
+    let asked = asking_mount(is_set(words, "why"), address, &path, &own);
+    answer_question(rt, db, asked)
+}
+
+/// Returns the question of `ask`: the verdict alone is asked, or the whole site, of which the verdict is printed and why.
+fn asking_mount<'a>(why: bool, address: Addr, path: &'a Path, own: &'a Option<Cred>) -> Asked<'a>
+    ensures { asked_of result ≡ spec.asking_mount why (number_of address) path.now own.now }
+{
+    if why {
+        Asked {
+            question: Question::Site,
+            own,
+            all: false,
+            file: "",
+            wanted: Wanted::Reasons(address, path),
+        }
+    } else {
+        asking(Question::Mount(address, path), own)
+    }
 }
 
 /// Answers `show DB HOST`.
@@ -119,7 +138,7 @@ fn asking<'a>(question: Question<'a>, own: &'a Option<Cred>) -> Asked<'a>
         own,
         all: false,
         file: "",
-        expected: nothing_expected(),
+        wanted: nothing_wanted(),
     }
 }
 
@@ -194,17 +213,17 @@ fn foreseeing<'a>(
         own,
         all,
         file,
-        expected: nothing_expected(),
+        wanted: nothing_wanted(),
     }
 }
 
-/// Returns no expectations, for a question that is not on a site.
-fn nothing_expected() -> ExpectationsFile<'static>
-    ensures { expected_of result ≡ none_expected }
+/// Returns what is wanted of a site by a question that is not on one: nothing.
+fn nothing_wanted() -> Wanted<'static>
+    ensures { wanted_of result ≡ nothing_wanted }
 {
-    ExpectationsFile {
+    Wanted::Breaches(ExpectationsFile {
         path: "",
         text: "",
         json: false,
-    }
+    })
 }

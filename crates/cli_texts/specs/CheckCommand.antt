@@ -11,9 +11,10 @@ use Rattle.desk_findings.specs.declared.check_text.WholeSources.{WholeSources}
 use Rattle.desk_check.specs.CheckReport.{Reports}
 use Rattle.desk_check.specs.declared.check_report.CheckForm.{CheckForm}
 use Rattle.desk_check.specs.declared.check_report.Checked.{Checked}
+use Rattle.cli_output.specs.Failure.{IsMissing}
 use Rattle.cli_output.specs.Printed.{Prints}
 use Rattle.cli_output.specs.declared.failure.Failure.{Failure}
-use Rattle.cli_output.specs.declared.failure.Failure.TheVariants.{BesideSite, Memory, Missing}
+use Rattle.cli_output.specs.declared.failure.Failure.TheVariants.{BesideSite, Memory}
 use Rattle.cli_output.specs.declared.printed.Printed.{Printed}
 use Rattle.cli_files.specs.Files.{ReadsInTurn}
 use Rattle.cli_files.specs.SiteFolder.{site_paths, site_paths_in, site_texts_in, site_words}
@@ -50,15 +51,10 @@ AnswersTexts form table sources result = AnswersFound (Gathers sources table) fo
 abbrev pub AnswersByFiles : List Row → Option (List ℕ) → List ℕ → List Mount → Result Printed Failure → Type 0
 AnswersByFiles rows known file table result = After (ReadsSources whole_list (whole_files rows file) known) (AnswersTexts (form_of rows) table) result
 
--- the failure says that this word is missing
-abbrev pub IsMissingWord : List ℕ → Failure → Type 0
-IsMissingWord word (Missing name) = name.now ≡ word
-IsMissingWord word failure = ⊥
-
 -- the answer without `--site`: FILE and MOUNT.. have to be given
 abbrev pub AnswersGiven : Option (List ℕ) → Option (List (List ℕ)) → List Row → Option (List ℕ) → Result Printed Failure → Type 0
-AnswersGiven None mounts rows known result = IsErrAnd result (IsMissingWord (codes "FILE"))
-AnswersGiven (Some file) None rows known result = IsErrAnd result (IsMissingWord (codes "MOUNT"))
+AnswersGiven None mounts rows known result = IsErrAnd result (IsMissing (codes "FILE"))
+AnswersGiven (Some file) None rows known result = IsErrAnd result (IsMissing (codes "MOUNT"))
 AnswersGiven (Some file) (Some mounts) rows known result = After (ReadsTable mounts) (AnswersByFiles rows known file) result
 
 -- the first of the files that cannot be given with `--site`, by the argument that names it

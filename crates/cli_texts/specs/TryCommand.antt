@@ -1,44 +1,51 @@
 -- What `try` prints, by its words and files. (this project's own)
-use Rattle.std.specs.Prelude.{◌++◌, ℕ, List, [], ◌∷◌, Option, Result, MatchResult, codes, if◌then◌else◌}
+use Rattle.std.specs.Prelude.{◌≡◌, ℕ, Bool, List, Option, Result, Ok, MatchResult, codes, if◌then◌else◌}
 use Rattle.clap.specs.Words.{Row, first_of}
 use Rattle.desk_text.specs.Address.{number_of, read_addr}
 use Rattle.desk_text.specs.Path.{read_path}
 use Rattle.desk_tables.specs.Groups.{read_groups}
 use Rattle.desk_tables.specs.Users.{read_users}
 use Rattle.desk_tables.specs.declared.credentials.Cred.{Cred}
-use Rattle.desk_policy.specs.Policy.{Content}
-use Rattle.desk_policy.specs.declared.site_fault.SiteFault.{SiteFault}
+use Rattle.desk_tables.specs.declared.filesystems.Mount.{Mount}
+use Rattle.desk_policy.specs.declared.parsing.SiteTables.{SiteTables}
+use Rattle.desk_findings.specs.CheckText.{tables_of}
 use Rattle.desk_findings.specs.declared.check_text.WholeSources.{WholeSources}
 use Rattle.cli_output.specs.declared.failure.Failure.{Failure}
 use Rattle.cli_output.specs.declared.printed.Printed.{Printed}
 use Rattle.cli_words.specs.Values.{AnswersOwn, IsBadArgument, IsRequest, own_answer}
-use Rattle.cli_words.specs.Words.{After, ByWord, ByWords}
+use Rattle.cli_words.specs.Words.{After, ByWord, ByWords, is_set}
 use Rattle.cli_words.specs.declared.values.Request.{Request}
 use Rattle.cli_texts.specs.FaultyTexts.{AnswersOrFault}
 use Rattle.cli_texts.specs.Printing.{PrintsAlone}
 use Rattle.cli_texts.specs.TableFiles.{ReadsSources}
-use Rattle.cli_verdict.specs.TryText.{Answer, IsAnswerBy}
+use Rattle.cli_verdict.specs.TryText.{Answer, IsAnswerBy, MountQuestion}
 use Rattle.cli_texts.specs.WholeFiles.{whole_files, whole_list}
 use Rattle.cli_texts.specs.WholeTables.{policy_of}
 
--- the verdict for an address and a path, by what a text is read as, is printed in a line; the status is 0 if it grants the mount
-pub record PrintsVerdict (read : Result Content SiteFault) (own : Option Cred) (address : ℕ) (path : List (List ℕ)) (printed : Printed) : Type 0 where
+-- the question of a request, of a client with this credential, if it is given, and whether it is told why, too
+abbrev pub question_in : Request → Option Cred → Bool → MountQuestion
+question_in request own why = record { address = number_of request.address; path = request.path; own = own; why = why }
+
+-- the answer to a question by what these texts are read as, with their tables, is printed; the status is 0 if it grants the mount
+pub record PrintsVerdict (sources : WholeSources) (table : List Mount) (question : MountQuestion) (printed : Printed) : Type 0 where
+  pub tables : SiteTables
+  pub tables_are : tables_of sources.tables ≡ Ok tables
   pub answer : Answer
-  pub answers : IsAnswerBy read own address path answer
-  pub prints : PrintsAlone (if answer.granted then 0 else 1) (answer.line ++ 10 ∷ []) printed
+  pub answers : IsAnswerBy tables (policy_of sources table) question answer
+  pub prints : PrintsAlone (if answer.granted then 0 else 1) answer.text printed
 
 -- the answer to a request of a client with this credential, if it is given
-abbrev pub AnswersAs : Request → WholeSources → Option Cred → Result Printed Failure → Type 0
-AnswersAs request sources own result =
-    AnswersOrFault (PrintsVerdict (policy_of sources request.filesystems) own (number_of request.address) request.path) sources request.filesystems result
+abbrev pub AnswersAs : Request → Bool → WholeSources → Option Cred → Result Printed Failure → Type 0
+AnswersAs request why sources own result =
+    AnswersOrFault (PrintsVerdict sources request.filesystems (question_in request own why)) sources request.filesystems result
 
 -- the credential that CRED stands for with these tables, or why it stands for none
 abbrev pub ReadsOwn : Option (List ℕ) → WholeSources → Result (Option Cred) Failure → Type 0
 ReadsOwn word sources result = AnswersOwn word (own_answer word (read_users sources.tables.passwd.text.now) (read_groups sources.tables.group.text.now)) result
 
 -- the answer to a request by the texts of its files; a bad credential comes before any fault of them
-abbrev pub AnswersRequest : Option (List ℕ) → Request → WholeSources → Result Printed Failure → Type 0
-AnswersRequest word request sources result = After (ReadsOwn word sources) (AnswersAs request sources) result
+abbrev pub AnswersRequest : Option (List ℕ) → Bool → Request → WholeSources → Result Printed Failure → Type 0
+AnswersRequest word why request sources result = After (ReadsOwn word sources) (AnswersAs request why sources) result
 
 -- the request that these words write; or which of them is the first, from left to right, that cannot be parsed
 abbrev pub ReadsWords : List ℕ → List ℕ → List (List ℕ) → Result Request Failure → Type 0
@@ -52,7 +59,7 @@ ReadsRequest rows result =
 -- the answer to a request: its files are read after it
 abbrev pub AnswersByFiles : List Row → Option (List ℕ) → List ℕ → Request → Result Printed Failure → Type 0
 AnswersByFiles rows known file request result =
-    After (ReadsSources whole_list (whole_files rows file) known) (AnswersRequest (first_of (codes "as") rows) request) result
+    After (ReadsSources whole_list (whole_files rows file) known) (AnswersRequest (first_of (codes "as") rows) (is_set (codes "why") rows) request) result
 
 -- the answer of `try` to its words
 abbrev pub AnswersTry : List Row → Option (List ℕ) → Result Printed Failure → Type 0

@@ -2,22 +2,22 @@
 
 ghost use Rattle.std.specs.Prelude.{IfOk};
 ghost use Rattle.std.specs.Option.{option_map};
-ghost use Rattle.desk_text.specs.Address.{number_of};
 ghost use Rattle.desk_text.specs.Lines.{IsReadable};
 ghost use Rattle.desk_findings.specs.CheckFaults.{AreReadable};
 ghost use Rattle.cli_words.specs.Words.{rows_in};
-ghost use Rattle.cli_texts.specs.TryCommand.{AnswersRequest, AnswersTry, PrintsVerdict, ReadsRequest};
+ghost use Rattle.cli_texts.specs.TryCommand.{AnswersRequest, AnswersTry, PrintsVerdict, ReadsRequest, question_in};
 ghost use Rattle.cli_texts.specs.WholeTables.{GivesOrFault, policy_of};
 
 use crate::faulty_texts::answer_error;
-use crate::printing::{end_line, print_alone};
+use crate::printing::print_alone;
 use crate::whole_files::{read_whole_texts, whole_sources};
 use clap::ArgMatches;
 use cli_output::failure::Failure;
 use cli_output::printed::Printed;
+use cli_verdict::MountQuestion;
 use cli_verdict::try_text::try_text;
 use cli_words::values::{Request, read_credential, read_request};
-use cli_words::words::{all_required, given, required};
+use cli_words::words::{all_required, given, is_set, required};
 use desk_findings::{WholeSources, read_sources};
 use desk_policy::SiteFault;
 use desk_tables::Cred;
@@ -38,7 +38,13 @@ pub fn run_try<I: BufRead>(
     let request = words_request(rt.alloc(), words)?;
     let texts = read_whole_texts(rt, words, file, input)?;
     let sources = whole_sources(words, file, &texts);
-    answer_request(rt.alloc(), given(words, "as"), &request, sources)
+    answer_request(
+        rt.alloc(),
+        given(words, "as"),
+        is_set(words, "why"),
+        &request,
+        sources,
+    )
 }
 
 /// Parses the request that the words HOST, DIR and MOUNT.. write.
@@ -55,45 +61,44 @@ fn words_request(alloc: Global, words: &ArgMatches<'_>) -> Result<Request, Failu
 fn answer_request(
     alloc: Global,
     word: Option<&str>,
+    why: bool,
     request: &Request,
     sources: WholeSources<'_>,
 ) -> Result<Printed, Failure>
     requires tables { AreReadable sources.tables }
     requires exports { IsReadable sources.exports.text.now }
-    ensures { AnswersRequest (option_map (λ word. word.now) word.entry) request.now sources.entry result }
+    ensures { AnswersRequest (option_map (λ word. word.now) word.entry) why request.now sources.entry result }
 {
     let tables = sources.tables;
     let own = read_credential(alloc, word, tables.passwd.text, tables.group.text)?;
-    match decide(alloc, &own, request, sources) {
+    match decide(alloc, &own, why, request, sources) {
         Ok(printed) => Ok(printed),
         Err(error) => answer_error(alloc, sources, &request.filesystems, error),
     }
 }
 
-/// Decides a request of a client with this credential, if it is given, and prints the verdict.
+/// Decides a request of a client with this credential, if it is given, and prints the verdict, and why if that is asked.
 fn decide(
     alloc: Global,
     own: &Option<Cred>,
+    why: bool,
     request: &Request,
     sources: WholeSources<'_>,
 ) -> Result<Printed, ReadError<SiteFault>>
     requires tables { AreReadable sources.tables }
     requires exports { IsReadable sources.exports.text.now }
-    ensures { let read = policy_of sources.entry request.now.filesystems in
-        GivesOrFault (PrintsVerdict read own.now (number_of request.now.address) request.now.path) read result }
+    ensures { let table = request.now.filesystems in
+        GivesOrFault (PrintsVerdict sources.entry table (question_in request.now own.now why)) (policy_of sources.entry table) result }
 {
     let tables = read_sources(alloc, sources.tables)?;
     let filesystems = request.filesystems.copy()?;
-    let tried = try_text(
-        alloc,
-        sources.exports.text,
-        &tables,
-        filesystems,
-        request.address,
-        &request.path,
+    let question = MountQuestion {
+        address: request.address,
+        path: &request.path,
         own,
-    )?;
+        why,
+    };
+    let tried = try_text(alloc, sources.exports.text, &tables, filesystems, question)?;
     let status = if tried.granted { 0 } else { 1 };
-    let line = end_line(tried.line)?;
-    Ok(print_alone(alloc, status, line))
+    Ok(print_alone(alloc, status, tried.text))
 }

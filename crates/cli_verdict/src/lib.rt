@@ -1,14 +1,15 @@
-//! The verdict on one mount, as commands print it.
+//! The verdict on one mount, and why, as commands print it.
 //!
-//! Its promise: [`try_text`] decides by an exports text as the definition does, or returns the text's first fault, and
-//! [`printed_verdict`] prints a verdict, and as whom the client acts if its credential is given.
+//! Its promise: [`try_text`] decides by an exports text as the definition does, or returns the text's first fault, and [`tried_by`]
+//! decides so by a policy in force. Both print the verdict, as whom the client acts if its credential is given, and why if that is
+//! asked. [`printed_verdict`] prints a verdict that is known.
 //!
 //! ```text
-//! try_text(alloc, "/usr 10.0.0.5\n", &tables, filesystems, address, &path, &None)?.line
-//! // "granted line 1 rw sec=sys root=65534:65533"
+//! try_text(alloc, "/usr 10.0.0.5\n", &tables, filesystems, question)?.text
+//! // "granted line 1 rw sec=sys root=65534:65533\n"
 //! ```
 #![tactic(auto)]
 
 pub mod try_text;
 
-pub use try_text::{Tried, printed_verdict};
+pub use try_text::{MountQuestion, Tried, printed_verdict, tried_by};

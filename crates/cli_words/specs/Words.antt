@@ -16,25 +16,25 @@ abbrev pub is_set : List ℕ → List Row → Bool
 is_set name rows = option_map_or (λ value. bytes_eq value (codes "true")) (first_of name rows) false
 
 module _ {T X : Type 0} where
-  -- this was found, or it is missing
-  abbrev pub Finds : (T → X) → Option X → Result T Failure → Type 0
-  Finds view found (Ok value) = found ≡ Some (view value)
-  Finds view found (Err failure) = (found ≡ None) × IsMissing failure
+  -- this was found of an argument, or the argument is missing
+  abbrev pub Finds : (T → X) → List ℕ → Option X → Result T Failure → Type 0
+  Finds view name found (Ok value) = found ≡ Some (view value)
+  Finds view name found (Err failure) = (found ≡ None) × IsMissing name failure
 
 module _ {X T : Type 0} where
-  -- the answer by what was found, or that it is missing
-  abbrev pub AnswersBy : Option X → (X → Result T Failure → Type 0) → Result T Failure → Type 0
-  AnswersBy (Some value) Answers result = Answers value result
-  AnswersBy None Answers result = IsErrAnd result IsMissing
+  -- the answer by what was found of an argument, or that the argument is missing
+  abbrev pub AnswersBy : List ℕ → Option X → (X → Result T Failure → Type 0) → Result T Failure → Type 0
+  AnswersBy name (Some value) Answers result = Answers value result
+  AnswersBy name None Answers result = IsErrAnd result (IsMissing name)
 
 module _ {T : Type 0} where
   -- the answer by the word of an argument that has to be given
   abbrev pub ByWord : List ℕ → List Row → (List ℕ → Result T Failure → Type 0) → Result T Failure → Type 0
-  ByWord name rows Answers result = AnswersBy (first_of name rows) Answers result
+  ByWord name rows Answers result = AnswersBy name (first_of name rows) Answers result
 
   -- the answer by the words of an argument that has to be given once or more
   abbrev pub ByWords : List ℕ → List Row → (List (List ℕ) → Result T Failure → Type 0) → Result T Failure → Type 0
-  ByWords name rows Answers result = AnswersBy (all_of name rows) Answers result
+  ByWords name rows Answers result = AnswersBy name (all_of name rows) Answers result
 
 module _ {A T : Type 0} where
   -- what comes after a step: the answer of what it gives, or its failure

@@ -83,6 +83,12 @@ const ALL: Argument = Argument {
     help: "Lists the ranges whose line or reason alone changes, too",
 };
 
+const WHY: Argument = Argument {
+    name: "why",
+    kind: Kind::Flag,
+    help: "Prints below the verdict each line that matches the client, heaviest first, and which of them decides",
+};
+
 const EXPECTATIONS: Argument = Argument {
     name: "EXPECTATIONS",
     kind: Kind::Word,
@@ -143,11 +149,14 @@ pub static COMMANDS: [CommandRow; 20] = [
         name: "try",
         words: &[FILE, HOST, DIR, MOUNTS],
         tables: true,
-        options: &[Argument {
-            name: "as",
-            kind: Kind::Valued("CRED"),
-            help: "The client's credential, as USER or USER:GROUP:...; a granted line says as whom it acts",
-        }],
+        options: &[
+            Argument {
+                name: "as",
+                kind: Kind::Valued("CRED"),
+                help: "The client's credential, as USER or USER:GROUP:...; a granted line says as whom it acts",
+            },
+            WHY,
+        ],
     },
     CommandRow {
         command: Subcommand::Split,
@@ -254,11 +263,14 @@ pub static COMMANDS: [CommandRow; 20] = [
         name: "ask",
         words: &[DB, HOST, DIR],
         tables: false,
-        options: &[Argument {
-            name: "as",
-            kind: Kind::Valued("CRED"),
-            help: "The client's credential in numbers, as 1001:100:5; a granted line says as whom it acts",
-        }],
+        options: &[
+            Argument {
+                name: "as",
+                kind: Kind::Valued("CRED"),
+                help: "The client's credential in numbers, as 1001:100:5; a granted line says as whom it acts",
+            },
+            WHY,
+        ],
     },
     CommandRow {
         command: Subcommand::Show,

@@ -24,7 +24,9 @@ pub(crate) fn help_of(command: Subcommand) -> Help {
             end: Some(
                 "A table that is not given is empty: names of hosts then stand for nothing, credentials are\n\
              written in numbers with a colon (0:0), and names of networks are unknown. One file may be -,\n\
-             standard input.",
+             standard input. --why prints by what each line matches, and whether it lists DIR: a line for a\n\
+             name outweighs one for a network, a longer prefix a shorter one, and any network a line for\n\
+             everybody.",
             ),
         },
         Subcommand::Split => Help {
@@ -91,7 +93,10 @@ pub(crate) fn help_of(command: Subcommand) -> Help {
         Subcommand::Ask => Help {
             about: "Decides one mount request by the policy in force",
             usage: None,
-            end: None,
+            end: Some(
+                "--why prints by what each line matches, and whether it lists DIR: a line for a name outweighs one\n\
+             for a network, a longer prefix a shorter one, and any network a line for everybody.",
+            ),
         },
         Subcommand::Show => Help {
             about: "Lists what a client may mount",

@@ -1,6 +1,6 @@
 //! The command that `clap` finds, and its words by their names.
 
-ghost use Rattle.std.specs.Prelude.{◌≡◌, map};
+ghost use Rattle.std.specs.Prelude.{◌≡◌, codes, map};
 ghost use Rattle.std.specs.Option.{option_map};
 ghost use Rattle.clap.specs.Words.{all_of, first_of, subcommand_rows_of};
 ghost use Rattle.cli_words.specs.Commands.{command_of};
@@ -14,7 +14,7 @@ use cli_output::failure::Failure;
 pub fn found_command<'m, 'a>(
     matches: &'m ArgMatches<'a>,
 ) -> Result<(Subcommand, &'m ArgMatches<'a>), Failure>
-    ensures { Finds (λ found. (found.0, rows_in found.1.now)) (command_of (subcommand_rows_of matches.now)) result }
+    ensures { Finds (λ found. (found.0, rows_in found.1.now)) (codes "the command") (command_of (subcommand_rows_of matches.now)) result }
 {
     match matches.subcommand() {
         Some((name, words)) => match command_named(name) {
@@ -27,7 +27,7 @@ pub fn found_command<'m, 'a>(
 
 /// Returns the word of an argument that has to be given.
 pub fn required<'a>(words: &ArgMatches<'a>, name: &'static str) -> Result<&'a str, Failure>
-    ensures { Finds (λ word. word.now) (first_of name.entry.now (rows_in words.now)) result }
+    ensures { Finds (λ word. word.now) name.entry.now (first_of name.entry.now (rows_in words.now)) result }
 {
     match given(words, name) {
         Some(word) => Ok(word),
@@ -40,7 +40,7 @@ pub fn all_required<'m, 'a>(
     words: &'m ArgMatches<'a>,
     name: &'static str,
 ) -> Result<&'m [&'a str], Failure>
-    ensures { Finds (λ found. map (λ word. word.now) found.now) (all_of name.entry.now (rows_in words.now)) result }
+    ensures { Finds (λ found. map (λ word. word.now) found.now) name.entry.now (all_of name.entry.now (rows_in words.now)) result }
 {
     match all_given(words, name) {
         Some(found) => Ok(found),

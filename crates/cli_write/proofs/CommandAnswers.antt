@@ -24,11 +24,11 @@ use Rattle.cli_write.specs.WriteCommand.{WritesReadable, WritesStored}
 module _ (name : List ℕ) (rows : List Row) (Answers : List ℕ → Result Printed Failure → Type 0) where
   -- the word of an argument is there
   pub by_word : (word : List ℕ) (result : Result Printed Failure) → first_of name rows ≡ Some word → Answers word result → ByWord name rows Answers result
-  by_word word result found answers = subst (λ (f : Option (List ℕ)). AnswersBy f Answers result) (sym found) answers
+  by_word word result found answers = subst (λ (f : Option (List ℕ)). AnswersBy name f Answers result) (sym found) answers
 
   -- it is missing
-  pub no_word : (failure : Failure) → first_of name rows ≡ None → IsMissing failure → ByWord name rows Answers (Err failure)
-  no_word failure none missing = subst (λ (f : Option (List ℕ)). AnswersBy f Answers (Err failure)) (sym none) missing
+  pub no_word : (failure : Failure) → first_of name rows ≡ None → IsMissing name failure → ByWord name rows Answers (Err failure)
+  no_word failure none missing = subst (λ (f : Option (List ℕ)). AnswersBy name f Answers (Err failure)) (sym none) missing
 
 -- memory ran out
 pub no_memory : (db : Database) (ours : IsOurs db) (newest : Newest) (folder : List ℕ) → ((history : History) → IsProject db history → newest ≡ newest_of history) → WritesStored folder (Err Memory)

@@ -3,12 +3,16 @@ that looks answers up in the definitions.
 """
 
 import re
+import sys
 
 from reference import lines
 from reference.definitions import Line, Site, fs_of, number_of, printed
 
 FILES = ["custodians", "filesystems", "hosts", "networks", "passwd", "group", "netgroup"]
 VALUED = ("maproot", "r", "mapall", "sec", "network", "mask")
+MEMBER = re.compile(r"\([ \t]*([^, \t]*)[ \t]*,[^)]*\)|([^ \t(),]+)")
+
+sys.set_int_max_str_digits(0)  # (a number may have as many zeros as a line has room for)
 
 
 def path_of(text):
@@ -20,11 +24,15 @@ def logical_lines(text):
     return [(line.number, line.text) for line in lines.logical_lines(text)]
 
 
+def words_of(text):
+    return [word for word in re.split("[ \t]+", text) if word]
+
+
 class Tables:
     """The tables with which exports lines are read."""
 
     def __init__(self, texts):
-        rows = lambda name: [line.partition("#")[0].split() for line in texts.get(name, "").split("\n")]
+        rows = lambda name: [words_of(part.whole.partition("#")[0]) for part in lines.physical_lines(texts.get(name, ""))]
         fields = lambda name: [line.split(":") for _, line in logical_lines(texts.get(name, ""))]
         self.hosts = [(number_of(row[0]), row[1:]) for row in rows("hosts") if row and ":" not in row[0]]
         self.networks, self.users, self.groups = {}, {}, {}  # (the first row counts)
@@ -37,12 +45,10 @@ class Tables:
             self.groups.setdefault(row[0], (int(row[2]), row[3].split(",")))
         self.netgroups, self.group_lines = {}, {}
         for number, line in logical_lines(texts.get("netgroup", "")):
-            name, *members = line.split(None, 1)
+            (_, name), *members = MEMBER.findall(line)
             self.group_lines[name] = number
             self.netgroups[name] = [
-                ("group", group) if group else ("host", host)
-                for host, group in re.findall(r"\(\s*([^,\s]*)\s*,[^)]*\)|([^\s(),]+)", "".join(members))
-                if group or host not in ("", "-")
+                ("group", group) if group else ("host", host) for host, group in members if group or host not in ("", "-")
             ]
 
     def credential(self, text):

@@ -1,13 +1,13 @@
 //! The command itself: a peer connects once its line is printed, and is served.
 
 use crate::peers::{Peer, check_peer, connect};
-use crate::trials::ASKS_FIRST;
+use crate::trials::STAYS;
 use std::io;
 use std::io::{ErrorKind, Write};
 use std::net::{Ipv4Addr, SocketAddr, TcpListener, TcpStream};
 
-/// The peer.
-const PEER: Peer = ASKS_FIRST;
+/// The peer: its connection ends by the limit of time alone, since nobody else waits.
+const PEER: Peer = STAYS;
 
 /// The standard output of a service: a peer connects once a line was printed and flushed.
 #[derive(Drop)]
@@ -55,7 +55,7 @@ fn free_port(rt: &HostRuntime) -> io::Result<u16> {
     Ok(listener.local_addr()?.port())
 }
 
-/// Runs `serve` on a new database of the sample site, for one connection. Returns what is wrong.
+/// Runs `serve` on a new database of the sample site, for one connection, with a limit of a second. Returns what is wrong.
 pub fn try_command(rt: &HostRuntime) -> io::Result<String> {
     let mut wrong = String::new(rt.alloc());
     let port = free_port(rt)?;
@@ -81,6 +81,8 @@ pub fn try_command(rt: &HostRuntime) -> io::Result<String> {
         "1",
         "--port",
         number.as_str(),
+        "--timeout",
+        "1",
     ];
     let status = cli::run(rt, words.as_slice(), &mut input, &mut out, &mut err);
     if status != 0 || !err.as_slice().is_empty() {

@@ -147,7 +147,7 @@ const ONE_EDIT: Peer = Peer {
 };
 
 /// One that asks for the revisions before the edit, and one that asks afterwards.
-pub const ASKS_FIRST: Peer = Peer {
+const ASKS_FIRST: Peer = Peer {
     sends: QUESTION,
     filler: 0,
     then: Then::EndsWriting,
@@ -215,7 +215,7 @@ const WAITS_IN_HEAD: Peer = Peer {
 };
 
 /// One that asks, and then keeps its connection open without a byte, and one that never sends any.
-const STAYS: Peer = Peer {
+pub const STAYS: Peer = Peer {
     sends: QUESTION,
     filler: 0,
     then: Then::Waits,

@@ -28,6 +28,7 @@ mod paths;
 pub mod policies;
 mod questions;
 mod ranges;
+mod reasons;
 mod reports;
 pub mod site;
 pub mod sites;

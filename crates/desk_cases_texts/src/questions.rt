@@ -6,7 +6,8 @@ use crate::answers::Asked;
 use crate::site::Site;
 use crate::{
     addresses, credentials, custodians, expectations, exports, faults, filesystems, hosts, indexes,
-    lines, listings, netgroups, nets, networks, parts, paths, policies, ranges, reports, sites,
+    lines, listings, netgroups, nets, networks, parts, paths, policies, ranges, reasons, reports,
+    sites,
 };
 use desk_text::is_readable;
 use std::alloc::Global;
@@ -53,6 +54,7 @@ fn of_site(alloc: Global, site: &mut Site, out: &mut String, question: &str, tex
             || listings::answer(alloc, site, out, question, text)?
             || indexes::answer(alloc, site, out, question, text)?
             || ranges::answer(alloc, site, out, question, text)?
+            || reasons::answer(alloc, site, out, question, text)?
             || reports::answer(alloc, site, out, question, text)?
             || expectations::answer(alloc, site, out, question, text)?
             || parts::answer(alloc, site, out, question, text)?

@@ -10,8 +10,9 @@ pub fn runs_follow<S: Alter + Drop, V: PolicyView + Drop>()
     ensures { RunsFollow S V S.Store }
 {}
 
-/// The replies to messages are a run of the desk: the edits that were replied 200 are exactly those that took effect, in order, and what
-/// a crash may bring to light is what the run leaves pending. So the laws of desk_core and desk_store hold behind a connection.
+/// The replies to messages are a run of the desk: the edits that were replied 200 are exactly those that are stored or proposed, now or
+/// before, in order, and what a crash may bring to light is what the run leaves pending. So the laws of desk_core and desk_store hold
+/// behind a connection.
 pub fn replies_are_a_run<S: Alter + Drop, V: PolicyView + Drop>()
     ensures { RepliesAreARun S V S.Store }
 {}

@@ -1,5 +1,5 @@
 -- What would be in force if a file had another text, as it is answered. (this project's own)
-use Rattle.std.specs.Prelude.{◌≡◌, ℕ, ◌<◌, ◌≤◌, Bool, true, false, List, Option, length}
+use Rattle.std.specs.Prelude.{◌≡◌, ℕ, ◌<◌, ◌≤◌, Bool, true, false, List, Option, None, Some, length}
 use Rattle.std.specs.Option.{option_copied}
 use Rattle.desk_policy.specs.Policy.{Content}
 use Rattle.desk_policy.specs.View.{HasFault}
@@ -59,3 +59,8 @@ IsRefusedText newest file text refusal.UnknownFile = is_known (table_in newest) 
 IsRefusedText newest file text refusal.TooLarge = (is_known (table_in newest) file ≡ true) × (longest_revision < length text)
 IsRefusedText newest file text (refusal.Fault fault) = MayHave newest file text × HasFault (site_in (with_text newest file text)) fault
 IsRefusedText newest file text other = ⊥
+
+-- why a file cannot have a text, whatever the text says; or that it may have it
+abbrev pub IsRefusedUnread : Newest → List ℕ → List ℕ → Option Refusal → Type 0
+IsRefusedUnread newest file text (Some refusal) = IsRefusedText newest file text refusal
+IsRefusedUnread newest file text None = MayHave newest file text

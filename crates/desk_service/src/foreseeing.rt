@@ -2,9 +2,10 @@
 
 ghost use Rattle.std.specs.Prelude.{◌≡◌, IfOk};
 ghost use Rattle.std.specs.Option.{option_copied};
-ghost use Rattle.desk_core.specs.Head.{newest_in};
+ghost use Rattle.desk_core.specs.Head.{Newest, newest_in};
 ghost use Rattle.desk_core.specs.Judging.{table_in};
 ghost use Rattle.desk_store.specs.Desk.{History, StandsAt};
+ghost use Rattle.desk_service.specs.Foreseeing.{IsRefusedUnread};
 ghost use Rattle.desk_service.specs.Questions as spec;
 ghost use Rattle.desk_service.specs.Questions.{AnswersByHistory, ForeseesText, answer_of};
 
@@ -58,8 +59,21 @@ pub(crate) fn foresee_proposal<'a, S: Alter + Drop, V: PolicyView + Drop>(
     }
 }
 
-/// Foresees a text of a file, by the newest revisions of a desk; or finds why the file cannot have the text. An unknown file comes
-/// before a text that is too long, and that before the fault of the site with it. This takes no statement.
+/// Finds why a file cannot have a text, whatever the text says: an unknown file comes before a text that is too long.
+pub(crate) fn refused_unread(filesystems: &FileSystems, name: &str, text: &str) -> Option<Refusal>
+    ensures { (newest : Newest) → filesystems.now ≡ table_in newest → IsRefusedUnread newest name.now text.now result }
+{
+    if !is_known(filesystems, name) {
+        Some(Refusal::UnknownFile)
+    } else if text.len() > LONGEST_REVISION {
+        Some(Refusal::TooLarge)
+    } else {
+        None
+    }
+}
+
+/// Foresees a text of a file, by the newest revisions of a desk; or finds why the file cannot have the text. The fault of the site with
+/// it comes last. This takes no statement.
 fn foresee<'a, S: Alter + Drop, V: PolicyView + Drop>(
     alloc: Global,
     desk: &'a Desk<S, V>,
@@ -70,11 +84,8 @@ fn foresee<'a, S: Alter + Drop, V: PolicyView + Drop>(
     ensures { IfOk result (λ answer. ForeseesText (newest_in desk.now.state.heads) name.now text.now (option_copied proposal.entry) (answer_of V.in_force answer)) }
 {
     let filesystems = listed_now(desk);
-    if !is_known(filesystems, name) {
-        return Ok(Answer::Refused(Refusal::UnknownFile));
-    }
-    if text.len() > LONGEST_REVISION {
-        return Ok(Answer::Refused(Refusal::TooLarge));
+    if let Some(refusal) = refused_unread(filesystems, name, text) {
+        return Ok(Answer::Refused(refusal));
     }
     match desk.foresee(alloc, name, text) {
         Ok(foresight) => Ok(Answer::Foreseen(Foreseen {

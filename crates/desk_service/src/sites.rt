@@ -8,9 +8,9 @@ ghost use Rattle.desk_service.specs.Questions as spec;
 ghost use Rattle.desk_service.specs.Questions.{AnswersByHistory, ForeseesSite, answer_of};
 ghost use Rattle.desk_service.specs.Sites.{site_of};
 
-use crate::foreseeing::listed_now;
+use crate::foreseeing::{listed_now, refused_unread};
 use crate::questions::Answer;
-use desk_core::{ForeseenSite, LONGEST_REVISION, Refusal, is_known};
+use desk_core::{ForeseenSite, Refusal};
 use desk_policy::{PolicyView, SiteTables};
 use desk_store::Desk;
 use desk_text::ReadError;
@@ -84,8 +84,8 @@ pub(crate) fn foresee_proposed_site<'a, S: Alter + Drop, V: PolicyView + Drop>(
     }
 }
 
-/// Foresees the site with a text of a file, by the newest revisions of a desk; or finds why the file cannot have the text. An unknown
-/// file comes before a text that is too long, and that before the fault of the site with it. This takes no statement.
+/// Foresees the site with a text of a file, by the newest revisions of a desk; or finds why the file cannot have the text. The
+/// fault of the site with it comes last. This takes no statement.
 fn foresee_site<'a, S: Alter + Drop, V: PolicyView + Drop>(
     alloc: Global,
     desk: &'a Desk<S, V>,
@@ -94,11 +94,8 @@ fn foresee_site<'a, S: Alter + Drop, V: PolicyView + Drop>(
 ) -> Result<Answer<'a, V>, AllocError>
     ensures { IfOk result (λ answer. ForeseesSite (newest_in desk.now.state.heads) name.now text.now (answer_of V.in_force answer)) }
 {
-    if !is_known(listed_now(desk), name) {
-        return Ok(Answer::Refused(Refusal::UnknownFile));
-    }
-    if text.len() > LONGEST_REVISION {
-        return Ok(Answer::Refused(Refusal::TooLarge));
+    if let Some(refusal) = refused_unread(listed_now(desk), name, text) {
+        return Ok(Answer::Refused(refusal));
     }
     match desk.foresee_site(alloc, name, text) {
         Ok(site) => Ok(Answer::Site(WholeSite::Foreseen(site))),

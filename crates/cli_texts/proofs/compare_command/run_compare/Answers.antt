@@ -11,7 +11,7 @@ use Rattle.cli_texts.proofs.compare_command.run_compare.Goals as goal
 pub returns-in_err-texts : goal.returns-in_err-texts
 returns-in_err-texts g c =
     let p = err_from_is_err_and c.from_residual-in_err-texts.result c.from_residual-in_err-texts.ensures.1 in
-    rw (p.1, p.2) (by_found _ _ _ _ c.in_ok-before.ensures (by_found _ _ _ _ c.in_ok-after.ensures
+    rw (p.1, p.2) (by_found _ _ _ _ _ c.in_ok-before.ensures (by_found _ _ _ _ _ c.in_ok-after.ensures
     (record {
       step = Ok c.in_ok-filesystems.filesystems;
       is = c.in_ok-filesystems.ensures;
@@ -21,7 +21,7 @@ returns-in_err-texts g c =
 pub returns : goal.returns
 returns g c =
     let sources = c.two_sources-sources in
-    by_found _ _ _ _ c.in_ok-before.ensures (by_found _ _ _ _ c.in_ok-after.ensures
+    by_found _ _ _ _ _ c.in_ok-before.ensures (by_found _ _ _ _ _ c.in_ok-after.ensures
     (record {
       step = Ok c.in_ok-filesystems.filesystems;
       is = c.in_ok-filesystems.ensures;

@@ -1,7 +1,8 @@
 -- The words are parsed, and then the files are read.
-use Rattle.std.proofs.Common.{Err, List, Ok, Option, refl, subst, ℕ}
+use Rattle.std.proofs.Common.{Bool, Err, List, Ok, Option, codes, refl, subst, ℕ}
 use Rattle.std.proofs.lemmas.Result.{err_from_is_err_and}
-use Rattle.cli_words.specs.Words.{rows_in}
+use Rattle.std.specs.Option.{option_map}
+use Rattle.cli_words.specs.Words.{is_set, rows_in}
 use Rattle.cli_texts.specs.TryCommand.{AnswersRequest}
 use Rattle.cli_texts.specs.WholeFiles.{whole_files, whole_list, whole_texts}
 use Rattle.cli_texts.proofs.FilesInTurn.{lent}
@@ -11,7 +12,7 @@ use Rattle.cli_texts.proofs.try_command.run_try.Goals as goal
 pub returns-in_err-texts : goal.returns-in_err-texts
 returns-in_err-texts g c =
     let p = err_from_is_err_and c.from_residual-in_err-texts.result c.from_residual-in_err-texts.ensures.1 in
-    rw (p.1, p.2) (by_found _ _ _ _ c.in_ok-file.ensures
+    rw (p.1, p.2) (by_found _ _ _ _ _ c.in_ok-file.ensures
     (record {
       step = Ok c.in_ok-request.request;
       is = c.in_ok-request.ensures;
@@ -21,13 +22,15 @@ returns-in_err-texts g c =
 pub returns : goal.returns
 returns g c =
     let sources = c.whole_sources-sources in
-    by_found _ _ _ _ c.in_ok-file.ensures
+    by_found _ _ _ _ _ c.in_ok-file.ensures
     (record {
       step = Ok c.in_ok-request.request;
       is = c.in_ok-request.ensures;
       next = record {
         step = Ok sources.result;
         is = lent (whole_files (rows_in c.args.words.now) c.in_ok-file.file.now) (g.I.Read.remaining c.args.input.now) (whole_texts c.in_ok-texts.texts) (whole_list sources.result) sources.ensures.paths sources.ensures.texts c.in_ok-texts.ensures.texts;
-        next = subst (λ (word : Option (List ℕ)). AnswersRequest word c.in_ok-request.request sources.result c.answer_request.result) c.given.ensures c.answer_request.ensures;
+        next =
+            subst (λ (word : Option (List ℕ)). AnswersRequest word (is_set (codes "why") (rows_in c.args.words.now)) c.in_ok-request.request sources.result c.answer_request.result) c.given.ensures
+            (subst (λ (why : Bool). AnswersRequest (option_map (λ word. word.now) c.given.result) why c.in_ok-request.request sources.result c.answer_request.result) c.is_set.ensures c.answer_request.ensures);
       };
     })

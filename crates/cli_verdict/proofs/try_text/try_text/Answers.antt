@@ -1,30 +1,49 @@
--- The answer by a policy without warnings is that by the policy with them.
-use Rattle.std.proofs.Common.{◌∙◌, [], List, Ok, Err, Option, Result, ap, subst, sym, ℕ}
-use Rattle.desk_text.specs.Address.{number_of}
+-- What is answered by a policy without warnings is answered by the policy with them.
+use Rattle.std.proofs.Common.{◌≡◌, ◌∙◌, [], List, Ok, Err, Option, Some, None, Result, ap, ap₂, refl, subst, sym, ℕ}
+use Rattle.std.specs.Prelude.{if◌then◌else◌}
 use Rattle.desk_text.specs.declared.reading.ReadError.{ReadError}
 use Rattle.desk_text.specs.declared.reading.ReadError.TheVariants.{Fault, Memory}
-use Rattle.desk_tables.specs.declared.credentials.Cred.{Cred}
+use Rattle.desk_tables.specs.FileSystems.{fs_of}
 use Rattle.desk_exports.specs.declared.profile.Profile.TheVariants.{Two}
 use Rattle.desk_policy.specs.Parsing.{read_whole_with, without_warnings}
-use Rattle.desk_policy.specs.Policy.{Content}
+use Rattle.desk_policy.specs.Policy.{Content, rows_of, with_warnings}
+use Rattle.desk_policy.specs.Prints.{mount_text}
+use Rattle.desk_policy.specs.Verdict.{Grant, verdict_of}
 use Rattle.desk_policy.specs.View.{WarningsChangeNoAnswer}
+use Rattle.desk_policy.specs.declared.parsing.SiteTables.{SiteTables}
 use Rattle.desk_policy.specs.declared.site_fault.SiteFault.{SiteFault}
-use Rattle.cli_verdict.specs.TryText.{answer_on, Tries}
+use Rattle.desk_policy.specs.declared.verdict.Denial.{Denial}
+use Rattle.desk_why.specs.WhyPrints.{line_named, lines_text, why_in}
+use Rattle.cli_verdict.specs.TryText.{MountQuestion, Tries, answer_above, mount_question_of, policy_answer}
 use Rattle.cli_verdict.specs.declared.try_text.Tried.{Tried}
 use Rattle.cli_verdict.proofs.try_text.try_text.Goals as goal
 
-with_warnings_too : (law : WarningsChangeNoAnswer) (read : Result Content SiteFault) (own : Option Cred) (address : ℕ) (path : List (List ℕ)) (result : Result Tried (ReadError SiteFault))
-    → Tries (without_warnings read) own address path result → Tries read own address path result
-with_warnings_too law (Ok content) own address path (Ok tried) told =
-    ((law content []).consistent.0 told.0, told.1 ∙ ap (answer_on content own) ((law content []).verdicts address path))
-with_warnings_too law (Ok content) own address path (Err (Fault fault)) told = ((law content []).least fault).0 told
-with_warnings_too law (Ok content) own address path (Err Memory) told = tt
-with_warnings_too law (Err fault) own address path (Ok tried) told = told
-with_warnings_too law (Err fault) own address path (Err (Fault other)) told = told
-with_warnings_too law (Err fault) own address path (Err Memory) told = tt
+module _ (tables : SiteTables) (question : MountQuestion) where
+  lines_alike : (content : Content) → verdict_of (with_warnings content []) question.address question.path ≡ verdict_of content question.address question.path → (fs : Option ℕ)
+      → why_in tables.netgroups tables.hosts (with_warnings content []) question.address question.path fs ≡ why_in tables.netgroups tables.hosts content question.address question.path fs
+  lines_alike content same None = refl
+  lines_alike content same (Some fs) =
+      ap (λ (verdict : Result Grant Denial). lines_text tables.netgroups tables.hosts question.address question.path (line_named verdict) (mount_text content fs) (rows_of content fs)) same
+
+  answers_alike : (content : Content) → verdict_of (with_warnings content []) question.address question.path ≡ verdict_of content question.address question.path
+      → policy_answer tables (with_warnings content []) question ≡ policy_answer tables content question
+  answers_alike content same =
+      ap₂ (λ (why : List ℕ) (verdict : Result Grant Denial). answer_above (if question.why then why else []) content question.own verdict)
+      (lines_alike content same (fs_of content.table question.path)) same
+
+  with_warnings_too : (law : WarningsChangeNoAnswer) (read : Result Content SiteFault) (result : Result Tried (ReadError SiteFault))
+      → Tries tables (without_warnings read) question result → Tries tables read question result
+  with_warnings_too law (Ok content) (Ok tried) told =
+      ((law content []).consistent.0 told.0, told.1 ∙ answers_alike content ((law content []).verdicts question.address question.path))
+  with_warnings_too law (Ok content) (Err (Fault fault)) told = ((law content []).least fault).0 told
+  with_warnings_too law (Ok content) (Err Memory) told = tt
+  with_warnings_too law (Err fault) (Ok tried) told = told
+  with_warnings_too law (Err fault) (Err (Fault other)) told = told
+  with_warnings_too law (Err fault) (Err Memory) told = tt
 
 pub returns : goal.returns
 returns c =
-    let read = read_whole_with Two c.args.site_tables.now c.args.filesystems c.args.text.now in
-    let told = subst (λ r. Tries r c.args.own.now (number_of c.args.address) c.args.path.now c.answer_by.result) (sym c.in_ok-policy.ensures) c.answer_by.ensures in
-    with_warnings_too c.warnings_change_no_answer.ensures read c.args.own.now (number_of c.args.address) c.args.path.now c.answer_by.result told
+    let tables = c.args.site_tables.now in
+    let question = mount_question_of c.args.question in
+    let told = subst (λ r. Tries tables r question c.answer_by.result) (sym c.in_ok-policy.ensures) c.answer_by.ensures in
+    with_warnings_too tables question c.warnings_change_no_answer.ensures (read_whole_with Two tables c.args.filesystems c.args.text.now) c.answer_by.result told
