@@ -14,7 +14,7 @@ use Rattle.desk_check.specs.declared.check_report.Checked.{Checked}
 use Rattle.cli_output.specs.Failure.{IsMissing}
 use Rattle.cli_output.specs.Printed.{Prints}
 use Rattle.cli_output.specs.declared.failure.Failure.{Failure}
-use Rattle.cli_output.specs.declared.failure.Failure.TheVariants.{BesideSite, Memory}
+use Rattle.cli_output.specs.declared.failure.Failure.TheVariants.{BesideSarif, BesideSite, Memory}
 use Rattle.cli_output.specs.declared.printed.Printed.{Printed}
 use Rattle.cli_files.specs.Files.{ReadsInTurn}
 use Rattle.cli_files.specs.SiteFolder.{site_paths, site_paths_in, site_texts_in, site_words}
@@ -25,7 +25,12 @@ use Rattle.cli_texts.specs.WholeFiles.{whole_files, whole_list}
 
 -- the form in which the words ask for the findings
 abbrev pub form_of : List Row → CheckForm
-form_of rows = record { brief = is_set (codes "brief") rows; strict = is_set (codes "strict") rows; json = is_set (codes "json") rows }
+form_of rows = record {
+  brief = is_set (codes "brief") rows;
+  strict = is_set (codes "strict") rows;
+  json = is_set (codes "json") rows;
+  sarif = is_set (codes "sarif") rows;
+}
 
 -- a report is printed; standard error says if the exports text was not looked at
 pub record PrintsChecked (checked : Checked) (printed : Printed) : Type 0 where
@@ -90,6 +95,23 @@ abbrev pub AnswersCheckBy : Option (List ℕ) → List Row → Option (List ℕ)
 AnswersCheckBy (Some folder) rows known result = AnswersSiteIf (beside_site rows) (form_of rows) folder known result
 AnswersCheckBy None rows known result = AnswersGiven (first_of (codes "FILE") rows) (all_of (codes "MOUNT") rows) rows known result
 
+-- the first form of findings, by its option, that is given with `--sarif` and cannot be
+abbrev pub beside_sarif : List Row → Option (List ℕ)
+beside_sarif rows =
+    if is_set (codes "sarif") rows
+    then if is_set (codes "brief") rows then Some (codes "--brief") else if is_set (codes "json") rows then Some (codes "--json") else None
+    else None
+
+-- the failure names an option that cannot be given with `--sarif`
+abbrev pub IsBesideSarif : List ℕ → Failure → Type 0
+IsBesideSarif option (BesideSarif name) = name.now ≡ option
+IsBesideSarif option failure = ⊥
+
+-- the same, if no form is given that cannot be given with `--sarif`
+abbrev pub AnswersCheckIf : Option (List ℕ) → List Row → Option (List ℕ) → Result Printed Failure → Type 0
+AnswersCheckIf (Some option) rows known result = IsErrAnd result (IsBesideSarif option)
+AnswersCheckIf None rows known result = AnswersCheckBy (first_of (codes "site") rows) rows known result
+
 -- the answer of `check` to its words
 abbrev pub AnswersCheck : List Row → Option (List ℕ) → Result Printed Failure → Type 0
-AnswersCheck rows known result = AnswersCheckBy (first_of (codes "site") rows) rows known result
+AnswersCheck rows known result = AnswersCheckIf (beside_sarif rows) rows known result

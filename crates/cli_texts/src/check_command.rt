@@ -8,7 +8,7 @@ ghost use Rattle.desk_text.specs.Lines.{IsReadable};
 ghost use Rattle.desk_findings.specs.CheckFaults.{AreReadable};
 ghost use Rattle.desk_findings.specs.Finding.{HaveSlices};
 ghost use Rattle.cli_words.specs.Words.{rows_in};
-ghost use Rattle.cli_texts.specs.CheckCommand.{AnswersByFiles, AnswersCheck, AnswersGiven, AnswersTexts, PrintsFindings, beside_site, form_of};
+ghost use Rattle.cli_texts.specs.CheckCommand.{AnswersByFiles, AnswersCheck, AnswersCheckBy, AnswersGiven, AnswersTexts, PrintsFindings, beside_sarif, beside_site, form_of};
 
 use crate::check_site_files::check_site;
 use crate::whole_files::{read_whole_texts, whole_sources};
@@ -23,14 +23,44 @@ use desk_tables::FileSystems;
 use std::alloc::{AllocError, Global};
 use std::io::BufRead;
 
-/// Answers `check FILE MOUNT...` or `check --site DIR`, with its options. Which of the two it is comes first, and then the
-/// mount points are parsed, before any file is read.
+/// Answers `check FILE MOUNT...` or `check --site DIR`, with its options. Whether its forms can be given together comes first,
+/// then which of the two it is, and then the mount points are parsed, before any file is read.
 pub fn run_check<I: BufRead>(
     rt: &HostRuntime,
     words: &ArgMatches<'_>,
     input: &mut I,
 ) -> Result<Printed, Failure>
     ensures { AnswersCheck (rows_in words.now) (I.remaining input.old) result }
+{
+    match beside_sarif(words) {
+        Some(name) => Err(Failure::BesideSarif(name)),
+        None => check_in_form(rt, words, input),
+    }
+}
+
+/// Names the first form of findings that cannot be given with `--sarif`, if both are given.
+fn beside_sarif(words: &ArgMatches<'_>) -> Option<&'static str>
+    ensures { option_map (λ name. name.now) result ≡ beside_sarif (rows_in words.now) }
+{
+    if !is_set(words, "sarif") {
+        return None;
+    }
+    if is_set(words, "brief") {
+        return Some("--brief");
+    }
+    if is_set(words, "json") {
+        return Some("--json");
+    }
+    None
+}
+
+/// Answers in the form that the words ask for.
+fn check_in_form<I: BufRead>(
+    rt: &HostRuntime,
+    words: &ArgMatches<'_>,
+    input: &mut I,
+) -> Result<Printed, Failure>
+    ensures { let rows = rows_in words.now in AnswersCheckBy (first_of (codes "site") rows) rows (I.remaining input.old) result }
 {
     match given(words, "site") {
         Some(folder) => match beside_site(words) {
@@ -49,6 +79,7 @@ fn form_of(words: &ArgMatches<'_>) -> CheckForm
         brief: is_set(words, "brief"),
         strict: is_set(words, "strict"),
         json: is_set(words, "json"),
+        sarif: is_set(words, "sarif"),
     }
 }
 

@@ -209,6 +209,11 @@ pub static COMMANDS: [CommandRow; 20] = [
                 kind: Kind::Flag,
                 help: "Prints the findings as one compact JSON list",
             },
+            Argument {
+                name: "sarif",
+                kind: Kind::Flag,
+                help: "Prints the findings as a log of SARIF 2.1.0, for code hosts",
+            },
         ],
     },
     CommandRow {

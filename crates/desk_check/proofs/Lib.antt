@@ -1,3 +1,4 @@
 pub mod HintLemmas
+pub mod LogFloats
 pub mod ShownTextLemmas
 pub mod ToldFindings

@@ -7,6 +7,7 @@ use Rattle.desk_findings.specs.declared.check_text.Gathered.{Gathered}
 use Rattle.desk_findings.specs.declared.finding.Finding.{Finding}
 use Rattle.desk_check.specs.FindingJson.{findings_json}
 use Rattle.desk_check.specs.FindingPrints.{findings_text}
+use Rattle.desk_check.specs.Sarif.{findings_sarif}
 use Rattle.desk_check.specs.declared.check_report.CheckForm.{CheckForm}
 use Rattle.desk_check.specs.declared.check_report.Checked.{Checked}
 
@@ -16,7 +17,8 @@ passes strict findings = if strict then length findings == 0 else not (list_any 
 
 -- the findings as they are printed in this form
 abbrev pub printed_findings : CheckForm → List Finding → List ℕ
-printed_findings form findings = if form.json then findings_json findings else findings_text form.brief findings
+printed_findings form findings =
+    if form.sarif then findings_sarif findings else if form.json then findings_json findings else findings_text form.brief findings
 
 -- this is told of what was found
 pub record Reports (form : CheckForm) (gathered : Gathered) (checked : Checked) : Type 0 where

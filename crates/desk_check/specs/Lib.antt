@@ -3,6 +3,10 @@ pub mod FindingJson
 pub mod FindingPrints
 pub mod Hints
 pub mod PrivateFindingJson
+pub mod PrivateSarif
+pub mod Sarif
+pub mod SarifRules
+pub mod SarifUri
 pub mod ShownText
 pub mod ToldFault
 pub mod ToldSite

@@ -1,11 +1,13 @@
 //! What `check` prints of what it finds, and whether the texts pass.
 
 ghost use Rattle.std.specs.Prelude.{◌≡◌, IfOk};
+ghost use Rattle.std.specs.String.{string_bytes};
 ghost use Rattle.desk_findings.specs.Finding.{HaveSlices};
-ghost use Rattle.desk_check.specs.CheckReport.{Reports, passes};
+ghost use Rattle.desk_check.specs.CheckReport.{Reports, passes, printed_findings};
 
 use crate::finding_json::findings_json;
 use crate::finding_prints::findings_text;
+use crate::sarif::findings_sarif;
 use desk_findings::{Finding, Gathered, has_fault};
 use std::alloc::{AllocError, Global};
 
@@ -18,6 +20,8 @@ pub struct CheckForm {
     pub strict: bool,
     /// As a JSON list.
     pub json: bool,
+    /// As a log of SARIF.
+    pub sarif: bool,
 }
 
 /// What `check` tells.
@@ -40,16 +44,30 @@ pub fn report_found(
     ensures { IfOk result (Reports form gathered.now) }
 {
     let findings = gathered.findings.as_slice();
-    let text = if form.json {
-        findings_json(alloc, findings)?
-    } else {
-        findings_text(alloc, findings, form.brief)?
-    };
+    let text = findings_in_form(alloc, form, findings)?;
     Ok(Checked {
         text,
         passes: passes(findings, form.strict),
         read_exports: gathered.read_exports,
     })
+}
+
+/// Prints findings in this form.
+fn findings_in_form(
+    alloc: Global,
+    form: CheckForm,
+    findings: &[Finding],
+) -> Result<String, AllocError>
+    requires { HaveSlices findings.now }
+    ensures { IfOk result (λ text. string_bytes text ≡ printed_findings form findings.now) }
+{
+    if form.sarif {
+        findings_sarif(alloc, findings)
+    } else if form.json {
+        findings_json(alloc, findings)
+    } else {
+        findings_text(alloc, findings, form.brief)
+    }
 }
 
 /// Tests whether texts with these findings pass.

@@ -226,7 +226,7 @@ fn push_marks(line: &str, place: Place, part: Excerpt, text: &mut String) -> Res
 }
 
 /// Adds a text if it is wanted.
-fn push_if(wanted: bool, more: &str, text: &mut String) -> Result<(), AllocError>
+pub(crate) fn push_if(wanted: bool, more: &str, text: &mut String) -> Result<(), AllocError>
     ensures { OnOk result (string_bytes text.new ≡ string_bytes text.old ++ (if wanted then more.now else [])) }
 {
     if wanted { text.push_str(more) } else { Ok(()) }

@@ -1,4 +1,5 @@
-//! What `check` prints of findings, as text, with its hints, or as JSON; and of one fault of other commands, beside its line.
+//! What `check` prints of findings, as text, with its hints, as JSON or as a log of SARIF; and of one fault of other commands,
+//! beside its line.
 //!
 //! Its promise: [`report_found`] prints just what was found, and says whether the texts pass. [`tell_fault`],
 //! [`tell_split_fault`] and [`tell_site_fault`] give what `check` prints of that fault.
@@ -16,6 +17,9 @@ mod check_report;
 mod finding_json;
 mod finding_prints;
 mod hints;
+mod sarif;
+mod sarif_rules;
+mod sarif_uri;
 mod shown_text;
 mod told_fault;
 mod told_site;
@@ -23,6 +27,8 @@ mod told_site;
 pub use check_report::{CheckForm, Checked, report_found};
 pub use finding_json::{add_number, add_text, findings_json, push_json};
 pub use finding_prints::{finding_text, findings_text, push_marked_line};
+pub use sarif::findings_sarif;
+pub use sarif_rules::{each_has_its_rule, ids_differ};
 pub use shown_text::push_shown;
 pub use told_fault::{tell_fault, tell_split_fault};
 pub use told_site::tell_site_fault;
