@@ -1,5 +1,5 @@
 -- What `check` prints, by its words and files. (this project's own)
-use Rattle.std.specs.Prelude.{◌≡◌, ◌⊎◌, ◌++◌, ℕ, List, [], ◌∷◌, Option, Some, None, Result, Ok, Err, IsErrAnd, MatchResult, codes, find, is_some, option_map, if◌then◌else◌}
+use Rattle.std.specs.Prelude.{◌≡◌, ◌⊎◌, ◌++◌, ℕ, Bool, List, [], ◌∷◌, Option, Some, None, Result, Ok, Err, IsErrAnd, MatchResult, codes, find, is_some, option_map, if◌then◌else◌}
 use Rattle.std.specs.String.{string_bytes}
 use Rattle.clap.specs.Words.{Row, all_of, first_of}
 use Rattle.desk_tables.specs.declared.filesystems.Mount.{Mount}
@@ -43,13 +43,17 @@ abbrev pub AnswersFound : (Gathered → Type 0) → CheckForm → Result Printed
 AnswersFound IsFound form result =
     MatchResult result (λ printed. (gathered : Gathered) × (IsFound gathered × PrintsFindings form gathered printed)) (λ failure. failure ≡ Memory)
 
--- the answer by the texts of the files
-abbrev pub AnswersTexts : CheckForm → List Mount → WholeSources → Result Printed Failure → Type 0
-AnswersTexts form table sources result = AnswersFound (Gathers sources table) form result
+-- the words ask for opinions
+abbrev pub asks_opinions : List Row → Bool
+asks_opinions rows = is_set (codes "opinions") rows
+
+-- the answer by the texts of the files, with opinions or without
+abbrev pub AnswersTexts : Bool → CheckForm → List Mount → WholeSources → Result Printed Failure → Type 0
+AnswersTexts opinions form table sources result = AnswersFound (Gathers opinions sources table) form result
 
 -- the answer with these file systems: the files are read after them
 abbrev pub AnswersByFiles : List Row → Option (List ℕ) → List ℕ → List Mount → Result Printed Failure → Type 0
-AnswersByFiles rows known file table result = After (ReadsSources whole_list (whole_files rows file) known) (AnswersTexts (form_of rows) table) result
+AnswersByFiles rows known file table result = After (ReadsSources whole_list (whole_files rows file) known) (AnswersTexts (asks_opinions rows) (form_of rows) table) result
 
 -- the answer without `--site`: FILE and MOUNT.. have to be given
 abbrev pub AnswersGiven : Option (List ℕ) → Option (List (List ℕ)) → List Row → Option (List ℕ) → Result Printed Failure → Type 0
@@ -72,22 +76,22 @@ ReadsSite folder known (Ok sources) =
     (site_paths_in sources ≡ site_paths folder) × ReadsInTurn (site_words (codes "--site") (site_paths folder)) known (Ok (site_texts_in sources))
 ReadsSite folder known (Err failure) = (failure ≡ Memory) ⊎ ReadsInTurn (site_words (codes "--site") (site_paths folder)) known (Err failure)
 
--- the answer by the texts of a site
-abbrev pub AnswersSiteTexts : CheckForm → SiteSources → Result Printed Failure → Type 0
-AnswersSiteTexts form sources result = AnswersFound (GathersSite sources) form result
+-- the answer by the texts of a site, with opinions or without
+abbrev pub AnswersSiteTexts : Bool → CheckForm → SiteSources → Result Printed Failure → Type 0
+AnswersSiteTexts opinions form sources result = AnswersFound (GathersSite opinions sources) form result
 
 -- the answer by the files of a site's folder
-abbrev pub AnswersSite : CheckForm → List ℕ → Option (List ℕ) → Result Printed Failure → Type 0
-AnswersSite form folder known result = After (ReadsSite folder known) (AnswersSiteTexts form) result
+abbrev pub AnswersSite : Bool → CheckForm → List ℕ → Option (List ℕ) → Result Printed Failure → Type 0
+AnswersSite opinions form folder known result = After (ReadsSite folder known) (AnswersSiteTexts opinions form) result
 
 -- the same, if nothing is given that cannot be given with `--site`
-abbrev pub AnswersSiteIf : Option (List ℕ) → CheckForm → List ℕ → Option (List ℕ) → Result Printed Failure → Type 0
-AnswersSiteIf (Some word) form folder known result = IsErrAnd result (IsBesideSite word)
-AnswersSiteIf None form folder known result = AnswersSite form folder known result
+abbrev pub AnswersSiteIf : Option (List ℕ) → Bool → CheckForm → List ℕ → Option (List ℕ) → Result Printed Failure → Type 0
+AnswersSiteIf (Some word) opinions form folder known result = IsErrAnd result (IsBesideSite word)
+AnswersSiteIf None opinions form folder known result = AnswersSite opinions form folder known result
 
 -- the answer by the folder that `--site` names, if it is given
 abbrev pub AnswersCheckBy : Option (List ℕ) → List Row → Option (List ℕ) → Result Printed Failure → Type 0
-AnswersCheckBy (Some folder) rows known result = AnswersSiteIf (beside_site rows) (form_of rows) folder known result
+AnswersCheckBy (Some folder) rows known result = AnswersSiteIf (beside_site rows) (asks_opinions rows) (form_of rows) folder known result
 AnswersCheckBy None rows known result = AnswersGiven (first_of (codes "FILE") rows) (all_of (codes "MOUNT") rows) rows known result
 
 -- the answer of `check` to its words

@@ -8,7 +8,7 @@ ghost use Rattle.desk_text.specs.Lines.{IsReadable};
 ghost use Rattle.desk_findings.specs.CheckFaults.{AreReadable};
 ghost use Rattle.desk_findings.specs.Finding.{HaveSlices};
 ghost use Rattle.cli_words.specs.Words.{rows_in};
-ghost use Rattle.cli_texts.specs.CheckCommand.{AnswersByFiles, AnswersCheck, AnswersGiven, AnswersTexts, PrintsFindings, beside_site, form_of};
+ghost use Rattle.cli_texts.specs.CheckCommand.{AnswersByFiles, AnswersCheck, AnswersGiven, AnswersTexts, PrintsFindings, asks_opinions, beside_site, form_of};
 
 use crate::check_site_files::check_site;
 use crate::whole_files::{read_whole_texts, whole_sources};
@@ -35,7 +35,7 @@ pub fn run_check<I: BufRead>(
     match given(words, "site") {
         Some(folder) => match beside_site(words) {
             Some(name) => Err(Failure::BesideSite(name)),
-            None => check_site(rt, form_of(words), folder, input),
+            None => check_site(rt, asks_opinions(words), form_of(words), folder, input),
         },
         None => check_given(rt, words, input),
     }
@@ -50,6 +50,13 @@ fn form_of(words: &ArgMatches<'_>) -> CheckForm
         strict: is_set(words, "strict"),
         json: is_set(words, "json"),
     }
+}
+
+/// Tests whether the words ask for opinions.
+fn asks_opinions(words: &ArgMatches<'_>) -> bool
+    ensures { result ≡ asks_opinions (rows_in words.now) }
+{
+    is_set(words, "opinions")
 }
 
 /// Names the first of the files that cannot be given with `--site`, if one is given.
@@ -108,21 +115,28 @@ fn check_files<I: BufRead>(
 {
     let texts = read_whole_texts(rt, words, file, input)?;
     let sources = whole_sources(words, file, &texts);
-    check_texts(rt.alloc(), form_of(words), filesystems, sources)
+    check_texts(
+        rt.alloc(),
+        asks_opinions(words),
+        form_of(words),
+        filesystems,
+        sources,
+    )
 }
 
-/// Answers by the texts of the files.
+/// Answers by the texts of the files, with opinions if they are asked for.
 fn check_texts(
     alloc: Global,
+    opinions: bool,
     form: CheckForm,
     filesystems: FileSystems,
     sources: WholeSources<'_>,
 ) -> Result<Printed, Failure>
     requires tables { AreReadable sources.tables }
     requires exports { IsReadable sources.exports.text.now }
-    ensures { AnswersTexts form filesystems sources.entry result }
+    ensures { AnswersTexts opinions form filesystems sources.entry result }
 {
-    let gathered = gather(alloc, sources, filesystems)?;
+    let gathered = gather(alloc, sources, filesystems, opinions)?;
     Ok(print_findings(alloc, form, &gathered)?)
 }
 

@@ -13,23 +13,25 @@ use desk_findings::{SiteSources, gather_site};
 use std::alloc::Global;
 use std::io::BufRead;
 
-/// Answers by the files of a site's folder.
+/// Answers by the files of a site's folder, with opinions if they are asked for.
 pub fn check_site<I: BufRead>(
     rt: &HostRuntime,
+    opinions: bool,
     form: CheckForm,
     folder: &str,
     input: &mut I,
 ) -> Result<Printed, Failure>
-    ensures { AnswersSite form folder.now (I.remaining input.old) result }
+    ensures { AnswersSite opinions form folder.now (I.remaining input.old) result }
 {
     let paths = paths_of(rt.alloc(), folder)?;
     let texts = read_texts(rt, "--site", &paths, input)?;
-    check_site_texts(rt.alloc(), form, sources_of(&paths, &texts))
+    check_site_texts(rt.alloc(), opinions, form, sources_of(&paths, &texts))
 }
 
 /// Answers by the texts of a site.
 fn check_site_texts(
     alloc: Global,
+    opinions: bool,
     form: CheckForm,
     sources: SiteSources<'_>,
 ) -> Result<Printed, Failure>
@@ -37,8 +39,8 @@ fn check_site_texts(
     requires filesystems { IsReadable sources.filesystems.text.now }
     requires tables { AreReadable sources.whole.tables }
     requires exports { IsReadable sources.whole.exports.text.now }
-    ensures { AnswersSiteTexts form sources.entry result }
+    ensures { AnswersSiteTexts opinions form sources.entry result }
 {
-    let gathered = gather_site(alloc, sources)?;
+    let gathered = gather_site(alloc, sources, opinions)?;
     Ok(print_findings(alloc, form, &gathered)?)
 }

@@ -13,6 +13,7 @@ ghost use Rattle.desk_check.specs.FindingPrints as spec;
 use crate::hints::hint;
 use crate::shown_text::{push_blanks, push_carets, push_shown, push_shown_line};
 use desk_findings::{Finding, Matter};
+use desk_remarks::Example;
 use desk_text::Place;
 use std::alloc::{AllocError, Global};
 
@@ -130,6 +131,20 @@ fn push_sentence(finding: &Finding, text: &mut String) -> Result<(), AllocError>
             let sentence = kind.sentence();
             write!(text, " {sentence}")
         }
+        Matter::Remark(remark, example) => {
+            text.push_str(remark.sentence())?;
+            push_example(example, text)
+        }
+    }
+}
+
+/// Adds the example of a remark, if it has one: a line, and an address at which it is the first that is selected.
+fn push_example(example: Option<Example>, text: &mut String) -> Result<(), AllocError>
+    ensures { OnOk result (string_bytes text.new ≡ string_bytes text.old ++ spec.example_text example) }
+{
+    match example {
+        Some(Example { line, address }) => write!(text, ", such as line {line} for {address}"),
+        None => Ok(()),
     }
 }
 

@@ -5,7 +5,7 @@
 //!
 //! ```text
 //! // with the file system `/usr`, no tables, and `/usr -maprot=root 10.0.0.5` in the file `exports`:
-//! let gathered = gather(alloc, sources, filesystems)?;
+//! let gathered = gather(alloc, sources, filesystems, false)?;
 //! report_found(alloc, form, &gathered)?.text
 //! // exports:1:6: fault 5 UnknownOption: "-maprot=root" is not an option of exports(5)
 //! // 1 fault, 0 warnings
