@@ -1,13 +1,14 @@
 //! Which expectations a policy breaks, where, and for whom.
 
 ghost use Rattle.std.specs.Prelude.{◌≡◌, ◌++◌, ◌∷◌, [], IfOk, OnOk, filter, map};
+ghost use Rattle.desk_impact.specs.Decided.{AreDecided};
 ghost use Rattle.desk_impact.specs.Sections.{section_value};
 ghost use Rattle.desk_expect.specs.Report.{AreBroken, IsTested, IsTestReport, broken_value, is_broken};
 ghost use Rattle.desk_expect.specs.PrivateReport.{AddsTested};
 
 use crate::expectation::Expectation;
 use crate::report_text::report_text;
-use desk_impact::{Section, breaches_in};
+use desk_impact::{Decided, Section, breaches_in};
 use desk_policy::PolicyView;
 use desk_text::Sequence;
 use std::alloc::{AllocError, Global};
@@ -51,7 +52,7 @@ pub fn test_report<V: PolicyView>(
     })
 }
 
-/// Finds the expectations that a policy breaks, in their order.
+/// Finds the expectations that a policy breaks, in their order. Each place is decided once for all of them.
 pub fn find_broken<'a, V: PolicyView>(
     alloc: Global,
     view: &'a V,
@@ -59,9 +60,10 @@ pub fn find_broken<'a, V: PolicyView>(
 ) -> Result<Vec<Broken<'a>>, AllocError>
     ensures { IfOk result (λ broken. AreBroken (V.in_force view.now) expectations.now (map broken_value broken.items)) }
 {
+    let mut decided = Decided::new(alloc, view.policy())?;
     let mut broken = Vec::new(alloc);
     for expectation in expectations {
-        push_if_broken(alloc, view, expectation, &mut broken)?;
+        push_if_broken(alloc, view, &mut decided, expectation, &mut broken)?;
     }
     Ok(broken)
 }
@@ -70,12 +72,15 @@ pub fn find_broken<'a, V: PolicyView>(
 fn push_if_broken<'a, V: PolicyView>(
     alloc: Global,
     view: &'a V,
+    decided: &mut Decided<'a>,
     expectation: &'a Expectation,
     broken: &mut Vec<Broken<'a>>,
 ) -> Result<(), AllocError>
-    ensures { OnOk result (AddsTested (V.in_force view.now) expectation.now (map broken_value broken.old.items) (map broken_value broken.new.items)) }
+    requires { AreDecided (V.in_force view.now) decided.old }
+    ensures added { OnOk result (AddsTested (V.in_force view.now) expectation.now (map broken_value broken.old.items) (map broken_value broken.new.items)) }
+    ensures decided { OnOk result (AreDecided (V.in_force view.now) decided.new) }
 {
-    let sections = sections_of(alloc, view, expectation)?;
+    let sections = sections_of(alloc, view, decided, expectation)?;
     push_if_some(expectation, sections, broken)?;
     Ok(())
 }
@@ -104,13 +109,16 @@ fn push_if_some<'a>(
 fn sections_of<'a, V: PolicyView>(
     alloc: Global,
     view: &'a V,
+    decided: &mut Decided<'a>,
     expectation: &'a Expectation,
 ) -> Result<Vec<Section<'a>>, AllocError>
-    ensures { IfOk result (λ sections. IsTested (V.in_force view.now) expectation.now (map section_value sections.items)) }
+    requires { AreDecided (V.in_force view.now) decided.old }
+    ensures sections { IfOk result (λ sections. IsTested (V.in_force view.now) expectation.now (map section_value sections.items)) }
+    ensures decided { OnOk result (AreDecided (V.in_force view.now) decided.new) }
 {
     let mut sections = Vec::new(alloc);
     for scope in expectation.scopes.as_slice() {
-        let mut found = breaches_in(alloc, view, &scope.path, scope.below, expectation)?;
+        let mut found = breaches_in(alloc, view, decided, &scope.path, scope.below, expectation)?;
         sections.append(&mut found)?;
     }
     Ok(sections)

@@ -1,23 +1,26 @@
 -- What is found at each place, and at all.
-use Rattle.std.proofs.Common.{◌≡◌, ℕ, ◌+◌, ◌<◌, ◌≤◌, Bool, List, [], ◌∷◌, ◌++◌, cond, get_or, length, map, refl, sym, take, ap, ◌∙◌, subst}
+use Rattle.std.proofs.Common.{◌≡◌, ℕ, ◌+◌, ◌<◌, ◌≤◌, Bool, List, [], ◌∷◌, ◌++◌, cond, false, get_or, length, map, refl, sym, take, ap, ◌∙◌, subst}
 use Rattle.std.specs.Prelude.{Option, Some, None, Result, filter}
-use Rattle.std.specs.List.{AllByRecursion}
+use Rattle.std.specs.List.{All, AllByRecursion, Contains}
 use Rattle.std.proofs.lemmas.List.{map-append, take_all, take_more}
 use Rattle.std.proofs.lemmas.List.Elements.{All-nil, All-push, filter-append}
 use Rattle.desk_policy.specs.Policy.{Content}
-use Rattle.desk_policy.specs.Verdict.{Grant, verdict_of}
+use Rattle.desk_policy.specs.Verdict.{Grant, is_directory_among, verdict_of}
 use Rattle.desk_policy.specs.declared.verdict.Denial.{Denial}
 use Rattle.desk_who.specs.Breaking.{AreBreaches, broken_at}
+use Rattle.desk_who.specs.Runs.{AreRuns, HasValue, Run}
+use Rattle.desk_who.specs.Who.{IsWho}
 use Rattle.desk_impact.specs.Impact.{TwoVerdicts}
-use Rattle.desk_who.specs.Runs.{HasValue, Run}
 use Rattle.desk_impact.specs.Places.{Others, Place, place_of, place_verdict}
 use Rattle.desk_impact.specs.PrivatePlaces.{IsFree}
 use Rattle.desk_impact.specs.PrivateReport.{taken_by}
 use Rattle.desk_impact.specs.PrivateSections.{AreBreachesOf}
 use Rattle.desk_impact.specs.Sections.{AreBreachesAt, AreBreachesIn, ArePlacesIn, PlaceBreaches, has_breach}
 use Rattle.desk_impact.specs.declared.places.Place.{Place as LentPlace}
+use Rattle.desk_impact.proofs.Elsewhere.{unwritten}
 use Rattle.desk_impact.proofs.Reporting.{free_decided}
 use Rattle.desk_impact.proofs.Same.{Path}
+use Rattle.desk_impact.proofs.Searched.{not_written}
 
 abbrev Verdict : Type 0
 Verdict = Result Grant Denial
@@ -42,12 +45,30 @@ same_breaches breaks f g ranges same are = record {
   are = are.are;
 }
 
+-- ---- the runs of verdicts that are the same
+same_values : (f g : ℕ → Verdict) → ((address : ℕ) → f address ≡ g address) → (runs : List (Run Verdict)) → AllByRecursion (HasValue f) runs → AllByRecursion (HasValue g) runs
+same_values f g same [] values = tt
+same_values f g same (run ∷ runs) values = (
+  record { proper = values.0.proper; addresses = values.0.addresses; values = λ address low high. sym (same address) ∙ values.0.values address low high },
+  same_values f g same runs values.1,
+)
+
+pub same_runs : (f g : ℕ → Verdict) (runs : List (Run Verdict)) → ((address : ℕ) → f address ≡ g address) → AreRuns f runs → AreRuns g runs
+same_runs f g runs same are = record { values = same_values f g same runs are.values; complete = are.complete; ascend = are.ascend; apart = are.apart }
+
 -- those of a free path are those of all others
-pub breaches_of_others : (breaks : ℕ → Verdict → Bool) (content : Content) (root path : Path) (ranges : List (Run Verdict)) → IsFree root (taken_by content content) path
-    → AreBreaches breaks (λ address. verdict_of content address path) ranges → AreBreaches breaks (λ address. place_verdict content (Others root) address) ranges
-breaches_of_others breaks content root path ranges free are =
-    same_breaches breaks (λ address. verdict_of content address path) (λ address. place_verdict content (Others root) address) ranges
+pub verdicts_of_others : (content : Content) (root path : Path) (ranges : List (Run Verdict)) → IsFree root (taken_by content content) path → IsWho content path ranges
+    → AreRuns (λ address. place_verdict content (Others root) address) ranges
+verdicts_of_others content root path ranges free are =
+    same_runs (λ address. verdict_of content address path) (λ address. place_verdict content (Others root) address) ranges
     (λ address. ap (λ (v : TwoVerdicts). v.before) (free_decided content content root path free address)) are
+
+-- those of a path that is neither a mount point nor written are, too
+pub breaches_as_others : (breaks : ℕ → Verdict → Bool) (content : Content) (path : Path) (taken : List Path) (ranges : List (Run Verdict)) → All (Contains taken) (taken_by content content)
+    → is_directory_among path taken ≡ false → AreBreaches breaks (λ address. place_verdict content (Others path) address) ranges → AreBreaches breaks (λ address. verdict_of content address path) ranges
+breaches_as_others breaks content path taken ranges all lacks are =
+    same_breaches breaks (λ address. place_verdict content (Others path) address) (λ address. verdict_of content address path) ranges
+    (λ address. sym (unwritten content path (not_written content path taken all lacks) address)) are
 
 -- ---- the sections
 -- the section of a place is added, if it has a breach

@@ -133,6 +133,11 @@ in_fs : (content : Content) (path : Path) (address : ℕ) (fs : Option ℕ) → 
 in_fs content path address None home lacks = refl
 in_fs content path address (Some fs) home lacks = of_selected content fs path home address (lack path (rows_of content fs) (lacks_rows path content.rows fs lacks))
 
+-- no line of any file system writes the path
+pub unwritten : (content : Content) (path : Path) → is_directory_among path (all_written content) ≡ false → (address : ℕ) → verdict_of content address path ≡ verdict_elsewhere content address (fs_of content.table path)
+unfolding verdict_of
+unwritten content path lacks address = in_fs content path address (fs_of content.table path) refl lacks
+
 decided : (content : Content) (mount path : Path) → is_under path mount ≡ true → list_all (is_above path mount) (mount_points content.table) ≡ true → is_directory_among path (all_written content) ≡ false
     → (address : ℕ) → verdict_of content address path ≡ verdict_elsewhere content address (fs_of content.table mount)
 unfolding verdict_of

@@ -1,24 +1,23 @@
 -- What is known of file systems.
-use Rattle.std.proofs.Common.{◌≡◌, ℕ, Bool, List, [], ◌∷◌, ◌++◌, get_or, length, length-append, map, refl, sym, ap, ◌∙◌, subst, arith}
-use Rattle.std.specs.Prelude.{Option, Some, None, Result}
+use Rattle.std.proofs.Common.{◌≡◌, ℕ, List, [], ◌∷◌, ◌++◌, get_or, length, length-append, map, refl, sym, ap, ◌∙◌, subst, arith}
+use Rattle.std.specs.Prelude.{Option, Some, None}
 use Rattle.std.specs.List.{All, Contains}
 use Rattle.std.specs.Option.{option_map}
 use Rattle.std.proofs.lemmas.List.Elements.{All-get_or, All-push}
 use Rattle.desk_tables.specs.FileSystems.{fs_of}
 use Rattle.desk_policy.specs.Policy.{Content}
-use Rattle.desk_policy.specs.Verdict.{Grant, verdict_of}
-use Rattle.desk_policy.specs.declared.verdict.Denial.{Denial}
 use Rattle.desk_policy.specs.declared.verdict.Verdict.{Verdict}
-use Rattle.desk_who.specs.Breaking.{AreBreaches, AreBrokenStarts}
+use Rattle.desk_who.specs.Runs.{AreRuns}
+use Rattle.desk_who.specs.Starts.{AreStartsUnder}
 use Rattle.desk_impact.specs.Impact.{AreStartsOfBoth, IsImpact, change_value, verdicts_at}
-use Rattle.desk_who.specs.Who.{range_value}
+use Rattle.desk_who.specs.Who.{IsWho, range_value}
 use Rattle.desk_impact.specs.declared.changes.TwoVerdicts.{TwoVerdicts as KeptVerdicts}
 use Rattle.desk_impact.specs.Places.{Others, place_verdict, place_verdicts, verdict_elsewhere}
-use Rattle.desk_impact.specs.PrivateKnown.{AreKnownBreaches, HasLearnedBreaches, HasLearnedChange, IsKnownAt, IsKnownChange, fs_number}
+use Rattle.desk_impact.specs.PrivateKnown.{AreKnownVerdicts, HasLearnedChange, HasLearnedVerdicts, IsKnownAt, IsKnownChange, fs_number}
 use Rattle.desk_impact.specs.PrivatePlaces.{IsFree}
 use Rattle.desk_impact.specs.PrivateReport.{taken_by}
 use Rattle.desk_impact.specs.declared.known.Known.{Known}
-use Rattle.desk_impact.proofs.Breached.{breaches_of_others, same_breaches}
+use Rattle.desk_impact.proofs.Breached.{same_runs, verdicts_of_others}
 use Rattle.desk_impact.proofs.Reporting.{changes_of_others, same_impact}
 use Rattle.desk_impact.proofs.Same.{Path}
 use Rattle.desk_impact.proofs.Searched.{free_of_given}
@@ -37,11 +36,11 @@ known_others old new one path known is is' =
     ap (λ fs. record { before = verdict_elsewhere old address fs; after = verdict_elsewhere new address (fs_of new.table known.path) }) (sym known.old_is ∙ is)
     ∙ ap (λ fs. record { before = verdict_elsewhere old address (fs_of old.table path); after = verdict_elsewhere new address fs }) (sym known.new_is ∙ is')) known.changes
 
-pub known_breaches : (breaks : ℕ → Result Grant Denial → Bool) (content : Content) (one : Known Verdict) (path : Path) → AreKnownBreaches breaks content one → fs_number one.old ≡ fs_of content.table path
-    → AreBreaches breaks (λ address. place_verdict content (Others path) address) (map range_value one.found)
-known_breaches breaks content one path known is =
-    same_breaches breaks (λ address. place_verdict content (Others known.path) address) (λ address. place_verdict content (Others path) address) (map range_value one.found)
-    (λ address. ap (verdict_elsewhere content address) (sym known.old_is ∙ is)) known.ranges
+pub known_verdicts : (content : Content) (one : Known Verdict) (path : Path) → AreKnownVerdicts content one → fs_number one.old ≡ fs_of content.table path
+    → AreRuns (λ address. place_verdict content (Others path) address) (map range_value one.found)
+known_verdicts content one path known is =
+    same_runs (λ address. place_verdict content (Others known.path) address) (λ address. place_verdict content (Others path) address) (map range_value one.found)
+    (λ address. ap (verdict_elsewhere content address) (sym known.old_is ∙ is)) known.verdicts
 
 -- ---- what is known is one more
 module _ {T : Type 0} (P : Known T → Type 0) (known : List (Known T)) (old new : Option ℕ) (place : ℕ) (at : IsKnownAt known old new place) where
@@ -81,16 +80,16 @@ module _ (path other : Path) (taken : List Path) (free : IsFree path taken other
     own = subst (IsKnownAt (known ++ one ∷ []) (fs_of old.table path) (fs_of new.table path)) (sym last) (known_last known one (fs_of old.table path) (fs_of new.table path) is is');
   }
 
-  pub learned_breaches : (breaks : ℕ → Result Grant Denial → Bool) (content : Content) (known : List (Known Verdict)) (one : Known Verdict) (place : ℕ) → All (Contains taken) (taken_by content content) → place ≡ length known
-      → fs_number one.old ≡ fs_of content.table path → fs_number one.new ≡ fs_of content.table path → AreBrokenStarts breaks content path one.starts
-      → AreBreaches breaks (λ address. verdict_of content address other) (map range_value one.found) → All (AreKnownBreaches breaks content) known → HasLearnedBreaches breaks content path (known ++ one ∷ []) place
-  learned_breaches breaks content known one place listed last is is' starts ranges so_far = record {
-    all = All-push (AreKnownBreaches breaks content) known one so_far
+  pub learned_verdicts : (content : Content) (known : List (Known Verdict)) (one : Known Verdict) (place : ℕ) → All (Contains taken) (taken_by content content) → place ≡ length known
+      → fs_number one.old ≡ fs_of content.table path → fs_number one.new ≡ fs_of content.table path → AreStartsUnder content path one.starts
+      → IsWho content other (map range_value one.found) → All (AreKnownVerdicts content) known → HasLearnedVerdicts content path (known ++ one ∷ []) place
+  learned_verdicts content known one place listed last is is' starts verdicts so_far = record {
+    all = All-push (AreKnownVerdicts content) known one so_far
         (record {
           path = path;
           old_is = is;
           starts = starts;
-          ranges = breaches_of_others breaks content path other (map range_value one.found) (free_of_given (taken_by content content) taken path other listed free) ranges;
+          verdicts = verdicts_of_others content path other (map range_value one.found) (free_of_given (taken_by content content) taken path other listed free) verdicts;
         });
     own = subst (IsKnownAt (known ++ one ∷ []) (fs_of content.table path) (fs_of content.table path)) (sym last) (known_last known one (fs_of content.table path) (fs_of content.table path) is is');
   }

@@ -17,3 +17,4 @@ pub mod Scoped
 pub mod Together
 pub mod WrittenLines
 pub mod Learned
+pub mod Deciding

@@ -1,18 +1,25 @@
 -- A path is among paths in byte order exactly if it stands where a search for it ends.
-use Rattle.std.proofs.Common.{◌≡◌, ◌<◌, ◌≤◌, ◌∙◌, ℕ, Bool, true, false, List, [], ◌∷◌, ap, arith, get_or, inl, inr, length, refl, subst, sym}
+use Rattle.std.proofs.Common.{◌≡◌, ◌<◌, ◌≤◌, ◌∙◌, ℕ, Bool, true, false, List, [], ◌∷◌, ap, arith, cond, get_or, inl, inr, length, refl, subst, sym}
+use Rattle.std.specs.Prelude.{IfSome, None, Some, slice_get}
 use Rattle.std.specs.Cmp.Lexicographic.{on_texts}
 use Rattle.std.specs.List.{All, Contains}
 use Rattle.std.specs.List.Sorted.{IsPartitionPoint, IsPartitionedBy}
+use Rattle.std.specs.Option.{is_some, option_map}
 use Rattle.std.specs.Ordering.{is_lt}
 use Rattle.std.specs.declared.cmp.Ordering.{Ordering}
 use Rattle.std.specs.declared.cmp.Ordering.TheVariants.{Less, Equal, Greater}
 use Rattle.std.proofs.lemmas.Bool.{cases_Bool, cases_lt, false_from_ne_true, true≢false}
 use Rattle.std.proofs.lemmas.Cmp.{nat_list_cmp_total, tied_itself}
 use Rattle.std.proofs.lemmas.List.{get_or-map, get_or_default, length-map}
+use Rattle.std.proofs.lemmas.List.Elements.{All-contains, Contains-append_left, Contains-append_right}
+use Rattle.std.proofs.lemmas.Option.{slice_get-map, slice_get_read}
 use Rattle.desk_text.specs.Path.{path_text, same_path}
 use Rattle.desk_tables.specs.FileSystems.{is_before}
+use Rattle.desk_policy.specs.Policy.{Content}
 use Rattle.desk_policy.specs.Verdict.{is_directory_among}
+use Rattle.desk_impact.specs.Places.{all_written, dirs_of_both, mounts_of_both}
 use Rattle.desk_impact.specs.PrivatePlaces.{AreAscending, IsFree, paths_in}
+use Rattle.desk_impact.specs.PrivateReport.{taken_by}
 use Rattle.desk_impact.proofs.Ordered.{Lent}
 use Rattle.desk_impact.proofs.Same.{Path, among, contained, contains_map, is_same, same_is}
 
@@ -121,3 +128,23 @@ free_of_given given ordered mount path all free = record {
       let at = contained path given is in
       true≢false (sym (among path ordered (subst (Contains ordered) at.2 (all at.0 path at.1))) ∙ free.free));
 }
+
+-- what is not among them is written by no line, if they have all that lines write
+pub not_written : (content : Content) (path : Path) (taken : List Path) → All (Contains taken) (taken_by content content) → is_directory_among path taken ≡ false → is_directory_among path (all_written content) ≡ false
+not_written content path taken all lacks = false_from_ne_true _ (λ writes.
+    let dirs : Contains (dirs_of_both content content) path = Contains-append_left (all_written content) (all_written content) path (contained path (all_written content) writes) in
+    let given : Contains (taken_by content content) path = Contains-append_right (mounts_of_both content content) (dirs_of_both content content) path dirs in
+    true≢false (sym (among path taken (All-contains (Contains taken) (taken_by content content) path all given)) ∙ lacks))
+
+-- ---- the place that is given
+pub some_if : (b : Bool) (n : ℕ) → is_some (cond b (Some n) None) ≡ b
+some_if true n = refl
+some_if false n = refl
+
+pub place_if_some : (P : ℕ → Type 0) (b : Bool) (n : ℕ) → (b ≡ true → P n) → IfSome (cond b (Some n) None) P
+place_if_some P true n holds = holds refl
+place_if_some P false n holds = tt
+
+pub path_at : (paths : List Lent) (first : ℕ) (other : Lent) (path : Path) → first < length paths → other ≡ get_or paths first other → same_path other.now path ≡ true → slice_get (paths_in paths) first ≡ Some path
+path_at paths first other path within is same =
+    slice_get-map now_of paths first ∙ ap (option_map now_of) (slice_get_read paths (length paths) first other refl within is) ∙ ap Some (same_is other.now path same)

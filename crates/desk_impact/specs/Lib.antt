@@ -10,3 +10,4 @@ pub mod Sections
 pub mod PrivateSections
 pub mod PrivateWritings
 pub mod PrivateKnown
+pub mod Decided

@@ -1,13 +1,12 @@
 -- What the private contracts of what is known cite.
-use Rattle.std.specs.Prelude.{◌≡◌, ℕ, ◌<◌, All, Bool, List, Option, Result, length, map, slice_index_or}
+use Rattle.std.specs.Prelude.{◌≡◌, ℕ, ◌<◌, All, List, Option, length, map, slice_index_or}
 use Rattle.std.specs.Option.{option_map}
 use Rattle.desk_tables.specs.FileSystems.{fs_of}
 use Rattle.desk_tables.specs.declared.filesystems.FsId.{FsId}
 use Rattle.desk_policy.specs.Policy.{Content}
-use Rattle.desk_policy.specs.Verdict.{Grant}
-use Rattle.desk_policy.specs.declared.verdict.Denial.{Denial}
 use Rattle.desk_policy.specs.declared.verdict.Verdict.{Verdict}
-use Rattle.desk_who.specs.Breaking.{AreBreaches, AreBrokenStarts}
+use Rattle.desk_who.specs.Runs.{AreRuns}
+use Rattle.desk_who.specs.Starts.{AreStartsUnder}
 use Rattle.desk_impact.specs.Impact.{AreStartsOfBoth, IsImpact, change_value}
 use Rattle.desk_who.specs.Who.{range_value}
 use Rattle.desk_impact.specs.declared.changes.TwoVerdicts.{TwoVerdicts as KeptVerdicts}
@@ -39,15 +38,14 @@ pub record HasLearnedChange (old new : Content) (path : List (List ℕ)) (known 
   pub all : All (IsKnownChange old new) known
   pub own : IsKnownAt known (fs_of old.table path) (fs_of new.table path) place
 
--- For whom the verdicts on the directories that no line writes break what is expected, in the file system of this path; and where
--- they may change, or what is expected.
-pub record AreKnownBreaches (breaks : ℕ → Result Grant Denial → Bool) (content : Content) (one : Known Verdict) : Type 0 where
+-- All verdicts on the directories that no line writes, in the file system of this path; and where verdicts may change in it.
+pub record AreKnownVerdicts (content : Content) (one : Known Verdict) : Type 0 where
   pub path : List (List ℕ)
   pub old_is : fs_number one.old ≡ fs_of content.table path
-  pub starts : AreBrokenStarts breaks content path one.starts
-  pub ranges : AreBreaches breaks (λ address. place_verdict content (Others path) address) (map range_value one.found)
+  pub starts : AreStartsUnder content path one.starts
+  pub verdicts : AreRuns (λ address. place_verdict content (Others path) address) (map range_value one.found)
 
 -- All is known as it should be, and at this place what is known of the file system of a path.
-pub record HasLearnedBreaches (breaks : ℕ → Result Grant Denial → Bool) (content : Content) (path : List (List ℕ)) (known : List (Known Verdict)) (place : ℕ) : Type 0 where
-  pub all : All (AreKnownBreaches breaks content) known
+pub record HasLearnedVerdicts (content : Content) (path : List (List ℕ)) (known : List (Known Verdict)) (place : ℕ) : Type 0 where
+  pub all : All (AreKnownVerdicts content) known
   pub own : IsKnownAt known (fs_of content.table path) (fs_of content.table path) place

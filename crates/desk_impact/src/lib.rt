@@ -6,7 +6,7 @@
 //! of them matter to a client. Its laws say that no path is left out: one under a mount point is decided on as one of the places
 //! is, and any other is in no file system. [`lines_report`] gives the same report of policies that differ in the lines of one file
 //! system, and asks for verdicts there alone. [`breaches_in`] lists, place by place, the addresses whose verdicts break what is
-//! expected: none exactly if all is kept.
+//! expected: none exactly if all is kept. Each place is [`Decided`] once, whatever is expected of it.
 //!
 //! ```text
 //! let changes = impact(alloc, &old, &new, &path)?;    // none, if both policies say the same of every client
@@ -19,9 +19,9 @@
 pub mod beside;
 pub mod change_prints;
 pub mod changes;
+pub mod decided;
 mod known;
 pub mod laws;
-mod place_breaches;
 mod place_changes;
 pub mod places;
 pub mod report;
@@ -33,6 +33,7 @@ mod writings;
 pub use beside::impact_beside;
 pub use change_prints::impact_text;
 pub use changes::{Change, TwoVerdicts, impact, starts_of_both, those_that_matter};
+pub use decided::Decided;
 pub use laws::{
     impacts_are_unique, impacts_tell_changes, impacts_tell_effects, mounts_have_others,
     no_section_is_all_kept, other_paths_have_none, paths_have_homes, places_tell_all,

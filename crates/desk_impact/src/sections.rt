@@ -1,20 +1,20 @@
 //! Where, and for whom, the verdicts on a directory and on all below it are not as expected.
 
-ghost use Rattle.std.specs.Prelude.{◌≡◌, ◌++◌, ◌∷◌, [], IfOk, OnOk, false, filter, map, true};
+ghost use Rattle.std.specs.Prelude.{◌≡◌, ◌++◌, ◌∷◌, [], IfOk, OnOk, filter, map};
 ghost use Rattle.desk_text.specs.Path.{is_under};
 ghost use Rattle.desk_tables.specs.FileSystems.{mount_points};
 ghost use Rattle.desk_who.specs.Who.{range_value};
-ghost use Rattle.desk_impact.specs.Places.{all_written, place_of};
+ghost use Rattle.desk_impact.specs.Decided.{AreDecided};
+ghost use Rattle.desk_impact.specs.Places.{Directory, all_written, place_of};
 ghost use Rattle.desk_impact.specs.PrivatePlaces.{paths_in};
-ghost use Rattle.desk_impact.specs.Sections.{AreBreachesIn, ArePlacesBelow, has_breach, roots_below, section_value};
+ghost use Rattle.desk_impact.specs.Sections.{AreBreachesIn, ArePlacesBelow, ArePlacesIn, has_breach, roots_below, section_value};
 
-use crate::place_breaches::breaches_at;
-use crate::places::{Place, in_order, places_among, push_all_written, taken_paths};
-use crate::writings::writings_of_both;
+use crate::decided::{Decided, breaches_at};
+use crate::places::{Place, in_order, places_among, push_all_written};
 use desk_policy::{Policy, PolicyView};
 use desk_tables::Mount;
 use desk_text::{Path, Sequence};
-use desk_who::{Expected, Range, breaches};
+use desk_who::{Expected, Range};
 use std::alloc::{AllocError, Global};
 
 /// A place at which verdicts break what is expected, and for whom: the longest ranges of addresses, ascending.
@@ -25,69 +25,53 @@ pub struct Section<'a> {
 }
 
 /// Lists where, and for whom, the verdicts on a directory, and if asked on all below it, break what is expected: by place, in
-/// the order of `places_below`. A place without a breach is left out.
+/// the order of `places_below`. A place without a breach is left out. What was decided for other expectations is not decided
+/// again.
 pub fn breaches_in<'a, V: PolicyView, E: Expected>(
     alloc: Global,
     view: &'a V,
+    decided: &mut Decided<'a>,
     dir: &'a Path,
     below: bool,
     expected: &E,
 ) -> Result<Vec<Section<'a>>, AllocError>
-    ensures { IfOk result (λ sections.
+    requires { AreDecided (V.in_force view.now) decided.old }
+    ensures sections { IfOk result (λ sections.
         AreBreachesIn (E.breaks expected.now) (V.in_force view.now) dir.now below (map section_value sections.items)) }
+    ensures decided { OnOk result (AreDecided (V.in_force view.now) decided.new) }
 {
-    if below {
-        breaches_below(alloc, view, dir, expected)
-    } else {
-        breaches_of(alloc, view, dir, expected)
-    }
-}
-
-/// Lists for whom the verdicts on a directory break what is expected, as the one section, if there is one.
-fn breaches_of<'a, V: PolicyView, E: Expected>(
-    alloc: Global,
-    view: &'a V,
-    dir: &'a Path,
-    expected: &E,
-) -> Result<Vec<Section<'a>>, AllocError>
-    ensures { IfOk result (λ sections.
-        AreBreachesIn (E.breaks expected.now) (V.in_force view.now) dir.now false (map section_value sections.items)) }
-{
-    let ranges = breaches(alloc, view, dir, expected)?;
-    let mut sections = Vec::new(alloc);
-    push_if_some(Place::Directory(dir), ranges, &mut sections)?;
-    Ok(sections)
-}
-
-/// Lists where, and for whom, the verdicts on a directory and on all below it break what is expected.
-fn breaches_below<'a, V: PolicyView, E: Expected>(
-    alloc: Global,
-    view: &'a V,
-    dir: &'a Path,
-    expected: &E,
-) -> Result<Vec<Section<'a>>, AllocError>
-    ensures { IfOk result (λ sections.
-        AreBreachesIn (E.breaks expected.now) (V.in_force view.now) dir.now true (map section_value sections.items)) }
-{
-    let policy = view.policy();
-    let places = places_below(alloc, policy, dir)?;
-    let taken = taken_paths(alloc, policy, policy)?;
-    let writings = writings_of_both(alloc, policy, policy)?;
-    let mut known = Vec::new(alloc);
+    let places = places_of(alloc, view.policy(), dir, below)?;
     let mut sections = Vec::new(alloc);
     for place in places.as_slice() {
-        let ranges = breaches_at(
-            alloc,
-            view,
-            taken.as_slice(),
-            writings.as_slice(),
-            *place,
-            expected,
-            &mut known,
-        )?;
+        let ranges = breaches_at(alloc, view, decided, *place, expected)?;
         push_if_some(*place, ranges, &mut sections)?;
     }
     Ok(sections)
+}
+
+/// Lists the places of a directory, and if asked of all below it.
+fn places_of<'a>(
+    alloc: Global,
+    policy: &'a Policy,
+    dir: &'a Path,
+    below: bool,
+) -> Result<Vec<Place<'a>>, AllocError>
+    ensures { IfOk result (λ places. ArePlacesIn policy.now dir.now below (map place_of places.items)) }
+{
+    if below {
+        places_below(alloc, policy, dir)
+    } else {
+        itself(alloc, dir)
+    }
+}
+
+/// Lists a directory as the one place.
+fn itself<'a>(alloc: Global, dir: &'a Path) -> Result<Vec<Place<'a>>, AllocError>
+    ensures { IfOk result (λ places. map place_of places.items ≡ Directory dir.now ∷ []) }
+{
+    let mut places = Vec::new(alloc);
+    places.push(Place::Directory(dir))?;
+    Ok(places)
 }
 
 /// Lists the places of a directory and of all below it, by root in byte order: the roots are the directory, and the mount

@@ -1,6 +1,7 @@
 //! A path below a mount point that no line writes.
 
-ghost use Rattle.std.specs.Prelude.{◌≡◌, IfOk};
+ghost use Rattle.std.specs.Prelude.{◌≡◌, IfOk, IfSome, None, Some, if◌then◌else◌, slice_get};
+ghost use Rattle.std.specs.Option.{is_some};
 ghost use Rattle.desk_policy.specs.Verdict.{is_directory_among};
 ghost use Rattle.desk_impact.specs.PrivatePlaces.{AreAscending, IsFree, paths_in};
 
@@ -29,9 +30,25 @@ fn is_among(path: &Path, paths: &[&Path]) -> bool
     requires { AreAscending (paths_in paths.now) }
     ensures { result ≡ is_directory_among path.now (paths_in paths.now) }
 {
+    place_among(path, paths).is_some()
+}
+
+/// Finds the place of a path among these, which are in byte order, by a binary search.
+pub(crate) fn place_among(path: &Path, paths: &[&Path]) -> Option<usize>
+    requires { AreAscending (paths_in paths.now) }
+    ensures found { is_some result ≡ is_directory_among path.now (paths_in paths.now) }
+    ensures place { IfSome result (λ place. slice_get (paths_in paths.now) place ≡ Some path.now) }
+{
     let first = paths.partition_point(|other| **other < *path);
     match paths.get(first) {
-        Some(other) => **other == *path,
-        None => false,
+        Some(other) => place_if(first, **other == *path),
+        None => None,
     }
+}
+
+/// Gives the place, if it is the one.
+fn place_if(place: usize, is: bool) -> Option<usize>
+    ensures { result ≡ (if is then Some place else None) }
+{
+    if is { Some(place) } else { None }
 }

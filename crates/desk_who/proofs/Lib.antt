@@ -10,3 +10,5 @@ pub mod Partial
 pub mod Within
 pub mod Slices
 pub mod Held
+pub mod Total
+pub mod Broken

@@ -1,16 +1,17 @@
 -- What is found for a path, from what is found where the verdicts are mostly the same. (this project's own)
-use Rattle.std.specs.Prelude.{◌≡◌, ◌⊎◌, ℕ, ◌+◌, ◌<◌, ◌^◌, Bool, true, false, List, None, Option, Result}
+use Rattle.std.specs.Prelude.{◌≡◌, ◌⊎◌, ℕ, ◌+◌, ◌<◌, ◌^◌, true, false, List, None, Option, Result}
 use Rattle.std.specs.List.{AllByRecursion}
 use Rattle.std.specs.Option.{option_map}
 use Rattle.desk_text.specs.AddrSet.{is_among}
 use Rattle.desk_text.specs.declared.address.Addr.{Addr}
-use Rattle.desk_policy.specs.Verdict.{Grant}
+use Rattle.desk_policy.specs.Policy.{Content}
+use Rattle.desk_policy.specs.Verdict.{Grant, verdict_of}
 use Rattle.desk_policy.specs.Weights.{weight_of}
 use Rattle.desk_policy.specs.declared.row.Row.{Row}
 use Rattle.desk_policy.specs.declared.verdict.Denial.{Denial}
-use Rattle.desk_who.specs.Breaking.{AreBreaches, broken_at}
-use Rattle.desk_who.specs.Runs.{AreRunsWithValue, Finds, Run}
+use Rattle.desk_who.specs.Runs.{AreRuns, AreRunsWithValue, Finds, Run}
 use Rattle.desk_who.specs.Starts.{IsSteadyLine}
+use Rattle.desk_who.specs.Who.{IsWho}
 
 -- two functions of addresses have the same value at an address, and the same one at the next
 pub record AreAlike {A : Type 0} (value_at other_at : ℕ → A) (address : ℕ) : Type 0 where
@@ -35,12 +36,11 @@ AreRunsBeside {T} {A} meaning found others decided runs =
     (value_at other_at : ℕ → Option A) → Finds (option_map meaning) found decided value_at → AreRunsWithValue other_at others → GoTogether value_at other_at decided
     → AreRunsWithValue value_at runs
 
--- Given the breaches of other verdicts, which break what is expected together with these except at the decided addresses, these
--- are the breaches.
-abbrev pub AreBreachesBeside : (ℕ → Result Grant Denial → Bool) → (ℕ → Result Grant Denial) → List (Run (Result Grant Denial)) → List ℕ → List (Run (Result Grant Denial)) → Type 0
-AreBreachesBeside breaks verdict_at others decided ranges =
-    (other_at : ℕ → Result Grant Denial) → AreBreaches breaks other_at others → GoTogether (broken_at breaks verdict_at) (broken_at breaks other_at) decided
-    → AreBreaches breaks verdict_at ranges
+-- Given the ranges of other verdicts, which go together with those on a path except at the decided addresses, these are all
+-- verdicts on the path.
+abbrev pub IsWhoBeside : Content → List (List ℕ) → List (Run (Result Grant Denial)) → List ℕ → List (Run (Result Grant Denial)) → Type 0
+IsWhoBeside content path others decided ranges =
+    (other_at : ℕ → Result Grant Denial) → AreRuns other_at others → GoTogether (λ address. verdict_of content address path) other_at decided → IsWho content path ranges
 
 -- The addresses at which one of these lines begins or ceases to match, and those of the starts at which one of them matches.
 pub record AreStartsWithin (starts : List ℕ) (rows : List Row) (decided : List ℕ) : Type 0 where

@@ -5,13 +5,11 @@ ghost use Rattle.std.specs.List.{flat_map};
 ghost use Rattle.std.specs.Option.{option_map};
 ghost use Rattle.desk_text.specs.Address.{number_of};
 ghost use Rattle.desk_text.specs.AddrSet.{is_among, sorted_set};
-ghost use Rattle.desk_policy.specs.Verdict.{verdict_of};
-ghost use Rattle.desk_who.specs.Beside.{AreBreachesBeside, AreRunsBeside};
+ghost use Rattle.desk_who.specs.Beside.{AreRunsBeside, IsWhoBeside};
 ghost use Rattle.desk_who.specs.PrivateBeside.{AreRanges, bounds_of, held_value};
 ghost use Rattle.desk_who.specs.Runs.{is_asked, run_value};
 ghost use Rattle.desk_who.specs.Who.{range_value};
 
-use crate::breaking::{Expected, broken_at};
 use crate::ranges::Range;
 use crate::runs::{Alike, Run, longest_runs, those_with_value};
 use crate::starts::push_both;
@@ -20,24 +18,26 @@ use desk_text::laws::sorted_sets_are_unique;
 use desk_text::{Addr, AddrSet, Path};
 use std::alloc::{AllocError, Global};
 
-/// Lists what `breaches` lists of a path, given the breaches of other verdicts, which break what is expected together with those
-/// on the path except at the decided addresses. The path is asked at these and at the first of all.
-pub fn breaches_beside<'a, V: PolicyView, E: Expected>(
+/// Lists what `who` lists of a path, given the ranges of other verdicts, which go together with those on the path except at the
+/// decided addresses: at each other one they are the same, or neither changes. The path is asked at the decided addresses and at
+/// the first of all.
+pub fn who_beside<'a, V: PolicyView>(
     alloc: Global,
     view: &'a V,
     path: &Path,
-    expected: &E,
     others: &[Range<'a>],
     decided: &AddrSet,
 ) -> Result<Vec<Range<'a>>, AllocError>
     requires { is_among 0 decided.now ≡ false }
     ensures { IfOk result (λ ranges.
-        AreBreachesBeside (E.breaks expected.now) (λ address. verdict_of (V.in_force view.now) address path.now) (map range_value others.now) decided.now
-        (map range_value ranges.items)) }
+        IsWhoBeside (V.in_force view.now) path.now (map range_value others.now) decided.now (map range_value ranges.items)) }
 {
-    runs_beside(alloc, others, decided, |address| {
-        broken_at(view, path, expected, address)
-    })
+    runs_beside(
+        alloc,
+        others,
+        decided,
+        |address| Some(view.decide(address, path)),
+    )
 }
 
 /// Lists the runs with a value, given those of another function of addresses, which goes together with what is found except at the
@@ -77,7 +77,7 @@ fn value_beside<T: Alike, F: Fn(Addr) -> Option<T>>(
     if is_asked(decided, address) {
         find(address)
     } else {
-        value_held(others, address)
+        value_held(others, address.number())
     }
 }
 
@@ -88,12 +88,11 @@ fn is_asked(decided: &AddrSet, address: Addr) -> bool
     address.number() == 0 || decided.contains(address)
 }
 
-/// Finds the value of the range that holds an address, by a binary search.
-fn value_held<T: Alike>(others: &[Run<T>], address: Addr) -> Option<T>
+/// Finds the value of the range that holds the address with this number, by a binary search.
+pub(crate) fn value_held<T: Alike>(others: &[Run<T>], number: u32) -> Option<T>
     ensures { AreRanges (map (run_value T.meaning) others.now)
-        → option_map T.meaning result ≡ held_value (number_of address) (map (run_value T.meaning) others.now) }
+        → option_map T.meaning result ≡ held_value number (map (run_value T.meaning) others.now) }
 {
-    let number = address.number();
     let first = others.partition_point(|run| run.last.number() < number);
     match others.get(first) {
         Some(run) => value_within(run, number),
@@ -113,7 +112,7 @@ fn value_within<T: Alike>(run: &Run<T>, number: u32) -> Option<T>
 }
 
 /// Gathers the decided addresses, and those at which ranges begin and end, but for the first address of all.
-fn starts_beside<T: Alike>(
+pub(crate) fn starts_beside<T: Alike>(
     alloc: Global,
     others: &[Run<T>],
     decided: &AddrSet,

@@ -1,19 +1,20 @@
 //! For whom the verdicts on a directory are not as expected.
 
-ghost use Rattle.std.specs.Prelude.{◌≡◌, ℕ, Bool, IfOk, Result, map};
+ghost use Rattle.std.specs.Prelude.{◌≡◌, ◌<◌, ◌^◌, ℕ, Bool, IfOk, Result, map};
 ghost use Rattle.std.specs.Option.{option_map};
 ghost use Rattle.desk_text.specs.Address.{number_of};
-ghost use Rattle.desk_policy.specs.Verdict.{Grant, verdict_of, verdict_result};
+ghost use Rattle.desk_policy.specs.Verdict.{Grant, verdict_result};
 ghost use Rattle.desk_policy.specs.declared.verdict.Denial.{Denial};
-ghost use Rattle.desk_who.specs.Breaking.{AreBreaches, AreBrokenStarts, broken_at};
-ghost use Rattle.desk_who.specs.Runs.{AreStartsOf};
+ghost use Rattle.desk_who.specs.Breaking.{AreBreachesFrom, broken_at};
+ghost use Rattle.desk_who.specs.Runs.{AreRuns, AreStartsOf};
 ghost use Rattle.desk_who.specs.Who.{range_value};
 
+use crate::beside::{starts_beside, value_held};
 use crate::ranges::Range;
 use crate::runs::{longest_runs, those_with_value};
-use crate::starts::{joined, starts_under};
-use desk_policy::{Policy, PolicyView, Verdict};
-use desk_text::{Addr, AddrSet, Path};
+use desk_policy::Verdict;
+use desk_text::laws::sorted_sets_are_unique;
+use desk_text::{Addr, AddrSet};
 use std::alloc::{AllocError, Global};
 
 /// What is expected of the verdicts on a mount, address by address.
@@ -30,52 +31,50 @@ pub trait Expected {
         ensures { result ≡ breaks self.now (number_of address) (verdict_result verdict.now) };
 }
 
-/// Lists for whom the verdict on a path breaks what is expected: the longest ranges of addresses that have one verdict and
-/// break it, ascending.
-pub fn breaches<'a, V: PolicyView, E: Expected>(
+/// Lists for whom verdicts break what is expected, given all of them as `who` lists them: the longest ranges of addresses that
+/// have one verdict and break it, ascending. So what is decided once is held against anything that is expected of it.
+pub fn breaches_from<'a, E: Expected>(
     alloc: Global,
-    view: &'a V,
-    path: &Path,
+    verdicts: &[Range<'a>],
     expected: &E,
 ) -> Result<Vec<Range<'a>>, AllocError>
     ensures { IfOk result (λ ranges.
-        AreBreaches (E.breaks expected.now) (λ address. verdict_of (V.in_force view.now) address path.now) (map range_value ranges.items)) }
+        AreBreachesFrom (E.breaks expected.now) (map range_value verdicts.now) (map range_value ranges.items)) }
 {
-    let starts = broken_starts(alloc, view.policy(), path, expected)?;
+    sorted_sets_are_unique();
+    let starts = starts_beside(alloc, verdicts, expected.starts())?;
     let runs = longest_runs(alloc, &starts, |address| {
-        broken_at(view, path, expected, address)
+        broken_among(verdicts, expected, address)
     })?;
     those_with_value(alloc, runs.as_slice())
 }
 
-/// Finds the verdict on a path for an address, if the address breaks what is expected by it.
-pub(crate) fn broken_at<'a, V: PolicyView, E: Expected>(
-    view: &'a V,
-    path: &Path,
+/// Finds the verdict for an address among all of them, if the address breaks what is expected by it.
+fn broken_among<'a, E: Expected>(
+    verdicts: &[Range<'a>],
     expected: &E,
     address: Addr,
 ) -> Option<Verdict<'a>>
-    ensures { option_map verdict_result result
-        ≡ broken_at (E.breaks expected.now) (λ one. verdict_of (V.in_force view.now) one path.now) (number_of address) }
+    ensures { (verdict_at : ℕ → Result Grant Denial) → AreRuns verdict_at (map range_value verdicts.now)
+        → option_map verdict_result result ≡ broken_at (E.breaks expected.now) verdict_at (number_of address) }
 {
-    let verdict = view.decide(address, path);
+    match value_held(verdicts, address.number()) {
+        Some(verdict) => if_broken(expected, address, verdict),
+        None => None,
+    }
+}
+
+/// Gives the verdict, if the address breaks what is expected by it.
+fn if_broken<'a, E: Expected>(
+    expected: &E,
+    address: Addr,
+    verdict: Verdict<'a>,
+) -> Option<Verdict<'a>>
+    ensures { option_map verdict_result result ≡ broken_at (E.breaks expected.now) (λ one. verdict_result verdict.entry) (number_of address) }
+{
     if expected.is_broken(address, &verdict) {
         Some(verdict)
     } else {
         None
     }
-}
-
-/// Gathers the addresses at which the verdict on a path may change, or what is expected of it; and so of each path of its file
-/// system.
-pub fn broken_starts<E: Expected>(
-    alloc: Global,
-    policy: &Policy,
-    path: &Path,
-    expected: &E,
-) -> Result<AddrSet, AllocError>
-    ensures { IfOk result (AreBrokenStarts (E.breaks expected.now) policy.now path.now) }
-{
-    let own = starts_under(alloc, policy, path)?;
-    joined(own, expected.starts())
 }

@@ -2,8 +2,8 @@
 //!
 //! Its promise: [`longest_runs`] lists the runs of whatever values are found for addresses: they ascend, leave out no address and
 //! hold none twice; each address has the value of its run, and neighbouring runs have different ones. There is just one such
-//! list. [`who`] is that of the verdicts on a path, over whichever view. [`breaches`] lists just the addresses whose verdict breaks
-//! what is [`Expected`]. Between the addresses that [`starts_among`] gathers, no line begins or ceases to match.
+//! list. [`who`] is that of the verdicts on a path, over whichever view. [`breaches_from`] lists of it just the addresses whose
+//! verdict breaks what is [`Expected`]. Between the addresses that [`starts_among`] gathers, no line begins or ceases to match.
 //!
 //! ```text
 //! let ranges = who(alloc, &view, &path)?;
@@ -19,8 +19,8 @@ pub mod ranges;
 pub mod runs;
 pub mod starts;
 
-pub use beside::{breaches_beside, runs_beside};
-pub use breaking::{Expected, breaches, broken_starts};
+pub use beside::{runs_beside, who_beside};
+pub use breaking::{Expected, breaches_from};
 pub use laws::{
     breaches_are_unique, breaches_tell_addresses, no_breach_is_all_kept, ranges_tell_verdicts,
     runs_are_unique, runs_exist, runs_pass_tests, runs_tell_values, runs_with_value_are_unique,
