@@ -157,7 +157,8 @@ PENDING_FILES = {
 U2 = "/u2 -maproot=root friends\n/u2 -alldirs -network cis-net -mask cis-mask\n"
 FILES = [*TABLES, "exports"]
 
-# The commands from `clients` on, and in `put` those from GUARDING on, were added after the last runs: none of them was run yet.
+# The commands from `clients` on, and in `put` those from GUARDING on, were added after the last runs: of them `test` and `audit`
+# alone were run.
 COMMANDS = {
     "try": [
         Command(
