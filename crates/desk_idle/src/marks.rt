@@ -1,0 +1,199 @@
+//! Which lines decide, and where the others are selected.
+//!
+//! The lines that are selected change only where a line begins or ceases to match. So one look at each of these addresses, in
+//! ascending order, finds each key that is the heaviest somewhere, and the least address at which it is. The lines under a key are
+//! looked at once: those of a network or of everybody are known by the first of them, and an address comes only once.
+
+ghost use Rattle.std.specs.Prelude.{◌≡◌, ◌<◌, ◌^◌, ◌++◌, ◌∷◌, ◌&&◌, ◌||◌, [], true, not, All, Contains, IfOk, List, ℕ, OnOk, map};
+ghost use Rattle.desk_text.specs.Address.{number_of};
+ghost use Rattle.desk_text.specs.AddrSet.{is_among};
+ghost use Rattle.desk_policy.specs.Keys.{HasBlock};
+ghost use Rattle.desk_policy.specs.Policy.{AreAscending, rows_of};
+ghost use Rattle.desk_policy.specs.declared.row.Row.{Row};
+ghost use Rattle.desk_index.specs.Keys.{numbers};
+ghost use Rattle.desk_idle.specs.Laws.{brings};
+ghost use Rattle.desk_idle.specs.PrivateMarks as spec;
+ghost use Rattle.desk_idle.specs.PrivateMarks.{AreAllMarks, AreMarks, Look, looks_among, looks_at, looks_by};
+
+use crate::listed::add_dirs;
+use crate::selecting::{row_numbered, rows_numbered};
+use desk_exports::Clients;
+use desk_index::{Index, Probes};
+use desk_policy::laws::lines_are_selected_by_keys;
+use desk_policy::{PolicyView, Row};
+use desk_tables::FsId;
+use desk_text::Addr;
+use desk_who::starts_among;
+use std::alloc::{AllocError, Global};
+use std::collections::{BTreeMap, BTreeSet};
+
+/// What is known of a line that is selected somewhere.
+#[derive(Clone, Copy)]
+pub(crate) struct Mark {
+    /// Some verdict names it.
+    pub decides: bool,
+    /// The first line that is selected at the least address at which this one is.
+    pub first: u32,
+    /// The number of that address.
+    pub address: u32,
+}
+
+/// Marks the lines of a file system, by their numbers.
+pub(crate) fn marks_of(
+    alloc: Global,
+    index: &Index,
+    fs: FsId,
+) -> Result<BTreeMap<u32, Mark>, AllocError>
+    requires { AreAscending (rows_of index.now fs.0) }
+    ensures { IfOk result (AreAllMarks (rows_of index.now fs.0)) }
+{
+    let starts = starts_among(alloc, index.policy().rows(fs))?;
+    let mut marks = BTreeMap::new(alloc);
+    mark_at(alloc, index, fs, Addr::from_number(0), &mut marks)?;
+    for start in starts.as_slice() {
+        mark_at(alloc, index, fs, *start, &mut marks)?;
+    }
+    Ok(marks)
+}
+
+/// Marks the lines that are selected at an address, unless those under their key are marked already.
+fn mark_at(
+    alloc: Global,
+    index: &Index,
+    fs: FsId,
+    address: Addr,
+    marks: &mut BTreeMap<u32, Mark>,
+) -> Result<(), AllocError>
+    requires { AreAscending (rows_of index.now fs.0) }
+    ensures address { number_of address < 2 ^ 32 }
+    ensures marks { OnOk result ((before : List ℕ) → ((other : ℕ) → is_among other before ≡ true → other < 2 ^ 32) → AreMarks (looks_at (rows_of index.now fs.0) before) marks.old
+        → AreMarks (looks_at (rows_of index.now fs.0) (before ++ number_of address ∷ [])) marks.new) }
+{
+    lines_are_selected_by_keys();
+    let _number = address.number();
+    let _probes = Probes::new(index);
+    let rows = index.policy().rows(fs);
+    let Some(found) = index.selected(fs, address) else {
+        return Ok(());
+    };
+    if are_known(marks, rows, found.lines()) {
+        return Ok(());
+    }
+    let chosen = rows_numbered(alloc, rows, found.lines())?;
+    mark_rows(alloc, chosen.as_slice(), address, marks)
+}
+
+/// Tests whether the lines under the one key of the first of these were looked at.
+fn are_known(marks: &BTreeMap<u32, Mark>, rows: &[Row], lines: &[u32]) -> bool
+    requires { AreAscending rows.now }
+    ensures { (chosen : List Row) → lines.now ≡ numbers chosen → All (Contains rows.now) chosen → result ≡ spec.are_known marks.now chosen }
+{
+    let Some(line) = lines.first() else {
+        return false;
+    };
+    match row_numbered(rows, *line) {
+        Some(row) => has_one_key(&row.entry.clients) && marks.contains_key(line),
+        None => false,
+    }
+}
+
+/// Tests whether these clients are a network, or everybody.
+fn has_one_key(clients: &Clients) -> bool
+    ensures { result ≡ spec.has_one_key clients.now }
+{
+    match clients {
+        Clients::Net(_, _) | Clients::World => true,
+        Clients::Hosts(_) | Clients::Net6(_) => false,
+    }
+}
+
+/// Marks these lines, which are selected at an address.
+fn mark_rows(
+    alloc: Global,
+    rows: &[&Row],
+    address: Addr,
+    marks: &mut BTreeMap<u32, Mark>,
+) -> Result<(), AllocError>
+    ensures { OnOk result ((looks : List Look) → AreMarks looks marks.old
+        → AreMarks (looks ++ looks_by (number_of address) (map (λ row. row.now) rows.now)) marks.new) }
+{
+    match rows {
+        [] => Ok(()),
+        // The directories of a line by itself need not be kept.
+        [row] => {
+            let brought = has_something(row);
+            add_look(marks, row.entry.line, row.entry.line, address, brought)
+        }
+        [first, ..] => mark_each(alloc, rows, first.entry.line, address, marks),
+    }
+}
+
+/// Tests whether a line has -alldirs, or a directory.
+fn has_something(row: &Row) -> bool
+    ensures { result ≡ brings [] row.now }
+{
+    row.entry.alldirs || !row.entry.dirs.as_slice().is_empty()
+}
+
+/// Marks each of these lines: those bring something that list a directory that none before them does.
+fn mark_each(
+    alloc: Global,
+    rows: &[&Row],
+    first: u32,
+    address: Addr,
+    marks: &mut BTreeMap<u32, Mark>,
+) -> Result<(), AllocError>
+    ensures { OnOk result ((looks : List Look) → AreMarks looks marks.old
+        → AreMarks (looks ++ looks_among first (number_of address) [] (map (λ row. row.now) rows.now)) marks.new) }
+{
+    let mut seen = BTreeSet::new(alloc);
+    let mut all_listed = false;
+    for row in rows {
+        let is_new = add_dirs(&mut seen, row.entry.dirs.as_slice())?;
+        let brought = brings(all_listed, row, is_new);
+        add_look(marks, row.entry.line, first, address, brought)?;
+        all_listed |= row.entry.alldirs;
+    }
+    Ok(())
+}
+
+/// Tests whether a line brings something, by whether one before it has -alldirs, and whether one of its directories is new.
+fn brings(all_listed: bool, row: &Row, is_new: bool) -> bool
+    ensures { result ≡ (not all_listed && (row.now.entry.alldirs || is_new)) }
+{
+    !all_listed && (row.entry.alldirs || is_new)
+}
+
+/// Adds a look at a line: what it brings, and where it is selected, if that is not known yet.
+fn add_look(
+    marks: &mut BTreeMap<u32, Mark>,
+    line: u32,
+    first: u32,
+    address: Addr,
+    brought: bool,
+) -> Result<(), AllocError>
+    ensures { OnOk result ((looks : List Look) → AreMarks looks marks.old
+        → AreMarks (looks ++ record { line = line; first = first; address = number_of address; brought = brought } ∷ []) marks.new) }
+{
+    let known = marks.get(&line).copied();
+    marks.insert(line, with_look(known, first, address, brought))?;
+    Ok(())
+}
+
+/// Gives what is known of a line with a look at it more.
+fn with_look(known: Option<Mark>, first: u32, address: Addr, brought: bool) -> Mark
+    ensures { (line : ℕ) → result ≡ spec.with_look known (record { line = line; first = first; address = number_of address; brought = brought }) }
+{
+    match known {
+        Some(mark) => Mark {
+            decides: mark.decides || brought,
+            first: mark.first,
+            address: mark.address,
+        },
+        None => Mark {
+            decides: brought,
+            first,
+            address: address.number(),
+        },
+    }
+}
