@@ -1,7 +1,15 @@
 """Commands of the program and their answers, worked by hand, for the scripts that try a built program."""
 
+import sys
+from pathlib import Path
+
 from databases import NAMES, SITE, TABLES, put_words
 from messages import CONTRADICTING, LOCALHOST, TAKING
+
+sys.path.append(str(Path(__file__).resolve().parent.parent / "crates/desk_cases"))
+
+from reference.findings import printed_json
+from reference.sarif import log_text
 
 STANDARD = "rw sec=sys root=65534:65533"
 
@@ -28,6 +36,19 @@ def proposal(author, text):
     return "proposal", "exports:/u", 1, author, text.encode()
 
 
+# What is found in a text whose second line has other terms for everybody than the first.
+CLASH = {
+    "address": "0.0.0.0",
+    "column": 1,
+    "kind": "fault",
+    "line": 2,
+    "name": "Contradiction",
+    "other": 1,
+    "path": "-",
+    "rule": 26,
+    "text": "line 1 has other terms for 0.0.0.0",
+    "word": "/a",
+}
 STORED = revision("hosts", "site", LOCALHOST)
 GUARDED = revision("filesystems", "site", GUARDING)
 PENDING = proposal("ulf", PROPOSED)
@@ -288,6 +309,10 @@ COMMANDS = {
             text="/usr /usr/local -ro 10.0.0.5\n/usr 10.0.0.6\n/home -alldirs\n",
             title="`compare` with a text that has a fault",
         ),
+    ],
+    "check": [
+        tried(["check", "-", "/a", "--json"], "/a\n/a -ro\n", f"{printed_json([CLASH])}\n", 3),
+        tried(["check", "-", "/a", "--sarif"], "/a\n/a -ro\n", f"{log_text([CLASH])}\n", 3),
     ],
     "test": [
         Command(

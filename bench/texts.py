@@ -1,8 +1,12 @@
 """The exports texts of benchmarks. A text has lines of one shape: a function that makes one from the mount points and a
-random generator."""
+random generator. Those at the end make the line of a number, of one file system."""
+
+import random
 
 MIB = 1024 * 1024
 SIZES = [1, 2, 4, 8, 16]
+THOUSANDS = [1, 2, 4, 8, 16, 32, 64]
+DEEP = 24
 
 
 def short_line(mounts, rng):
@@ -66,3 +70,52 @@ def write_text(path, shape, size, mounts, rng):
         while len(line := shape(mounts, rng)) <= left:
             text.write(line)
             left -= len(line)
+
+
+def address(number):
+    return ".".join(str(number >> shift & 255) for shift in (24, 16, 8, 0))
+
+
+def host(number, _):
+    """a host each"""
+    return f"/a {address(2 * number + 2)}\n"
+
+
+def nested(number, _):
+    """networks, 24 in one another"""
+    inner = random.Random(number // DEEP).getrandbits(32)
+    return f"/a -network {address(inner)}/{9 + number % DEEP}\n"
+
+
+def mix(number, chance):
+    """a mix"""
+    kind = number % 4
+    if kind == 0:
+        return f"/a -ro {address(chance.getrandbits(32))}\n"
+    if kind == 1:
+        return f"/a -ro {' '.join(address(chance.getrandbits(32)) for _ in range(16))}\n"
+    return f"/a{' -alldirs' if kind == 2 else ''} -network {address(chance.getrandbits(32))}/{chance.randint(8, 32)}\n"
+
+
+def one_key(number, _):
+    """many under one key"""
+    return f"/a/export{number}\n" if number % 2 else f"/a {address(2 * number + 2)}\n"
+
+
+def wide(number, _):
+    """many under one key, with 32 directories each"""
+    return f"{' '.join(f'/a/export{number}x{k}' for k in range(32))}\n" if number % 2 else f"/a {address(2 * number + 2)}\n"
+
+
+def alldirs_each_thousandth(number, chance):
+    """many under one key, with -alldirs in each thousandth line"""
+    return "/a -alldirs\n" if number % 1000 == 999 else one_key(number, chance)
+
+
+def alldirs_first(number, chance):
+    """many under one key, with -alldirs in the first"""
+    return "/a -alldirs\n" if number == 1 else one_key(number, chance)
+
+
+# (with the most lines, in thousands)
+WHO_SHAPES = [(host, 64), (nested, 64), (mix, 64), (one_key, 64), (wide, 16), (alldirs_each_thousandth, 64), (alldirs_first, 64)]

@@ -26,7 +26,7 @@ _exportdesk()
     done
     case $command in
     try) choices='--hosts --networks --passwd --group --netgroup --as --why --help' ;;
-    check) choices='--hosts --networks --passwd --group --netgroup --site --brief --strict --json --help' ;;
+    check) choices='--hosts --networks --passwd --group --netgroup --site --brief --strict --json --sarif --opinions --help' ;;
     clients) choices='--hosts --networks --passwd --group --netgroup --help' ;;
     compare) choices='--hosts --networks --passwd --group --netgroup --all --help' ;;
     test) choices='--hosts --networks --passwd --group --netgroup --json --help' ;;

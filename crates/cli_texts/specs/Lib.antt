@@ -3,6 +3,7 @@ pub mod ClientsCommand
 pub mod CompareCommand
 pub mod FaultLine
 pub mod FaultyTexts
+pub mod FindingsForm
 pub mod MountWords
 pub mod Printing
 pub mod PrivateTableFiles

@@ -8,23 +8,24 @@ ghost use Rattle.desk_text.specs.Lines.{IsReadable};
 ghost use Rattle.desk_findings.specs.CheckFaults.{AreReadable};
 ghost use Rattle.desk_findings.specs.Finding.{HaveSlices};
 ghost use Rattle.cli_words.specs.Words.{rows_in};
-ghost use Rattle.cli_texts.specs.CheckCommand.{AnswersByFiles, AnswersCheck, AnswersGiven, AnswersTexts, PrintsFindings, beside_site, form_of};
+ghost use Rattle.cli_texts.specs.CheckCommand.{AnswersByFiles, AnswersCheck, AnswersCheckBy, AnswersGiven, AnswersTexts, PrintsFindings, asks_opinions, beside_sarif, beside_site, form_of};
 
 use crate::check_site_files::check_site;
+use crate::findings_form::{FindingsForm, report_in};
 use crate::whole_files::{read_whole_texts, whole_sources};
 use clap::ArgMatches;
 use cli_output::failure::Failure;
 use cli_output::printed::Printed;
 use cli_words::values::read_mounts;
 use cli_words::words::{all_given, given, is_set};
-use desk_check::{CheckForm, report_found};
+use desk_check::CheckForm;
 use desk_findings::{Gathered, WholeSources, gather};
 use desk_tables::FileSystems;
 use std::alloc::{AllocError, Global};
 use std::io::BufRead;
 
-/// Answers `check FILE MOUNT...` or `check --site DIR`, with its options. Which of the two it is comes first, and then the
-/// mount points are parsed, before any file is read.
+/// Answers `check FILE MOUNT...` or `check --site DIR`, with its options. Whether its forms can be given together comes first,
+/// then which of the two it is, and then the mount points are parsed, before any file is read.
 pub fn run_check<I: BufRead>(
     rt: &HostRuntime,
     words: &ArgMatches<'_>,
@@ -32,24 +33,64 @@ pub fn run_check<I: BufRead>(
 ) -> Result<Printed, Failure>
     ensures { AnswersCheck (rows_in words.now) (I.remaining input.old) result }
 {
+    match beside_sarif(words) {
+        Some(name) => Err(Failure::BesideSarif(name)),
+        None => check_in_form(rt, words, input),
+    }
+}
+
+/// Names the first form of findings that cannot be given with `--sarif`, if both are given.
+fn beside_sarif(words: &ArgMatches<'_>) -> Option<&'static str>
+    ensures { option_map (λ name. name.now) result ≡ beside_sarif (rows_in words.now) }
+{
+    if !is_set(words, "sarif") {
+        return None;
+    }
+    if is_set(words, "brief") {
+        return Some("--brief");
+    }
+    if is_set(words, "json") {
+        return Some("--json");
+    }
+    None
+}
+
+/// Answers in the form that the words ask for.
+fn check_in_form<I: BufRead>(
+    rt: &HostRuntime,
+    words: &ArgMatches<'_>,
+    input: &mut I,
+) -> Result<Printed, Failure>
+    ensures { let rows = rows_in words.now in AnswersCheckBy (first_of (codes "site") rows) rows (I.remaining input.old) result }
+{
     match given(words, "site") {
         Some(folder) => match beside_site(words) {
             Some(name) => Err(Failure::BesideSite(name)),
-            None => check_site(rt, form_of(words), folder, input),
+            None => check_site(rt, asks_opinions(words), form_of(words), folder, input),
         },
         None => check_given(rt, words, input),
     }
 }
 
 /// Returns the form in which the words ask for the findings.
-fn form_of(words: &ArgMatches<'_>) -> CheckForm
+fn form_of(words: &ArgMatches<'_>) -> FindingsForm
     ensures { result ≡ form_of (rows_in words.now) }
 {
-    CheckForm {
-        brief: is_set(words, "brief"),
-        strict: is_set(words, "strict"),
-        json: is_set(words, "json"),
+    FindingsForm {
+        plain: CheckForm {
+            brief: is_set(words, "brief"),
+            strict: is_set(words, "strict"),
+            json: is_set(words, "json"),
+        },
+        sarif: is_set(words, "sarif"),
     }
+}
+
+/// Tests whether the words ask for opinions.
+fn asks_opinions(words: &ArgMatches<'_>) -> bool
+    ensures { result ≡ asks_opinions (rows_in words.now) }
+{
+    is_set(words, "opinions")
 }
 
 /// Names the first of the files that cannot be given with `--site`, if one is given.
@@ -108,35 +149,42 @@ fn check_files<I: BufRead>(
 {
     let texts = read_whole_texts(rt, words, file, input)?;
     let sources = whole_sources(words, file, &texts);
-    check_texts(rt.alloc(), form_of(words), filesystems, sources)
+    check_texts(
+        rt.alloc(),
+        asks_opinions(words),
+        form_of(words),
+        filesystems,
+        sources,
+    )
 }
 
-/// Answers by the texts of the files.
+/// Answers by the texts of the files, with opinions if they are asked for.
 fn check_texts(
     alloc: Global,
-    form: CheckForm,
+    opinions: bool,
+    form: FindingsForm,
     filesystems: FileSystems,
     sources: WholeSources<'_>,
 ) -> Result<Printed, Failure>
     requires tables { AreReadable sources.tables }
     requires exports { IsReadable sources.exports.text.now }
-    ensures { AnswersTexts form filesystems sources.entry result }
+    ensures { AnswersTexts opinions form filesystems sources.entry result }
 {
-    let gathered = gather(alloc, sources, filesystems)?;
+    let gathered = gather(alloc, sources, filesystems, opinions)?;
     Ok(print_findings(alloc, form, &gathered)?)
 }
 
 /// Prints the report of what was found.
 pub fn print_findings(
     alloc: Global,
-    form: CheckForm,
+    form: FindingsForm,
     gathered: &Gathered,
 ) -> Result<Printed, AllocError>
     requires { HaveSlices gathered.now.findings }
     ensures { IfOk result (PrintsFindings form gathered.now) }
 {
     let note = check_note(alloc, gathered.read_exports)?;
-    let checked = report_found(alloc, form, gathered)?;
+    let checked = report_in(alloc, form, gathered)?;
     Ok(Printed {
         status: if checked.passes { 0 } else { 3 },
         text: checked.text,

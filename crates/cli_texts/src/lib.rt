@@ -17,6 +17,7 @@ pub mod clients_command;
 pub mod compare_command;
 mod fault_line;
 mod faulty_texts;
+mod findings_form;
 mod mount_words;
 mod printing;
 pub mod split_command;

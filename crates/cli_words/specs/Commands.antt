@@ -60,7 +60,7 @@ abbrev pub commands : List CommandRow
 commands =
     row Try (codes "try") (word (codes "FILE") ∷ word (codes "HOST") ∷ word (codes "DIR") ∷ words (codes "MOUNT") ∷ []) true (option (codes "as") ∷ flag (codes "why") ∷ [])
     ∷ row Split (codes "split") (word (codes "FILE") ∷ word (codes "FILESYSTEMS") ∷ []) false []
-    ∷ row Check (codes "check") (optional_word (codes "FILE") ∷ optional_words (codes "MOUNT") ∷ []) true (option (codes "site") ∷ flag (codes "brief") ∷ flag (codes "strict") ∷ flag (codes "json") ∷ [])
+    ∷ row Check (codes "check") (optional_word (codes "FILE") ∷ optional_words (codes "MOUNT") ∷ []) true (option (codes "site") ∷ flag (codes "brief") ∷ flag (codes "strict") ∷ flag (codes "json") ∷ flag (codes "sarif") ∷ flag (codes "opinions") ∷ [])
     ∷ row Clients (codes "clients") (word (codes "FILE") ∷ word (codes "DIR") ∷ words (codes "MOUNT") ∷ []) true []
     ∷ row Compare (codes "compare") (word (codes "OLD") ∷ word (codes "NEW") ∷ words (codes "MOUNT") ∷ []) true (flag (codes "all") ∷ [])
     ∷ row Test (codes "test") (word (codes "FILE") ∷ word (codes "EXPECTATIONS") ∷ words (codes "MOUNT") ∷ []) true (flag (codes "json") ∷ [])

@@ -209,6 +209,16 @@ pub static COMMANDS: [CommandRow; 20] = [
                 kind: Kind::Flag,
                 help: "Prints the findings as one compact JSON list",
             },
+            Argument {
+                name: "sarif",
+                kind: Kind::Flag,
+                help: "Prints the findings as a log of SARIF 2.1.0, for code hosts",
+            },
+            Argument {
+                name: "opinions",
+                kind: Kind::Flag,
+                help: "Adds opinions on lines that let everybody write, or root of many hosts act as root",
+            },
         ],
     },
     CommandRow {

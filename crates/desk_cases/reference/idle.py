@@ -11,9 +11,9 @@ SENTENCES = {
     "Shadowed": "the line decides nothing: heavier lines match each of its clients",
     "Repeated": "the line decides nothing: earlier lines of equal weight list all that it lists",
     "NoClient": "the line decides nothing: its names stand for no address",
-    "EveryAddress": "the network has the prefix 0, so the line is for everybody: leave out -network, or correct it",
-    "WritableByAll": "everybody may write: write -ro, or whom the line is for",
-    "RootForMany": "root of each client acts as root: leave the mapping out, or name the hosts",
+    "EveryAddress": "the network has the prefix 0, so the line is for everybody: leave the network out, or correct it",
+    "WritableByAll": "everybody may write to it: add -ro, or name the clients",
+    "RootForMany": "root of each client acts as root: leave out -maproot or -mapall, or name the hosts",
 }
 OPINIONS = ["WritableByAll", "RootForMany"]
 
@@ -89,7 +89,7 @@ def remarks(site, with_opinions=False):
 
 
 def sentence(name, other, address):
-    return SENTENCES[name] + (f", such as line {other} for {dotted(address)}" if other else "")
+    return SENTENCES[name] + (f", beginning with line {other} for {dotted(address)}" if other else "")
 
 
 def remark_text(file, text, number, name, other, address):

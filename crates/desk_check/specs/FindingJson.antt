@@ -3,6 +3,7 @@ use Rattle.std.specs.Prelude.{ℕ, ◌/◌, ◌%◌, List, [], ◌∷◌, ◌++�
 use Rattle.std.specs.Char.{encode_utf8, is_control}
 use Rattle.std.specs.Fmt.{digit_glyph}
 use Rattle.std.specs.List.{flat_map}
+use Rattle.std.specs.Option.{option_map}
 use Rattle.std.specs.Str.{chars}
 use Rattle.serde_json.specs.Data.{Data, Members, member, no_members, number, object, string, unsigned}
 use Rattle.serde_json.specs.Written.{compact_text}
@@ -15,16 +16,18 @@ use Rattle.desk_findings.specs.declared.finding.Matter.{Matter}
 use Rattle.desk_findings.specs.declared.finding.Matter.TheVariants as matter
 use Rattle.desk_check.specs.FindingPrints.{message}
 
--- the earlier line, and the address of a contradiction
+-- the other line, of what has one, and the address of a contradiction or a remark
 abbrev pub other_of : Matter → Option ℕ
 other_of (matter.Fault rule other) = other
 other_of (matter.Contradiction other address) = Some other
 other_of (matter.Warning kind) = None
+other_of (matter.Remark remark example) = option_map (λ shown. shown.line) example
 
 abbrev pub address_of : Matter → Option Addr
 address_of (matter.Fault rule other) = None
 address_of (matter.Contradiction other address) = Some address
 address_of (matter.Warning kind) = None
+address_of (matter.Remark remark example) = option_map (λ shown. shown.address) example
 
 -- a member for each, if there is one, before these
 abbrev pub with_other : Option ℕ → Members → Members

@@ -9,6 +9,8 @@ use Rattle.desk_text.specs.Address.{addr_text}
 use Rattle.desk_text.specs.declared.place.Place.{Place}
 use Rattle.desk_policy.specs.SiteFault.{rule_sentence}
 use Rattle.desk_policy.specs.Warning.{kind_sentence}
+use Rattle.desk_remarks.specs.Remark.{remark_sentence}
+use Rattle.desk_remarks.specs.declared.remark.Example.{Example}
 use Rattle.desk_findings.specs.Finding.{is_fault, kind_word, line_at, name_of, number_of, slice_at}
 use Rattle.desk_findings.specs.declared.finding.Finding.{Finding}
 use Rattle.desk_findings.specs.declared.finding.Matter.{Matter}
@@ -27,11 +29,17 @@ abbrev pub other_text : Option ℕ → List ℕ
 other_text None = []
 other_text (Some line) = codes ": line " ++ decimal line
 
+-- the example of a remark, if it has one: a line, and an address at which it is the first that is selected
+abbrev pub example_text : Option Example → List ℕ
+example_text None = []
+example_text (Some shown) = codes ", beginning with line " ++ decimal shown.line ++ codes " for " ++ addr_text (addresses.number_of shown.address)
+
 -- the sentence, as `"-maprot" is not an option of exports(5)`
 abbrev pub sentence : List ℕ → Option Place → Matter → List ℕ
 sentence source place (matter.Fault rule other) = subject source place ++ codes " " ++ rule_sentence rule ++ other_text other
 sentence source place (matter.Contradiction other address) = codes "line " ++ decimal other ++ codes " has other terms for " ++ addr_text (addresses.number_of address)
 sentence source place (matter.Warning kind) = subject source place ++ codes " " ++ kind_sentence kind
+sentence source place (matter.Remark remark example) = remark_sentence remark ++ example_text example
 
 -- a hint, if there is one
 abbrev pub hint_text : Option (List ℕ) → List ℕ

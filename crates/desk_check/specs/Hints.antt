@@ -170,3 +170,4 @@ abbrev pub hint : Matter → List ℕ → Option (List ℕ)
 hint (matter.Fault rule other) word = rule_hint rule word
 hint (matter.Contradiction other address) word = None
 hint (matter.Warning kind) word = kind_hint kind word
+hint (matter.Remark remark example) word = None

@@ -10,7 +10,7 @@ abbrev pub put_address : Option Addr → Members → Members
 put_address None members = members
 put_address (Some address) members = put (codes "address") (string (addr_text (addresses.number_of address))) members
 
--- the members with that of an earlier line, if there is one
+-- the members with that of another line, if there is one
 abbrev pub put_other : Option ℕ → Members → Members
 put_other None members = members
 put_other (Some line) members = put (codes "other") (number (unsigned line)) members

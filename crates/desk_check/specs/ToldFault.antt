@@ -21,7 +21,7 @@ told_text finding = option_map_or (finding_text false) finding []
 -- What is told of a fault: of what `check` finds in the same texts, with these file systems, the first finding about the fault.
 pub record TellsOf (sources : WholeSources) (table : List Mount) (fault : SiteFault) (text : List ℕ) : Type 0 where
   pub gathered : Gathered
-  pub gathers : Gathers sources table gathered
+  pub gathers : Gathers false sources table gathered
   pub are : text ≡ told_text (find (λ finding. is_about fault finding.matter) gathered.findings)
 
 -- The first of the findings that tell this, as `check` prints it; nothing if there is none.

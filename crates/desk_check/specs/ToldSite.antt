@@ -1,5 +1,5 @@
 -- The finding that standard error tells beside the fault of a site: the one that `check` prints. (this project's own)
-use Rattle.std.specs.Prelude.{◌≡◌, ℕ, List, [], ◌∷◌, Option, Some, slice_get}
+use Rattle.std.specs.Prelude.{◌≡◌, ℕ, false, List, [], ◌∷◌, Option, Some, slice_get}
 use Rattle.desk_text.specs.declared.address.Addr.{Addr}
 use Rattle.desk_exports.specs.declared.profile.Profile.{Profile}
 use Rattle.desk_policy.specs.declared.site_fault.SiteFault.{SiteFault}
@@ -16,7 +16,7 @@ use Rattle.desk_check.specs.ToldFault.{TellsFirst, told_text}
 -- The first finding of a site's files, as `check` prints it.
 pub record TellsOfTables (sources : SiteSources) (text : List ℕ) : Type 0 where
   pub gathered : Gathered
-  pub gathers : GathersSite sources gathered
+  pub gathers : GathersSite false sources gathered
   pub are : text ≡ told_text (slice_get gathered.findings 0)
 
 -- a contradiction is told on its line

@@ -53,7 +53,7 @@ pub fn report_found(
 }
 
 /// Tests whether texts with these findings pass.
-fn passes(findings: &[Finding], strict: bool) -> bool
+pub fn passes(findings: &[Finding], strict: bool) -> bool
     ensures { result ≡ passes strict findings.now }
 {
     if strict {

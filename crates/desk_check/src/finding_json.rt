@@ -16,12 +16,14 @@ ghost use Rattle.desk_check.specs.PrivateFindingJson.{put_address, put_other};
 
 use crate::finding_prints::push_message;
 use desk_findings::{Finding, Matter};
+use desk_text::Addr;
 use serde_json::{Map, Value, put};
 use std::alloc::{AllocError, Global};
 
 /// Prints findings in their order as one compact JSON list and a line end: `[]` if there are none. Each is an object with
 /// `column`, `kind`, `line`, `name`, `path`, `rule` (its number), `text` (its sentence) and `word` (its slice); a netgroup
-/// that is defined twice also has the earlier line as `other`, and a contradiction `other` and `address`.
+/// that is defined twice also has the earlier line as `other`, and a contradiction `other` and `address`, as a remark has that
+/// shows an example.
 pub fn findings_json(alloc: Global, findings: &[Finding]) -> Result<String, AllocError>
     requires { HaveSlices findings.now }
     ensures { IfOk result (λ text. string_bytes text ≡ spec.findings_json findings.now) }
@@ -87,48 +89,69 @@ fn add_members(
     requires none { members.old.entries ≡ [] }
     ensures { OnOk result (object (members_view members.new.entries) ≡ spec.value_of finding.now) }
 {
-    add_address(alloc, finding.matter, members)?;
+    add_address(alloc, address_of(finding.matter), members)?;
     add_number(alloc, "column", finding.column, members)?;
     add_text(alloc, "kind", finding.matter.kind(), members)?;
     add_number(alloc, "line", finding.line() as usize, members)?;
     add_text(alloc, "name", finding.matter.name(), members)?;
-    add_other(alloc, finding.matter, members)?;
+    add_other(alloc, other_of(finding.matter), members)?;
     add_text(alloc, "path", finding.path, members)?;
     add_number(alloc, "rule", finding.matter.number() as usize, members)?;
     add_message(alloc, finding, members)?;
     add_text(alloc, "word", finding.slice(), members)
 }
 
-/// Adds the address of a contradiction.
-fn add_address(
-    alloc: Global,
-    matter: Matter,
-    members: &mut Map<String, Value>,
-) -> Result<(), AllocError>
-    ensures { OnOk result (members_view members.new.entries ≡ put_address (spec.address_of matter) (members_view members.old.entries)) }
+/// Gives the address of a contradiction, or of a remark that shows an example.
+fn address_of(matter: Matter) -> Option<Addr>
+    ensures { result ≡ spec.address_of matter }
 {
     match matter {
-        Matter::Contradiction(_, address) => {
-            let address = format!(in alloc; "{address}")?;
-            put(members, alloc, "address", Value::String(address))
-        }
-        Matter::Fault(..) | Matter::Warning(_) => Ok(()),
+        Matter::Contradiction(_, address) => Some(address),
+        Matter::Remark(_, example) => example.map(|shown| shown.address),
+        Matter::Fault(..) | Matter::Warning(_) => None,
     }
 }
 
-/// Adds the earlier line of a contradiction, or of a netgroup that is defined twice.
-fn add_other(
-    alloc: Global,
-    matter: Matter,
-    members: &mut Map<String, Value>,
-) -> Result<(), AllocError>
-    ensures { OnOk result (members_view members.new.entries ≡ put_other (spec.other_of matter) (members_view members.old.entries)) }
+/// Gives the other line: the earlier one of a contradiction or of a netgroup that is defined twice, or that of a remark's example.
+fn other_of(matter: Matter) -> Option<u32>
+    ensures { result ≡ spec.other_of matter }
 {
     match matter {
-        Matter::Contradiction(other, _) | Matter::Fault(_, Some(other)) => {
-            add_number(alloc, "other", other as usize, members)
+        Matter::Contradiction(other, _) => Some(other),
+        Matter::Fault(_, other) => other,
+        Matter::Remark(_, example) => example.map(|shown| shown.line),
+        Matter::Warning(_) => None,
+    }
+}
+
+/// Adds an address, if there is one.
+fn add_address(
+    alloc: Global,
+    address: Option<Addr>,
+    members: &mut Map<String, Value>,
+) -> Result<(), AllocError>
+    ensures { OnOk result (members_view members.new.entries ≡ put_address address (members_view members.old.entries)) }
+{
+    match address {
+        Some(address) => {
+            let address = format!(in alloc; "{address}")?;
+            put(members, alloc, "address", Value::String(address))
         }
-        Matter::Fault(_, None) | Matter::Warning(_) => Ok(()),
+        None => Ok(()),
+    }
+}
+
+/// Adds another line, if there is one.
+fn add_other(
+    alloc: Global,
+    other: Option<u32>,
+    members: &mut Map<String, Value>,
+) -> Result<(), AllocError>
+    ensures { OnOk result (members_view members.new.entries ≡ put_other other (members_view members.old.entries)) }
+{
+    match other {
+        Some(other) => add_number(alloc, "other", other as usize, members),
+        None => Ok(()),
     }
 }
 

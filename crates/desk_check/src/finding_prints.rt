@@ -13,6 +13,7 @@ ghost use Rattle.desk_check.specs.FindingPrints as spec;
 use crate::hints::hint;
 use crate::shown_text::{push_blanks, push_carets, push_shown, push_shown_line};
 use desk_findings::{Finding, Matter};
+use desk_remarks::Example;
 use desk_text::Place;
 use std::alloc::{AllocError, Global};
 
@@ -100,7 +101,7 @@ fn push_matter(matter: Matter, text: &mut String) -> Result<(), AllocError>
 }
 
 /// Adds what a finding says: its sentence, and a hint if there is one.
-pub(crate) fn push_message(finding: &Finding, text: &mut String) -> Result<(), AllocError>
+pub fn push_message(finding: &Finding, text: &mut String) -> Result<(), AllocError>
     requires { HasSlice finding.now }
     ensures { OnOk result (string_bytes text.new
         ≡ string_bytes text.old ++ spec.message finding.now.source.now finding.now.place finding.now.matter) }
@@ -130,6 +131,23 @@ fn push_sentence(finding: &Finding, text: &mut String) -> Result<(), AllocError>
             let sentence = kind.sentence();
             write!(text, " {sentence}")
         }
+        Matter::Remark(remark, example) => {
+            text.push_str(remark.sentence())?;
+            push_example(example, text)
+        }
+    }
+}
+
+/// Adds the example of a remark, if it has one: a line, and an address at which it is the first that is selected.
+fn push_example(example: Option<Example>, text: &mut String) -> Result<(), AllocError>
+    ensures { OnOk result (string_bytes text.new ≡ string_bytes text.old ++ spec.example_text example) }
+{
+    match example {
+        Some(Example { line, address }) => write!(
+            text,
+            ", beginning with line {line} for {address}"
+        ),
+        None => Ok(()),
     }
 }
 

@@ -5,7 +5,7 @@
 //!
 //! ```text
 //! // with the file system `/usr`, no tables, and `/usr -maprot=root 10.0.0.5` in the file `exports`:
-//! let gathered = gather(alloc, sources, filesystems)?;
+//! let gathered = gather(alloc, sources, filesystems, false)?;
 //! report_found(alloc, form, &gathered)?.text
 //! // exports:1:6: fault 5 UnknownOption: "-maprot=root" is not an option of exports(5)
 //! // 1 fault, 0 warnings
@@ -20,9 +20,9 @@ mod shown_text;
 mod told_fault;
 mod told_site;
 
-pub use check_report::{CheckForm, Checked, report_found};
+pub use check_report::{CheckForm, Checked, passes, report_found};
 pub use finding_json::{add_number, add_text, findings_json, push_json};
-pub use finding_prints::{finding_text, findings_text, push_marked_line};
+pub use finding_prints::{finding_text, findings_text, push_marked_line, push_message};
 pub use shown_text::push_shown;
 pub use told_fault::{tell_fault, tell_split_fault};
 pub use told_site::tell_site_fault;

@@ -27,7 +27,7 @@ pub fn tell_fault(
     requires exports { IsReadable sources.exports.text.now }
     ensures { IfOk result (λ text. TellsOf sources.entry filesystems fault.now (string_bytes text)) }
 {
-    let gathered = gather(alloc, sources, filesystems)?;
+    let gathered = gather(alloc, sources, filesystems, false)?;
     let told = told_text(alloc, first_about(gathered.findings.as_slice(), fault))?;
     drop(gathered);
     Ok(told)

@@ -59,7 +59,7 @@ fn told_of_tables(alloc: Global, sources: SiteSources<'_>) -> Result<String, All
     requires { AreReadableTexts sources }
     ensures { IfOk result (λ text. spec.TellsOfTables sources.entry (string_bytes text)) }
 {
-    let gathered = gather_site(alloc, sources)?;
+    let gathered = gather_site(alloc, sources, false)?;
     let told = told_first(alloc, gathered.findings.as_slice())?;
     drop(gathered);
     Ok(told)

@@ -86,8 +86,8 @@ pub odds_within : (source : Source) (given : List OddLine) (all : List Told) →
 odds_within source given all tells =
     tells_within odd_of_spot (IsSpot source.text.now) (tell_spot source) tells.odds all (λ spot on. spot_at source spot.line spot.place spot.matter on) tells.tell
 
-oddities_within : (sources : WholeSources) (table : List Mount) (site_tables : SiteTables) (entries : List (FsId × Entry)) (all : List Told) → TellOddities sources table site_tables entries all → All Within all
-oddities_within sources table site_tables entries all tells =
+oddities_within : (opinions : Bool) (sources : WholeSources) (table : List Mount) (site_tables : SiteTables) (entries : List (FsId × Entry)) (all : List Told) → TellOddities opinions sources table site_tables entries all → All Within all
+oddities_within opinions sources table site_tables entries all tells =
     subst (λ (ones : List Told). All Within ones) (sym tells.are)
     (All-append Within tells.netgroup tells.exports (odds_within sources.tables.netgroup _ tells.netgroup tells.tell_netgroup) (odds_within sources.exports _ tells.exports tells.tell_exports.tell))
 
@@ -99,24 +99,24 @@ slices found within = λ k d below.
 pub finds_slices : (TellAll : List Told → Type 0) (read_exports : Bool) (gathered : Gathered) → ((all : List Told) → TellAll all → All Within all) → Finds TellAll read_exports gathered → HaveSlices gathered.findings
 finds_slices TellAll read_exports gathered within finds = slices gathered.findings (within (map told gathered.findings) finds.tell)
 
-by_entries : (read : Result (List (FsId × Entry)) (LineFault Rule)) (sources : WholeSources) (table : List Mount) (site_tables : SiteTables) (gathered : Gathered) → GathersBy read sources table site_tables gathered → HaveSlices gathered.findings
-by_entries (Ok entries) sources table site_tables gathered found = finds_slices _ _ gathered (oddities_within sources table site_tables entries) found
-by_entries (Err fault) sources table site_tables gathered found =
+by_entries : (read : Result (List (FsId × Entry)) (LineFault Rule)) (opinions : Bool) (sources : WholeSources) (table : List Mount) (site_tables : SiteTables) (gathered : Gathered) → GathersBy read opinions sources table site_tables gathered → HaveSlices gathered.findings
+by_entries (Ok entries) opinions sources table site_tables gathered found = finds_slices _ _ gathered (oddities_within opinions sources table site_tables entries) found
+by_entries (Err fault) opinions sources table site_tables gathered found =
     finds_slices _ _ gathered (λ all tells. tells_within (λ (one : LinePlacedFault). one.fault) (exports.IsPlaced sources.exports.text.now) (tell_line sources.exports) _ all (λ one at. at.lies.within) tells) found
 
-pub exports_slices : (sources : WholeSources) (table : List Mount) (site_tables : SiteTables) (gathered : Gathered) → GathersExports sources table site_tables gathered → HaveSlices gathered.findings
-exports_slices sources table site_tables gathered found = by_entries (whole_answer (rows_with Two table site_tables) sources.exports.text.now) sources table site_tables gathered found
+pub exports_slices : (opinions : Bool) (sources : WholeSources) (table : List Mount) (site_tables : SiteTables) (gathered : Gathered) → GathersExports opinions sources table site_tables gathered → HaveSlices gathered.findings
+exports_slices opinions sources table site_tables gathered found = by_entries (whole_answer (rows_with Two table site_tables) sources.exports.text.now) opinions sources table site_tables gathered found
 
 pub tables_slices : (tables : PerTable Source) (gathered : Gathered) → GathersTables tables gathered → HaveSlices gathered.findings
 tables_slices tables gathered found = finds_slices _ _ gathered (five_within tables) found
 
-by_tables : (read : Result SiteTables SiteFault) (sources : WholeSources) (table : List Mount) (gathered : Gathered) → GathersWith read sources table gathered → HaveSlices gathered.findings
-by_tables (Ok site_tables) sources table gathered found = exports_slices sources table site_tables gathered found
-by_tables (Err fault) sources table gathered found = tables_slices sources.tables gathered found
+by_tables : (read : Result SiteTables SiteFault) (opinions : Bool) (sources : WholeSources) (table : List Mount) (gathered : Gathered) → GathersWith read opinions sources table gathered → HaveSlices gathered.findings
+by_tables (Ok site_tables) opinions sources table gathered found = exports_slices opinions sources table site_tables gathered found
+by_tables (Err fault) opinions sources table gathered found = tables_slices sources.tables gathered found
 
-found_slices : (sources : WholeSources) (table : List Mount) (gathered : Gathered) → Gathers sources table gathered → HaveSlices gathered.findings
-found_slices sources table gathered found =
-    by_tables (tables_of sources.tables) sources table gathered found
+found_slices : (opinions : Bool) (sources : WholeSources) (table : List Mount) (gathered : Gathered) → Gathers opinions sources table gathered → HaveSlices gathered.findings
+found_slices opinions sources table gathered found =
+    by_tables (tables_of sources.tables) opinions sources table gathered found
 
 heads_within : (sources : SiteSources) (all : List Told) → site.TellHeads sources all → All Within all
 heads_within sources all tells =
@@ -130,16 +130,16 @@ unlisted_within sources custodians table all tells =
     subst (λ (ones : List Told). All Within ones) (sym tells.are)
     (All-append Within tells.unlisted tells.tables (odds_within sources.filesystems _ tells.unlisted tells.tell_unlisted) (five_within sources.whole.tables tells.tables tells.tell_tables))
 
-by_listed : (unlisted : Option ℕ) (sources : SiteSources) (custodians : List Custodian) (table : List Mount) (gathered : Gathered) → site.GathersIfListed unlisted sources custodians table gathered → HaveSlices gathered.findings
-by_listed None sources custodians table gathered found = found_slices sources.whole table gathered found
-by_listed (Some line) sources custodians table gathered found = finds_slices _ _ gathered (unlisted_within sources custodians table) found
+by_listed : (unlisted : Option ℕ) (opinions : Bool) (sources : SiteSources) (custodians : List Custodian) (table : List Mount) (gathered : Gathered) → site.GathersIfListed unlisted opinions sources custodians table gathered → HaveSlices gathered.findings
+by_listed None opinions sources custodians table gathered found = found_slices opinions sources.whole table gathered found
+by_listed (Some line) opinions sources custodians table gathered found = finds_slices _ _ gathered (unlisted_within sources custodians table) found
 
-by_filesystems : (read : Result (List Mount) TableFault) (sources : SiteSources) (custodians : List Custodian) (gathered : Gathered) → site.GathersBy read sources custodians gathered → HaveSlices gathered.findings
-by_filesystems (Ok table) sources custodians gathered found = by_listed (unlisted_line custodians table) sources custodians table gathered found
-by_filesystems (Err fault) sources custodians gathered found = finds_slices _ _ gathered (heads_within sources) found
+by_filesystems : (read : Result (List Mount) TableFault) (opinions : Bool) (sources : SiteSources) (custodians : List Custodian) (gathered : Gathered) → site.GathersBy read opinions sources custodians gathered → HaveSlices gathered.findings
+by_filesystems (Ok table) opinions sources custodians gathered found = by_listed (unlisted_line custodians table) opinions sources custodians table gathered found
+by_filesystems (Err fault) opinions sources custodians gathered found = finds_slices _ _ gathered (heads_within sources) found
 
-pub with_custodians_slices : (sources : SiteSources) (custodians : List Custodian) (gathered : Gathered) → site.GathersWithCustodians sources custodians gathered → HaveSlices gathered.findings
-with_custodians_slices sources custodians gathered found = by_filesystems (read_filesystems sources.filesystems.text.now) sources custodians gathered found
+pub with_custodians_slices : (opinions : Bool) (sources : SiteSources) (custodians : List Custodian) (gathered : Gathered) → site.GathersWithCustodians opinions sources custodians gathered → HaveSlices gathered.findings
+with_custodians_slices opinions sources custodians gathered found = by_filesystems (read_filesystems sources.filesystems.text.now) opinions sources custodians gathered found
 
 pub heads_slices : (sources : SiteSources) (gathered : Gathered) → site.GathersHeads sources gathered → HaveSlices gathered.findings
 heads_slices sources gathered found = finds_slices _ _ gathered (heads_within sources) found

@@ -1,5 +1,5 @@
--- What `check` tells of texts without a fault: the lines that contradict an earlier one, and the words that are odd. (this
--- project's own)
+-- What `check` tells of texts without a fault: the lines that contradict an earlier one, the words that are odd, and what is said
+-- of lines. (this project's own)
 use Rattle.std.specs.Prelude.{◌≡◌, ℕ, ◌++◌, List, [], ◌∷◌, IfSome, map}
 use Rattle.std.specs.List.{IsAmong}
 use Rattle.std.specs.List.Sorted.{IsNonDecreasingBy, IsPermutation}
@@ -10,6 +10,7 @@ use Rattle.desk_policy.specs.Contradiction.{AreContradictions}
 use Rattle.desk_policy.specs.declared.contradiction.Contradiction.{Contradiction}
 use Rattle.desk_policy.specs.declared.row.Row.{Row}
 use Rattle.desk_policy.specs.declared.warning.Warning.{Warning}
+use Rattle.desk_remarks.specs.declared.remark.LineRemark.{LineRemark}
 use Rattle.desk_findings.specs.CheckFaults.{Tells}
 use Rattle.desk_findings.specs.Told.{Told, tell}
 use Rattle.desk_findings.specs.declared.check_faults.Source.{Source}
@@ -34,6 +35,9 @@ odd_of_contradiction one = record { line = one.line; matter = matter.Contradicti
 
 abbrev pub odd_of_warning : Warning → OddLine
 odd_of_warning one = record { line = one.line; matter = matter.Warning one.kind }
+
+abbrev pub odd_of_remark : LineRemark → OddLine
+odd_of_remark one = record { line = one.line; matter = matter.Remark one.remark one.example }
 
 -- the place lies in the text, on a physical line of this logical line
 pub record IsOn (text : List ℕ) (line : LogicalLine) (place : Place) : Type 0 where
@@ -61,9 +65,10 @@ pub record TellInOrder (source : Source) (given : List OddLine) (all : List Told
   pub order : IsNonDecreasingBy (λ odd. odd.line) odds
   pub tell : Tells odd_of_spot (IsSpot source.text.now) (tell_spot source) odds all
 
--- what is told are these contradictions and warnings of a text, in that order
-abbrev pub TellOdds : Source → List Contradiction → List Warning → List Told → Type 0
-TellOdds source contradictions warnings all = TellInOrder source (map odd_of_contradiction contradictions ++ map odd_of_warning warnings) all
+-- what is told are these contradictions, warnings and remarks of a text, in that order
+abbrev pub TellOdds : Source → List Contradiction → List Warning → List LineRemark → List Told → Type 0
+TellOdds source contradictions warnings remarks all =
+    TellInOrder source (map odd_of_contradiction contradictions ++ (map odd_of_warning warnings ++ map odd_of_remark remarks)) all
 
 -- these are the contradictions of each of these files in turn
 abbrev pub AreContradictionsIn : List (List Row) → List Contradiction → Type 0

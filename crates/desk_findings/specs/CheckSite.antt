@@ -1,5 +1,5 @@
 -- What `check` finds in the folder of a site's files. (this project's own)
-use Rattle.std.specs.Prelude.{◌≡◌, ℕ, ◌++◌, false, List, Option, None, Some, Result, Ok, Err, filter, map}
+use Rattle.std.specs.Prelude.{◌≡◌, ℕ, ◌++◌, Bool, false, List, Option, None, Some, Result, Ok, Err, filter, map}
 use Rattle.desk_tables.specs.Custodians.{custodian_faults, read_custodians}
 use Rattle.desk_tables.specs.Faults.{IsOnLine, IsOnLineOrWhole}
 use Rattle.desk_tables.specs.FileSystemsText.{filesystem_faults, read_filesystems}
@@ -59,28 +59,28 @@ GathersHeads sources gathered = Finds (TellHeads sources) false gathered
 abbrev pub GathersUnlisted : SiteSources → List Custodian → List Mount → Gathered → Type 0
 GathersUnlisted sources custodians table gathered = Finds (TellUnlistedFirst sources custodians table) false gathered
 
-abbrev pub GathersIfListed : Option ℕ → SiteSources → List Custodian → List Mount → Gathered → Type 0
-GathersIfListed None sources custodians table gathered = Gathers sources.whole table gathered
-GathersIfListed (Some line) sources custodians table gathered = GathersUnlisted sources custodians table gathered
+abbrev pub GathersIfListed : Option ℕ → Bool → SiteSources → List Custodian → List Mount → Gathered → Type 0
+GathersIfListed None opinions sources custodians table gathered = Gathers opinions sources.whole table gathered
+GathersIfListed (Some line) opinions sources custodians table gathered = GathersUnlisted sources custodians table gathered
 
 -- what is found with these custodians and file systems
-abbrev pub GathersListed : SiteSources → List Custodian → List Mount → Gathered → Type 0
-GathersListed sources custodians table gathered = GathersIfListed (unlisted_line custodians table) sources custodians table gathered
+abbrev pub GathersListed : Bool → SiteSources → List Custodian → List Mount → Gathered → Type 0
+GathersListed opinions sources custodians table gathered = GathersIfListed (unlisted_line custodians table) opinions sources custodians table gathered
 
-abbrev pub GathersBy : Result (List Mount) TableFault → SiteSources → List Custodian → Gathered → Type 0
-GathersBy (Ok table) sources custodians gathered = GathersListed sources custodians table gathered
-GathersBy (Err fault) sources custodians gathered = GathersHeads sources gathered
+abbrev pub GathersBy : Result (List Mount) TableFault → Bool → SiteSources → List Custodian → Gathered → Type 0
+GathersBy (Ok table) opinions sources custodians gathered = GathersListed opinions sources custodians table gathered
+GathersBy (Err fault) opinions sources custodians gathered = GathersHeads sources gathered
 
 -- what is found with these custodians
-abbrev pub GathersWithCustodians : SiteSources → List Custodian → Gathered → Type 0
-GathersWithCustodians sources custodians gathered = GathersBy (read_filesystems sources.filesystems.text.now) sources custodians gathered
+abbrev pub GathersWithCustodians : Bool → SiteSources → List Custodian → Gathered → Type 0
+GathersWithCustodians opinions sources custodians gathered = GathersBy (read_filesystems sources.filesystems.text.now) opinions sources custodians gathered
 
-abbrev pub GathersFrom : Result (List Custodian) TableFault → SiteSources → Gathered → Type 0
-GathersFrom (Ok custodians) sources gathered = GathersWithCustodians sources custodians gathered
-GathersFrom (Err fault) sources gathered = GathersHeads sources gathered
+abbrev pub GathersFrom : Result (List Custodian) TableFault → Bool → SiteSources → Gathered → Type 0
+GathersFrom (Ok custodians) opinions sources gathered = GathersWithCustodians opinions sources custodians gathered
+GathersFrom (Err fault) opinions sources gathered = GathersHeads sources gathered
 
--- What is found in a site's files: each faulty line of its tables, the custodians among them; if there is none, what is found
--- in the exports text. Whether the custodians of the file systems are listed is asked only once no line of both files breaks
+-- What is found in a site's files, with opinions or without: each faulty line of its tables, the custodians among them; if there
+-- is none, what is found in the exports text. Whether the custodians of the file systems are listed is asked only once no line of both files breaks
 -- another rule.
-abbrev pub GathersSite : SiteSources → Gathered → Type 0
-GathersSite sources gathered = GathersFrom (read_custodians sources.custodians.text.now) sources gathered
+abbrev pub GathersSite : Bool → SiteSources → Gathered → Type 0
+GathersSite opinions sources gathered = GathersFrom (read_custodians sources.custodians.text.now) opinions sources gathered

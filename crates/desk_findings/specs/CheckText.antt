@@ -11,14 +11,15 @@ use Rattle.desk_exports.specs.declared.profile.Profile.TheVariants.{Two}
 use Rattle.desk_exports.specs.declared.rules.Rule.{Rule}
 use Rattle.desk_policy.specs.Parsing.{read_tables, rows_with}
 use Rattle.desk_policy.specs.PerTable.{map_tables}
-use Rattle.desk_policy.specs.Policy.{content_of}
+use Rattle.desk_policy.specs.Policy.{Content, content_of}
 use Rattle.desk_policy.specs.Warning.{netgroup_warnings, whole_warnings}
 use Rattle.desk_policy.specs.declared.contradiction.Contradiction.{Contradiction}
 use Rattle.desk_policy.specs.declared.parsing.SiteTables.{SiteTables}
 use Rattle.desk_policy.specs.declared.per_table.PerTable.{PerTable}
-use Rattle.desk_policy.specs.declared.row.Row.{Row}
 use Rattle.desk_policy.specs.declared.site_fault.SiteFault.{SiteFault}
 use Rattle.desk_policy.specs.declared.warning.Warning.{Warning}
+use Rattle.desk_remarks.specs.Remarks.{AreRemarks}
+use Rattle.desk_remarks.specs.declared.remark.LineRemark.{LineRemark}
 use Rattle.desk_findings.specs.CheckFaults.{TellTables, Tells, tell_line}
 use Rattle.desk_findings.specs.CheckOdd.{AreContradictionsIn, TellOdds}
 use Rattle.desk_findings.specs.Told.{Told, told}
@@ -38,20 +39,23 @@ TellLineFaults source table site_tables all =
 
 -- the warnings of a netgroup file
 abbrev pub TellNetgroupWarnings : Source → SiteTables → List Told → Type 0
-TellNetgroupWarnings source site_tables all = TellOdds source [] (netgroup_warnings site_tables.netgroups site_tables.hosts) all
+TellNetgroupWarnings source site_tables all = TellOdds source [] (netgroup_warnings site_tables.netgroups site_tables.hosts) [] all
 
--- the contradictions of the lines of each file system, and these warnings of an exports text
-pub record TellInconsistencies (source : Source) (files : List (List Row)) (warnings : List Warning) (all : List Told) : Type 0 where
+-- the contradictions of the lines of each file system, these warnings of an exports text, and what is said of its lines, with
+-- opinions or without
+pub record TellInconsistencies (opinions : Bool) (source : Source) (content : Content) (warnings : List Warning) (all : List Told) : Type 0 where
   pub clashes : List Contradiction
-  pub are_clashes : AreContradictionsIn files clashes
-  pub tell : TellOdds source clashes warnings all
+  pub are_clashes : AreContradictionsIn content.rows clashes
+  pub remarks : List LineRemark
+  pub are_remarks : AreRemarks opinions content warnings remarks
+  pub tell : TellOdds source clashes warnings remarks all
 
--- the warnings of the netgroup file, and then the contradictions and the warnings of an exports text of these entries
-pub record TellOddities (sources : WholeSources) (table : List Mount) (site_tables : SiteTables) (entries : List (FsId × Entry)) (all : List Told) : Type 0 where
+-- the warnings of the netgroup file, and then the contradictions, the warnings and the remarks of an exports text of these entries
+pub record TellOddities (opinions : Bool) (sources : WholeSources) (table : List Mount) (site_tables : SiteTables) (entries : List (FsId × Entry)) (all : List Told) : Type 0 where
   pub netgroup : List Told
   pub exports : List Told
   pub tell_netgroup : TellNetgroupWarnings sources.tables.netgroup site_tables netgroup
-  pub tell_exports : TellInconsistencies sources.exports (content_of site_tables.netgroups site_tables.hosts table entries).rows (whole_warnings site_tables.netgroups site_tables.hosts entries) exports
+  pub tell_exports : TellInconsistencies opinions sources.exports (content_of site_tables.netgroups site_tables.hosts table entries) (whole_warnings site_tables.netgroups site_tables.hosts entries) exports
   pub are : all ≡ netgroup ++ exports
 
 -- the faults of the tables alone
@@ -61,28 +65,29 @@ GathersTables tables gathered = Finds (TellTables tables) false gathered
 abbrev pub GathersFaults : Source → List Mount → SiteTables → Gathered → Type 0
 GathersFaults source table site_tables gathered = Finds (TellLineFaults source table site_tables) true gathered
 
-abbrev pub GathersOdd : WholeSources → List Mount → SiteTables → List (FsId × Entry) → Gathered → Type 0
-GathersOdd sources table site_tables entries gathered = Finds (TellOddities sources table site_tables entries) true gathered
+abbrev pub GathersOdd : Bool → WholeSources → List Mount → SiteTables → List (FsId × Entry) → Gathered → Type 0
+GathersOdd opinions sources table site_tables entries gathered = Finds (TellOddities opinions sources table site_tables entries) true gathered
 
 -- what is found by what the exports text is read as
-abbrev pub GathersBy : Result (List (FsId × Entry)) (LineFault Rule) → WholeSources → List Mount → SiteTables → Gathered → Type 0
-GathersBy (Ok entries) sources table site_tables gathered = GathersOdd sources table site_tables entries gathered
-GathersBy (Err fault) sources table site_tables gathered = GathersFaults sources.exports table site_tables gathered
+abbrev pub GathersBy : Result (List (FsId × Entry)) (LineFault Rule) → Bool → WholeSources → List Mount → SiteTables → Gathered → Type 0
+GathersBy (Ok entries) opinions sources table site_tables gathered = GathersOdd opinions sources table site_tables entries gathered
+GathersBy (Err fault) opinions sources table site_tables gathered = GathersFaults sources.exports table site_tables gathered
 
 -- What is found in an exports text with good tables, by profile 2: each faulty line, or else what it and the netgroup file are
--- warned of, and each line that contradicts an earlier one.
-abbrev pub GathersExports : WholeSources → List Mount → SiteTables → Gathered → Type 0
-GathersExports sources table site_tables gathered =
-    GathersBy (whole_answer (rows_with Two table site_tables) sources.exports.text.now) sources table site_tables gathered
+-- warned of, each line that contradicts an earlier one, and what is said of the other lines.
+abbrev pub GathersExports : Bool → WholeSources → List Mount → SiteTables → Gathered → Type 0
+GathersExports opinions sources table site_tables gathered =
+    GathersBy (whole_answer (rows_with Two table site_tables) sources.exports.text.now) opinions sources table site_tables gathered
 
 -- what these texts of the five tables are read as
 abbrev pub tables_of : PerTable Source → Result SiteTables SiteFault
 tables_of sources = read_tables (map_tables (λ (source : Source). source.text.now) sources)
 
-abbrev pub GathersWith : Result SiteTables SiteFault → WholeSources → List Mount → Gathered → Type 0
-GathersWith (Ok site_tables) sources table gathered = GathersExports sources table site_tables gathered
-GathersWith (Err fault) sources table gathered = GathersTables sources.tables gathered
+abbrev pub GathersWith : Result SiteTables SiteFault → Bool → WholeSources → List Mount → Gathered → Type 0
+GathersWith (Ok site_tables) opinions sources table gathered = GathersExports opinions sources table site_tables gathered
+GathersWith (Err fault) opinions sources table gathered = GathersTables sources.tables gathered
 
--- What is found in an exports text and its tables: each faulty line of the tables, and else what is found in the exports text.
-abbrev pub Gathers : WholeSources → List Mount → Gathered → Type 0
-Gathers sources table gathered = GathersWith (tables_of sources.tables) sources table gathered
+-- What is found in an exports text and its tables, with opinions or without: each faulty line of the tables, and else what is
+-- found in the exports text.
+abbrev pub Gathers : Bool → WholeSources → List Mount → Gathered → Type 0
+Gathers opinions sources table gathered = GathersWith (tables_of sources.tables) opinions sources table gathered

@@ -8,6 +8,7 @@ use Rattle.desk_text.specs.declared.place.Place.{Place}
 use Rattle.desk_policy.specs.SiteFault.{rule_name, rule_number}
 use Rattle.desk_policy.specs.Warning.{kind_name, kind_number}
 use Rattle.desk_policy.specs.declared.site_fault.SiteRule.TheVariants as rule
+use Rattle.desk_remarks.specs.Remark.{remark_name, remark_number}
 use Rattle.desk_findings.specs.declared.finding.Finding.{Finding}
 use Rattle.desk_findings.specs.declared.finding.Matter.{Matter}
 use Rattle.desk_findings.specs.declared.finding.Matter.TheVariants as matter
@@ -17,24 +18,28 @@ abbrev pub is_fault : Matter → Bool
 is_fault (matter.Fault rule other) = true
 is_fault (matter.Contradiction other address) = true
 is_fault (matter.Warning kind) = false
+is_fault (matter.Remark remark example) = false
 
 -- the word for that
 abbrev pub kind_word : Matter → List ℕ
 kind_word (matter.Fault rule other) = codes "fault"
 kind_word (matter.Contradiction other address) = codes "fault"
 kind_word (matter.Warning kind) = codes "warning"
+kind_word (matter.Remark remark example) = codes "warning"
 
 -- the number of the rule, or of the kind of warning
 abbrev pub number_of : Matter → ℕ
 number_of (matter.Fault rule other) = rule_number rule
 number_of (matter.Contradiction other address) = rule_number rule.Contradiction
 number_of (matter.Warning kind) = kind_number kind
+number_of (matter.Remark remark example) = remark_number remark
 
 -- and its name
 abbrev pub name_of : Matter → List ℕ
 name_of (matter.Fault rule other) = rule_name rule
 name_of (matter.Contradiction other address) = rule_name rule.Contradiction
 name_of (matter.Warning kind) = kind_name kind
+name_of (matter.Remark remark example) = remark_name remark
 
 -- how many characters the bytes of a text begin (UTF-8: each byte but 128 to 191)
 abbrev pub character_count : List ℕ → ℕ

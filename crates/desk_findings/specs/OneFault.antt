@@ -40,6 +40,7 @@ abbrev pub is_about : SiteFault → Matter → Bool
 is_about fault (matter.Fault rule other) = rule_number rule == rule_number fault.rule
 is_about fault (matter.Contradiction other address) = is_clash other address fault.other fault.address
 is_about fault (matter.Warning kind) = false
+is_about fault (matter.Remark remark example) = false
 
 -- this fault of an exports text, by its line and the number of its rule
 abbrev pub is_same : LineFault Rule → LineFault Rule → Bool

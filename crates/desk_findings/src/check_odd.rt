@@ -1,4 +1,4 @@
-//! What `check` finds in texts without a fault: lines that contradict an earlier one, and words that are odd.
+//! What `check` finds in texts without a fault: lines that contradict an earlier one, words that are odd, and what is said of lines.
 
 ghost use Rattle.std.specs.Prelude.{◌≡◌, ℕ, ◌++◌, All, IfOk, IfSome, List, OnOk, map};
 ghost use Rattle.std.specs.List.{IsAmong};
@@ -6,7 +6,7 @@ ghost use Rattle.std.specs.List.Sorted.{IsNonDecreasingBy, IsPermutation};
 ghost use Rattle.desk_text.specs.Lines.{IsReadable, LogicalLine, logical_lines};
 ghost use Rattle.desk_policy.specs.Policy.{AreAscending};
 ghost use Rattle.desk_findings.specs.CheckFaults.{Adds};
-ghost use Rattle.desk_findings.specs.CheckOdd.{AreContradictionsIn, IsOn, IsSpot, TellInOrder, TellOdds, odd_at, odd_of_contradiction, odd_of_spot, odd_of_warning, tell_spot};
+ghost use Rattle.desk_findings.specs.CheckOdd.{AreContradictionsIn, IsOn, IsSpot, TellInOrder, TellOdds, odd_at, odd_of_contradiction, odd_of_remark, odd_of_spot, odd_of_warning, tell_spot};
 ghost use Rattle.desk_findings.specs.PrivateCheckOdd.{AreWordsIn};
 ghost use Rattle.desk_findings.specs.Told.{told};
 
@@ -15,6 +15,7 @@ use crate::finding::{Finding, Matter};
 use desk_exports::client_places;
 use desk_netgroup::member_places;
 use desk_policy::{Contradiction, Row, Warning, contradictions};
+use desk_remarks::LineRemark;
 use desk_text::{Line, Place, ReadError, Sequence, Word, logical_lines, words};
 use std::alloc::{AllocError, Global};
 
@@ -54,19 +55,21 @@ struct PlacedWords {
     places: Vec<Place>,
 }
 
-/// Adds these contradictions and warnings of a text, in the order of their lines. The warnings count their words among these.
+/// Adds these contradictions, warnings and remarks of a text, in the order of their lines. The warnings count their words among
+/// these.
 pub fn push_odds<'a>(
     alloc: Global,
     source: Source<'a>,
     among: Among,
     contradictions: &[Contradiction],
     warnings: &[Warning],
+    remarks: &[LineRemark],
     found: &mut Sequence<Finding<'a>>,
 ) -> Result<(), AllocError>
     requires { IsReadable source.text.now }
-    ensures { OnOk result (Adds (TellOdds source.entry contradictions.now warnings.now) found.old found.new) }
+    ensures { OnOk result (Adds (TellOdds source.entry contradictions.now warnings.now remarks.now) found.old found.new) }
 {
-    let odds = odds_of(alloc, among, contradictions, warnings)?;
+    let odds = odds_of(alloc, among, contradictions, warnings, remarks)?;
     push_in_order(alloc, source, odds, found)?;
     Ok(())
 }
@@ -116,16 +119,27 @@ fn push_contradictions(
     Ok(())
 }
 
-/// Lists what contradictions and warnings say. The warnings count their words among these.
+/// Lists what contradictions, warnings and remarks say. The warnings count their words among these.
 fn odds_of(
     alloc: Global,
     among: Among,
     contradictions: &[Contradiction],
     warnings: &[Warning],
+    remarks: &[LineRemark],
 ) -> Result<Vec<Odd>, AllocError>
-    ensures { IfOk result (λ odds. map odd_at odds.items ≡ map odd_of_contradiction contradictions.now ++ map odd_of_warning warnings.now) }
+    ensures { IfOk result (λ odds. map odd_at odds.items
+        ≡ map odd_of_contradiction contradictions.now ++ (map odd_of_warning warnings.now ++ map odd_of_remark remarks.now)) }
 {
     let mut odds = odds_of_contradictions(alloc, contradictions)?;
+    add_warnings(among, warnings, &mut odds)?;
+    add_remarks(remarks, &mut odds)?;
+    Ok(odds)
+}
+
+/// Adds what warnings say. They count their words among these.
+fn add_warnings(among: Among, warnings: &[Warning], odds: &mut Vec<Odd>) -> Result<(), AllocError>
+    ensures { OnOk result (map odd_at odds.new.items ≡ map odd_at odds.old.items ++ map odd_of_warning warnings.now) }
+{
     for warning in warnings {
         odds.push(Odd {
             line: warning.line,
@@ -134,7 +148,22 @@ fn odds_of(
             index: warning.index,
         })?;
     }
-    Ok(odds)
+    Ok(())
+}
+
+/// Adds what remarks say, each at the first word of its line.
+fn add_remarks(remarks: &[LineRemark], odds: &mut Vec<Odd>) -> Result<(), AllocError>
+    ensures { OnOk result (map odd_at odds.new.items ≡ map odd_at odds.old.items ++ map odd_of_remark remarks.now) }
+{
+    for one in remarks {
+        odds.push(Odd {
+            line: one.line,
+            matter: Matter::Remark(one.remark, one.example),
+            among: Among::Words,
+            index: 0,
+        })?;
+    }
+    Ok(())
 }
 
 /// Lists what contradictions say, each at the first word of its line.

@@ -26,17 +26,22 @@ pub struct SiteSources<'a> {
 }
 
 /// Finds the faults of the custodians and of the file systems, and those of the tables after them; if there are none, what
-/// is found in the exports text. Each is at a slice of the line that it shows, or of a whole file.
-pub fn gather_site<'a>(alloc: Global, sources: SiteSources<'a>) -> Result<Gathered<'a>, AllocError>
+/// is found in the exports text, with opinions if they are asked for. Each is at a slice of the line that it shows, or of a whole
+/// file.
+pub fn gather_site<'a>(
+    alloc: Global,
+    sources: SiteSources<'a>,
+    opinions: bool,
+) -> Result<Gathered<'a>, AllocError>
     requires custodians { IsReadable sources.custodians.text.now }
     requires filesystems { IsReadable sources.filesystems.text.now }
     requires tables { AreReadable sources.whole.tables }
     requires exports { IsReadable sources.whole.exports.text.now }
-    ensures found { IfOk result (GathersSite sources.entry) }
+    ensures found { IfOk result (GathersSite opinions sources.entry) }
     ensures slices { IfOk result (λ gathered. HaveSlices gathered.findings) }
 {
     match Custodians::read(alloc, sources.custodians.text) {
-        Ok(custodians) => gather_with_custodians(alloc, sources, &custodians),
+        Ok(custodians) => gather_with_custodians(alloc, sources, &custodians, opinions),
         Err(ReadError::Fault(_)) => gather_heads(alloc, sources),
         Err(ReadError::Memory) => Err(AllocError),
     }
@@ -47,15 +52,16 @@ fn gather_with_custodians<'a>(
     alloc: Global,
     sources: SiteSources<'a>,
     custodians: &Custodians,
+    opinions: bool,
 ) -> Result<Gathered<'a>, AllocError>
     requires custodians { IsReadable sources.custodians.text.now }
     requires filesystems { IsReadable sources.filesystems.text.now }
     requires tables { AreReadable sources.whole.tables }
     requires exports { IsReadable sources.whole.exports.text.now }
-    ensures { IfOk result (GathersWithCustodians sources.entry custodians.now) }
+    ensures { IfOk result (GathersWithCustodians opinions sources.entry custodians.now) }
 {
     match FileSystems::read(alloc, sources.filesystems.text) {
-        Ok(filesystems) => gather_listed(alloc, sources, custodians, filesystems),
+        Ok(filesystems) => gather_listed(alloc, sources, custodians, filesystems, opinions),
         Err(ReadError::Fault(_)) => gather_heads(alloc, sources),
         Err(ReadError::Memory) => Err(AllocError),
     }
@@ -67,14 +73,15 @@ fn gather_listed<'a>(
     sources: SiteSources<'a>,
     custodians: &Custodians,
     filesystems: FileSystems,
+    opinions: bool,
 ) -> Result<Gathered<'a>, AllocError>
     requires filesystems { IsReadable sources.filesystems.text.now }
     requires tables { AreReadable sources.whole.tables }
     requires exports { IsReadable sources.whole.exports.text.now }
-    ensures { IfOk result (GathersListed sources.entry custodians.now filesystems) }
+    ensures { IfOk result (GathersListed opinions sources.entry custodians.now filesystems) }
 {
     match unlisted_line(custodians, &filesystems) {
-        None => gather(alloc, sources.whole, filesystems),
+        None => gather(alloc, sources.whole, filesystems, opinions),
         Some(_) => {
             let found = gather_unlisted(alloc, sources, custodians, filesystems.as_slice());
             drop(filesystems);

@@ -1,6 +1,6 @@
 //! What `check` finds in an exports text and its tables.
 
-ghost use Rattle.std.specs.Prelude.{◌≡◌, IfOk, IsErr, OnOk};
+ghost use Rattle.std.specs.Prelude.{◌≡◌, IfOk, IsErr, Ok, OnOk, ℕ};
 ghost use Rattle.desk_text.specs.Lines.{IsReadable};
 ghost use Rattle.desk_text.specs.Reading.{Reads};
 ghost use Rattle.desk_text.specs.declared.reading.ReadError.TheVariants.{Memory};
@@ -9,6 +9,7 @@ ghost use Rattle.desk_exports.specs.declared.profile.Profile.TheVariants.{Two};
 ghost use Rattle.desk_exports.specs.Tables.{table_rows};
 ghost use Rattle.desk_policy.specs.Parsing.{rows_with};
 ghost use Rattle.desk_policy.specs.Policy.{content_of};
+ghost use Rattle.desk_idle.specs.Laws.{WriteDirectories};
 ghost use Rattle.desk_findings.specs.CheckFaults.{Adds, AreReadable};
 ghost use Rattle.desk_findings.specs.CheckText.{Gathers, GathersExports, GathersFaults, GathersOdd, GathersTables, TellInconsistencies, TellNetgroupWarnings, tables_of};
 ghost use Rattle.desk_findings.specs.Finding.{HaveSlices};
@@ -17,10 +18,12 @@ use crate::check_faults::{Source, push_line_faults, push_tables};
 use crate::check_odd::{Among, contradictions_in, push_odds};
 use crate::finding::Finding;
 use desk_exports::{Boxed, Entry, Profile, Rule, Scope, Tables, find_faults, read_whole};
+use desk_idle::read_lines_write_directories;
 use desk_policy::{
     PerTable, Policy, SiteFault, SiteTables, Warning, ascending_entries_ascend_in_each_file,
     netgroup_warnings, whole_warnings,
 };
+use desk_remarks::find_remarks;
 use desk_tables::{FileSystems, FsId};
 use desk_text::{LineFault, ReadError, Sequence};
 use std::alloc::{AllocError, Global};
@@ -41,20 +44,21 @@ pub struct Gathered<'a> {
 }
 
 /// Finds the faults of the tables; if there are none, those of the exports text, by profile 2, with these tables and file
-/// systems; and if it has none either, its contradictions and the warnings. Each is at a slice of the line that it shows, or of
-/// a whole file.
+/// systems; and if it has none either, its contradictions and the warnings, with opinions if they are asked for. Each is at a slice
+/// of the line that it shows, or of a whole file.
 pub fn gather<'a>(
     alloc: Global,
     sources: WholeSources<'a>,
     filesystems: FileSystems,
+    opinions: bool,
 ) -> Result<Gathered<'a>, AllocError>
     requires tables { AreReadable sources.tables }
     requires exports { IsReadable sources.exports.text.now }
-    ensures found { IfOk result (Gathers sources.entry filesystems) }
+    ensures found { IfOk result (Gathers opinions sources.entry filesystems) }
     ensures slices { IfOk result (λ gathered. HaveSlices gathered.findings) }
 {
     match read_sources(alloc, sources.tables) {
-        Ok(site_tables) => gather_exports(alloc, sources, filesystems, &site_tables),
+        Ok(site_tables) => gather_exports(alloc, sources, filesystems, &site_tables, opinions),
         Err(error) => {
             drop(filesystems);
             gather_if_fault(alloc, sources.tables, error)
@@ -121,13 +125,14 @@ fn gather_exports<'a>(
     sources: WholeSources<'a>,
     filesystems: FileSystems,
     site_tables: &SiteTables,
+    opinions: bool,
 ) -> Result<Gathered<'a>, AllocError>
     requires tables { AreReadable sources.tables }
     requires exports { IsReadable sources.exports.text.now }
-    ensures { IfOk result (GathersExports sources.entry filesystems site_tables.now) }
+    ensures { IfOk result (GathersExports opinions sources.entry filesystems site_tables.now) }
 {
     match read_entries(alloc, sources.exports.text, &filesystems, site_tables) {
-        Ok(entries) => gather_odd(alloc, sources, filesystems, site_tables, entries),
+        Ok(entries) => gather_odd(alloc, sources, filesystems, site_tables, entries, opinions),
         Err(ReadError::Fault(_)) => {
             let found = gather_line_faults(alloc, sources.exports, &filesystems, site_tables);
             drop(filesystems);
@@ -199,19 +204,23 @@ fn gather_line_faults<'a>(
     })
 }
 
-/// Finds the warnings of the netgroup file, and the contradictions and the warnings of the exports text of these entries.
+/// Finds the warnings of the netgroup file, and the contradictions, the warnings and the remarks of the exports text of these
+/// entries.
 fn gather_odd<'a>(
     alloc: Global,
     sources: WholeSources<'a>,
     filesystems: FileSystems,
     site_tables: &SiteTables,
     entries: Sequence<(FsId, Boxed<Entry>)>,
+    opinions: bool,
 ) -> Result<Gathered<'a>, AllocError>
     requires tables { AreReadable sources.tables }
     requires exports { IsReadable sources.exports.text.now }
+    requires read { whole_answer (rows_with Two filesystems site_tables.now) sources.exports.text.now ≡ Ok entries }
     requires ascending { EntriesAscend entries }
-    ensures { IfOk result (GathersOdd sources.entry filesystems site_tables.now entries) }
+    ensures { IfOk result (GathersOdd opinions sources.entry filesystems site_tables.now entries) }
 {
+    read_lines_write_directories();
     let warnings = whole_warnings(
         alloc,
         &site_tables.netgroups,
@@ -224,11 +233,11 @@ fn gather_odd<'a>(
     push_inconsistencies(
         alloc,
         sources.exports,
-        &policy,
+        policy,
         warnings.as_slice(),
+        opinions,
         &mut findings,
     )?;
-    drop(policy);
     drop(warnings);
     Ok(Gathered {
         findings,
@@ -273,30 +282,35 @@ fn push_netgroup_warnings<'a>(
         Among::Members,
         &[],
         warnings.as_slice(),
+        &[],
         findings,
     )?;
     drop(warnings);
     Ok(())
 }
 
-/// Adds the contradictions and the warnings of the exports text.
+/// Adds the contradictions, the warnings and the remarks of the exports text.
 fn push_inconsistencies<'a>(
     alloc: Global,
     source: Source<'a>,
-    policy: &Policy,
+    policy: Policy,
     warnings: &[Warning],
+    opinions: bool,
     findings: &mut Sequence<Finding<'a>>,
 ) -> Result<(), AllocError>
-    requires { IsReadable source.text.now }
-    ensures { OnOk result (Adds (TellInconsistencies source.entry policy.now.rows warnings.now) findings.old findings.new) }
+    requires text { IsReadable source.text.now }
+    requires lines { (fs : ℕ) → WriteDirectories policy fs }
+    ensures { OnOk result (Adds (TellInconsistencies opinions source.entry policy warnings.now) findings.old findings.new) }
 {
     let clashes = contradictions_in(alloc, policy.rows_by_filesystem())?;
+    let remarks = find_remarks(alloc, policy, warnings, opinions)?;
     push_odds(
         alloc,
         source,
         Among::Clients,
         clashes.as_slice(),
         warnings,
+        remarks.as_slice(),
         findings,
     )?;
     Ok(())

@@ -5,6 +5,7 @@ ghost use Rattle.std.specs.List.{list_any};
 ghost use Rattle.desk_findings.specs.Finding as spec;
 
 use desk_policy::{SiteRule, WarningKind};
+use desk_remarks::{Example, Remark};
 use desk_text::{Addr, Place};
 
 /// What a finding is about.
@@ -16,6 +17,8 @@ pub enum Matter {
     Contradiction(u32, Addr),
     /// A word is accepted, but odd.
     Warning(WarningKind),
+    /// A line breaks no rule, but this is said of it, with what shows it, if anything does.
+    Remark(Remark, Option<Example>),
 }
 
 /// A fault or a warning of a file, as `check` tells it.
@@ -39,7 +42,7 @@ impl Matter {
     {
         match self {
             Matter::Fault(_, _) | Matter::Contradiction(_, _) => true,
-            Matter::Warning(_) => false,
+            Matter::Warning(_) | Matter::Remark(_, _) => false,
         }
     }
 
@@ -49,7 +52,7 @@ impl Matter {
     {
         match self {
             Matter::Fault(_, _) | Matter::Contradiction(_, _) => "fault",
-            Matter::Warning(_) => "warning",
+            Matter::Warning(_) | Matter::Remark(_, _) => "warning",
         }
     }
 
@@ -61,6 +64,7 @@ impl Matter {
             Matter::Fault(rule, _) => rule.number(),
             Matter::Contradiction(_, _) => SiteRule::Contradiction.number(),
             Matter::Warning(kind) => kind.number(),
+            Matter::Remark(remark, _) => remark.number(),
         }
     }
 
@@ -72,6 +76,7 @@ impl Matter {
             Matter::Fault(rule, _) => rule.name(),
             Matter::Contradiction(_, _) => SiteRule::Contradiction.name(),
             Matter::Warning(kind) => kind.name(),
+            Matter::Remark(remark, _) => remark.name(),
         }
     }
 }

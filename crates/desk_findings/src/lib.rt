@@ -7,7 +7,7 @@
 //!
 //! ```text
 //! // with the file system `/usr`, no tables, and `/usr -maprot=root 10.0.0.5` in the file `exports`:
-//! let gathered = gather(alloc, sources, filesystems)?;
+//! let gathered = gather(alloc, sources, filesystems, false)?;
 //! gathered.findings[0].matter  // Matter::Fault(SiteRule::Line(Rule::UnknownOption), None)
 //! gathered.findings[0].slice() // "-maprot=root", at line 1 and column 6
 //! ```

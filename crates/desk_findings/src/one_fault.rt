@@ -48,7 +48,7 @@ fn is_about(fault: &SiteFault, matter: Matter) -> bool
         (Matter::Contradiction(other, address), Some(line), Some(least)) => {
             other == line && address == least
         }
-        (Matter::Contradiction(..), _, _) | (Matter::Warning(_), _, _) => false,
+        (Matter::Contradiction(..) | Matter::Warning(_) | Matter::Remark(_, _), _, _) => false,
     }
 }
 

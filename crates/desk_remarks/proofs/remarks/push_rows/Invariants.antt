@@ -1,0 +1,9 @@
+-- What is added so far.
+use Rattle.std.proofs.Common.{◌≡◌, ◌++◌, take}
+use Rattle.std.specs.List.{flat_map}
+use Rattle.desk_policy.specs.declared.row.Row.{Row}
+use Rattle.desk_remarks.specs.EntryRemarks.{entry_remarks}
+use Rattle.desk_remarks.proofs.remarks.push_rows.Given as goal
+
+abbrev pub invariant-loop-row : goal.invariant-loop-row
+invariant-loop-row l = l.found ≡ l.initial.found ++ flat_map (λ (row : Row). entry_remarks l.opinions row.entry) (take l.row-index l.rows)

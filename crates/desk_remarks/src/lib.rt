@@ -1,0 +1,22 @@
+//! What is said of lines that break no rule, beside the warnings of words.
+//!
+//! Its promise: [`find_remarks`] lists of a policy that does not contradict itself just the lines that decide nothing, each with the
+//! reason, and the networks of prefix 0; and, if they are asked for, opinions: the lines that let everybody write, and those that
+//! let the root of many clients act as root. It says nothing of a line one of whose words is warned of.
+//!
+//! ```text
+//! // with `/a 10.0.0.5` and `/a 10.0.0.5` once more:
+//! let found = find_remarks(alloc, policy, &[], false)?;
+//! // line 2: Remark::Repeated, by line 1 at 10.0.0.5
+//! ```
+#![tactic(auto)]
+
+mod entry_remarks;
+pub mod laws;
+pub mod remark;
+mod remarks;
+mod unwarned;
+
+pub use laws::lines_left_out_change_nothing;
+pub use remark::{Example, LineRemark, Remark};
+pub use remarks::find_remarks;

@@ -1,0 +1,5 @@
+pub mod LogReport
+pub mod PrivateSarif
+pub mod Sarif
+pub mod SarifRules
+pub mod SarifUri

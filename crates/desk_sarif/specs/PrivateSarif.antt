@@ -1,0 +1,9 @@
+-- What the private contracts of the results of a log cite.
+use Rattle.std.specs.Prelude.{ℕ, List, Option, None, Some, codes}
+use Rattle.serde_json.specs.Data.{Members, put}
+use Rattle.desk_sarif.specs.Sarif.{other_line, single}
+
+-- the members with that of another line, if there is one
+abbrev pub put_other : List ℕ → List ℕ → Option ℕ → Members → Members
+put_other words path None members = members
+put_other words path (Some line) members = put (codes "relatedLocations") (single (other_line words path line)) members
