@@ -17,7 +17,7 @@ STANDARD = "rw sec=sys root=65534:65533"
 GUARDING = "/usr site\n/u !guarded ulf site\n/a ulf\n/u2 ulf\n/cdrom site\n/private site\n/secret site\n"
 PROPOSED = "/u -ro\n"
 # The databases on which commands are run: that of the sample site, with the edits that are put there, each the file, the
-# caller and the text, and with base 1.
+# caller and the text, and with base 1. Beside these there is "old", of version 1.
 DATABASES = {
     "first": [],
     "later": [("hosts", "site", LOCALHOST)],
@@ -59,19 +59,31 @@ class Command:
     """The words of a command, its input, and what it answers: its status and what it prints.
 
     Among the words `DB` is a copy of a database, the one of this name, `NEW` a file that is not there, `TEXT` a file with
-    this text, and `FOLDER` an empty folder. `stored` are the rows that the command adds, each behind the name of its table,
-    and `taken` those that it takes out.
+    this text, `KEY` one with the key of `site`, and `FOLDER` a folder with these files. `stored` are the rows that the
+    command adds, each behind the name of its table, and `taken` those that it takes out.
     """
 
-    def __init__(self, words, out, status=0, given="", database=None, text="", stored=(), taken=(), title=None):
+    def __init__(self, words, out, status=0, given="", database=None, text="", stored=(), taken=(), title=None, files=()):
         self.words, self.wanted, self.given = words, (status, out.encode()), given.encode()
         self.database, self.text, self.stored, self.taken = database, text, list(stored), list(taken)
+        self.files = dict(files)
         self.title = title or f"`{' '.join(map(str, words))}`"
 
+    @property
+    def edits(self):
+        """Whether it opens its database for edits, and so may move it to version 2."""
+        return self.words[:1] == ["put"]
 
-def tried(words, text, out, status=0):
-    """A question on an exports text of a few lines."""
-    return Command(words, out, status, given=text, title=f"`{' '.join(words)}` on {text!r}")
+
+def tried(words, text, out, status=0, with_tables=False):
+    """A question on an exports text of a few lines, with the tables of the sample site or without tables."""
+    title = f"`{' '.join(words)}` {'with tables ' if with_tables else ''}on {text!r}"
+    return Command([*words, *(ALL_TABLES if with_tables else [])], out, status, given=text, title=title)
+
+
+ALL_TABLES = [
+    word for name in ("hosts", "networks", "netgroup", "passwd", "group") for word in (f"--{name}", str(SITE / name))
+]
 
 
 def written_as(credential, out, status=0):
@@ -90,7 +102,7 @@ def granted_as(credential, root):
 def put(name, caller, key, text, out, status=1, database="first", stored=(), taken=()):
     """An edit with base 1."""
     words = put_words("DB", name, "TEXT", 1, caller, key)
-    title = f"`put` of {name} by {caller}, which is answered {out.split(chr(10))[0]!r}"
+    title = f"`put` of {name} by {caller} into the database {database!r}, which is answered {out.split(chr(10))[0]!r}"
     return Command(words, out, status, database=database, text=text, stored=stored, taken=taken, title=title)
 
 
@@ -99,11 +111,12 @@ def put_guarded(caller, text, out, database, stored=(), taken=(), status=0):
     return put("exports:/u", caller, None, text, out, status, database, stored, taken)
 
 
-def foreseen(name, text, out, status, *options):
-    """What a text would change if a file of the sample site had it."""
+def foreseen(name, text, out, status, *options, database="first"):
+    """What a text would change if a file of a database had it."""
     words = ["impact", "DB", name, "TEXT", *options]
-    title = f"`impact` of {name}{''.join(f' {option}' for option in options)}, which is answered {out.split(chr(10))[0]!r}"
-    return Command(words, out, status, database="first", text=text, title=title)
+    answer = f"is answered {out.split(chr(10))[0]!r}"
+    title = f"`impact` of {name}{''.join(f' {option}' for option in options)} of the database {database!r}, which {answer}"
+    return Command(words, out, status, database=database, text=text, title=title)
 
 
 def audited(words, given, out, status, database="first", text=""):
@@ -178,8 +191,41 @@ PENDING_FILES = {
 U2 = "/u2 -maproot=root friends\n/u2 -alldirs -network cis-net -mask cis-mask\n"
 FILES = [*TABLES, "exports"]
 
-# The commands from `clients` on, and in `put` those from GUARDING on, were added after the last runs: of them `test` and `audit`
-# alone were run.
+FAULTY = '/a -maprot=root 10.0.0.5\n/a 10.0.0.6\n/a "x\n/c\n'
+FINDINGS = """\
+-:1:4: fault 5 UnknownOption: "-maprot=root" is not an option of exports(5)
+/a -maprot=root 10.0.0.5
+   ^^^^^^^^^^^^
+-:3:4: fault 24 OpenQuote: ""x" begins with a quote that is not closed on its physical line: close it, or write a backslash \
+before a quote in a name
+/a "x
+   ^^
+-:4:1: fault 4 DirectoryElsewhere: "/c" is not in the file system of the line's first directory, or in none that is listed: \
+write a line for each, list its mount point (MOUNT or filesystems), or quote a path with a blank
+/c
+^^
+3 faults, 0 warnings
+"""
+IPV6 = (
+    f"{SITE}/exports:7:13: warning 2 Ipv6: \"3ffe:1ce1:1:fe80::/64\" has a colon, so it counts as IPv6 and matches nobody: "
+    "write IPv4, and blanks between hosts\n"
+)
+SPLIT = "== /a\n/a -ro \\\n 10.0.0.5\n== /b\n/b\n"
+WHO = (
+    "0.0.0.0-131.104.47.255 denied 2 NoLine /u2\n"
+    f"131.104.48.0-131.104.48.19 granted line 2 {STANDARD}\n"
+    "131.104.48.20-131.104.48.21 denied 3 NotListed /u2 line 1\n"
+    f"131.104.48.22-131.104.48.255 granted line 2 {STANDARD}\n"
+    "131.104.49.0-255.255.255.255 denied 2 NoLine /u2\n"
+)
+CHANGED = (
+    "== other directories of /u2\n"
+    f"- 131.104.48.22-131.104.48.22 granted line 2 {STANDARD}\n"
+    "+ 131.104.48.22-131.104.48.22 denied 3 NotListed /u2 line 3\n"
+    "1 change, 1 of lines or reasons alone\n"
+)
+FRIENDS = "/usr friends\n/usr -network cis-net -mask cis-mask\n"
+
 COMMANDS = {
     "try": [
         Command(
@@ -218,6 +264,15 @@ COMMANDS = {
             "lines of /a that match 10.0.0.5: 2 of 3, 1 for nobody\n",
             1,
         ),
+        tried(
+            ["try", "-", "131.104.48.20", "/usr", "/usr", "--why"],
+            FRIENDS,
+            f"granted line 1 {STANDARD}\n"
+            "line 1 name friends: decides, lists /usr\n"
+            "line 2 network 131.104.48.0/24: outweighed by line 1, lists /usr\n"
+            "lines of /usr that match 131.104.48.20: 2 of 2\n",
+            with_tables=True,
+        ),
         granted_as("bin:", "3:"),
         granted_as("bin", "3:7"),
         granted_as("root", "0:0:5"),
@@ -225,6 +280,22 @@ COMMANDS = {
         written_as("7", "fault line 1 rule 17 UnknownUser\n", 3),
         written_as("bin:nogrp", "fault line 1 rule 18 UnknownGroup\n", 3),
         written_as("4294967296:", "fault line 1 rule 21 Range\n", 3),
+    ],
+    "check": [
+        tried(["check", "-", "/a"], FAULTY, FINDINGS, 3),
+        tried(
+            ["check", "-", "/a", "--json"],
+            "/a -maprot=root\n",
+            '[{"column":4,"kind":"fault","line":1,"name":"UnknownOption","path":"-","rule":5,'
+            '"text":"\\"-maprot=root\\" is not an option of exports(5)","word":"-maprot=root"}]\n',
+            3,
+        ),
+        tried(["check", "-", "/usr"], FRIENDS, "0 faults, 0 warnings\n", with_tables=True),
+        Command(["check", "--site", SITE, "--brief", "--strict"], f"{IPV6}0 faults, 1 warning\n", 3, title="`check --site`"),
+    ],
+    "split": [
+        Command(["split", "-", "TEXT"], SPLIT, given="# c\n/b\n/a -ro \\\n 10.0.0.5\n", text="/b site\n/a site\n"),
+        Command(["split", "-", "TEXT"], "fault line 1 rule 4 DirectoryElsewhere\n", 3, given="/c\n", text="/a site\n"),
     ],
     "init": [
         Command(
@@ -246,9 +317,24 @@ COMMANDS = {
             1,
             database="first",
         ),
+        asked_of(
+            "old",
+            ["ask", "DB", "131.104.48.16", "/usr", "--as", "0:0"],
+            "granted line 2 rw sec=sys root=1:1:5 as 1:1:5\n",
+        ),
     ],
-    "show": [Command(["show", "DB", "131.104.48.20"], SHOWN, database="first")],
-    "exports": [Command(["exports", "DB"], EXPORTS, database="first")],
+    "show": [asked_of(name, ["show", "DB", "131.104.48.20"], SHOWN) for name in ("first", "old")],
+    "exports": [asked_of(name, ["exports", "DB"], EXPORTS) for name in ("first", "old")],
+    "log": [
+        asked_of("later", ["log", "DB", "hosts"], "rev 1 site\nrev 2 site\n"),
+        asked_of("old", ["log", "DB", "exports:/u"], "rev 1 site, profile 1\n"),
+        asked_of("first", ["log", "DB", "exports:/u3"], NO_PROPOSAL, 1),
+    ],
+    "cat": [
+        asked_of("first", ["cat", "DB", "exports:/u2"], U2),
+        asked_of("later", ["cat", "DB", "hosts", "--rev", "2"], LOCALHOST),
+        asked_of("old", ["cat", "DB", "exports:/private"], "/private -sec=krb5i\n"),
+    ],
     "put": [
         put("hosts", "site", "abc", LOCALHOST, "accepted rev 2\n", 0, stored=[STORED]),
         put("hosts", "site", "abc", LOCALHOST, "already rev 2\n", 0, "later"),
@@ -268,6 +354,17 @@ COMMANDS = {
         ),
         put("filesystems", "site", "abc", TAKING, "fault exports:/usr line 1 rule 4 DirectoryElsewhere\n", 3),
         put("filesystems", "site", "abc", GUARDING, "accepted rev 2\n", 0, stored=[GUARDED]),
+        put("hosts", "site", "abc", LOCALHOST, "accepted rev 2\n", 0, "old", [STORED]),
+        put("filesystems", "site", "abc", GUARDING, "accepted rev 2\n", 0, "old", [GUARDED]),
+        put("hosts", "site", "abd", LOCALHOST, "refused 2 BadKey\n", 1, "old"),
+        put("exports:/u", "ulf", "hello", "/u -network 10\n", "fault exports:/u line 1 rule 27 NoMask\n", 3, "old"),
+        Command(
+            ["put", "DB", "hosts", "TEXT", "--base", "1", "--caller", "site", "--key-file", "KEY"],
+            "accepted rev 2\n",
+            database="first",
+            text=LOCALHOST,
+            stored=[STORED],
+        ),
         put_guarded("ulf", PROPOSED, "proposed rev 2\n", "guarded", [PENDING]),
         put_guarded("ulf", PROPOSED, "already proposed rev 2\n", "proposed"),
         put_guarded("site", "/u\n", "proposed rev 2\n", "proposed", [proposal("site", "/u\n")], [PENDING]),
@@ -282,6 +379,16 @@ COMMANDS = {
             "10.0.0.0-10.255.255.254 granted line 1 ro sec=sys root=65534:65533\n"
             "10.255.255.255-10.255.255.255 granted line 2 ro sec=sys root=65534:65533\n"
             "11.0.0.0-255.255.255.255 granted line 3 rw sec=krb5 root=65534:65533\n",
+        ),
+        tried(
+            ["clients", "-", "/usr", "/usr"],
+            FRIENDS,
+            "0.0.0.0-131.104.47.255 denied 2 NoLine /usr\n"
+            f"131.104.48.0-131.104.48.19 granted line 2 {STANDARD}\n"
+            f"131.104.48.20-131.104.48.21 granted line 1 {STANDARD}\n"
+            f"131.104.48.22-131.104.48.255 granted line 2 {STANDARD}\n"
+            "131.104.49.0-255.255.255.255 denied 2 NoLine /usr\n",
+            with_tables=True,
         ),
         tried(
             ["clients", "-", "/a", "/a"],
@@ -300,6 +407,23 @@ COMMANDS = {
             1,
             given="/usr /usr/local -ro 10.0.0.5\n/usr 10.0.0.6\n/home -alldirs\n/home 10.0.0.9\n",
             text="/usr /usr/local -ro 10.0.0.5\n/usr 10.0.0.6\n/home -alldirs\n",
+        ),
+        Command(
+            ["compare", "TEXT", "-", "/usr", "--all", *ALL_TABLES],
+            "== /usr\n"
+            f"- 10.0.0.0-10.255.255.255 granted line 2 {STANDARD}\n"
+            f"+ 10.0.0.0-10.255.255.255 granted line 1 {STANDARD}\n"
+            f"- 131.104.48.20-131.104.48.21 granted line 1 {STANDARD}\n"
+            f"+ 131.104.48.20-131.104.48.21 granted line 2 {STANDARD}\n"
+            "== other directories of /usr\n"
+            "- 10.0.0.0-10.255.255.255 denied 3 NotListed /usr line 2\n"
+            "+ 10.0.0.0-10.255.255.255 denied 3 NotListed /usr line 1\n"
+            "- 131.104.48.20-131.104.48.21 denied 3 NotListed /usr line 1\n"
+            "+ 131.104.48.20-131.104.48.21 denied 3 NotListed /usr line 2\n"
+            "0 changes, 4 of lines or reasons alone\n",
+            given="/usr -network 10.0.0.0/8\n/usr friends\n",
+            text="/usr friends\n/usr -network 10.0.0.0/8\n",
+            title="`compare --all` with tables",
         ),
         Command(
             ["compare", "TEXT", "-", "/usr", "/home"],
@@ -334,6 +458,13 @@ COMMANDS = {
             text="/home -alldirs\n",
         ),
         Command(
+            ["test", "TEXT", "-", "/usr", *ALL_TABLES],
+            "1 expectation, 0 broken\n",
+            given="friends may mount /usr\n",
+            text=FRIENDS,
+            title="`test` with tables",
+        ),
+        Command(
             ["test", "TEXT", "-", "/home"],
             "fault expectations line 1 rule 6 UnknownName\n",
             3,
@@ -342,27 +473,11 @@ COMMANDS = {
             title="`test` with expectations that have a fault",
         ),
     ],
-    "who": [
-        Command(
-            ["who", "DB", "/u2/x"],
-            "0.0.0.0-131.104.47.255 denied 2 NoLine /u2\n"
-            f"131.104.48.0-131.104.48.19 granted line 2 {STANDARD}\n"
-            "131.104.48.20-131.104.48.21 denied 3 NotListed /u2 line 1\n"
-            f"131.104.48.22-131.104.48.255 granted line 2 {STANDARD}\n"
-            "131.104.49.0-255.255.255.255 denied 2 NoLine /u2\n",
-            database="first",
-        ),
-    ],
+    "who": [asked_of(name, ["who", "DB", "/u2/x"], WHO) for name in ("first", "old")],
     "impact": [
-        foreseen(
-            "exports:/u2",
-            f"{U2}/u2 -quiet 131.104.48.22\n",
-            "== other directories of /u2\n"
-            f"- 131.104.48.22-131.104.48.22 granted line 2 {STANDARD}\n"
-            "+ 131.104.48.22-131.104.48.22 denied 3 NotListed /u2 line 3\n"
-            "1 change, 1 of lines or reasons alone\n",
-            1,
-        ),
+        foreseen("exports:/u2", f"{U2}/u2 -quiet 131.104.48.22\n", CHANGED, 1),
+        foreseen("exports:/u2", f"{U2}/u2 -quiet 131.104.48.22\n", CHANGED, 1, database="old"),
+        foreseen("exports:/u", PROPOSED, FORESEEN, 1, database="guarded"),
         foreseen("exports:/u2", U2, "0 changes\n", 0, "--all"),
         foreseen("exports:/u3", "/u3\n", "refused 3 UnknownFile\n", 1),
         foreseen("hosts", CONTRADICTING, "fault exports:/usr line 2 rule 26 Contradiction line 1 address 131.104.48.16\n", 3),
@@ -371,6 +486,7 @@ COMMANDS = {
     ],
     "audit": [
         audited(["audit", "DB", "-"], PROMISED, "2 expectations, 0 broken\n", 0),
+        audited(["audit", "DB", "-"], PROMISED, "2 expectations, 0 broken\n", 0, "old"),
         audited(["audit", "DB", "-", "exports:/u2", "TEXT"], PROMISED, BROKEN, 1, text="/u2 -ro 10.0.0.9\n"),
         audited(["audit", "DB", "-", "exports:/u", "--proposal", "--json"], PROMISED, "[]\n", 0, "proposed"),
         audited(["audit", "DB", "-", "exports:/u", "--proposal"], PROMISED, NO_PROPOSAL, 1, "guarded"),
@@ -383,8 +499,17 @@ COMMANDS = {
     "files": [
         asked_of("first", ["files", "DB"], "".join(files_with({}))),
         asked_of("proposed", ["files", "DB"], "".join(files_with(PENDING_FILES))),
+        asked_of("old", ["files", "DB"], "".join(files_with({}))),
     ],
     "write": [
-        Command(["write", "DB", "FOLDER"], "".join(f"written {name}\n" for name in FILES), database="first"),
+        asked_of("first", ["write", "DB", "FOLDER"], "".join(f"written {name}\n" for name in FILES)),
+        asked_of("old", ["write", "DB", "FOLDER"], "".join(f"written {name}\n" for name in FILES)),
+        Command(
+            ["write", "DB", "FOLDER"],
+            "written hosts\nwritten exports\n",
+            database="later",
+            files={**{name: (SITE / name).read_text() for name in TABLES}, "exports": "/usr\n"},
+            title="`write` into a folder with older files",
+        ),
     ],
 }

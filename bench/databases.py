@@ -5,6 +5,8 @@ import subprocess
 import sys
 
 SITE = pathlib.Path(__file__).resolve().parent.parent / "crates" / "desk_cases" / "data" / "site"
+# A database of version 1, as an older program made it of the sample site.
+VERSION_ONE = SITE.parent / "version_one"
 TABLES = ["custodians", "filesystems", "hosts", "networks", "passwd", "group", "netgroup"]
 MOUNTS = ["/a", "/cdrom", "/private", "/secret", "/u", "/u2", "/usr"]
 NAMES = TABLES + [f"exports:{mount}" for mount in MOUNTS]

@@ -177,3 +177,58 @@ TOLD = [
 
 # All of them, in order.
 WHOLE = [*QUESTIONS, *REFUSED, STORED, *AGAIN, *TOLD]
+
+
+class Talk:
+    """What is asked of a server of one database, in order, and what shows how far it is: `first` at the beginning, and behind
+    each message that stores something the one that `stores` has for it. At the end the database has these rows more."""
+
+    def __init__(self, title, database, first, messages, stores, stored):
+        self.title, self.database, self.first, self.messages = title, database, first, messages
+        self.stores, self.stored = stores, stored
+
+
+# A proposal for the guarded file of /u, and its approval.
+U = "/u -ro\n"
+U_TERMS = '"flavours":["sys"],"fs":"/u","last":"{}","line":1,"map":"root","mapped":"{}","ro":{},"verdict":"granted"'
+U_DENIED = '{{"first":"{}","fs":"/u","last":"{}","reason":2,"verdict":"denied"}}'
+U_BEFORE = [
+    U_DENIED.format("0.0.0.0", "131.104.47.255"),
+    f'{{"first":"131.104.48.0",{U_TERMS.format("131.104.48.255", "3:", "false")}}}',
+    U_DENIED.format("131.104.49.0", "255.255.255.255"),
+]
+NO_PROPOSAL = Message("/v1/proposal?name=exports:/u", 404, refusal(111, "NoRevision"))
+PROPOSAL = Message("/v1/proposal?name=exports:/u", 200, '{"author":"ulf","base":1,"body":"/u -ro\\n","name":"exports:/u"}')
+PROPOSED = put("exports:/u", 1, "ulf", "hello", U, 200, '{"already":false,"proposed":true,"rev":2}')
+APPROVED = put("exports:/u", 1, "site", "abc", U, 200, '{"already":false,"rev":2}')
+IN_FORCE = Message(
+    "/v1/file?name=exports:/u",
+    200,
+    '{"approver":"site","author":"ulf","body":"/u -ro\\n","name":"exports:/u","rev":2}',
+)
+GUARDED = [
+    NO_PROPOSAL,
+    PROPOSED,
+    put("exports:/u", 1, "ulf", "hello", U, 200, '{"already":true,"proposed":true,"rev":2}'),
+    PROPOSAL,
+    Message("/v1/who?dir=/u", 200, f'{{"dir":"/u","ranges":[{",".join(U_BEFORE)}]}}'),
+    put("exports:/u", 1, "eve", "abc", U, 403, refusal(1, "UnknownCaller")),
+    put(
+        "exports:/u",
+        1,
+        "site",
+        "abc",
+        "/u -rw\n",
+        422,
+        '{"error":"Fault","file":"exports:/u","line":1,"number":9,"rule":5}',
+    ),
+    APPROVED,
+    put("exports:/u", 1, "site", "abc", U, 200, '{"already":true,"rev":2}'),
+    IN_FORCE,
+    NO_PROPOSAL,
+    Message(
+        "/v1/who?dir=/u",
+        200,
+        f'{{"dir":"/u","ranges":[{{"first":"0.0.0.0",{U_TERMS.format("255.255.255.255", "65534:65533", "true")}}}]}}',
+    ),
+]
