@@ -1,0 +1,5 @@
+pub mod CodesRead
+pub mod Telling
+pub mod Markup
+pub mod Threes
+pub mod Prefixes

@@ -1,0 +1,4 @@
+pub mod Escaping
+pub mod Laws
+pub mod Numbers
+pub mod Ranges
