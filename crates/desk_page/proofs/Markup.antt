@@ -9,7 +9,7 @@ use Rattle.std.proofs.lemmas.Bool.{cases_Bool, cases_lt, eqb-true, le-ltb, lt-lt
 use Rattle.std.proofs.lemmas.List.{append-nil, append_assoc}
 use Rattle.std.proofs.lemmas.Str.{inside_one}
 use Rattle.desk_shown.specs.ShownText.{code, is_coded, is_tab}
-use Rattle.desk_page.specs.Escaping.{before_code, behind_code, in_attribute, seen, shown, shown_in_line}
+use Rattle.desk_page.specs.Escaping.{attribute, before_code, behind_code, in_attribute, seen, shown, shown_in_line}
 use Rattle.desk_page.specs.Laws.{IsOwnElement, NoTextIsMarkup, begins_reference, has_no_markup, is_delimiter}
 use Rattle.desk_page.proofs.Telling.{is_seen, no_delimiter}
 
@@ -113,6 +113,7 @@ line_free c =
     ]
 
 pub no_text_is_markup : NoTextIsMarkup
+unfolding attribute
 no_text_is_markup = record {
   attributes = λ text. attributes_free (chars text);
   characters = shown_free;

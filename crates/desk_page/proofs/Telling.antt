@@ -10,7 +10,7 @@ use Rattle.std.proofs.lemmas.List.{append_assoc, append_cancel_left}
 use Rattle.std.proofs.lemmas.Str.{char_from_byte, cons_from_encodes, encode_ascii, encode_same, encodes-chars, scalars-chars}
 use Rattle.std.proofs.Math.Utf8.{scalar_fits}
 use Rattle.desk_shown.specs.ShownText.{code, is_coded, is_tab}
-use Rattle.desk_page.specs.Escaping.{before_code, behind_code, in_attribute, seen, shown, shown_in_line}
+use Rattle.desk_page.specs.Escaping.{attribute, before_code, behind_code, escaped, escaped_line, in_attribute, seen, shown, shown_in_line}
 use Rattle.desk_page.specs.Laws.{TextsAreToldApart, has_no_markup, is_delimiter}
 use Rattle.desk_page.proofs.CodesRead.{code_read, read}
 
@@ -266,6 +266,7 @@ attribute_sign_ascii b is =
     ]
 
 pub texts_are_told_apart : TextsAreToldApart
+unfolding escaped escaped_line attribute
 texts_are_told_apart = record {
   texts = told_apart is_sign sign_ascii decode shown shown_told;
   lines = told_apart is_sign sign_ascii decode shown_in_line line_told;

@@ -27,14 +27,14 @@ abbrev pub shown : ℕ → List ℕ
 shown c = if is_coded c then before_code ++ code c ++ behind_code else seen c
 
 -- a text between tags
-abbrev pub escaped : List ℕ → List ℕ
+unfoldable pub escaped : List ℕ → List ℕ
 escaped text = flat_map shown (chars text)
 
 -- a line of a file, in which a tab stays a tab
 abbrev pub shown_in_line : ℕ → List ℕ
 shown_in_line c = if is_tab c then c ∷ [] else shown c
 
-abbrev pub escaped_line : List ℕ → List ℕ
+unfoldable pub escaped_line : List ℕ → List ℕ
 escaped_line line = flat_map shown_in_line (chars line)
 
 -- A character within an attribute or the title, where there are no elements: so that a text is not taken for the code of a character, a
@@ -43,5 +43,5 @@ abbrev pub in_attribute : ℕ → List ℕ
 in_attribute c = if is_coded c then code c else (if c == 92 then codes "\\\\" else seen c)
 
 -- a text there
-abbrev pub attribute : List ℕ → List ℕ
+unfoldable pub attribute : List ℕ → List ℕ
 attribute text = flat_map in_attribute (chars text)

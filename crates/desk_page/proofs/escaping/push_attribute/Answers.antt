@@ -6,10 +6,11 @@ use Rattle.std.specs.String.{string_bytes}
 use Rattle.std.proofs.lemmas.Iterator.{YieldsList-from_chars}
 use Rattle.std.proofs.lemmas.Iterator.Consumers.{YieldsList-end}
 use Rattle.std.proofs.lemmas.List.{map-id}
-use Rattle.desk_page.specs.Escaping.{in_attribute}
+use Rattle.desk_page.specs.Escaping.{attribute, in_attribute}
 use Rattle.desk_page.proofs.escaping.push_attribute.Goals as goal
 
 pub returns : goal.returns
+unfolding attribute
 returns c =
     let all : c.loop-c.yielded ≡ chars c.args.text.now =
     sym (map-id c.loop-c.yielded)

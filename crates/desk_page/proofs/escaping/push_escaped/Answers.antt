@@ -6,10 +6,11 @@ use Rattle.std.specs.String.{string_bytes}
 use Rattle.std.proofs.lemmas.Iterator.{YieldsList-from_chars}
 use Rattle.std.proofs.lemmas.Iterator.Consumers.{YieldsList-end}
 use Rattle.std.proofs.lemmas.List.{map-id}
-use Rattle.desk_page.specs.Escaping.{shown}
+use Rattle.desk_page.specs.Escaping.{escaped, shown}
 use Rattle.desk_page.proofs.escaping.push_escaped.Goals as goal
 
 pub returns : goal.returns
+unfolding escaped
 returns c =
     let all : c.loop-c.yielded ≡ chars c.args.text.now =
     sym (map-id c.loop-c.yielded)
