@@ -1,5 +1,5 @@
 -- Why there is no desk, for `desks`.
-use Rattle.std.proofs.Common.{◌≡◌, ◌⊎◌, ℕ, Bool, true, false, List, codes, inl, inr, Result, Ok, Err, ap, cond, refl, subst, sym}
+use Rattle.std.proofs.Common.{◌≡◌, ℕ, Bool, true, false, List, codes, inl, inr, Result, Ok, Err, ap, cond, refl, subst, sym}
 use Rattle.sqlite_trees.specs.View.{doubt}
 use Rattle.sqlite.specs.Effect.{Database}
 use Rattle.desk_store.specs.Open.{IsOfOpening, IsOurs}

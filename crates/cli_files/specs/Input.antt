@@ -1,5 +1,5 @@
 -- The texts and lines of bytes that come from outside: of files, and of standard input. (this project's own)
-use Rattle.std.specs.Prelude.{◌≡◌, ℕ, ◌+◌, ◌==◌, ◌||◌, nat_le, nat_lt, Bool, List, length, take, count_by, Result, Ok, Err, if◌then◌else◌}
+use Rattle.std.specs.Prelude.{ℕ, ◌+◌, ◌==◌, ◌||◌, nat_le, nat_lt, Bool, List, length, take, count_by, Result, Ok, Err, if◌then◌else◌}
 use Rattle.std.specs.Io.BufRead.{ends_with_byte, strip_last}
 use Rattle.std.specs.List.{after_last}
 use Rattle.std.specs.Str.{is_utf8}

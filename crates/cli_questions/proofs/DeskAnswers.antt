@@ -2,13 +2,11 @@
 use Rattle.std.proofs.Common.{◌≡◌, ℕ, Bool, true, false, List, [], ◌∷◌, codes, inl, inr, Option, Some, None, Result, Ok, Err, ap, cond, refl, subst, sym}
 use Rattle.sqlite_trees.specs.View.{doubt}
 use Rattle.sqlite_trees.specs.declared.store.Store.{Ghosts}
-use Rattle.sqlite.specs.Effect.{Database}
-use Rattle.desk_core.specs.Foresight.{IsForesightOf}
 use Rattle.desk_core.specs.Head.{Newest, Revision}
 use Rattle.desk_core.specs.History.{newest_of, standing_of}
 use Rattle.desk_core.specs.declared.proposal.Proposal.{Proposal as Pending}
 use Rattle.desk_store.specs.Desk.{History, Shown, StandsAt}
-use Rattle.desk_store.specs.Open.{IsOurs, IsProject, OpensAt}
+use Rattle.desk_store.specs.Open.{IsOurs}
 use Rattle.desk_store.specs.Rows.{IsOfTask}
 use Rattle.desk_store.specs.declared.error.DeskError.{DeskError}
 use Rattle.desk_store.specs.declared.error.DeskError.TheVariants as error

@@ -1,8 +1,6 @@
 -- What a desk on a copy of a database answers, before it is known what the database was. (this project's own)
 use Rattle.std.specs.Prelude.{◌≡◌, ◌⊎◌, ℕ, List, [], Result, Ok, Err}
-use Rattle.sqlite.specs.Files.{over_files}
 use Rattle.sqlite_trees.specs.declared.store.Store.{Ghosts}
-use Rattle.desk_policy.specs.Policy.{Content}
 use Rattle.desk_core.specs.Foresight.{IsForesightOf}
 use Rattle.desk_store.specs.Desk.{History, Shown, StandsAt}
 use Rattle.desk_service.specs.Questions.{Answer, ForeseenIs, IsLookedUp, Question}

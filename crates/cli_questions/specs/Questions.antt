@@ -1,5 +1,5 @@
 -- What is asked of a database without changing it, and what is printed of the answers. (this project's own)
-use Rattle.std.specs.Prelude.{◌≡◌, ◌⊎◌, ℕ, ◌==◌, Bool, true, false, List, [], Option, Result, Ok, Err, codes, if◌then◌else◌}
+use Rattle.std.specs.Prelude.{◌⊎◌, ℕ, ◌==◌, Bool, true, false, List, [], Option, Result, Ok, Err, codes, if◌then◌else◌}
 use Rattle.std.specs.String.{string_bytes}
 use Rattle.sqlite.specs.Effect.{Database}
 use Rattle.desk_text.specs.Address.{number_of}
@@ -17,7 +17,6 @@ use Rattle.desk_service.specs.declared.refused.Refused.TheVariants as refused
 use Rattle.cli_output.specs.Failure.{IsUnread}
 use Rattle.cli_output.specs.Printed.{Prints}
 use Rattle.cli_output.specs.declared.failure.Failure.{Failure}
-use Rattle.cli_output.specs.declared.failure.Failure.TheVariants.{Memory}
 use Rattle.cli_output.specs.declared.printed.Printed.{Printed}
 use Rattle.cli_verdict.specs.TryText.{answer_on, policy_answer}
 use Rattle.cli_verdict.specs.TryText.{Answer as Tried}

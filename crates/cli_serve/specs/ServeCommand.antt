@@ -1,7 +1,6 @@
 -- The answer of `serve` by its words, and the service that runs after it. (this project's own)
 use Rattle.std.specs.Prelude.{◌≡◌, ◌⊎◌, ℕ, ◌++◌, ◌∷◌, List, [], Option, Some, None, Result, Ok, Err, codes}
 use Rattle.std.specs.Fmt.{decimal}
-use Rattle.std.specs.String.{string_bytes}
 use Rattle.clap.specs.Words.{Row, first_of}
 use Rattle.cli_output.specs.Failure.{IsUnread}
 use Rattle.cli_output.specs.Printed.{Prints}

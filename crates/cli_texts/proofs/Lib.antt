@@ -1,4 +1,3 @@
 pub mod FilesInTurn
 pub mod FoundWords
-pub mod InForm
 pub mod Viewed

@@ -1,6 +1,6 @@
 -- What is added to a command line that is being made.
-use Rattle.std.proofs.Common.{◌≡◌, ◌∙◌, ◌||◌, ◌+◌, ◌<◌, arith, ◌++◌, ◌∷◌, [], ℕ, List, false, ap, ap₂, get_or, length, map, refl, suc, sym, take, Option, Some, None, IsSomeAnd}
-use Rattle.std.proofs.lemmas.List.{map-append, map_more}
+use Rattle.std.proofs.Common.{◌≡◌, ◌∙◌, ◌||◌, ◌+◌, ◌<◌, ◌++◌, ◌∷◌, [], ℕ, List, false, ap, ap₂, get_or, length, map, refl, take, Option, Some, None, IsSomeAnd}
+use Rattle.std.proofs.lemmas.List.{map_more}
 use Rattle.clap.specs.Simple.{app_of_fields}
 use Rattle.clap.specs.Words.{AddsArg, AddsSubcommand, App, Rule, with_rule, with_subcommand}
 use Rattle.clap.specs.declared.builder.Arg.{Arg}

@@ -1,5 +1,5 @@
 -- A command line that is being made, as what the functions that make it say of it. (this project's own)
-use Rattle.std.specs.Prelude.{◌≡◌, List, [], ◌∷◌, Result, IfOk, false, map}
+use Rattle.std.specs.Prelude.{◌≡◌, List, Result, IfOk, false, map}
 use Rattle.std.specs.declared.alloc.AllocError.{AllocError}
 use Rattle.clap.specs.Words.{App, Rule, app_of, rule_of}
 use Rattle.clap.specs.declared.builder.Arg.{Arg}

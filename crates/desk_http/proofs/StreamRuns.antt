@@ -1,5 +1,5 @@
 -- The replies to messages are a run of the desk.
-use Rattle.std.proofs.Common.{◌≡◌, ◌⊎◌, ◌∙◌, ap, inl, inr, refl, subst, sym, ℕ, Bool, true, false, List, [], ◌∷◌, ◌++◌, Contains, None, Option, Some, append-nil, arith, is_none}
+use Rattle.std.proofs.Common.{◌≡◌, ◌∙◌, ap, inl, inr, refl, subst, sym, ℕ, Bool, true, false, List, [], ◌∷◌, ◌++◌, Contains, None, Option, Some, append-nil, arith, is_none}
 use Rattle.std.specs.Prelude.{if◌then◌else◌}
 use Rattle.std.specs.Fmt.{digits}
 use Rattle.std.specs.List.{cons_option, flat_map}
@@ -18,7 +18,7 @@ use Rattle.desk_http_messages.specs.Stream.{Message}
 use Rattle.desk_http_requests.specs.Calls.{Asks, Puts, Query, edit_in, first_fault, query_asked}
 use Rattle.desk_http_requests.specs.declared.faults.RequestFault.{RequestFault}
 use Rattle.desk_http.specs.Answering.{Answered, EditReplyIf, MayStand, OrdinaryReply, QueryReply, Replies, edit_asked, edit_by}
-use Rattle.desk_http.specs.Edits.{EditReply, UnansweredReply, answer_reply}
+use Rattle.desk_http.specs.Edits.{UnansweredReply, answer_reply}
 use Rattle.desk_http.specs.Laws.{AreUnrefused, IsRunOf, RepliesAreARun, edit_done, edit_replied, edit_unanswered, edits_done, edits_replied, edits_unanswered, has_status, is_done}
 use Rattle.desk_http.specs.Replies.{store_reply}
 use Rattle.desk_http.proofs.AnswerLemmas.{query_edit}

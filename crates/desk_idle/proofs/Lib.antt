@@ -10,6 +10,7 @@ pub mod OneKey
 pub mod Looks
 pub mod Known
 pub mod Skipping
+pub mod Together
 pub mod Numbered
 pub mod Matching
 pub mod Idling

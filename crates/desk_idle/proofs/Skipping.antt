@@ -1,4 +1,4 @@
--- Where the lines under one key were looked at, another look at them tells nothing more.
+-- Where the lines under one key, or lines that are selected together, were looked at, another look at them tells nothing more.
 use Rattle.std.proofs.Common.{◌≡◌, ◌∙◌, ℕ, ◌<◌, ◌^◌, ◌||◌, ◌++◌, Bool, true, false, List, [], ◌∷◌, Option, Some, None, ap, nat_cmp, refl, subst, sym}
 use Rattle.std.specs.Prelude.{find}
 use Rattle.std.specs.BTreeMap.{BTreeMap}
@@ -53,16 +53,11 @@ pub no_looks : (rows : List Row) (before : List ℕ) (address : ℕ) → selecte
 no_looks rows before address none =
     sym (append-nil (looks_at rows before)) ∙ ap (λ (ys : List Row). looks_at rows before ++ looks_by address ys) (sym none) ∙ sym (looks_more rows before address)
 
--- ---- looks at the lines under one key
+-- ---- looks at lines that were looked at together
 
-module _ (law : LinesAreSelectedByKeys) (rows : List Row) (ascending : AreAscending rows) (blocks : All (λ (row : Row). HasBlock row.entry.clients) rows) (before : List ℕ)
-    (all_below : (other : ℕ) → is_among other before ≡ true → other < 2 ^ 32) (address : ℕ) (below : address < 2 ^ 32) (first : Row) (others : List Row) (chosen : selected rows address ≡ first ∷ others)
-    (one : has_one_key first.entry.clients ≡ true) where
+module _ (rows : List Row) (before : List ℕ) (address : ℕ) where
   abbrev looks_in : ℕ → List Look
   looks_in at = looks_by at (selected rows at)
-
-  has_first : Contains (selected rows address) first
-  has_first = subst (λ (ys : List Row). Contains ys first) (sym chosen) (in_middle [] first others)
 
   -- an earlier address at which the same lines are selected
   pub record Earlier : Type 0 where
@@ -70,30 +65,9 @@ module _ (law : LinesAreSelectedByKeys) (rows : List Row) (ascending : AreAscend
     pub among : is_among at before ≡ true
     pub same : selected rows at ≡ selected rows address
 
-  by_look : (at : ℕ) → is_among at before ≡ true → (o : Option Look) → find (is_of first.entry.line) (looks_in at) ≡ o → list_any (is_of first.entry.line) (looks_in at) ≡ true → Earlier
-  by_look at among None e passes = absurd (none_passes (is_of first.entry.line) (looks_in at) e passes)
-  by_look at among (Some look) e passes =
-      let s = seen_by first.entry.line at (selected rows at) look e in
-      let here : Contains rows first = selected_has rows address first has_first in
-      let is : s.row ≡ first = one_line rows s.row first ascending (selected_has rows at s.row s.has) here s.number in
-      record { at = at; among = among; same = same_lines law rows blocks first here one at address (all_below at among) below (subst (Contains (selected rows at)) is s.has) has_first }
-
-  earlier : list_any (is_of first.entry.line) (flat_map looks_in before) ≡ true → Earlier
-  earlier e =
-      let part = any_part (is_of first.entry.line) looks_in before e in
-      by_look part.at part.among (find (is_of first.entry.line) (looks_in part.at)) refl part.passes
-
   known_before : (p : Look → Bool) → ((a b : ℕ) (ys : List Row) → list_any p (looks_by a ys) ≡ list_any p (looks_by b ys)) → Earlier → list_any p (looks_in address) ≡ true → list_any p (flat_map looks_in before) ≡ true
   known_before p alike at e =
       part_any p looks_in before at.at at.among (ap (λ (ys : List Row). list_any p (looks_by at.at ys)) at.same ∙ alike at.at address (selected rows address) ∙ e)
-
-  marked : (line : ℕ) → is_some (mark_of (looks_at rows before) line) ≡ true → list_any (is_of line) (flat_map looks_in before) ≡ true
-  unfolding mark_of looks_at
-  marked line e = by_mark (find (is_of line) (flat_map looks_in before)) refl
-    where
-      by_mark : (o : Option Look) → find (is_of line) (flat_map looks_in before) ≡ o → list_any (is_of line) (flat_map looks_in before) ≡ true
-      by_mark None is = absurd (true≢false (sym e ∙ ap (λ o. is_some (option_map (λ (look : Look). let m : Mark = record { decides = list_any (brings_of line) (flat_map looks_in before); first = look.first; address = look.address } in m) o)) is))
-      by_mark (Some look) is = found_passes (is_of line) (flat_map looks_in before) look is
 
   same_marks : Earlier → (line : ℕ) → mark_of (looks_at rows before ++ looks_by address (selected rows address)) line ≡ mark_of (looks_at rows before) line
   unfolding looks_at
@@ -103,8 +77,43 @@ module _ (law : LinesAreSelectedByKeys) (rows : List Row) (ascending : AreAscend
   stay : Earlier → (line : ℕ) → mark_of (looks_at rows (before ++ address ∷ [])) line ≡ mark_of (looks_at rows before) line
   stay at line = ap (λ looks. mark_of looks line) (looks_more rows before address) ∙ same_marks at line
 
+  pub by_earlier : Earlier → (marks : BTreeMap ℕ Mark) → AreMarks (looks_at rows before) marks → AreMarks (looks_at rows (before ++ address ∷ [])) marks
+  by_earlier at marks are = λ line. are line ∙ sym (stay at line)
+
+-- ---- looks at the lines under one key
+
+module _ (law : LinesAreSelectedByKeys) (rows : List Row) (ascending : AreAscending rows) (blocks : All (λ (row : Row). HasBlock row.entry.clients) rows) (before : List ℕ)
+    (all_below : (other : ℕ) → is_among other before ≡ true → other < 2 ^ 32) (address : ℕ) (below : address < 2 ^ 32) (first : Row) (others : List Row) (chosen : selected rows address ≡ first ∷ others)
+    (one : has_one_key first.entry.clients ≡ true) where
+  abbrev seen_at : ℕ → List Look
+  seen_at at = looks_by at (selected rows at)
+
+  has_first : Contains (selected rows address) first
+  has_first = subst (λ (ys : List Row). Contains ys first) (sym chosen) (in_middle [] first others)
+
+  by_look : (at : ℕ) → is_among at before ≡ true → (o : Option Look) → find (is_of first.entry.line) (seen_at at) ≡ o → list_any (is_of first.entry.line) (seen_at at) ≡ true → Earlier rows before address
+  by_look at among None e passes = absurd (none_passes (is_of first.entry.line) (seen_at at) e passes)
+  by_look at among (Some look) e passes =
+      let s = seen_by first.entry.line at (selected rows at) look e in
+      let here : Contains rows first = selected_has rows address first has_first in
+      let is : s.row ≡ first = one_line rows s.row first ascending (selected_has rows at s.row s.has) here s.number in
+      record { at = at; among = among; same = same_lines law rows blocks first here one at address (all_below at among) below (subst (Contains (selected rows at)) is s.has) has_first }
+
+  earlier : list_any (is_of first.entry.line) (flat_map seen_at before) ≡ true → Earlier rows before address
+  earlier e =
+      let part = any_part (is_of first.entry.line) seen_at before e in
+      by_look part.at part.among (find (is_of first.entry.line) (seen_at part.at)) refl part.passes
+
+  marked : (line : ℕ) → is_some (mark_of (looks_at rows before) line) ≡ true → list_any (is_of line) (flat_map seen_at before) ≡ true
+  unfolding mark_of looks_at
+  marked line e = by_mark (find (is_of line) (flat_map seen_at before)) refl
+    where
+      by_mark : (o : Option Look) → find (is_of line) (flat_map seen_at before) ≡ o → list_any (is_of line) (flat_map seen_at before) ≡ true
+      by_mark None is = absurd (true≢false (sym e ∙ ap (λ o. is_some (option_map (λ (look : Look). let m : Mark = record { decides = list_any (brings_of line) (flat_map seen_at before); first = look.first; address = look.address } in m) o)) is))
+      by_mark (Some look) is = found_passes (is_of line) (flat_map seen_at before) look is
+
   pub by_first : (marks : BTreeMap ℕ Mark) → AreMarks (looks_at rows before) marks → is_some (tree.get nat_cmp marks first.entry.line) ≡ true → AreMarks (looks_at rows (before ++ address ∷ [])) marks
-  by_first marks are some = λ line. are line ∙ sym (stay (earlier (marked first.entry.line (ap is_some (sym (are first.entry.line)) ∙ some))) line)
+  by_first marks are some = by_earlier rows before address (earlier (marked first.entry.line (ap is_some (sym (are first.entry.line)) ∙ some))) marks are
 
 -- the lines that are selected at an address were looked at where the first of them is known
 pub skipped : LinesAreSelectedByKeys → (rows : List Row) → AreAscending rows → All (λ (row : Row). HasBlock row.entry.clients) rows → (before : List ℕ) → ((other : ℕ) → is_among other before ≡ true → other < 2 ^ 32)

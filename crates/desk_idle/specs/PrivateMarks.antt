@@ -19,6 +19,7 @@ use Rattle.desk_exports.specs.declared.entry.Clients.TheVariants.{Hosts, Net, Ne
 use Rattle.desk_policy.specs.Verdict.{is_directory_among}
 use Rattle.desk_policy.specs.Weights.{selected, weight_of}
 use Rattle.desk_policy.specs.declared.row.Row.{Row}
+use Rattle.desk_index.specs.Keys.{numbers}
 use Rattle.desk_who.specs.Starts.{AreStarts}
 use Rattle.desk_idle.specs.Idle.{IsRepeated, MatchesNobody}
 use Rattle.desk_idle.specs.Laws.{BringsSomewhere, brings}
@@ -72,6 +73,23 @@ pub record AreAllMarks (rows : List Row) (marks : BTreeMap ℕ Mark) : Type 0 wh
   pub are : AreStarts rows starts
   pub below : (start : ℕ) → is_among start starts ≡ true → start < 2 ^ 32
   pub tell : AreMarks (looks_at rows (0 ∷ starts)) marks
+
+-- the order of lent lists of lines
+abbrev pub order_of_lines : Bor (List ℕ) → Bor (List ℕ) → Ordering
+order_of_lines lines other = slice_cmp nat_cmp lines.now other.now
+
+-- the lines of these numbers are those that are selected at one of these addresses
+pub record AreSelected (rows : List Row) (addresses lines : List ℕ) : Type 0 where
+  pub address : ℕ
+  pub among : is_among address addresses ≡ true
+  pub are : lines ≡ numbers (selected rows address)
+
+-- All lines that are selected at these addresses were looked at: marks tell what there is to see, and lists have only lines that are
+-- selected together there.
+pub record HaveLooked (rows : List Row) (addresses : List ℕ) (marks : BTreeMap ℕ Mark) (lists : BTreeSet (Bor (List ℕ))) : Type 0 where
+  pub below : (address : ℕ) → is_among address addresses ≡ true → address < 2 ^ 32
+  pub tell : AreMarks (looks_at rows addresses) marks
+  pub known : (lines : Bor (List ℕ)) → sorted.contains order_of_lines lists lines ≡ true → AreSelected rows addresses lines.now
 
 -- a line for a network, or for everybody, has one key
 abbrev pub has_one_key : Clients → Bool

@@ -1,22 +1,22 @@
 //! Which lines decide, and where the others are selected.
 //!
 //! The lines that are selected change only where a line begins or ceases to match. So one look at each of these addresses, in
-//! ascending order, finds each key that is the heaviest somewhere, and the least address at which it is. The lines under a key are
-//! looked at once: those of a network or of everybody are known by the first of them, and an address comes only once.
+//! ascending order, finds each key that is the heaviest somewhere, and the least address at which it is. Lines that are selected
+//! together are looked at once: those of a network or of everybody are known by the first of them, and others by their numbers.
 
-ghost use Rattle.std.specs.Prelude.{◌≡◌, ◌<◌, ◌^◌, ◌++◌, ◌∷◌, ◌&&◌, ◌||◌, [], true, not, All, Contains, IfOk, List, ℕ, OnOk, map};
+ghost use Rattle.std.specs.Prelude.{◌≡◌, ◌<◌, ◌^◌, ◌++◌, ◌∷◌, ◌&&◌, ◌||◌, [], not, All, Contains, IfOk, List, ℕ, OnOk, map};
 ghost use Rattle.desk_text.specs.Address.{number_of};
-ghost use Rattle.desk_text.specs.AddrSet.{is_among};
 ghost use Rattle.desk_policy.specs.Keys.{HasBlock};
 ghost use Rattle.desk_policy.specs.Policy.{AreAscending, rows_of};
+ghost use Rattle.desk_policy.specs.Weights.{selected};
 ghost use Rattle.desk_policy.specs.declared.row.Row.{Row};
 ghost use Rattle.desk_index.specs.Keys.{numbers};
 ghost use Rattle.desk_idle.specs.Laws.{brings};
 ghost use Rattle.desk_idle.specs.PrivateMarks as spec;
-ghost use Rattle.desk_idle.specs.PrivateMarks.{AreAllMarks, AreMarks, Look, looks_among, looks_at, looks_by};
+ghost use Rattle.desk_idle.specs.PrivateMarks.{AreAllMarks, AreMarks, HaveLooked, Look, looks_among, looks_by};
 
 use crate::listed::add_dirs;
-use crate::selecting::{row_numbered, rows_numbered};
+use crate::selecting::{add_lines, row_numbered, rows_numbered};
 use desk_exports::Clients;
 use desk_index::{Index, Probes};
 use desk_policy::laws::lines_are_selected_by_keys;
@@ -49,25 +49,33 @@ pub(crate) fn marks_of(
 {
     let starts = starts_among(alloc, index.policy().rows(fs))?;
     let mut marks = BTreeMap::new(alloc);
-    mark_at(alloc, index, fs, Addr::from_number(0), &mut marks)?;
+    let mut lists = BTreeSet::new(alloc);
+    mark_at(
+        alloc,
+        index,
+        fs,
+        Addr::from_number(0),
+        &mut marks,
+        &mut lists,
+    )?;
     for start in starts.as_slice() {
-        mark_at(alloc, index, fs, *start, &mut marks)?;
+        mark_at(alloc, index, fs, *start, &mut marks, &mut lists)?;
     }
     Ok(marks)
 }
 
 /// Marks the lines that are selected at an address, unless those under their key are marked already.
-fn mark_at(
+fn mark_at<'a>(
     alloc: Global,
-    index: &Index,
+    index: &'a Index,
     fs: FsId,
     address: Addr,
     marks: &mut BTreeMap<u32, Mark>,
+    lists: &mut BTreeSet<&'a [u32]>,
 ) -> Result<(), AllocError>
     requires { AreAscending (rows_of index.now fs.0) }
-    ensures address { number_of address < 2 ^ 32 }
-    ensures marks { OnOk result ((before : List ℕ) → ((other : ℕ) → is_among other before ≡ true → other < 2 ^ 32) → AreMarks (looks_at (rows_of index.now fs.0) before) marks.old
-        → AreMarks (looks_at (rows_of index.now fs.0) (before ++ number_of address ∷ [])) marks.new) }
+    ensures { OnOk result ((before : List ℕ) → HaveLooked (rows_of index.now fs.0) before marks.old lists.old
+        → HaveLooked (rows_of index.now fs.0) (before ++ number_of address ∷ []) marks.new lists.new) }
 {
     lines_are_selected_by_keys();
     let _number = address.number();
@@ -79,7 +87,28 @@ fn mark_at(
     if are_known(marks, rows, found.lines()) {
         return Ok(());
     }
-    let chosen = rows_numbered(alloc, rows, found.lines())?;
+    mark_lines(alloc, rows, found.lines(), address, marks, lists)
+}
+
+/// Marks the lines that are selected at an address, unless they were looked at together elsewhere.
+fn mark_lines<'a>(
+    alloc: Global,
+    rows: &[Row],
+    lines: &'a [u32],
+    address: Addr,
+    marks: &mut BTreeMap<u32, Mark>,
+    lists: &mut BTreeSet<&'a [u32]>,
+) -> Result<(), AllocError>
+    requires ascending { AreAscending rows.now }
+    requires lines { lines.now ≡ numbers (selected rows.now (number_of address)) }
+    ensures { OnOk result ((before : List ℕ) → HaveLooked rows.now before marks.old lists.old
+        → HaveLooked rows.now (before ++ number_of address ∷ []) marks.new lists.new) }
+{
+    let _number = address.number();
+    if !add_lines(lists, lines)? {
+        return Ok(());
+    }
+    let chosen = rows_numbered(alloc, rows, lines)?;
     mark_rows(alloc, chosen.as_slice(), address, marks)
 }
 

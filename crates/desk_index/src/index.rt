@@ -7,7 +7,7 @@ ghost use Rattle.desk_policy.specs.Contradiction.{AreConsistent};
 ghost use Rattle.desk_policy.specs.Policy.{AreAscending, rows_of};
 ghost use Rattle.desk_policy.specs.Verdict.{lists_here, verdict_among, verdict_result};
 ghost use Rattle.desk_policy.specs.Weights.{selected};
-ghost use Rattle.desk_index.specs.Keys.{HasNoHostBits, lines_under, listed, numbers};
+ghost use Rattle.desk_index.specs.Keys.{AreWeights, HasNoHostBits, lines_under, listed, numbers};
 ghost use Rattle.desk_index.specs.PrivateIndex.{Refuses};
 ghost use Rattle.desk_index.specs.PrivateKeyed.{AreKeyed};
 ghost use Rattle.desk_index.specs.PrivateMarks.{AreUnderOneKey};
@@ -83,6 +83,17 @@ impl Index {
         }
         let part = &self.parts[place];
         part.row(key)
+    }
+
+    /// Lends the weights of the keys that have lines in a file system, the greatest first.
+    fn weights(&self, fs: FsId) -> &[u8]
+        ensures { AreWeights (lines_under self.now) fs.0 result.now }
+    {
+        let place = fs.0 as usize;
+        if place >= self.parts.len() {
+            return &[];
+        }
+        self.parts[place].weights()
     }
 
     /// Finds the numbers of the selected lines of a file system, in at most 35 look-ups.
@@ -244,6 +255,10 @@ impl<'a> Rows<'a> for Probes<'a> {
     ghost lines_under = { λ p. lines_under p.index.now };
 
     ghost count = { λ p. p.made };
+
+    fn weights(&self, fs: FsId) -> &'a [u8] {
+        self.index.weights(fs)
+    }
 
     fn probe(&mut self, key: Key) -> Option<&'a IndexRow> {
         self.made += 1;

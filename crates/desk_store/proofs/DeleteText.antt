@@ -18,9 +18,8 @@ use Rattle.sqlite_resolve.specs.Compare as compare
 use Rattle.sqlite_resolve.specs.Lowering.{max_budget, nothing}
 use Rattle.sqlite_resolve.specs.Program as program
 use Rattle.sqlite_resolve.specs.Scope as scope
-use Rattle.sqlite_resolve.specs.Scope.{Context, column}
+use Rattle.sqlite_resolve.specs.Scope.{column}
 use Rattle.sqlite_resolve.specs.Write as write
-use Rattle.sqlite_resolve.specs.Write.{over}
 use Rattle.desk_store.proofs.NamedRows.{file_test}
 use Rattle.desk_store.proofs.NamedText.{of_file}
 use Rattle.desk_store.proofs.QueryText.{IsColumn, IsPlainTest, draft, one_equal}

@@ -17,9 +17,9 @@ use Rattle.sqlite_resolve.specs.Program as program
 use Rattle.sqlite_tied.specs.Compute.{everything}
 use Rattle.sqlite_resolve.specs.declared.scope.Output.{Output}
 use Rattle.sqlite_resolve.specs.Lowering as lowering
-use Rattle.sqlite_resolve.specs.Lowering.{fresh, max_budget, nothing}
+use Rattle.sqlite_resolve.specs.Lowering.{max_budget, nothing}
 use Rattle.sqlite_resolve.specs.Scope as scope
-use Rattle.sqlite_resolve.specs.Scope.{Context, column}
+use Rattle.sqlite_resolve.specs.Scope.{column}
 use Rattle.sqlite_resolve.specs.Body as body
 use Rattle.sqlite_resolve.specs.Expr as expr
 use Rattle.sqlite_resolve.specs.Expr.{lower}

@@ -6,7 +6,7 @@
 //! say that the verdict is what these lines say, and that those as heavy as the first are the selected ones.
 //!
 //! ```text
-//! let below = why_text(alloc, &view, &asked)?;
+//! let below = why_text(alloc, &view, asked)?;
 //! // line 1 name friends: decides, does not list /u2/x
 //! // line 2 network 131.104.48.0/24: outweighed by line 1, lists /u2/x
 //! // lines of /u2 that match 131.104.48.20: 2 of 2

@@ -1,5 +1,5 @@
 -- The words are looked up, and parsed from left to right.
-use Rattle.std.proofs.Common.{◌∙◌, ℕ, Bool, Err, List, Ok, Option, ap, refl, subst, sym}
+use Rattle.std.proofs.Common.{◌∙◌, ℕ, Bool, Err, List, Ok, Option, ap, refl, subst}
 use Rattle.std.proofs.lemmas.Result.{err_from_is_err_and}
 use Rattle.desk_text.specs.Address.{number_of}
 use Rattle.cli_questions.specs.QuestionCommands.{ParsesOwn, asking_mount}

@@ -1,5 +1,5 @@
 -- The words are looked up, and parsed from left to right.
-use Rattle.std.proofs.Common.{Err, Ok, refl, subst, sym}
+use Rattle.std.proofs.Common.{Err, Ok, refl, subst}
 use Rattle.std.proofs.lemmas.Result.{err_from_is_err_and}
 use Rattle.cli_questions.specs.Questions.{Asked, AnswersQuestion}
 use Rattle.cli_questions.proofs.question_commands.run_who.Goals as goal

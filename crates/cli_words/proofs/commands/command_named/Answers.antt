@@ -2,10 +2,10 @@
 use Rattle.std.proofs.Common.{◌∙◌, ap, sym}
 use Rattle.std.specs.Option.{option_map}
 use Rattle.std.specs.Str.{bytes_eq}
-use Rattle.cli_words.specs.Commands.{CommandRow, commands, row_of}
+use Rattle.cli_words.specs.Commands.{CommandRow, row_of}
 use Rattle.cli_words.proofs.FoundRows.{find_of_image}
 use Rattle.cli_words.proofs.commands.command_named.Goals as goal
-use Rattle.std.proofs.Common.{List, find, map}
+use Rattle.std.proofs.Common.{find}
 
 pub returns-in-Some : goal.returns-in-Some
 returns-in-Some c =

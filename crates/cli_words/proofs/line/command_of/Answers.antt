@@ -1,6 +1,6 @@
 -- The words come first, then the options of tables, and then the command's own options.
-use Rattle.std.proofs.Common.{◌≡◌, ◌++◌, ◌∙◌, [], List, ap, map, refl, subst, sym}
-use Rattle.clap.specs.Words.{Rule, new_app}
+use Rattle.std.proofs.Common.{[], map, subst, sym}
+use Rattle.clap.specs.Words.{new_app}
 use Rattle.cli_words.specs.Commands.{rule_for, table_options, with_rules}
 use Rattle.cli_words.specs.PrivateLine.{IsCommand, IsMade, with_arguments}
 use Rattle.cli_words.proofs.Additions.{all_in_turn}

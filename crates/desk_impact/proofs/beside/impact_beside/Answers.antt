@@ -1,4 +1,4 @@
-use Rattle.std.proofs.Common.{List, map, rules}
+use Rattle.std.proofs.Common.{map, rules}
 use Rattle.std.specs.Option.{option_map}
 use Rattle.std.proofs.lemmas.Result.{IfOk-weaker}
 use Rattle.desk_text.specs.Address.{number_of}

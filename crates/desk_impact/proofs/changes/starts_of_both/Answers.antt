@@ -1,4 +1,4 @@
-use Rattle.std.proofs.Common.{ℕ, ◌∙◌, ap}
+use Rattle.std.proofs.Common.{◌∙◌, ap}
 use Rattle.std.specs.Prelude.{◌+◌}
 use Rattle.std.proofs.lemmas.Result.{IfOk-weaker}
 use Rattle.desk_policy.specs.Verdict.{verdict_of}
