@@ -25,7 +25,7 @@ pub fn not_opened(alloc: Global, db: &str, error: Error) -> Result<Printed, Fail
         Error::SqliteFailure(ErrorCode::OutOfMemory) => return Err(Failure::Memory),
         Error::SqliteFailure(ErrorCode::DatabaseBusy) => {
             format!(in alloc;
-                "exportdesk: DB {db:?}: another process is using it: if that is exportdesk serve, ask over HTTP (docs/HTTP.md), else try again\n"
+                "exportdesk: DB {db:?}: another process is using it: if that is exportdesk serve, ask over HTTP (docs/HTTP.md) or stop it, else try again\n"
             )?
         }
         Error::SqliteFailure(ErrorCode::NotADatabase) => {

@@ -184,11 +184,14 @@ fn fill(file: &mut File, text: &str, old: Option<&Metadata>) -> io::Result<()> {
     file.sync_all()
 }
 
-/// Gives a file the owner and the group of an old one. To another owner only root can give it; then it gets the group alone.
+/// Gives a file the owner and the group of an old one. To another owner only root can give it: whoever may not, gives it the group
+/// alone. If it fails otherwise, as for want of a quota, the old file stays.
 fn give_owner(file: &File, old: &Metadata) -> io::Result<()> {
     match fchown(file, Some(old.uid()), Some(old.gid())) {
-        Ok(()) => Ok(()),
-        Err(_) => fchown(file, None, Some(old.gid())),
+        Err(error) if error.kind() == io::ErrorKind::PermissionDenied => {
+            fchown(file, None, Some(old.gid()))
+        }
+        given => given,
     }
 }
 
