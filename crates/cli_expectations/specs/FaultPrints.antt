@@ -10,7 +10,7 @@ use Rattle.desk_expect.specs.Rules.{rule_name, rule_number, rule_sentence}
 use Rattle.desk_expect.specs.declared.rules.PlacedFault.{PlacedFault}
 use Rattle.desk_expect.specs.declared.rules.Rule.{Rule}
 use Rattle.desk_check.specs.FindingPrints.{marked_line}
-use Rattle.desk_check.specs.ShownText.{shown_text}
+use Rattle.desk_shown.specs.ShownText.{shown_text}
 use Rattle.cli_output.specs.Printed.{Prints}
 use Rattle.cli_output.specs.declared.printed.Printed.{Printed}
 

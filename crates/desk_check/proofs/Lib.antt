@@ -1,3 +1,2 @@
 pub mod HintLemmas
-pub mod ShownTextLemmas
 pub mod ToldFindings

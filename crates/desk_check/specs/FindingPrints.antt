@@ -16,7 +16,7 @@ use Rattle.desk_findings.specs.declared.finding.Finding.{Finding}
 use Rattle.desk_findings.specs.declared.finding.Matter.{Matter}
 use Rattle.desk_findings.specs.declared.finding.Matter.TheVariants as matter
 use Rattle.desk_check.specs.Hints.{hint}
-use Rattle.desk_check.specs.ShownText.{blanks, carets, shown_line, shown_text}
+use Rattle.desk_shown.specs.ShownText.{blanks, carets, shown_line, shown_text}
 use Rattle.desk_check.specs.declared.finding_prints.Excerpt.{Excerpt}
 
 -- what the sentence is about: the slice in quotes, or the file as a whole

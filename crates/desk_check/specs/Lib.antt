@@ -3,6 +3,5 @@ pub mod FindingJson
 pub mod FindingPrints
 pub mod Hints
 pub mod PrivateFindingJson
-pub mod ShownText
 pub mod ToldFault
 pub mod ToldSite

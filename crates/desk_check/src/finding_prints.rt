@@ -11,9 +11,9 @@ ghost use Rattle.desk_check.specs.FindingPrints.{IsAround};
 ghost use Rattle.desk_check.specs.FindingPrints as spec;
 
 use crate::hints::hint;
-use crate::shown_text::{push_blanks, push_carets, push_shown, push_shown_line};
 use desk_findings::{Finding, Matter};
 use desk_remarks::Example;
+use desk_shown::{push_blanks, push_carets, push_shown, push_shown_line};
 use desk_text::Place;
 use std::alloc::{AllocError, Global};
 

@@ -8,10 +8,10 @@ STYLE = r'''
 *{box-sizing:border-box}
 html{scroll-padding-top:3rem;-webkit-text-size-adjust:100%;text-size-adjust:100%}
 body{margin:0 auto;padding:0 1.25rem 4rem;max-width:80rem;background:var(--bg);color:var(--fg);font:1rem/1.5 system-ui,-apple-system,"Segoe UI",Roboto,"Liberation Sans",Arial,sans-serif;font-variant-numeric:tabular-nums}
-code,pre,.r{font-family:ui-monospace,SFMono-Regular,Menlo,Consolas,"DejaVu Sans Mono","Liberation Mono",monospace;font-size:.875em}
-code{overflow-wrap:anywhere;unicode-bidi:isolate}
-pre{background:var(--soft);border:1px solid var(--line);border-radius:6px;padding:.75rem 1rem;overflow:auto;tab-size:8}
-pre code{font-size:1em}
+code,pre,ul.r{font-family:ui-monospace,SFMono-Regular,Menlo,Consolas,"DejaVu Sans Mono","Liberation Mono",monospace;font-size:.875em}
+code{overflow-wrap:anywhere;white-space:break-spaces;tab-size:8;unicode-bidi:isolate}
+pre{background:var(--soft);border:1px solid var(--line);border-radius:6px;padding:.75rem 1rem;overflow:auto}
+pre code{font-size:1em;white-space:pre}
 a{color:var(--link);text-underline-offset:.15em}
 :focus-visible{outline:3px solid var(--link);outline-offset:2px}
 :target{outline:2px solid var(--link);outline-offset:-1px}
@@ -59,7 +59,7 @@ table.p{table-layout:fixed;min-width:44rem}
 table.p th:first-child{width:9.5rem}
 table.p th:nth-child(2){width:7rem}
 table.text{font-size:.875rem;width:100%}
-table.text code{white-space:pre-wrap;tab-size:8;font-size:.9375em}
+table.text code{font-size:.9375em}
 table.text th,table.text td{padding-top:.12rem;padding-bottom:.12rem;border-bottom-color:transparent}
 table.text thead th{border-bottom-color:var(--line)}
 table.text tbody th{width:2.5rem;text-align:right;color:var(--mute);user-select:none}
@@ -87,7 +87,7 @@ b.l{font-size:.875rem}
 .names{font-size:.875rem;max-width:none}
 .state{font-size:.875rem;color:var(--mute);max-width:none}
 .state code{color:var(--fg)}
-table.a th code,table.f th+td code{white-space:nowrap}
+table.a th code,table.f th+td code,table.o th code{white-space:pre}
 dl.words{display:grid;grid-template-columns:max-content 1fr;gap:.4rem 1.25rem;max-width:52rem}
 dl.words dd{margin:0}
 ul.d .r{font-size:.9375em}
@@ -130,7 +130,7 @@ path.k{stroke:var(--in);stroke-width:.5;paint-order:stroke}
 .tiny path.k.r{fill:var(--rk);stroke:var(--rk);stroke-width:.6}
 path.k.o{fill:var(--in);stroke:var(--ro);stroke-width:.9}
 path.k.r{fill:var(--rk)}
-@media (max-width:40rem){body{padding:0 .9rem 3rem}nav{margin:1rem -.9rem 0;padding:.6rem .9rem}h1{font-size:1.5rem}figure,.place figure{width:8rem}section.place{padding-left:.7rem}table.o{min-width:58rem}table.h,table.n,table.i{min-width:44rem}table.v,table.v tbody,table.f,table.f tbody{display:block;min-width:0}table.v thead,table.f thead{position:absolute;width:1px;height:1px;overflow:hidden;clip-path:inset(50%)}table.v tr,table.f tr{display:grid;gap:.1rem .6rem;padding:.5rem 0;border-bottom:1px solid var(--line)}table.v tr>*,table.f tr>*{padding:0;border:0}table.v tr{grid-template-columns:auto 1fr}table.f tr{grid-template-columns:auto 1fr auto}table.v .num{grid-area:1/2}table.f th{grid-area:1/1}table.f td:nth-child(2){grid-area:1/2}table.f .num{grid-area:1/3}table.v .num::before,table.f .num::before{content:"addresses: ";color:var(--mute);font-size:.8125rem}table.v td:nth-child(2),table.v td:nth-child(4),table.f td:nth-child(3){grid-column:1/-1}ul.r{gap:0 .8rem}table.text,table.text tbody{display:block}table.text thead{position:absolute;width:1px;height:1px;overflow:hidden;clip-path:inset(50%)}table.text tr{display:grid;grid-template-columns:2.25rem 1fr auto;border-bottom:1px solid var(--line)}table.text td:last-child{grid-column:2/-1;width:auto}table.text .num{padding-right:0}table.s th,table.s td{padding-right:.6rem;font-size:.8125rem}dl.words{display:block}dl.words dd{margin:.1rem 0 .7rem}}
+@media (max-width:40rem){body{padding:0 .9rem 3rem}nav{margin:1rem -.9rem 0;padding:.6rem .9rem}h1{font-size:1.5rem}figure,.place figure{width:8rem}section.place{padding-left:.7rem}table{min-width:36rem}table.o{min-width:58rem}table.h{min-width:62rem}table.n,table.i{min-width:52rem}table.v,table.v tbody,table.f,table.f tbody,table.p,table.p tbody{display:block;min-width:0}table.v thead,table.f thead,table.p thead{position:absolute;width:1px;height:1px;overflow:hidden;clip-path:inset(50%)}table.v tr,table.f tr,table.p tr{display:grid;gap:.1rem .6rem;padding:.5rem 0;border-bottom:1px solid var(--line)}table.v tr>*,table.f tr>*,table.p tr>*{padding:0;border:0}table.v tr,table.p tr{grid-template-columns:auto 1fr}table.f tr{grid-template-columns:auto 1fr auto}table.v .num,table.p .num{grid-area:1/2}table.f th{grid-area:1/1}table.f td:nth-child(2){grid-area:1/2}table.f .num{grid-area:1/3}table.v .num::before,table.f .num::before,table.p .num::before{content:"addresses: ";color:var(--mute);font-size:.8125rem}table.p td:nth-child(3)::before{content:"all of it: ";color:var(--mute);font-size:.8125rem}table.p td:nth-child(4)::before{content:"parts of it: ";color:var(--mute);font-size:.8125rem}table.v td:nth-child(2),table.v td:nth-child(4),table.f td:nth-child(3),table.p td:nth-child(3),table.p td:nth-child(4){grid-column:1/-1}ul.r{gap:0 .8rem}table.text,table.text tbody{display:block;min-width:0}table.text thead{position:absolute;width:1px;height:1px;overflow:hidden;clip-path:inset(50%)}table.text tr{display:grid;grid-template-columns:2.25rem 1fr auto;border-bottom:1px solid var(--line)}table.text td:empty{display:none}table.text td:last-child{grid-column:2/-1;width:auto}table.text .num{padding-right:0}table.s th,table.s td{padding-right:.6rem;font-size:.8125rem}dl.words{display:block}dl.words dd{margin:.1rem 0 .7rem}}
 @media print{body{max-width:none;padding:0;font-size:9pt}nav,.up{display:none}a{color:inherit;text-decoration:none}h2,h3,h4,h5,caption,thead{break-after:avoid}tr,figure,.maps,dl,.place{break-inside:avoid}thead{display:table-header-group}.wide{overflow:visible}details::details-content{content-visibility:visible;display:block;height:auto}summary{color:inherit;list-style:none}table,table.text{font-size:8.5pt}svg.tiny{width:1.1cm;height:1.1cm}figure{width:3.3cm}.place figure{width:2.9cm}}
 @media (forced-colors:active){.b,svg{forced-color-adjust:none}}
 '''
@@ -155,14 +155,14 @@ HOW_TO_READ = '''<section id="read">
 <dt><span class="b o">read-only</span></dt><dd>It may mount it read-only, and no user of the client acts as uid 0.</dd>
 <dt><span class="b w">read-write</span></dt><dd>It may mount it read-write, and no user of the client acts as uid 0.</dd>
 <dt><span class="b r">root kept</span></dt><dd>It may mount it, read-only or read-write, and its root, or every user, acts as uid 0 (<code>-maproot=0</code>, <code>-mapall=0</code>).</dd>
-<dt>other directories</dt><dd>All directories of the file system that no line writes. They have the same verdicts, so one list holds for all of them.</dd>
-<dt>It grants</dt><dd>To how many addresses the line grants some directory: those for which it is the line that the verdict names.</dd>
-<dt>State</dt><dd>The SHA-256 of a line <code>NAME rev N SHA-256</code> for each file in the order of the table of files (<code>NAME rev N profile P SHA-256</code> for exports), and of <code>NAME proposed rev N SHA-256</code> behind it if the file has a proposal. Equal states have equal texts in force, revisions and proposals.</dd>
+<dt>other directories</dt><dd>All directories of the file system that no line writes, but for its mount point, which is listed by its name. They have the same verdicts, so one list holds for all of them. Where directories are counted, these are not.</dd>
+<dt>to addresses</dt><dd>To how many addresses the line grants some directory: those for which it is the line that the verdict names.</dd>
+<dt>State</dt><dd>The SHA-256 of a line <code>NAME rev N by AUTHOR SHA-256</code> for each file in the order of the table of files, with <code> approved by APPROVER</code> behind the author if there is one, and <code> profile P</code> before the digest of exports; and of a line <code>NAME proposed rev N by AUTHOR SHA-256</code> behind it if the file has a proposal. Equal states have equal texts in force, numbers of revisions, authors, approvers, profiles and proposals: all that this page shows.</dd>
 </dl>
 <h3>Maps</h3>
 <p>A map is one network, cut into 256 cells of equal size: 16 rows of 16, read like text. In a map of all IPv4 a cell is a /8 and a row is a /4; in one of a /8, /16 or /24 a cell is a /16, a /24 or one address. The cell's number, from 0 to 255, is the next number of the address; the numbers at the left are those of the first cells of the rows. In the map of 172.16.0.0/12 a row is a /16, from 172.16 to 172.31, and a cell a /20.</p>
 <p>The whole cell shows what <b>every</b> address in it may; a mark in its middle shows the most that <b>at least one</b> may, if that is more: a hollow square for read-only, a full one for read-write, a diamond for root kept. So no host vanishes, and a cell is full only if all of it is granted. The most is, in this order: root kept, read-write, read-only.</p>
-<p>Wherever the answer changes between two neighbouring addresses, one of the maps has that border as a line of its grid, unless the page says that maps are not drawn.</p>
+<p>Wherever what a client may (nothing, read-only, read-write, root kept) changes between two neighbouring addresses, one of the maps has that border as a line of its grid, unless the page says that maps are not drawn.</p>
 <h3>What stands out</h3>
 <p>A line stands out by these rules and no others. Only <i>look first</i> and <i>check</i> tell them apart; an intended line may stand out, and a line that does not is not thereby right.</p>
 <table class="f">
@@ -170,9 +170,9 @@ HOW_TO_READ = '''<section id="read">
 <thead><tr><th scope="col">Level</th><th scope="col">Words</th><th scope="col">The line</th></tr></thead>
 <tbody>
 <tr><th scope="row"><b class="l look-first">look first</b></th><td>for everybody, read-write, sec=..</td><td>names no client or a network /0, is not <code>-ro</code>, and grants something</td></tr>
-<tr><th scope="row"><b class="l look-first">look first</b></th><td>root stays root, every user acts as root</td><td>is for a network or for everybody, and uid 0 is kept</td></tr>
+<tr><th scope="row"><b class="l look-first">look first</b></th><td>root stays root, every user acts as root</td><td>is for a network or for everybody, keeps uid 0, and grants something</td></tr>
 <tr><th scope="row"><b class="l check">check</b></th><td>for everybody, read-only, sec=..</td><td>names no client or a network /0, is <code>-ro</code>, and grants something</td></tr>
-<tr><th scope="row"><b class="l check">check</b></th><td>root stays root, every user acts as root</td><td>is for hosts or netgroups, and uid 0 is kept</td></tr>
+<tr><th scope="row"><b class="l check">check</b></th><td>root stays root, every user acts as root</td><td>is for hosts or netgroups, keeps uid 0, and grants something</td></tr>
 <tr><th scope="row"><b class="l check">check</b></th><td>wide</td><td>grants something to over 65,536 addresses, and is not for everybody</td></tr>
 <tr><th scope="row"><b class="l check">check</b></th><td>matches nobody</td><td>has only names that stand for no address, or a network of IPv6</td></tr>
 <tr><th scope="row"><b class="l check">check</b></th><td>never decides</td><td>matches some address, but other lines decide for all of them: made a comment, it would leave every verdict as it is</td></tr>
@@ -181,7 +181,8 @@ HOW_TO_READ = '''<section id="read">
 <ul>
 <li>A client is an IPv4 address. Addresses can be forged, and with <code>sys</code> a client says itself who its users are.</li>
 <li>The page is about the texts in the database. Whether the server has the same ones it does not know.</li>
-<li>Hosts and networks of IPv6 match nobody here, and of <code>V4:</code> lines nothing is said.</li>
+<li>Hosts and networks of IPv6 match nobody here, and <code>V4:</code> lines are neither read nor counted.</li>
+<li>What is too long is cut, and how much is left out is counted there. <code>exportdesk who</code> lists all clients of a directory.</li>
 <li>Under Kerberos the principal decides as whom a user acts; the words on root are for <code>sys</code>.</li>
 <li>Keys, and their digests, are not in it. Keep it as you keep the exports themselves.</li>
 </ul>

@@ -5,7 +5,7 @@ granted alike, what stands out, and which maps show where a class changes.
 import bisect
 
 from reference.definitions import (
-    effect, printed, runs, selected, steady_blocks, unwritten, weight, who,
+    effect, printed, runs, selected, steady_blocks, unwritten, verdict, weight, who,
 )  # fmt: skip
 from reference.idle import is_for_all
 from reference.why import is_for_nobody, named_line
@@ -129,8 +129,8 @@ class FileSystem:
         """For each line the addresses for which it grants some directory: the verdict names it."""
         found = {line.number: [] for line in self.lines}
         for place in self.places:
-            for first, last, verdict in self.granted(place):
-                found[named_line(verdict)].append((first, last))
+            for first, last, granted in self.granted(place):
+                found[named_line(granted)].append((first, last))
         return {number: union(ranges) for number, ranges in found.items()}
 
     def decides_nothing(self, line):
@@ -141,10 +141,10 @@ class FileSystem:
         return is_for_nobody(self.site, line)
 
     def deciding(self, line):
-        """The lines that are selected at the addresses that a line matches, in order."""
+        """The lines that some verdict names at an address that a line matches, in order. (Not all that are selected there.)"""
         firsts = [first for first, _ in steady_blocks(((self.site, self.mount),))]
         matched = [first for first in firsts if weight(self.site, line, first) is not None]
-        return sorted({other.number for first in matched for other in selected(self.site, self.mount, first)} - {line.number})
+        return sorted({named_line(verdict(self.site, first, place)) for first in matched for place in self.places})
 
     def groups(self):
         """The places, those together whose granted ranges are the same, in the order of their first."""
@@ -156,7 +156,7 @@ class FileSystem:
 
 def classes_of(ranges):
     """The classes of a list of verdicts."""
-    return joined((first, last, class_of(effect(verdict))) for first, last, verdict in ranges)
+    return joined((first, last, class_of(effect(found))) for first, last, found in ranges)
 
 
 def together(systems):

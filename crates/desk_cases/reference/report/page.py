@@ -14,7 +14,7 @@ from reference.report.data import (
 )  # fmt: skip
 from reference.report.maps import small_map
 from reference.report.pieces import cut, folded, folded_if_long, level_mark, line_link, ranges_cell, system_link, table, zero
-from reference.report.systems import file_of, finding_words, network_of, system_section
+from reference.report.systems import file_of, finding_words, network_of, system_section, widest_first
 from reference.report.text import (
     CLASS_WORDS, and_more, class_badge, code, codes, escaped, escaped_attribute, escaped_line, flavour_words, network_text, number,
     part_words, plural, shell_word,
@@ -85,15 +85,20 @@ def header(report, name):
 
 
 def state_digest(desk):
-    """The SHA-256 of a line for each newest revision and each proposal, in the order of `files`: `NAME rev N SHA-256`, of exports
-    `NAME rev N profile P SHA-256`, and `NAME proposed rev N SHA-256`."""
+    """The SHA-256 of a line for each newest revision and each proposal, in the order of `files`: `NAME rev N by AUTHOR SHA-256`,
+    with ` approved by APPROVER` behind the author if there is one, and of exports ` profile P` before the digest; and
+    `NAME proposed rev N by AUTHOR SHA-256`. So it tells all that the page is made of, but for the name of the database."""
     lines = ""
     for name in desk.files():
         if name in desk.authors:
+            revision, author = desk.authors[name]
+            approver = desk.approvers.get(name)
+            approved = f" approved by {approver}" if approver else ""
             profile = "" if name in FILES else f" profile {desk.profile(name)}"
-            lines += f"{name} rev {desk.number(name)}{profile} {sha256(desk.texts[name])}\n"
+            lines += f"{name} rev {revision} by {author}{approved}{profile} {sha256(desk.texts[name])}\n"
         if name in desk.proposals:
-            lines += f"{name} proposed rev {desk.number(name) + 1} {sha256(desk.proposals[name][1])}\n"
+            author, text = desk.proposals[name]
+            lines += f"{name} proposed rev {desk.number(name) + 1} by {author} {sha256(text)}\n"
     return sha256(lines)
 
 
@@ -114,11 +119,11 @@ def key_figures(report):
     return [
         ("File systems", len(report.systems), f"{number(guarded)} guarded"),
         ("Lines", len(report.lines), f"{plural(directories, 'directory', 'directories')} written"),
-        ("For everybody", len(everybody), f"{number(writable)} read-write"),
-        ("Root kept", len(root), f"{number(not_named)} for networks or everybody"),
-        ("Without effect", len(report.lines) - len(report.granting()), "lines that grant nothing"),
-        ("Warnings", len(report.warnings), "of the desk"),
-        ("Proposals", len(report.desk.proposals), "wait for approval"),
+        ("Lines for everybody", len(everybody), f"{number(writable)} without -ro"),
+        ("Lines that keep root", len(root), f"{number(not_named)} for networks or everybody"),
+        ("Lines without effect", len(report.lines) - len(report.granting()), "they grant nothing"),
+        ("Warnings", len(report.warnings), "about words"),
+        ("Proposals", len(report.desk.proposals), "not in force"),
     ]
 
 
@@ -167,7 +172,7 @@ def flavours_table(report):
         writable = sum(not is_read_only(line.terms) for _, line in lines)
         words = [code(":".join(flavours)), escaped(flavour_words(flavours))]
         rows.append([*words, number(len(lines)), number(writable), and_more(systems, MOST_SYSTEMS)])
-    heads = ["Flavours", "In words", "Lines#", "read-write#", "File systems"]
+    heads = ["Flavours", "In words", "Lines#", "without -ro#", "File systems"]
     return table("Security flavours of the lines that grant", heads, rows, "a")
 
 
@@ -209,23 +214,23 @@ def system_row(report, system):
     revision = f"rev {desk.number(name)} by {code(desk.authors[name][1])}" if name in desk.authors else "none"
     revision += " <b>proposal waits</b>" if name in desk.proposals else ""
     levels = [found.level for found in report.findings_in(system)]
-    counted = ", ".join(f"{levels.count(level)} {level}" for level in (FIRST, CHECK) if level in levels)
+    counted = ", ".join(f"{number(levels.count(level))} {level}" for level in (FIRST, CHECK) if level in levels)
     return [system_link(system), *classes_cells(system.classes), kept, revision, counted or zero("nothing")]
 
 
 def networks_table(report):
     """What each network that a line writes may mount, in all file systems: the widest first."""
     written = {network_of(line) for _, line in report.lines if line.clients[0] == "network" and not is_for_all(line)}
-    ordered = sorted(written, key=lambda network: (network[1], network[0]))
+    ordered = sorted(written, key=widest_first)
     if not ordered:
-        return "<p>No line writes a network.</p>\n"
+        return "<p>No line writes a network, but for /0 or one of IPv6.</p>\n"
     heads = ["Network", "Addresses#", "All of it, alike", "Parts of it, and how many addresses"]
     rows = [network_row(report, *network) for network in ordered[:MOST_NETWORKS]]
     made = table("What the networks may mount that lines write", heads, rows, "p", True)
     rest = len(ordered) - MOST_NETWORKS
     more = plural(rest, "more network is", "more networks are")
-    words = "<p>The networks that lines write, the widest first, and what their addresses may mount.</p>\n"
-    return words + made + (cut(f"{more} not listed, none of them wider") if rest > 0 else "")
+    words = "The networks that lines write, but for /0 and those of IPv6, the widest first, and what their addresses may mount."
+    return f"<p>{words}</p>\n" + made + (cut(f"{more} not listed, none of them wider") if rest > 0 else "")
 
 
 def network_row(report, first, prefix):
@@ -247,13 +252,13 @@ def network_row(report, first, prefix):
 
 def warnings_table(report):
     if not report.warnings:
-        return "<p>The desk has no warning.</p>\n"
+        return "<p>No word has a warning.</p>\n"
     systems = {file_of(system): system for system in report.systems}
     rows = []
     for name, line, kind, word in report.warnings:
         where = line_link(systems[name], line) if name in systems else f"line {line}"
         rows.append([code(name), where, code(word), NAMES[kind], WARNING_WORDS[kind]])
-    made = table("Warnings of the desk", ["File", "Line", "Word", "Name", "What it means"], rows)
+    made = table("Warnings about words", ["File", "Line", "Word", "Name", "What it means"], rows)
     return folded_if_long(made, len(rows), plural(len(rows), "warning"))
 
 
@@ -262,12 +267,11 @@ def names_tables(report):
 
 
 def uses_cell(report, name):
-    """The lines that write a name, each as often as they write it."""
+    """The lines that write a name."""
     uses = [
-        f'<a href="#f{system.number}-{line.number}"><code>{escaped(system.name)}</code> line {line.number}</a>'
+        f'<a href="#f{system.number}-{line.number}">{code(system.name)} line {line.number}</a>'
         for system, line in report.lines
-        for written in names_on(line)
-        if written == name
+        if name in names_on(line)
     ]
     return and_more(uses, MOST_USES) if uses else zero("no line")
 
@@ -291,7 +295,7 @@ def netgroups_table(report):
         hosts = number(len(hosts_of(site, group, len(site.groups))))
         words = [code(group), number(lines[group]), and_more(written, MOST_MEMBERS) or "-", hosts]
         rows.append([*words, number(len(addresses)), addresses_cell(addresses), uses_cell(report, group)])
-    heads = ["Name", "Line#", "Members as written", "Hosts#", "Addresses#", "Stands for", "Written by"]
+    heads = ["Name", "Line#", "Hosts and groups in it", "Host names#", "Addresses#", "Stands for", "Written by"]
     return folded_if_long(table("Netgroups", heads, rows, "n"), len(rows), plural(len(rows), "netgroup"))
 
 
@@ -313,27 +317,34 @@ def host_row(report, name):
 
 
 def files_table(report):
-    rows = [file_row(report, name) for name in report.desk.files() if name in report.desk.authors]
+    desk = report.desk
+    rows = [file_row(report, name) for name in desk.files() if name in desk.authors or name in desk.proposals]
     heads = ["File", "Revision#", "Author", "Approver", "Profile", "Bytes#", "SHA-256 of the text", "Remark"]
     made = table("Files and their newest revisions", heads, rows, "h")
     return folded_if_long(made, len(rows), plural(len(rows), "file"), OPEN_FILES)
 
 
 def file_row(report, name):
-    desk, text = report.desk, report.desk.texts[name]
+    """The newest revision of a file, and who proposes another text. One that is only proposed has no revision."""
+    desk = report.desk
     remarks = [f"proposal by {code(desk.proposals[name][0])}"] if name in desk.proposals else []
     remarks += [] if name in FILES or name in map(file_of, report.systems) else ["unlisted"]
-    approver = desk.approvers.get(name)
-    who = [code(desk.authors[name][1]), code(approver) if approver else "-", "-" if name in FILES else str(desk.profile(name))]
-    digest = f'<code class="sha">{sha256(text)}</code>'
-    return [code(name), number(desk.number(name)), *who, number(len(text.encode())), digest, ", ".join(remarks) or "-"]
+    revision = revision_cells(desk, name) if name in desk.authors else ["-"] * 6
+    return [code(name), *revision, ", ".join(remarks) or "-"]
+
+
+def revision_cells(desk, name):
+    (revision, author), approver, text = desk.authors[name], desk.approvers.get(name), desk.texts[name]
+    who = [code(author), code(approver) if approver else "-", "-" if name in FILES else str(desk.profile(name))]
+    return [number(revision), *who, number(len(text.encode())), f'<code class="sha">{sha256(text)}</code>']
 
 
 def make_again(name):
     word = escaped(shell_word(name))
     commands = f"exportdesk report {word} &gt;report.html\nexportdesk report {word} | cmp - report.html\n"
     commands += f"exportdesk cat {word} exports:MOUNT | sha256sum"
-    words = "The page has no date and no name of a machine: of the same revisions it is the same to the byte."
+    words = "The page has no date and no name of a machine: one version of exportdesk makes the same page, to the byte, of the same"
+    words += " state and the same name of the database."
     return f"<h3>Make it again, and compare</h3>\n<pre><code>{commands}</code></pre>\n<p>{words}</p>\n"
 
 

@@ -57,7 +57,7 @@ def ranges_cell(ranges):
         return made
     uncounted = len(words) - MOST_RANGES
     more = plural(uncounted, "more range is", "more ranges are")
-    left_out = cut(f"{more} not listed here; <code>exportdesk who</code> lists all")[:-1] if uncounted > 0 else ""
+    left_out = cut(f"{more} not listed here")[:-1] if uncounted > 0 else ""
     return made + folded(f"{number(len(words) - OPEN_RANGES)} more", range_list(rest) + left_out)
 
 

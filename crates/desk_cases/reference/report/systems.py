@@ -10,15 +10,17 @@ from reference.report.data import (
 from reference.report.maps import figures
 from reference.report.pieces import box, cut, folded, folded_if_long, level_mark, line_link, ranges_cell, table, zero
 from reference.report.text import (
-    class_badge, code, codes, escaped, escaped_line, network_text, number, part_words, percent, plural, range_text, terms_badge,
-    terms_words,
+    and_more, class_badge, code, codes, escaped, escaped_line, network_text, number, part_words, percent, plural, range_text,
+    terms_badge, terms_words,
 )  # fmt: skip
 from reference.why import named_line
 
 # A text of more lines is folded. If a file system has more groups of directories, none of them has maps, and so many are listed.
 OPEN_LINES, MOST_DRAWN, MOST_GROUPS = 40, 12, 100
-# So many directories stand in a heading, so many reasons of a denial apart, and so many networks in the table of shares.
-MOST_NAMES, MOST_REASONS, MOST_SHARES = 8, 5, 12
+# So many directories stand in a heading, and in a caption; so many lines that decide for the clients of another one, reasons of a
+# denial apart, and networks in the table of shares.
+MOST_NAMES, MOST_CAPTION, MOST_DECIDING, MOST_REASONS, MOST_SHARES = 8, 3, 6, 5, 12
+OTHERS = "other directories"
 
 
 def file_of(system):
@@ -36,9 +38,9 @@ def finding_words(finding):
 def deciding_words(finding):
     system = finding.system
     line = next(line for line in system.lines if line.number == finding.line)
-    others = system.deciding(line)
-    named = ", ".join(line_link(system, other) for other in others[:6]) + (" and others" if len(others) > 6 else "")
-    return f"never decides: {named} {'decides' if len(others) == 1 else 'decide'} for all its clients"
+    others = [line_link(system, other) for other in system.deciding(line)]
+    decide = "decides" if len(others) == 1 else "decide"
+    return f"never decides: {and_more(others, MOST_DECIDING)} {decide} for all its clients"
 
 
 # ---- the text in force
@@ -87,7 +89,7 @@ def verdict_rows(system, group):
     differ = any(system.who[place] != system.who[group[0]] for place in group)
     if denied and (differ or len(denied) > MOST_REASONS):
         ranges = [found for verdict in denied for found in by_verdict[verdict]]
-        reason = "no line matches them, or those that match them best list other directories"
+        reason = "no line matches them, or those that match them best list none of these"
         return [*rows, [class_badge(0), "everybody else", part_words(size_of(ranges)), reason]], len(granted)
     return rows + [denied_row(system, verdict, by_verdict[verdict]) for verdict in denied], len(granted)
 
@@ -106,27 +108,28 @@ def granted_row(system, verdict, ranges):
 def denied_row(system, verdict, ranges):
     line = named_line(verdict)
     clients = "everybody else" if line is None else ranges_cell(ranges)
-    reason = f"{line_link(system, line)} matches them best, but lists other directories" if line else "no line matches them"
+    reason = f"{line_link(system, line)} matches them best, but lists none of these" if line else "no line matches them"
     return [class_badge(0), clients, part_words(size_of(ranges)), reason]
 
 
-def place_text(system, place):
-    return "other directories" if place == system.other else printed(place)
+def directories_of(system, places):
+    """The directories among some places: all but the one that stands for the other directories, which no number counts."""
+    return [printed(place) for place in places if place != system.other]
 
 
-def place_name(system, place):
-    return "other directories" if place == system.other else code(printed(place))
+def group_words(system, group, most, shown=code):
+    """The first directories of a group, how many more it has, and whether the other directories are in it."""
+    names = list(map(shown, directories_of(system, group)))
+    words = [and_more(names, most)] if names else []
+    return ", ".join([*words, OTHERS] if system.other in group else words)
 
 
 def group_block(system, group, is_drawn):
     """A group of directories whose grants are the same: maps, and a row for each verdict."""
-    names = [place_name(system, place) for place in group]
-    rest = len(group) - MOST_NAMES
-    heading = ", ".join(names[:MOST_NAMES]) + (f" and {number(rest)} more" if rest > 0 else "")
-    made = f'<section class="place">\n<h5>{heading}</h5>\n'
-    if rest > 0:
-        others = f'<p class="names">{", ".join(names[MOST_NAMES:])}</p>\n'
-        made += folded(f"The other {plural(rest, 'directory', 'directories')}", others)
+    made = f'<section class="place">\n<h5>{group_words(system, group, MOST_NAMES)}</h5>\n'
+    rest = directories_of(system, group)[MOST_NAMES:]
+    if rest:
+        made += folded(directories_more(len(rest)), f'<p class="names">{codes(rest)}</p>\n')
     if not system.granted(group[0]):
         it = "it" if len(group) == 1 and group[0] != system.other else "them"
         return f"{made}<p>Nobody may mount {it}.</p>\n</section>\n"
@@ -136,16 +139,21 @@ def group_block(system, group, is_drawn):
 
 def verdict_table(system, group):
     rows, granting = verdict_rows(system, group)
-    caption, label = (f"Who may mount {group_words(system, group, name)}" for name in (place_name, place_text))
+    caption, label = (f"Who may mount {group_words(system, group, MOST_CAPTION, shown)}" for shown in (code, str))
     made = table(caption, ["Verdict", "Clients", "Addresses#", "By, and on what terms"], rows, "v", True, label)
     return folded_if_long(made, len(rows), f"{plural(granting, 'line')} that grant it")
 
 
-def group_words(system, group, name):
-    """The names of a few directories, or of the first of them."""
-    if len(group) > 3:
-        return f"{name(system, group[0])} and {number(len(group) - 1)} more"
-    return ", ".join(name(system, place) for place in group)
+def directories_more(count):
+    return plural(count, "more directory", "more directories")
+
+
+def not_listed(system, places):
+    """How many directories are left out, and whether the other directories are."""
+    count = len(directories_of(system, places))
+    words = [directories_more(count)] if count else []
+    words += [OTHERS] if system.other in places else []
+    return cut(f"Not listed here: {' and '.join(words)}; <code>exportdesk who</code> answers for each") if words else ""
 
 
 def groups_block(system):
@@ -155,9 +163,7 @@ def groups_block(system):
         made += cut(f"Maps of the single directories are not drawn: there are {number(len(groups))} lists")
     is_drawn = 1 < len(groups) <= MOST_DRAWN
     made += "".join(group_block(system, group, is_drawn) for group in groups[:MOST_GROUPS])
-    rest = sum(map(len, groups[MOST_GROUPS:]))
-    more = plural(rest, "more directory is", "more directories are")
-    return made + (cut(f"{more} not listed here; <code>exportdesk who</code> answers for each") if rest else "")
+    return made + not_listed(system, [place for group in groups[MOST_GROUPS:] for place in group])
 
 
 # ---- where its clients are
@@ -165,9 +171,9 @@ def groups_block(system):
 
 def shares_table(system):
     """How many addresses may mount some directory: of all, outside the private networks, in each of these, and in each network
-    that a line writes."""
+    that a line writes, the widest first."""
     written = {network_of(line) for line in system.lines if line.clients[0] == "network" and not is_for_all(line)}
-    own = sorted(written - set(PRIVATE))
+    own = sorted(written - set(PRIVATE), key=widest_first)
     shares = [("all of IPv4", [(0, SPACE - 1)]), ("outside private space", outside_private())]
     shares += [(network_text(*network), [network_ends(*network)]) for network in [*PRIVATE, *own[:MOST_SHARES]]]
     heads = ["Network", "has#", "read-only#", "read-write#", "root kept#", "may mount#"]
@@ -176,12 +182,18 @@ def shares_table(system):
     made = table(words + code(system.name), heads, rows, "s", label=words + system.name)
     rest = len(own) - MOST_SHARES
     more = plural(rest, "more network that lines write is", "more networks that lines write are")
-    return made + (cut(f"{more} not listed") if rest > 0 else "")
+    return made + (cut(f"{more} not listed, none of them wider") if rest > 0 else "")
 
 
 def network_of(line):
     _, address, prefix = line.clients
     return network_ends(address, prefix)[0], prefix
+
+
+def widest_first(network):
+    """The order of networks: the widest first, then by address."""
+    first, prefix = network
+    return prefix, first
 
 
 def outside_private():
@@ -205,10 +217,10 @@ def proposal_block(desk, system):
     if file_of(system) not in desk.proposals:
         return ""
     author, text = desk.proposals[file_of(system)]
-    base = number(desk.number(file_of(system)))
+    revision = number(desk.number(file_of(system)) + 1)
+    approval = ": another of the custodians has to put the same text" if file_of(system) in desk.guarded() else ""
     made = '<section class="wait">\n<h4>A proposal waits</h4>\n'
-    made += f"<p>{code(author)} proposes this text in the place of revision {base}. It is not in force: another of the custodians"
-    made += " has to put the same text.</p>\n"
+    made += f"<p>{code(author)} proposes this text as revision {revision}. It is not in force{approval}.</p>\n"
     made += proposed_text(system, desk.texts.get(file_of(system), ""), text)
     after = FileSystem(read_site({**desk.texts, file_of(system): text}), system.number)
     return made + changes_block(system, after) + "</section>\n"

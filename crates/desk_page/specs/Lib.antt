@@ -1,0 +1,10 @@
+pub mod Amounts
+pub mod Escaping
+pub mod Facts
+pub mod Head
+pub mod Laws
+pub mod Numbers
+pub mod Pieces
+pub mod Ranges
+pub mod Terms
+pub mod TextRows

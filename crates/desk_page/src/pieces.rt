@@ -1,0 +1,133 @@
+//! Pieces of the page: texts, links and the heads of tables.
+
+ghost use Rattle.std.specs.Prelude.{◌≡◌, ◌++◌, OnOk, codes};
+ghost use Rattle.std.specs.List.{flat_map};
+ghost use Rattle.std.specs.String.{string_bytes};
+ghost use Rattle.desk_page.specs.Pieces as spec;
+
+use crate::escaping::{push_attribute, push_escaped};
+use desk_tables::FsId;
+use desk_text::Text;
+use std::alloc::AllocError;
+
+/// The head of a column.
+#[derive(Clone, Copy)]
+pub struct Column {
+    pub words: &'static str,
+    /// Whether the column has numbers.
+    pub is_number: bool,
+}
+
+/// Adds a text in `code`.
+pub fn push_code(text: &str, page: &mut String) -> Result<(), AllocError>
+    ensures { OnOk result (string_bytes page.new ≡ string_bytes page.old ++ spec.code text.now) }
+{
+    page.push_str("<code>")?;
+    push_escaped(text, page)?;
+    page.push_str("</code>")
+}
+
+/// Adds texts in `code`, with commas between them.
+pub fn push_code_list(texts: &[Text], page: &mut String) -> Result<(), AllocError>
+    ensures { OnOk result (string_bytes page.new ≡ string_bytes page.old ++ spec.code_list texts.now) }
+{
+    match texts {
+        [] => Ok(()),
+        [first, others @ ..] => {
+            push_code(first.as_str(), page)?;
+            push_later(others, page)
+        }
+    }
+}
+
+/// Adds the texts behind the first.
+fn push_later(texts: &[Text], page: &mut String) -> Result<(), AllocError>
+    ensures { OnOk result (string_bytes page.new ≡ string_bytes page.old ++ flat_map (λ text. codes ", " ++ spec.code text) texts.now) }
+{
+    for text in texts {
+        page.push_str(", ")?;
+        push_code(text.as_str(), page)?;
+    }
+    Ok(())
+}
+
+/// Adds words that stand for nothing.
+pub fn push_zero(words: &str, page: &mut String) -> Result<(), AllocError>
+    ensures { OnOk result (string_bytes page.new ≡ string_bytes page.old ++ spec.zero words.now) }
+{
+    write!(page, "<span class=\"zero\">{words}</span>")
+}
+
+/// Adds a link to a line of the text of a file system.
+pub fn push_line_link(fs: FsId, line: u32, page: &mut String) -> Result<(), AllocError>
+    ensures { OnOk result (string_bytes page.new ≡ string_bytes page.old ++ spec.line_link fs.0 line) }
+{
+    let number = fs.0;
+    write!(
+        page,
+        "<a class=\"l\" href=\"#f{number}-{line}\">line {line}</a>"
+    )
+}
+
+/// Adds a link to a file system, given its name.
+pub fn push_system_link(fs: FsId, name: &str, page: &mut String) -> Result<(), AllocError>
+    ensures { OnOk result (string_bytes page.new ≡ string_bytes page.old ++ spec.system_link fs.0 name.now) }
+{
+    let number = fs.0;
+    write!(page, "<a href=\"#f{number}\">")?;
+    push_code(name, page)?;
+    page.push_str("</a>")
+}
+
+/// Begins a box in which a wide table can be scrolled, and which is called by words without markup and a name.
+pub fn push_box_start(words: &str, name: &str, page: &mut String) -> Result<(), AllocError>
+    ensures { OnOk result (string_bytes page.new ≡ string_bytes page.old ++ spec.box_start words.now name.now) }
+{
+    write!(
+        page,
+        "<div class=\"wide\" tabindex=\"0\" role=\"region\" aria-label=\"{words}"
+    )?;
+    push_attribute(name, page)?;
+    page.push_str("\">")
+}
+
+/// Adds the row of heads of a table, and begins its body.
+pub fn push_head_row(columns: &[Column], page: &mut String) -> Result<(), AllocError>
+    ensures { OnOk result (string_bytes page.new ≡ string_bytes page.old ++ spec.head_row columns.now) }
+{
+    page.push_str("<thead><tr>")?;
+    push_heads(columns, page)?;
+    page.push_str("</tr></thead>\n<tbody>\n")
+}
+
+/// Adds the heads of columns.
+#[tactic(auto, unfolding(crate::specs::Pieces::heads))]
+fn push_heads(columns: &[Column], page: &mut String) -> Result<(), AllocError>
+    ensures { OnOk result (string_bytes page.new ≡ string_bytes page.old ++ spec.heads columns.now) }
+{
+    for column in columns {
+        push_head(*column, page)?;
+    }
+    Ok(())
+}
+
+/// Adds the head of a column.
+fn push_head(column: Column, page: &mut String) -> Result<(), AllocError>
+    ensures { OnOk result (string_bytes page.new ≡ string_bytes page.old ++ spec.head column) }
+{
+    push_head_with(number_class(column.is_number), column.words, page)
+}
+
+/// Adds a head with this attribute and these words.
+fn push_head_with(class: &str, words: &str, page: &mut String) -> Result<(), AllocError>
+    ensures { OnOk result (string_bytes page.new ≡ string_bytes page.old ++ spec.head_with class.now words.now) }
+{
+    write!(page, "<th scope=\"col\"{class}>{words}</th>")
+}
+
+/// Returns the attribute of a cell that may be a number.
+fn number_class(is_number: bool) -> &'static str
+    ensures { result.now ≡ spec.number_class is_number }
+{
+    if is_number { " class=\"num\"" } else { "" }
+}

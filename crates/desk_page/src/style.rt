@@ -1,0 +1,137 @@
+//! The style sheet of the page, which is the same on every page.
+
+/// The style sheet. Its digest is in the policy at the head of the page (`head.rt`).
+pub(crate) const STYLE: &str = r#"
+:root{color-scheme:light dark;--bg:#fff;--fg:#1b1f23;--mute:#57606a;--line:#d3d9df;--soft:#f4f6f8;--hit:#fff6e5;--link:#0a58a6;--ro:#1f62a8;--rw:#c2560a;--rwt:#964206;--rk:#8b0a50;--in:#fff}
+@media screen and (prefers-color-scheme:dark){:root{--bg:#13161a;--fg:#e4e8ec;--mute:#a4adb6;--line:#3a4149;--soft:#1c2025;--hit:#2b2416;--link:#83bbf7;--ro:#74b4f2;--rw:#ee8f43;--rwt:#f3a565;--rk:#ff85b6;--in:#13161a}}
+@media print{:root{color-scheme:light}}
+@media screen{section.fs{content-visibility:auto;contain-intrinsic-size:auto 80rem}}
+*{box-sizing:border-box}
+html{scroll-padding-top:3rem;-webkit-text-size-adjust:100%;text-size-adjust:100%}
+body{margin:0 auto;padding:0 1.25rem 4rem;max-width:80rem;background:var(--bg);color:var(--fg);font:1rem/1.5 system-ui,-apple-system,"Segoe UI",Roboto,"Liberation Sans",Arial,sans-serif;font-variant-numeric:tabular-nums}
+code,pre,ul.r{font-family:ui-monospace,SFMono-Regular,Menlo,Consolas,"DejaVu Sans Mono","Liberation Mono",monospace;font-size:.875em}
+code{overflow-wrap:anywhere;white-space:break-spaces;tab-size:8;unicode-bidi:isolate}
+pre{background:var(--soft);border:1px solid var(--line);border-radius:6px;padding:.75rem 1rem;overflow:auto}
+pre code{font-size:1em;white-space:pre}
+a{color:var(--link);text-underline-offset:.15em}
+:focus-visible{outline:3px solid var(--link);outline-offset:2px}
+:target{outline:2px solid var(--link);outline-offset:-1px}
+section:target{outline:0}
+section:target>h2,section:target>h3{text-decoration:underline;text-decoration-color:var(--link);text-underline-offset:.25em}
+header{padding-top:2rem}
+.kind{margin:0;color:var(--mute);text-transform:uppercase;letter-spacing:.08em;font-size:.8125rem}
+h1{font-size:1.875rem;line-height:1.2;margin:.1rem 0 .5rem}
+h2{font-size:1.5rem;line-height:1.25;margin:3rem 0 1rem;padding-bottom:.35rem;border-bottom:2px solid var(--line)}
+h3{font-size:1.1875rem;line-height:1.3;margin:1.75rem 0 .5rem}
+h4{font-size:1rem;margin:1.5rem 0 .5rem}
+h5{font-size:.9375rem;margin:0 0 .5rem}
+h3 code,h4 code,h5 code{font-size:1em}
+p{margin:.4rem 0 .8rem;max-width:46rem}
+nav{position:sticky;top:0;z-index:2;display:flex;gap:.15rem 1.1rem;overflow-x:auto;margin:1rem -1.25rem 0;padding:.6rem 1.25rem;background:var(--bg);border-bottom:1px solid var(--line);font-size:.9375rem;white-space:nowrap}
+dl.big{display:grid;grid-template-columns:repeat(auto-fit,minmax(9rem,1fr));margin:0;border:1px solid var(--line);border-radius:8px;overflow:hidden}
+dl.big div{box-shadow:0 0 0 .5px var(--line);padding:.7rem .9rem;display:flex;flex-direction:column}
+dl.big dt{font-size:.875rem;color:var(--mute)}
+dl.big dd{margin:0;font-size:1.75rem;line-height:1.2;font-weight:600}
+dl.big small{display:block;font-size:.8125rem;font-weight:400;color:var(--mute)}
+dl.facts{display:grid;grid-template-columns:repeat(auto-fit,minmax(13rem,1fr));gap:.4rem 1.5rem;margin:.5rem 0 1rem}
+dl.facts dt{font-size:.8125rem;color:var(--mute)}
+dl.facts dd{margin:0}
+.wide{overflow-x:auto;margin:.5rem 0 1.25rem;max-width:100%}
+table{border-collapse:collapse;font-size:.9375rem;width:100%}
+caption{text-align:left;color:var(--mute);font-size:.875rem;padding:.25rem 0}
+.off{position:absolute;width:1px;height:1px;overflow:hidden;clip-path:inset(50%)}
+th,td{text-align:left;vertical-align:top;padding:.4rem .75rem .4rem 0;border-bottom:1px solid var(--line)}
+th:last-child,td:last-child{padding-right:0}
+thead th{font-size:.8125rem;font-weight:600;color:var(--mute);vertical-align:bottom}
+tbody th{font-weight:400}
+.num{text-align:right;white-space:nowrap}
+.zero{color:var(--mute)}
+small{color:var(--mute)}
+table.o td{vertical-align:middle}
+table.o th{vertical-align:middle;white-space:nowrap}
+table.o thead th{vertical-align:bottom}
+table.s{width:auto}
+table.s th,table.s td{padding-right:1.5rem;white-space:nowrap}
+table.v{table-layout:fixed;min-width:44rem}
+table.v th:first-child{width:7.5rem}
+table.v th:nth-child(3){width:9.5rem}
+table.v th:nth-child(4){width:40%}
+table.p{table-layout:fixed;min-width:44rem}
+table.p th:first-child{width:9.5rem}
+table.p th:nth-child(2){width:7rem}
+table.text{font-size:.875rem;width:100%}
+table.text code{font-size:.9375em}
+table.text th,table.text td{padding-top:.12rem;padding-bottom:.12rem;border-bottom-color:transparent}
+table.text thead th{border-bottom-color:var(--line)}
+table.text tbody th{width:2.5rem;text-align:right;color:var(--mute);user-select:none}
+table.text td{vertical-align:baseline}
+table.text td:nth-child(2){white-space:nowrap}
+table.text td:last-child{width:100%}
+table.text .num{padding-right:1.25rem}
+table.text tr.hit>*{background:var(--hit)}
+ul.r{list-style:none;margin:0;padding:0;display:flex;flex-wrap:wrap;gap:0 1rem}
+ul.d{list-style:none;margin:0 0 .5rem;padding:0;font-size:.875rem;color:var(--mute)}
+ul.mine,ul.legend{list-style:none;padding:0;margin:.5rem 0 1rem}
+ul.legend{display:flex;flex-wrap:wrap;gap:.35rem 1.4rem;font-size:.875rem}
+.b{display:inline-block;padding:0 .45em;border:1.5px solid currentColor;border-radius:4px;font-size:.8125rem;line-height:1.45;font-weight:600;white-space:nowrap}
+.b.n{color:var(--mute);font-weight:400}
+.b.o{color:var(--ro)}
+.b.w{color:var(--rwt)}
+.b.r{color:var(--rk);border-width:2.5px}
+.l{white-space:nowrap}
+b.l{font-size:.875rem}
+.l.look-first::before{content:"\25b2\a0"}
+.l.check::before{content:"\25cb\a0"}
+.l.look-first{color:var(--rk)}
+.x{font-style:normal;color:var(--rk);border-bottom:1px dotted}
+.sha{font-size:.75rem}
+.names{font-size:.875rem;max-width:none}
+.state{font-size:.875rem;color:var(--mute);max-width:none}
+.state code{color:var(--fg)}
+table.a th code,table.f th+td code,table.o th code{white-space:pre}
+dl.words{display:grid;grid-template-columns:max-content 1fr;gap:.4rem 1.25rem;max-width:52rem}
+dl.words dd{margin:0}
+ul.d .r{font-size:.9375em}
+.key{font-size:.875rem;color:var(--mute)}
+table.n tbody th{min-width:9rem}
+.cut{font-size:.875rem;border-left:3px solid var(--rw);padding-left:.6rem}
+section.fs{border-top:1px solid var(--line);padding-top:.25rem;margin-top:2.5rem}
+section.fs>h3{font-size:1.375rem;margin-top:1rem}
+section.place{border-left:3px solid var(--line);padding-left:1rem;margin:1rem 0 1.5rem}
+section.wait{border:2px dashed var(--rw);border-radius:8px;padding:.25rem 1rem;margin:1rem 0}
+.up{font-size:.875rem}
+details{margin:.25rem 0 1rem}
+td details{margin:0}
+summary{cursor:pointer;color:var(--link);font-size:.9375rem}
+td summary{font-size:.875rem}
+.maps{display:flex;flex-wrap:wrap;gap:.75rem 1.25rem;margin:.25rem 0 .5rem}
+figure{margin:0;width:10rem}
+.place figure{width:7.5rem}
+figcaption{font-size:.8125rem;line-height:1.35;color:var(--mute)}
+figcaption b{display:block;color:var(--fg);font-weight:600}
+svg{display:block}
+.defs{position:absolute}
+svg.big{width:100%;height:auto}
+svg.tiny{width:4.25rem;height:4.25rem}
+svg.key{display:inline-block;width:1.25rem;height:1.25rem;vertical-align:-.3rem}
+path.g{fill:var(--soft);stroke:var(--mute);stroke-width:.6}
+path.h{fill:none;stroke:var(--in);stroke-width:.5;stroke-opacity:.55}
+.y text{font-size:6px;fill:var(--mute);text-anchor:end}
+path.po{fill:var(--ro)}
+path.pr{fill:var(--rk)}
+path.px{fill:var(--in)}
+path.o{fill:url(#po)}
+path.w{fill:var(--rw)}
+path.r{fill:url(#pr)}
+.tiny path.r{fill:url(#pt)}
+path.k{stroke:var(--in);stroke-width:.5;paint-order:stroke}
+.tiny path.k{stroke-width:1;paint-order:normal}
+.tiny path.k.o{stroke-width:1}
+.tiny path.k.w{stroke:var(--rw)}
+.tiny path.k.r{fill:var(--rk);stroke:var(--rk);stroke-width:.6}
+path.k.o{fill:var(--in);stroke:var(--ro);stroke-width:.9}
+path.k.r{fill:var(--rk)}
+@media (max-width:40rem){body{padding:0 .9rem 3rem}nav{margin:1rem -.9rem 0;padding:.6rem .9rem}h1{font-size:1.5rem}figure,.place figure{width:8rem}section.place{padding-left:.7rem}table{min-width:36rem}table.o{min-width:58rem}table.h{min-width:62rem}table.n,table.i{min-width:52rem}table.v,table.v tbody,table.f,table.f tbody,table.p,table.p tbody{display:block;min-width:0}table.v thead,table.f thead,table.p thead{position:absolute;width:1px;height:1px;overflow:hidden;clip-path:inset(50%)}table.v tr,table.f tr,table.p tr{display:grid;gap:.1rem .6rem;padding:.5rem 0;border-bottom:1px solid var(--line)}table.v tr>*,table.f tr>*,table.p tr>*{padding:0;border:0}table.v tr,table.p tr{grid-template-columns:auto 1fr}table.f tr{grid-template-columns:auto 1fr auto}table.v .num,table.p .num{grid-area:1/2}table.f th{grid-area:1/1}table.f td:nth-child(2){grid-area:1/2}table.f .num{grid-area:1/3}table.v .num::before,table.f .num::before,table.p .num::before{content:"addresses: ";color:var(--mute);font-size:.8125rem}table.p td:nth-child(3)::before{content:"all of it: ";color:var(--mute);font-size:.8125rem}table.p td:nth-child(4)::before{content:"parts of it: ";color:var(--mute);font-size:.8125rem}table.v td:nth-child(2),table.v td:nth-child(4),table.f td:nth-child(3),table.p td:nth-child(3),table.p td:nth-child(4){grid-column:1/-1}ul.r{gap:0 .8rem}table.text,table.text tbody{display:block;min-width:0}table.text thead{position:absolute;width:1px;height:1px;overflow:hidden;clip-path:inset(50%)}table.text tr{display:grid;grid-template-columns:2.25rem 1fr auto;border-bottom:1px solid var(--line)}table.text td:empty{display:none}table.text td:last-child{grid-column:2/-1;width:auto}table.text .num{padding-right:0}table.s th,table.s td{padding-right:.6rem;font-size:.8125rem}dl.words{display:block}dl.words dd{margin:.1rem 0 .7rem}}
+@media print{body{max-width:none;padding:0;font-size:9pt}nav,.up{display:none}a{color:inherit;text-decoration:none}h2,h3,h4,h5,caption,thead{break-after:avoid}tr,figure,.maps,dl,.place{break-inside:avoid}thead{display:table-header-group}.wide{overflow:visible}details::details-content{content-visibility:visible;display:block;height:auto}summary{color:inherit;list-style:none}table,table.text{font-size:8.5pt}svg.tiny{width:1.1cm;height:1.1cm}figure{width:3.3cm}.place figure{width:2.9cm}}
+@media (forced-colors:active){.b,svg{forced-color-adjust:none}}
+"#;

@@ -1,0 +1,19 @@
+use Rattle.std.proofs.Common.{◌≡◌, ◌++◌, ◌∷◌, ◌∙◌, [], false, ap, sym, if◌then◌else◌}
+use Rattle.std.specs.List.{flat_map, list_all}
+use Rattle.std.specs.Str.{chars}
+use Rattle.std.specs.Str.Iter.{chars_rest}
+use Rattle.std.specs.String.{string_bytes}
+use Rattle.std.proofs.lemmas.Iterator.{YieldsList-from_chars}
+use Rattle.std.proofs.lemmas.Iterator.Consumers.{YieldsList-end}
+use Rattle.std.proofs.lemmas.List.{map-id}
+use Rattle.desk_shown.specs.ShownText.{is_tab, under}
+use Rattle.desk_shown.proofs.shown_text.push_carets.Goals as goal
+
+pub returns : goal.returns
+returns c =
+    let all : c.loop-c.yielded ≡ chars c.args.text.now =
+    sym (map-id c.loop-c.yielded)
+    ∙ (YieldsList-end (YieldsList-from_chars {s = c.into_iter-c-iterator.result} c.args.text.now c.utf8.text (ap chars_rest c.into_iter-c-iterator.ensures.into_iter_gives ∙ c.chars-c-items.ensures.rest)) c.loop-c.yielded _ c.loop-c.yielded_by _ _ c.in-None.is c.next.ensures.steps).0 in
+    let others : list_all is_tab (chars c.args.text.now) ≡ false = sym c.has_tabs_alone.ensures ∙ c.if-has_tabs_alone.false in
+    c.loop-c.invariant ∙ ap (λ cs. string_bytes c.args.shown.now ++ flat_map (under 94) cs) all
+    ∙ ap (λ alone. string_bytes c.args.shown.now ++ (if alone then 94 ∷ [] else flat_map (under 94) (chars c.args.text.now))) (sym others)
