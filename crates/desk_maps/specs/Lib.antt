@@ -1,0 +1,7 @@
+pub mod Cells
+pub mod PrivateCells
+pub mod Order
+pub mod PrivateOrder
+pub mod Maps
+pub mod Laws
+pub mod Written

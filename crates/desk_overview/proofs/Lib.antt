@@ -1,0 +1,7 @@
+pub mod Mapped
+pub mod Adding
+pub mod Distinct
+pub mod Ordered
+pub mod Counted
+pub mod Telling
+pub mod Using

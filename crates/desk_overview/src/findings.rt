@@ -1,0 +1,85 @@
+//! The lines of a site that stand out.
+
+ghost use Rattle.std.specs.Prelude.{◌≡◌, IfOk, map};
+ghost use Rattle.std.specs.List.{list_any};
+ghost use Rattle.desk_overview.specs.Findings as spec;
+ghost use Rattle.desk_overview.specs.Findings.{AreFindings};
+ghost use Rattle.desk_overview.specs.Lines.{line_value};
+
+use crate::lines::SiteLine;
+use desk_report::{Level, Reason};
+use std::alloc::{AllocError, Global};
+
+impl SiteLine<'_> {
+    /// Tests whether the line stands out.
+    pub fn stands_out(&self) -> bool
+        ensures { result ≡ spec.stands_out (line_value self.now) }
+    {
+        !self.reasons.is_empty()
+    }
+
+    /// Returns the level of the line: it is to be looked at first, if it stands out for a reason that is.
+    pub fn level(&self) -> Level
+        ensures { result ≡ spec.level_of_line (line_value self.now) }
+    {
+        if has_first(self.reasons) {
+            Level::LookFirst
+        } else {
+            Level::Check
+        }
+    }
+
+    /// Returns what tells its place among the lines that stand out.
+    fn order(&self) -> [u64; 4]
+        ensures { result ≡ spec.order_of (line_value self.now) }
+    {
+        let fewer = u64::MAX - self.count;
+        [
+            rank_of(self.level()),
+            fewer,
+            u64::from(self.fs.0),
+            u64::from(self.row.entry.line),
+        ]
+    }
+}
+
+/// Returns the place of a level among the levels.
+fn rank_of(level: Level) -> u64
+    ensures { result ≡ spec.level_rank level }
+{
+    match level {
+        Level::LookFirst => 0,
+        Level::Check => 1,
+    }
+}
+
+/// Tests whether one of these reasons is one to look at first.
+fn has_first(reasons: &[Reason]) -> bool
+    ensures { result ≡ list_any spec.is_first reasons.now }
+{
+    reasons.iter().any(|reason| is_first(*reason))
+}
+
+/// Tests whether a reason is one to look at first.
+fn is_first(reason: Reason) -> bool
+    ensures { result ≡ spec.is_first reason }
+{
+    match reason.level() {
+        Level::LookFirst => true,
+        Level::Check => false,
+    }
+}
+
+/// Lists those of the lines that stand out: those to be looked at first come first, of one level those that grant something to most
+/// addresses, and then the others by file system and line.
+pub fn findings_of_site<'a>(
+    alloc: Global,
+    lines: &[SiteLine<'a>],
+) -> Result<Vec<SiteLine<'a>>, AllocError>
+    ensures { IfOk result (λ found. AreFindings (map line_value lines.now) (map line_value found.items)) }
+{
+    let mut found = Vec::from_slice(alloc, lines)?;
+    found.retain(|line| line.stands_out());
+    found.sort_unstable_by_key(SiteLine::order);
+    Ok(found)
+}

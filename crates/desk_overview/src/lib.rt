@@ -1,0 +1,27 @@
+//! What the summary of an auditor's report tells of a whole site, as data, before anything of it is cut or written.
+//!
+//! Its promise: [`lines_of_site`] lists the lines of all file systems, each with to how many addresses it grants something and why it
+//! stands out. Of these [`findings_of_site`] lists those that stand out, in the order in which to look at them, [`figures_of_site`]
+//! counts what the key figures say, and [`flavours_in_use`] lists the flavours of those that grant something.
+//!
+//! ```text
+//! let reasons = reasons_of_site(alloc, policy, systems.as_slice())?;
+//! let lines = lines_of_site(alloc, policy, systems.as_slice(), reasons.as_slice())?;
+//! findings_of_site(alloc, lines.as_slice())?          // /u2 line 4: root stays root, 65,536 addresses; ..
+//! figures_of_site(alloc, policy, lines.as_slice())?.for_everybody     // 2
+//! ```
+#![tactic(auto)]
+
+pub mod figures;
+pub mod findings;
+pub mod flavours;
+pub mod laws;
+pub mod lines;
+pub mod reasons;
+
+pub use figures::{Figures, figures_of_site};
+pub use findings::findings_of_site;
+pub use flavours::{FlavourUse, flavours_in_use};
+pub use laws::counted_lines_grant;
+pub use lines::{SiteLine, lines_of_site};
+pub use reasons::reasons_of_site;

@@ -1,0 +1,45 @@
+//! What an auditor's report tells of a site, as data, before anything of it is cut or written.
+//!
+//! Its promise: [`systems_of_site`] lists, by file system, each place with all verdicts at it, the most that clients may on it, and to
+//! how many addresses each line grants something; [`classes_of_site`] the most that they may at all. [`classes_from`] lists what the
+//! verdicts at a place come to, and [`counts_within`] counts the addresses of a range by class. [`groups_of`] puts the places into
+//! groups that are granted alike, and [`table_of`] who may mount those of a group, and who may not, into a table; [`rows_of`] puts the
+//! verdicts at a place into rows, which hold every address once. [`reasons_of_lines`] says why each line stands out.
+//!
+//! ```text
+//! let classes = classes_from(alloc, section.ranges.as_slice())?;      // 10.0.0.0-10.255.255.255 ReadOnly, ..
+//! counts_within(classes.as_slice(), net.first(), net.last()).read_only    // 16777216
+//! ```
+#![tactic(auto)]
+
+pub mod class;
+pub mod classes;
+pub mod counts;
+pub mod grants;
+pub mod groups;
+pub mod laws;
+pub mod lines;
+mod matching;
+pub mod reasons;
+pub mod rows;
+pub mod sections;
+pub mod systems;
+pub mod tables;
+mod values;
+
+pub use class::Class;
+pub use classes::{classes_from, classes_in, most_of_both};
+pub use counts::{Counts, counts_within};
+pub use grants::{LineGrants, grants_of};
+pub use groups::{Group, groups_of};
+pub use laws::{
+    classes_are_unique, counts_add_up, groups_are_of_alike, groups_can_be_tabled,
+    idle_lines_grant_nothing, most_is_of_selected, orders_tell_verdicts,
+    rows_hold_each_address_once, section_groups_are_groups, sites_are_sound, tables_add_up,
+};
+pub use lines::{LineReasons, reasons_of_lines};
+pub use reasons::{Level, Reason, reasons_on};
+pub use rows::{TableRow, rows_of};
+pub use sections::{by_filesystem, sections_of_site};
+pub use systems::{FileSystemReport, classes_of_site, systems_of_site};
+pub use tables::{Table, table_of};

@@ -1,0 +1,69 @@
+//! Why each line of a file system stands out.
+
+ghost use Rattle.std.specs.Prelude.{◌≡◌, ◌∷◌, [], IfOk};
+ghost use Rattle.desk_report.specs.Grants.{AreGrants};
+ghost use Rattle.desk_report.specs.Laws.{IsSound};
+ghost use Rattle.desk_report.specs.Lines.{AreLineReasons};
+ghost use Rattle.desk_report.specs.PrivateLines as spec;
+
+use crate::grants::LineGrants;
+use crate::matching::matches_nobody;
+use crate::reasons::{Reason, reasons_on};
+use desk_policy::{Policy, Row};
+use desk_tables::FsId;
+use desk_text::Sequence;
+use std::alloc::{AllocError, Global};
+
+/// A line, and why it stands out.
+#[derive(Drop)]
+pub struct LineReasons {
+    pub line: u32,
+    pub reasons: Sequence<Reason>,
+}
+
+/// Lists the lines of a file system, each with why it stands out, given to how many addresses each grants something.
+pub fn reasons_of_lines(
+    alloc: Global,
+    policy: &Policy,
+    fs: FsId,
+    grants: &[LineGrants],
+) -> Result<Vec<LineReasons>, AllocError>
+    requires sound { IsSound policy.now fs.0 }
+    requires grants { AreGrants policy.now fs.0 grants.now }
+    ensures { IfOk result (λ found. AreLineReasons policy.now fs.0 found.items) }
+{
+    let rows = policy.rows(fs);
+    let mut found = Vec::new(alloc);
+    for place in 0..rows.len() {
+        let row = &rows[place];
+        let reasons = reasons_by(alloc, row, grants[place].count, matches_nobody(row))?;
+        found.push(LineReasons {
+            line: row.entry.line,
+            reasons: Sequence::from_vec(reasons),
+        })?;
+    }
+    Ok(found)
+}
+
+/// Lists why a line stands out, given to how many addresses it grants something, and whether it matches nobody. A line that grants
+/// something to no address decides nothing.
+fn reasons_by(alloc: Global, row: &Row, count: u64, nobody: bool) -> Result<Vec<Reason>, AllocError>
+    ensures { IfOk result (λ reasons. reasons.items ≡ spec.reasons_by row.now count nobody) }
+{
+    if count != 0 {
+        reasons_on(alloc, row, count)
+    } else if nobody {
+        alone(alloc, Reason::NoClient)
+    } else {
+        alone(alloc, Reason::NeverDecides)
+    }
+}
+
+/// Makes a list of one.
+fn alone(alloc: Global, reason: Reason) -> Result<Vec<Reason>, AllocError>
+    ensures { IfOk result (λ reasons. reasons.items ≡ reason ∷ []) }
+{
+    let mut reasons = Vec::new(alloc);
+    reasons.push(reason)?;
+    Ok(reasons)
+}

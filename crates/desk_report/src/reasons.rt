@@ -1,0 +1,122 @@
+//! Why a line stands out.
+
+ghost use Rattle.std.specs.Prelude.{◌≡◌, IfOk};
+ghost use Rattle.desk_report.specs.Reasons as spec;
+
+use crate::class::keeps_root;
+use desk_exports::Clients;
+use desk_policy::Row;
+use std::alloc::{AllocError, Global};
+
+/// To more addresses than these a line grants something widely.
+const NARROW: u64 = 65536;
+
+/// What to look at first, and what to check.
+#[derive(Clone, Copy)]
+pub enum Level {
+    LookFirst,
+    Check,
+}
+
+/// Why a line stands out: the first two are of a line that decides nothing, the others of one that grants something.
+#[derive(Clone, Copy)]
+pub enum Reason {
+    /// It matches nobody.
+    NoClient,
+    /// It matches somebody, but other lines decide for all its clients.
+    NeverDecides,
+    /// It is for everybody, and read-only.
+    ForEverybodyReadOnly,
+    /// It is for everybody, and read-write.
+    ForEverybodyReadWrite,
+    /// It is not for everybody, but grants something to more than 65,536 addresses.
+    Wide,
+    /// It keeps root, for a network or for everybody.
+    RootKeptForNetworks,
+    /// It keeps root, for the clients that it names.
+    RootKeptForNames,
+}
+
+impl Reason {
+    /// Returns its level.
+    pub fn level(self) -> Level
+        ensures { result ≡ spec.level_of self }
+    {
+        match self {
+            Reason::ForEverybodyReadWrite | Reason::RootKeptForNetworks => Level::LookFirst,
+            Reason::NoClient
+            | Reason::NeverDecides
+            | Reason::ForEverybodyReadOnly
+            | Reason::Wide
+            | Reason::RootKeptForNames => Level::Check,
+        }
+    }
+}
+
+/// Lists why a line stands out that grants something, given to how many addresses it does: for whom it is, and then whether it keeps
+/// root.
+pub fn reasons_on(alloc: Global, row: &Row, count: u64) -> Result<Vec<Reason>, AllocError>
+    ensures { IfOk result (λ reasons. reasons.items ≡ spec.reasons_on row.now count) }
+{
+    let mut reasons = Vec::new(alloc);
+    if let Some(reason) = audience_reason(row, count) {
+        reasons.push(reason)?;
+    }
+    if let Some(reason) = root_reason(row) {
+        reasons.push(reason)?;
+    }
+    Ok(reasons)
+}
+
+/// Finds whether a line stands out by whom it is for.
+fn audience_reason(row: &Row, count: u64) -> Option<Reason>
+    ensures { result ≡ spec.audience_reason row.now count }
+{
+    if !are_all(&row.entry.clients) {
+        return if NARROW < count {
+            Some(Reason::Wide)
+        } else {
+            None
+        };
+    }
+    if row.entry.terms.ro {
+        Some(Reason::ForEverybodyReadOnly)
+    } else {
+        Some(Reason::ForEverybodyReadWrite)
+    }
+}
+
+/// Finds whether a line keeps root, and for whom.
+fn root_reason(row: &Row) -> Option<Reason>
+    ensures { result ≡ spec.root_reason row.now }
+{
+    if !keeps_root(&row.entry.terms) {
+        return None;
+    }
+    if are_names(&row.entry.clients) {
+        Some(Reason::RootKeptForNames)
+    } else {
+        Some(Reason::RootKeptForNetworks)
+    }
+}
+
+/// Tests whether clients are everybody.
+pub fn are_all(clients: &Clients) -> bool
+    ensures { result ≡ spec.are_all clients.now }
+{
+    match clients {
+        Clients::World => true,
+        Clients::Net(net, _) => net.prefix().get() == 0,
+        Clients::Hosts(_) | Clients::Net6(_) => false,
+    }
+}
+
+/// Tests whether clients are written by their names.
+fn are_names(clients: &Clients) -> bool
+    ensures { result ≡ spec.are_names clients.now }
+{
+    match clients {
+        Clients::Hosts(_) => true,
+        Clients::Net(_, _) | Clients::Net6(_) | Clients::World => false,
+    }
+}
