@@ -1,0 +1,82 @@
+//! Questions on the lines of a file system.
+
+ghost use Rattle.desk_report.specs.Grants.{AreGrants};
+ghost use Rattle.desk_report.specs.Laws.{IsSound};
+
+use crate::classes::add_bar;
+use desk_cases_texts::answers::Asked;
+use desk_policy::Policy;
+use desk_report::{Level, LineGrants, LineReasons, Reason, reasons_of_lines};
+use desk_tables::FsId;
+use std::alloc::{AllocError, Global};
+
+/// `grants FS`: each line of the file system, with the number of addresses to which it grants something: `line 2 65536|line 3 0`.
+pub fn grants(out: &mut String, grants: &[LineGrants]) -> Asked {
+    for (place, grants) in grants.iter().enumerate() {
+        add_bar(out, place)?;
+        let (line, count) = (grants.line, grants.count);
+        write!(out, "line {line} {count}")?;
+    }
+    Ok(true)
+}
+
+/// `stands_out FS`: each line of the file system, with the reasons for which it stands out, each with its level, or `nothing`, and `|`
+/// between lines: `line 2 look first for everybody read-write, look first root kept for networks|line 3 nothing`.
+pub fn stands_out(
+    alloc: Global,
+    policy: &Policy,
+    fs: FsId,
+    grants: &[LineGrants],
+    out: &mut String,
+) -> Asked
+    requires sound { IsSound policy.now fs.0 }
+    requires grants { AreGrants policy.now fs.0 grants.now }
+{
+    let found = reasons_of_lines(alloc, policy, fs, grants)?;
+    say_reasons(out, found.as_slice())
+}
+
+/// Answers with the lines, and why each stands out.
+fn say_reasons(out: &mut String, found: &[LineReasons]) -> Asked {
+    for (place, one) in found.iter().enumerate() {
+        add_bar(out, place)?;
+        let line = one.line;
+        write!(out, "line {line} ")?;
+        add_reasons(out, one.reasons.as_slice())?;
+    }
+    Ok(true)
+}
+
+/// Adds why a line stands out.
+fn add_reasons(out: &mut String, reasons: &[Reason]) -> Result<(), AllocError> {
+    if reasons.is_empty() {
+        out.push_str("nothing")?;
+    }
+    for (place, reason) in reasons.iter().enumerate() {
+        out.push_str(if place > 0 { ", " } else { "" })?;
+        out.push_str(level_name(reason.level()))?;
+        out.push_str(reason_name(*reason))?;
+    }
+    Ok(())
+}
+
+/// Returns how a level is written before a reason.
+fn level_name(level: Level) -> &'static str {
+    match level {
+        Level::LookFirst => "look first ",
+        Level::Check => "check ",
+    }
+}
+
+/// Returns how a reason is written.
+fn reason_name(reason: Reason) -> &'static str {
+    match reason {
+        Reason::NoClient => "no client",
+        Reason::NeverDecides => "never decides",
+        Reason::ForEverybodyReadOnly => "for everybody read-only",
+        Reason::ForEverybodyReadWrite => "for everybody read-write",
+        Reason::Wide => "wide",
+        Reason::RootKeptForNetworks => "root kept for networks",
+        Reason::RootKeptForNames => "root kept for names",
+    }
+}
