@@ -1,0 +1,4 @@
+mod Gaining
+mod Gathered
+mod InForce
+mod Lined

@@ -1,0 +1,4 @@
+pub mod Gaining
+pub mod Gathered
+mod Quoted
+mod Quoting

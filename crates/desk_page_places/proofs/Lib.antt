@@ -1,0 +1,3 @@
+mod Gaining
+mod Gathered
+mod Sized

@@ -1,0 +1,7 @@
+pub mod Badges
+pub mod Groups
+pub mod Laws
+pub mod Lists
+pub mod Names
+pub mod Rows
+pub mod Tables

@@ -1,0 +1,20 @@
+//! Who may mount which directory, as a part of the report page, in HTML.
+//!
+//! Its promise: each function adds to a page just the text that its definition gives of the data. [`push_group`] tells who may mount
+//! the directories of a group that are granted alike: their names, and a table with a row for each verdict, or that nobody may. The
+//! badges of classes, and how many addresses are of which class, are told here too.
+#![tactic(auto)]
+
+pub mod badges;
+pub mod groups;
+pub mod laws;
+pub mod lists;
+pub mod names;
+pub mod rows;
+pub mod tables;
+
+pub use badges::{push_badge, push_class_parts, push_count_words, push_level_mark};
+pub use groups::{GroupPart, push_group, push_groups};
+pub use laws::tables_have_sizes;
+pub use lists::{push_groups_start, push_not_listed};
+pub use names::push_more;

@@ -1,0 +1,8 @@
+pub mod Addresses
+pub mod Figures
+pub mod FindingWords
+pub mod Findings
+pub mod FlavoursTable
+pub mod Header
+pub mod Overview
+pub mod Sections
