@@ -1,13 +1,11 @@
 -- The lines of a site that stand out. (this project's own)
-use Rattle.std.specs.Prelude.{ℕ, ◌==◌, ◌-◌, ◌^◌, ◌∷◌, [], Bool, true, false, List, filter, length, not, if◌then◌else◌}
+use Rattle.std.specs.Prelude.{ℕ, ◌==◌, ◌-◌, ◌^◌, ◌∷◌, [], Bool, List, filter, length, not}
 use Rattle.std.specs.Cmp.Lexicographic.{slice_cmp}
-use Rattle.std.specs.List.{list_any}
 use Rattle.std.specs.List.Sorted.{IsPermutation, IsSortedByKey}
 use Rattle.std.specs.Ordering.{nat_cmp}
-use Rattle.desk_report.specs.Reasons.{level_of}
+use Rattle.desk_report.specs.Reasons.{level_of_all}
 use Rattle.desk_report.specs.declared.reasons.Level.{Level}
 use Rattle.desk_report.specs.declared.reasons.Level.TheVariants.{LookFirst, Check}
-use Rattle.desk_report.specs.declared.reasons.Reason.{Reason}
 use Rattle.desk_overview.specs.Lines.{LineValue}
 
 -- a line stands out: for some reason
@@ -19,17 +17,9 @@ abbrev pub level_rank : Level → ℕ
 level_rank LookFirst = 0
 level_rank Check = 1
 
--- a reason is one to look at first
-abbrev pub is_first_level : Level → Bool
-is_first_level LookFirst = true
-is_first_level Check = false
-
-abbrev pub is_first : Reason → Bool
-is_first reason = is_first_level (level_of reason)
-
 -- the level of a line that stands out: that of its highest reason
 abbrev pub level_of_line : LineValue → Level
-level_of_line line = if list_any is_first line.reasons then LookFirst else Check
+level_of_line line = level_of_all line.reasons
 
 -- The order of the lines that stand out: those to be looked at first come first, of one level those that grant something to most
 -- addresses, then those of the first file systems, and of one file system the first lines.

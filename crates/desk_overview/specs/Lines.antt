@@ -1,5 +1,5 @@
 -- The lines of a site, each with what a report tells of it. (this project's own)
-use Rattle.std.specs.Prelude.{◌≡◌, ℕ, ◌<◌, All, Bool, List, [], length, map, nat_lt, not, slice_index_or}
+use Rattle.std.specs.Prelude.{◌≡◌, ℕ, ◌<◌, All, Bool, Contains, List, [], length, map, nat_lt, not, slice_index_or}
 use Rattle.std.specs.List.{flat_map, range_with_len}
 use Rattle.desk_exports.specs.declared.entry.Flavour.{Flavour}
 use Rattle.desk_policy.specs.Policy.{Content, rows_of}
@@ -35,8 +35,9 @@ placed_in fs row = record { fs = fs; row = row }
 abbrev pub rows_in : Content → ℕ → List PlacedRow
 rows_in content fs = map (placed_in fs) (rows_of content fs)
 
--- this is told of a line
+-- this is told of a line, which is one of its file system
 pub record IsLineOf (content : Content) (line : LineValue) : Type 0 where
+  pub has : Contains (rows_of content line.fs) line.row
   pub count : HoldsOf (GrantsTo content line.fs line.row.entry.line) line.count
   pub reasons : IsToldOf content line.fs (record { line = line.row.entry.line; reasons = line.reasons })
 

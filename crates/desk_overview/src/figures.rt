@@ -8,9 +8,8 @@ ghost use Rattle.desk_overview.specs.Figures.{AreFigures, HasDirectories, direct
 ghost use Rattle.desk_overview.specs.Lines.{line_value};
 
 use crate::lines::SiteLine;
-use desk_exports::{Clients, Mapping, Terms};
 use desk_policy::Policy;
-use desk_report::reasons::are_all;
+use desk_report::{are_all, are_names, keeps_root};
 use desk_text::Path;
 use std::alloc::{AllocError, Global};
 
@@ -60,25 +59,6 @@ impl SiteLine<'_> {
         ensures { result ≡ spec.keeps_root_for_networks (line_value self.now) }
     {
         self.keeps_root() && !are_names(&self.row.entry.clients)
-    }
-}
-
-/// Tests whether root of the client, or each of its users, acts as root.
-fn keeps_root(terms: &Terms) -> bool
-    ensures { result ≡ spec.keeps_root terms.now }
-{
-    match terms.map.get() {
-        Mapping::Root(acted) | Mapping::All(acted) => acted.uid == 0,
-    }
-}
-
-/// Tests whether clients are written by their names.
-fn are_names(clients: &Clients) -> bool
-    ensures { result ≡ spec.are_names clients.now }
-{
-    match clients {
-        Clients::Hosts(_) => true,
-        Clients::Net(_, _) | Clients::Net6(_) | Clients::World => false,
     }
 }
 

@@ -1,13 +1,12 @@
 //! The lines of a site that stand out.
 
 ghost use Rattle.std.specs.Prelude.{◌≡◌, IfOk, map};
-ghost use Rattle.std.specs.List.{list_any};
 ghost use Rattle.desk_overview.specs.Findings as spec;
 ghost use Rattle.desk_overview.specs.Findings.{AreFindings};
 ghost use Rattle.desk_overview.specs.Lines.{line_value};
 
 use crate::lines::SiteLine;
-use desk_report::{Level, Reason};
+use desk_report::{Level, level_of_reasons};
 use std::alloc::{AllocError, Global};
 
 impl SiteLine<'_> {
@@ -22,11 +21,7 @@ impl SiteLine<'_> {
     pub fn level(&self) -> Level
         ensures { result ≡ spec.level_of_line (line_value self.now) }
     {
-        if has_first(self.reasons) {
-            Level::LookFirst
-        } else {
-            Level::Check
-        }
+        level_of_reasons(self.reasons)
     }
 
     /// Returns what tells its place among the lines that stand out.
@@ -50,23 +45,6 @@ fn rank_of(level: Level) -> u64
     match level {
         Level::LookFirst => 0,
         Level::Check => 1,
-    }
-}
-
-/// Tests whether one of these reasons is one to look at first.
-fn has_first(reasons: &[Reason]) -> bool
-    ensures { result ≡ list_any spec.is_first reasons.now }
-{
-    reasons.iter().any(|reason| is_first(*reason))
-}
-
-/// Tests whether a reason is one to look at first.
-fn is_first(reason: Reason) -> bool
-    ensures { result ≡ spec.is_first reason }
-{
-    match reason.level() {
-        Level::LookFirst => true,
-        Level::Check => false,
     }
 }
 

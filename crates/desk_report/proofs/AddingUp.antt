@@ -209,7 +209,7 @@ filter_gone {X} test other not_other (x ∷ xs) = by (test x) refl (filter_gone 
     by true e rest = ap (λ b. cond b (x ∷ filter other (filter test xs)) (filter other (filter test xs))) (not_other x e) ∙ rest
     by false e rest = rest
 
-module _ (compare : AreDiscrete Verdict) (first : List (Run Verdict)) (alike : Bool) (table : TableValue) (is : IsTableBy first alike table) where
+module _ (compare : AreDiscrete Verdict) (first : List (Run Verdict)) (table : TableValue) (is : IsTableBy first table) where
   granting : sum_by row_size (filter grants_row is.rows) ≡ addresses_in (granted_ranges first)
   granting = rows_sum compare is_ok first is.rows is.are
 
@@ -234,9 +234,9 @@ module _ (compare : AreDiscrete Verdict) (first : List (Run Verdict)) (alike : B
       by false = (granting, (let d = denying in omega arith))
 
 pub tables_add_up : AreDiscrete Verdict → TablesAddUp
-tables_add_up compare ranges alike table section runs own_runs same is =
+tables_add_up compare ranges table section runs own_runs same is =
     let own = both section.ranges own_runs in
-    let s = sums compare ranges alike table is in
+    let s = sums compare ranges table is in
     let granted : sum_by row_size (filter grants_row table.rows) ≡ addresses_in (granted_ranges section.ranges) = s.0 ∙ sym (ap addresses_in same) in
     let first_both = both ranges runs in
     let g = ap addresses_in same in

@@ -8,8 +8,7 @@ use Rattle.desk_text.specs.AddrSet.{is_among, sorted_set}
 use Rattle.desk_text.specs.Laws.{IsSetOf, SortedSetsAreUnique}
 use Rattle.desk_who.specs.Runs.{HasValue, Run, holds, run_value}
 use Rattle.desk_who.specs.declared.runs.Run.{Run as KeptRun}
-use Rattle.desk_report.specs.PrivateValues.{start_at}
-use Rattle.desk_report.specs.Values.{AreItsStarts}
+use Rattle.desk_report.specs.PrivateValues.{AreItsStarts, start_at}
 
 abbrev pub firsts : {A : Type 0} → List (Run A) → List ℕ
 firsts runs = flat_map (λ run. start_at run.first) runs

@@ -2,12 +2,12 @@ pub mod AddingUp
 pub mod Agreeing
 pub mod AllRows
 pub mod AtKey
-pub mod AtPlaces
 pub mod Beginning
 pub mod Containing
 pub mod Counted
 pub mod Counting
 pub mod Covered
+pub mod DeniedAlike
 pub mod Filtered
 pub mod Found
 pub mod Gathered

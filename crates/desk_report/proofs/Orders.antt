@@ -11,7 +11,7 @@ use Rattle.desk_policy.specs.declared.verdict.Denial.{Denial}
 use Rattle.desk_policy.specs.declared.verdict.Denial.TheVariants.{NoLine, NotListed}
 use Rattle.desk_who.specs.Runs.{HasValue, Run}
 use Rattle.desk_impact.specs.Sections.{PlaceBreaches, PlacesTellScope}
-use Rattle.desk_report.specs.Groups.{AreGrouped, AreSectionGroups}
+use Rattle.desk_report.specs.Groups.{AreGrouped, AreSectionGroups, granted_ranges}
 use Rattle.desk_report.specs.Laws.{GroupsCanBeTabled, IsSound, OrdersTellVerdicts, TellVerdicts}
 use Rattle.desk_report.specs.Rows.{ByOrder, order_of}
 use Rattle.desk_report.specs.Sections.{AreSections, is_section_in}
@@ -19,7 +19,7 @@ use Rattle.desk_report.specs.Tables.{CanBeTabled}
 use Rattle.desk_report.specs.Values.{AreRunsOfSome}
 use Rattle.desk_report.proofs.Containing.{here_or_there}
 use Rattle.desk_report.proofs.Granted.{from_flat}
-use Rattle.desk_report.proofs.Grouped.{in_group}
+use Rattle.desk_report.proofs.Grouped.{in_group, one_group}
 use Rattle.desk_report.proofs.Selecting.{find_in, one_by_number}
 use Rattle.desk_report.proofs.Standing.{home_path}
 
@@ -135,6 +135,12 @@ module _ (sections : List PlaceBreaches) (groups : List (List PlaceBreaches)) (a
 
   pub in_sections : (group : List PlaceBreaches) → Contains groups group → (section : PlaceBreaches) → Contains group section → Contains sections section
   in_sections group listed section has = in_group are.alike itself back along sections groups are.are group listed section has
+
+  -- the sections of a group have the same granted ranges
+  pub alike_in_group : (group : List PlaceBreaches) → Contains groups group → (section other : PlaceBreaches) → Contains group section → Contains group other → granted_ranges other.ranges ≡ granted_ranges section.ranges
+  alike_in_group group listed section other has has' =
+      let one = one_group are.alike itself back along sections groups are.are section (in_sections group listed section has) in
+      (are.decides section other).0 ((one.same other).0 (subst (λ (some : List PlaceBreaches). Contains some other) (one.only group listed has) has')).1
 
   not_empty : (values : List PlaceBreaches) (some : List (List PlaceBreaches)) → AreGrouped are.alike values some → (group : List PlaceBreaches) → Contains some group → group ≢ []
   not_empty values [] grouped group listed none = absurd (let lt = listed.1 in omega arith)

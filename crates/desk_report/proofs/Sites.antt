@@ -1,18 +1,24 @@
 -- The policy that a site's texts write is sound, if it does not contradict itself.
-use Rattle.std.proofs.Common.{◌≡◌, ℕ, ◌∙◌, List, [], Result, Ok, Err, ap, arith, length, refl}
-use Rattle.std.specs.Prelude.{All, codes}
+use Rattle.std.proofs.Common.{◌≡◌, ℕ, ◌≤◌, ◌∙◌, List, [], Result, Ok, Err, ap, arith, length, refl, subst, sym}
+use Rattle.std.specs.Prelude.{All, codes, slice_index_or}
+use Rattle.std.specs.List.{AllByRecursion}
 use Rattle.desk_tables.specs.Custodians.{read_custodians}
+use Rattle.desk_tables.specs.FileSystems as tables
+use Rattle.desk_tables.specs.FileSystems.{fs_of}
 use Rattle.desk_tables.specs.FileSystemsText.{read_filesystems}
 use Rattle.desk_tables.specs.Laws.{TablesAreInOrder}
 use Rattle.desk_tables.specs.Rules.{TableFault}
 use Rattle.desk_tables.specs.declared.custodians.Custodian.{Custodian}
 use Rattle.desk_tables.specs.declared.filesystems.Mount.{Mount}
-use Rattle.desk_policy.specs.Laws.{SiteLinesHaveDirectories, SiteLinesWriteTheirOwn}
+use Rattle.desk_policy.specs.Contradiction.{AreConsistent}
+use Rattle.desk_policy.specs.Laws.{HaveDirectories, SiteLinesHaveDirectories, SiteLinesWriteTheirOwn}
+use Rattle.desk_policy.specs.Listings.{WriteTheirOwn, written}
 use Rattle.desk_policy.specs.Parsing.{ExportsFile, content_with, if_listed, in_file, read_after_filesystems, read_files, read_policy, read_site, read_site_tables, then_read, unless_unlisted}
-use Rattle.desk_policy.specs.Policy.{AreAscending, Content}
+use Rattle.desk_policy.specs.Policy.{AreAscending, Content, rows_of}
 use Rattle.desk_policy.specs.Site.{SiteTexts}
 use Rattle.desk_policy.specs.SiteFault.{table_fault}
 use Rattle.desk_policy.specs.declared.parsing.SiteTables.{SiteTables}
+use Rattle.desk_policy.specs.declared.row.Row.{Row}
 use Rattle.desk_policy.specs.declared.site_fault.SiteFault.{SiteFault}
 use Rattle.desk_policy.specs.Unlisted.{unlisted_line}
 use Rattle.std.specs.Prelude.{Option, Some, None}
@@ -57,18 +63,30 @@ table_read texts content is =
     of_content : (table : List Mount) (site_tables : SiteTables) (files : List ExportsFile) (content : Content) → whole (content_with table site_tables files) ≡ whole content → table ≡ content.table
     of_content table site_tables files content e = (let same : content_with table site_tables files ≡ content = cc in ap (λ (c : Content). c.table) same)
 
+-- the lines of a file system are those of the policy that was read
+same_rows : (content policy : Content) → content.rows ≡ policy.rows → (fs : ℕ) → rows_of policy fs ≡ rows_of content fs
+same_rows content policy rows fs = ap (λ (lists : List (List Row)). slice_index_or lists fs []) (sym rows)
+
+-- so is what they write, and where
+own_lines : (content policy : Content) → content.table ≡ policy.table → content.rows ≡ policy.rows → WriteTheirOwn policy → WriteTheirOwn content
+own_lines content policy table rows own fs =
+    subst (λ (lines : List Row). AllByRecursion (λ dir. fs_of content.table dir ≡ Some fs) (written lines)) (same_rows content policy rows fs)
+    (subst (λ (mounts : List Mount). AllByRecursion (λ dir. fs_of mounts dir ≡ Some fs) (written (rows_of policy fs))) (sym table) (own fs))
+
 pub sound_if_read : TablesAreInOrder → SiteLinesWriteTheirOwn → SiteLinesHaveDirectories → (content : Content) → length content.rows ≡ length content.table → All AreAscending content.rows → All HaveNumbers content.rows
     → IsSoundIfRead content
-sound_if_read in_order own directories content long ascending numbers texts read consistent =
-    let table = in_order texts.files.filesystems content.table (table_read texts content read) in
+sound_if_read in_order own directories content long ascending numbers texts policy read table rows consistent =
+    let ordered = in_order texts.files.filesystems policy.table (table_read texts policy read) in
     record {
-      ascending = table.0;
-      few = table.1;
-      each = λ fs within. record {
-        own = own texts content read;
-        directories = directories texts content read fs;
-        ascending = ascending fs [] (omega arith);
-        numbers = numbers fs [] (omega arith);
-        consistent = consistent fs;
-      };
+      ascending = subst tables.AreAscending (sym table) ordered.0;
+      few = subst (λ (mounts : List Mount). length mounts ≤ 256) (sym table) ordered.1;
+      each = λ fs within.
+          (let same = same_rows content policy rows fs in
+          record {
+            own = own_lines content policy table rows (own texts policy read);
+            directories = subst HaveDirectories same (directories texts policy read fs);
+            ascending = ascending fs [] (omega arith);
+            numbers = numbers fs [] (omega arith);
+            consistent = subst AreConsistent same (consistent fs);
+          });
     }

@@ -62,11 +62,11 @@ pub record HasHomePath (content : Content) (fs : ℕ) (ranges : List (Run (Resul
   pub here : fs_of content.table path ≡ Some fs
   pub who : IsWho content path ranges
 
-module _ (tells : PlacesTellScope) (content : Content) (all : List PlaceBreaches) (are : AreSections content all) (fs : ℕ) where
-  same_fs : (o : Option ℕ) → is_in o fs ≡ true → o ≡ Some fs
-  same_fs None is = absurd (true≢false (sym is))
-  same_fs (Some other) is = ap Some (eqb-true other fs is)
+pub same_fs : (fs : ℕ) (o : Option ℕ) → is_in o fs ≡ true → o ≡ Some fs
+same_fs fs None is = absurd (true≢false (sym is))
+same_fs fs (Some other) is = ap Some (eqb-true other fs is)
 
+module _ (tells : PlacesTellScope) (content : Content) (all : List PlaceBreaches) (are : AreSections content all) (fs : ℕ) where
   pub home_path : (section : PlaceBreaches) → Contains (filter (is_section_in content.table fs) all) section → HasHomePath content fs section.ranges
   home_path section listed =
       let kept = kept_in (is_section_in content.table fs) all section listed in
@@ -75,7 +75,7 @@ module _ (tells : PlacesTellScope) (content : Content) (all : List PlaceBreaches
       (tells content [] true (map (λ (s : PlaceBreaches). s.place) all) are.places).1 (to_map (λ (s : PlaceBreaches). s.place) all section kept.0) in
       record {
         path = has_path.path;
-        here = sym (path_named content 0 has_path.path) ∙ ap named_fs (has_path.stands 0) ∙ place_named content 0 section.place ∙ same_fs (fs_of content.table (path_at section.place)) kept.1;
+        here = sym (path_named content 0 has_path.path) ∙ ap named_fs (has_path.stands 0) ∙ place_named content 0 section.place ∙ same_fs fs (fs_of content.table (path_at section.place)) kept.1;
         who = runs_agree (λ address. place_verdict content section.place address) (λ address. verdict_of content address has_path.path) (λ address fits. has_path.stands address) section.ranges verdicts;
       }
 

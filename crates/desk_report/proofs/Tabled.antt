@@ -3,7 +3,6 @@ use Rattle.std.proofs.Common.{◌≡◌, ℕ, zero, suc, ◌+◌, ◌-◌, ◌<�
 use Rattle.std.specs.Prelude.{Result, filter, not}
 use Rattle.std.specs.List.{AllByRecursion, sum_by}
 use Rattle.std.specs.Result.{is_ok}
-use Rattle.std.proofs.lemmas.List.{get_or-map, length-map, map-append}
 use Rattle.std.proofs.lemmas.List.Elements.{filter-append}
 use Rattle.std.proofs.lemmas.List.Sums.{sum_by-cons}
 use Rattle.desk_policy.specs.Verdict.{Grant}
@@ -13,7 +12,6 @@ use Rattle.desk_report.specs.PrivateTables.{denied_in}
 use Rattle.desk_report.specs.Rows.{RowValue, row_value}
 use Rattle.desk_report.specs.declared.rows.TableRow.{TableRow}
 use Rattle.desk_report.specs.Tables.{TableValue, addresses_in, denials_among, denied_ranges, denies_row, grants_row, range_size, table_by}
-use Rattle.desk_report.proofs.Gathered.{take_next}
 
 abbrev Verdict : Type 0
 Verdict = Result Grant Denial
@@ -70,21 +68,6 @@ fits_so_far verdict_at ranges are i d within = let b = begun verdict_at 0 ranges
     all_from : (some : List (Run Verdict)) → AllByRecursion (λ range. 0 ≤ range.first) some
     all_from [] = tt
     all_from (one ∷ some) = (omega arith, all_from some)
-
--- ---- lists of values that are the same
-module _ {X Y : Type 0} (value : X → Y) (xs ys : List X) where
-  pub as_long : map value xs ≡ map value ys → length xs ≡ length ys
-  as_long same = sym (length-map xs value) ∙ ap length same ∙ length-map ys value
-
-  module _ (i : ℕ) (x y : X) (below : i < length xs) (below' : i < length ys) (is : x ≡ get_or xs i x) (is' : y ≡ get_or ys i y) where
-    pub same_more : value x ≡ value y → map value (take i xs) ≡ map value (take i ys) → map value (take (i + 1) xs) ≡ map value (take (i + 1) ys)
-    same_more same before =
-        ap (map value) (take_next xs i x below is) ∙ map-append value (take i xs) (x ∷ []) ∙ ap (λ zs. zs ++ value x ∷ []) before ∙ ap (λ z. map value (take i ys) ++ z ∷ []) same
-        ∙ sym (ap (map value) (take_next ys i y below' is') ∙ map-append value (take i ys) (y ∷ []))
-
-    pub same_at : map value xs ≡ map value ys → value x ≡ value y
-    same_at same =
-        ap value is ∙ sym (get_or-map value xs i x (value x) below) ∙ ap (λ zs. get_or zs i (value x)) same ∙ get_or-map value ys i y (value x) below' ∙ ap value (sym is')
 
 -- a table by its parts
 pub made : (joined : Bool) (ranges : List (Run Verdict)) (rows : List RowValue) (table : TableValue) → table.rows ≡ cond joined (filter grants_row rows) rows

@@ -6,17 +6,12 @@ use Rattle.desk_policy.specs.Verdict.{Grant, is_in, verdict_of}
 use Rattle.desk_policy.specs.declared.verdict.Denial.{Denial}
 use Rattle.desk_who.specs.Runs.{AreRuns, Run, run_value}
 use Rattle.desk_who.specs.declared.runs.Run.{Run as KeptRun}
-use Rattle.desk_impact.specs.Places.{Place, place_verdict}
 use Rattle.desk_report.specs.Class.{class_of, most_of, rank_of}
 use Rattle.desk_report.specs.declared.class.Class.{Class}
 
 -- a run of classes by value
 abbrev pub class_run : KeptRun Class → Run Class
 class_run run = run_value (λ class. class) run
-
--- The runs of what the verdicts at a place come to.
-abbrev pub AreClassesAt : Content → Place → List (Run Class) → Type 0
-AreClassesAt content place runs = AreRuns (λ address. class_of (place_verdict content place address)) runs
 
 -- Given the ranges of verdicts, the runs of what they come to.
 abbrev pub AreClassesFrom : List (Run (Result Grant Denial)) → List (Run Class) → Type 0

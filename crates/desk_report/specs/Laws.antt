@@ -15,7 +15,7 @@ use Rattle.desk_policy.specs.declared.row.Row.{Row}
 use Rattle.desk_policy.specs.declared.verdict.Denial.{Denial}
 use Rattle.desk_who.specs.Runs.{AreRuns, Run, holds}
 use Rattle.desk_idle.specs.Idle.{DecidesNothing}
-use Rattle.desk_impact.specs.Places.{Place}
+use Rattle.desk_impact.specs.Places.{Place, place_verdict}
 use Rattle.desk_impact.specs.Sections.{PlaceBreaches}
 use Rattle.desk_report.specs.Class.{class_of_terms}
 use Rattle.desk_report.specs.Classes.{AreClassesOn, IsMostOn}
@@ -23,9 +23,9 @@ use Rattle.desk_report.specs.Counts.{AreCounts}
 use Rattle.desk_report.specs.Grants.{GrantsTo, HoldsOf}
 use Rattle.desk_report.specs.Groups.{AreGrantedAlike, AreGroups, AreSectionGroups, granted_ranges}
 use Rattle.desk_report.specs.Rows.{AreRowsOf, ByOrder, RowValue}
-use Rattle.desk_report.specs.Sections.{AreSections, AreVerdictsAt}
+use Rattle.desk_report.specs.Sections.{AreSections, AreVerdictsAt, path_at}
 use Rattle.desk_report.specs.Systems.{IsSystem, SystemValue}
-use Rattle.desk_report.specs.Tables.{CanBeTabled, IsTableBy, TableValue, addresses_in, denied_ranges, denies_row, grants_row, row_size}
+use Rattle.desk_report.specs.Tables.{AreAlikeThroughout, CanBeTabled, IsTableBy, TableValue, addresses_in, denied_ranges, denies_row, grants_row, row_size}
 use Rattle.desk_report.specs.Values.{AreRunsOfSome}
 use Rattle.desk_report.specs.declared.class.Class.{Class}
 use Rattle.desk_report.specs.declared.class.Class.TheVariants.{Denied}
@@ -40,8 +40,8 @@ ClassesAreUnique =
 abbrev pub HaveNumbers : List Row → Type 0
 HaveNumbers rows = All (λ row. row.entry.line < 2 ^ 32) rows
 
--- What reading gives the lines of a file system: they write directories of their own file system, each of them one, stand in the
--- order of their numbers, which have 32 bits, and do not contradict each other.
+-- What reading gives the lines of a file system: they write directories of their own file system, each of them at least one, stand in
+-- the order of their numbers, which have 32 bits, and do not contradict each other.
 pub record IsSound (content : Content) (fs : ℕ) : Type 0 where
   pub own : WriteTheirOwn content
   pub directories : HaveDirectories (rows_of content fs)
@@ -77,7 +77,7 @@ CountsAddUp =
 abbrev pub row_holds : ℕ → RowValue → Bool
 row_holds address row = list_any (holds address) row.ranges
 
--- One row of a table holds an address, with the address's own verdict, and no other row does.
+-- One of the rows holds an address, with the address's own verdict, and no other row does.
 pub record IsHeldOnce (rows : List RowValue) (address : ℕ) (verdict : Result Grant Denial) : Type 0 where
   pub row : RowValue
   pub listed : Contains rows row
@@ -85,7 +85,7 @@ pub record IsHeldOnce (rows : List RowValue) (address : ℕ) (verdict : Result G
   pub own : row.verdict ≡ verdict
   pub only : (other : RowValue) → Contains rows other → row_holds address other ≡ true → other ≡ row
 
--- The rows of a table hold every address once.
+-- The rows of the verdicts at a place hold every address once.
 abbrev pub RowsHoldEachAddressOnce : Type 0
 RowsHoldEachAddressOnce =
     (verdict_at : ℕ → Result Grant Denial) (ranges : List (Run (Result Grant Denial))) (rows : List RowValue) → AreRuns verdict_at ranges → AreRowsOf ranges rows
@@ -130,6 +130,19 @@ OrdersTellVerdicts =
 abbrev pub GroupsCanBeTabled : Type 0
 GroupsCanBeTabled = (sections : List PlaceBreaches) (groups : List (List PlaceBreaches)) → TellVerdicts sections → AreSectionGroups sections groups → All CanBeTabled groups
 
+-- Places of one file system that are granted alike are denied alike, too: a verdict that denies names the first of the lines that are
+-- selected for the address, or that there is none, whichever of the places it is on.
+abbrev pub AlikePlacesAreDeniedAlike : Type 0
+AlikePlacesAreDeniedAlike =
+    (content : Content) (fs : ℕ) (place other : Place) → fs_of content.table (path_at place) ≡ Some fs → fs_of content.table (path_at other) ≡ Some fs → AreGrantedAlike content place other
+    → (address : ℕ) → address < 2 ^ 32 → place_verdict content other address ≡ place_verdict content place address
+
+-- So the places of each group of a file system have the same verdicts, and the table of the first of them is that of all.
+abbrev pub GroupsAreAlikeThroughout : Type 0
+GroupsAreAlikeThroughout =
+    (content : Content) (fs : ℕ) (all : List PlaceBreaches) (system : SystemValue) (groups : List (List PlaceBreaches)) → AreSections content all → IsSystem content all fs system
+    → AreSectionGroups system.sections groups → All AreAlikeThroughout groups
+
 -- A table has as many addresses in the rows that grant as are granted at a place, and in the others as are denied there; these are all
 -- addresses.
 pub record AddsUpAt (section : PlaceBreaches) (table : TableValue) : Type 0 where
@@ -137,12 +150,14 @@ pub record AddsUpAt (section : PlaceBreaches) (table : TableValue) : Type 0 wher
   pub denied : sum_by row_size (filter denies_row table.rows) + table.others ≡ addresses_in (denied_ranges section.ranges)
   pub all : addresses_in (granted_ranges section.ranges) + addresses_in (denied_ranges section.ranges) ≡ 2 ^ 32
 
--- So it is at each place that is granted alike, also where it differs in the verdicts that deny.
+-- So it is at each place that is granted alike.
 abbrev pub TablesAddUp : Type 0
 TablesAddUp =
-    (ranges : List (Run (Result Grant Denial))) (alike : Bool) (table : TableValue) (section : PlaceBreaches) → AreRunsOfSome ranges → AreRunsOfSome section.ranges
-    → granted_ranges section.ranges ≡ granted_ranges ranges → IsTableBy ranges alike table → AddsUpAt section table
+    (ranges : List (Run (Result Grant Denial))) (table : TableValue) (section : PlaceBreaches) → AreRunsOfSome ranges → AreRunsOfSome section.ranges
+    → granted_ranges section.ranges ≡ granted_ranges ranges → IsTableBy ranges table → AddsUpAt section table
 
--- The policy that a site's texts write is sound, if it does not contradict itself.
+-- What has the table and the lines of a policy that a site's texts write is sound, if that does not contradict itself. (What the texts
+-- are warned of may differ.)
 abbrev pub IsSoundIfRead : Content → Type 0
-IsSoundIfRead content = (texts : SiteTexts) → read_site texts ≡ Ok content → HasNoContradiction content → IsSoundSite content
+IsSoundIfRead content =
+    (texts : SiteTexts) (policy : Content) → read_site texts ≡ Ok policy → content.table ≡ policy.table → content.rows ≡ policy.rows → HasNoContradiction policy → IsSoundSite content

@@ -1,5 +1,6 @@
 -- Why a line stands out, by its words and to how many addresses it grants something. (this project's own)
 use Rattle.std.specs.Prelude.{ℕ, ◌==◌, ◌++◌, nat_lt, Bool, true, false, List, Option, Some, None, if◌then◌else◌}
+use Rattle.std.specs.List.{list_any}
 use Rattle.std.specs.Option.{option_to_list}
 use Rattle.desk_exports.specs.declared.entry.Clients.{Clients}
 use Rattle.desk_exports.specs.declared.entry.Clients.TheVariants.{Hosts, Net, Net6, World}
@@ -51,3 +52,15 @@ level_of ForEverybodyReadWrite = LookFirst
 level_of Wide = Check
 level_of RootKeptForNetworks = LookFirst
 level_of RootKeptForNames = Check
+
+-- a reason is one to look at first
+abbrev pub is_first_level : Level → Bool
+is_first_level LookFirst = true
+is_first_level Check = false
+
+abbrev pub is_first : Reason → Bool
+is_first reason = is_first_level (level_of reason)
+
+-- the highest level of these reasons: to look first, if one of them has it
+abbrev pub level_of_all : List Reason → Level
+level_of_all reasons = if list_any is_first reasons then LookFirst else Check

@@ -1,4 +1,4 @@
--- The rows of a table: one for each verdict, with the ranges of addresses that have it. (this project's own)
+-- The rows of the verdicts at a place: one for each verdict, with the ranges of addresses that have it. (this project's own)
 use Rattle.std.specs.Prelude.{◌≡◌, ℕ, ◌+◌, ◌<◌, ◌^◌, All, Contains, List, Result, Ok, Err, map}
 use Rattle.std.specs.List.{AllPairs}
 use Rattle.desk_policy.specs.Verdict.{Grant, verdict_result}

@@ -1,7 +1,6 @@
 -- The table of a group of places: the rows that grant, and those that deny, or how many addresses these have together. (this
 -- project's own)
-use Rattle.std.specs.Prelude.{◌≡◌, ℕ, ◌+◌, ◌-◌, ◌||◌, nat_lt, not, All, Bool, List, [], ◌∷◌, Result, filter, if◌then◌else◌, length, map, sum_by}
-use Rattle.std.specs.Bool.{Decides}
+use Rattle.std.specs.Prelude.{◌≡◌, ℕ, ◌+◌, ◌-◌, nat_lt, not, All, Bool, List, [], ◌∷◌, Result, filter, if◌then◌else◌, length, map, sum_by}
 use Rattle.std.specs.Result.{is_ok}
 use Rattle.desk_policy.specs.Verdict.{Grant}
 use Rattle.desk_policy.specs.declared.verdict.Denial.{Denial}
@@ -73,19 +72,16 @@ pub record CanBeTabled (sections : List PlaceBreaches) : Type 0 where
   pub runs : AreRunsOfSome (ranges_at_first sections)
   pub order : ByOrder (ranges_at_first sections)
 
--- All places have the verdicts of the first: they are denied alike, too.
+-- All places have the verdicts of the first.
 abbrev pub AreAlikeThroughout : List PlaceBreaches → Type 0
 AreAlikeThroughout sections = All (λ section. section.ranges ≡ ranges_at_first sections) sections
 
--- The table of the verdicts at the first place of a group, given whether its places are alike throughout. The rows that deny are
--- joined if they are not, or if the rows are more than five.
-pub record IsTableBy (ranges : List (Run (Result Grant Denial))) (alike : Bool) (value : TableValue) : Type 0 where
+-- The table of the verdicts at a place. The rows that deny are joined if they are more than five.
+pub record IsTableBy (ranges : List (Run (Result Grant Denial))) (value : TableValue) : Type 0 where
   pub rows : List RowValue
   pub are : AreRowsOf ranges rows
-  pub table : value ≡ table_by (not alike || nat_lt most_denials (denials_among rows)) ranges rows
+  pub table : value ≡ table_by (nat_lt most_denials (denials_among rows)) ranges rows
 
--- The table of a group.
-pub record IsTableOf (sections : List PlaceBreaches) (value : TableValue) : Type 0 where
-  pub alike : Bool
-  pub decides : Decides alike (AreAlikeThroughout sections)
-  pub by_first : IsTableBy (ranges_at_first sections) alike value
+-- The table of a group: that of its first place, since all of its places have the same verdicts.
+abbrev pub IsTableOf : List PlaceBreaches → TableValue → Type 0
+IsTableOf sections value = IsTableBy (ranges_at_first sections) value

@@ -84,7 +84,7 @@ impl Class {
 }
 
 /// Tests whether root of the client, or each of its users, acts as root.
-pub(crate) fn keeps_root(terms: &Terms) -> bool
+pub fn keeps_root(terms: &Terms) -> bool
     ensures { result ≡ spec.keeps_root terms.now }
 {
     match terms.map.get() {

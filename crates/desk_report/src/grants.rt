@@ -28,7 +28,7 @@ pub(crate) struct Piece {
 }
 
 /// Counts to how many addresses each of these lines grants something, given all verdicts at the places of their file system.
-pub fn grants_of(
+pub(crate) fn grants_of(
     alloc: Global,
     rows: &[Row],
     sections: &[Section<'_>],

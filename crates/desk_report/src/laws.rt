@@ -1,7 +1,8 @@
-//! What the definitions of this crate keep, each as a function that does nothing.
+//! What the definitions of this crate keep, each as a function that does nothing. Only that what was read is sound is one that looks at
+//! something: at the numbers of the lines.
 
-ghost use Rattle.std.specs.Prelude.{◌≡◌, ◌<◌, ◌^◌, All};
-ghost use Rattle.desk_report.specs.Laws.{ClassesAreUnique, CountsAddUp, GroupsAreOfAlike, GroupsCanBeTabled, HaveNumbers, IdleLinesGrantNothing, IsSoundIfRead, MostIsOfSelected, OrdersTellVerdicts, RowsHoldEachAddressOnce, SectionGroupsAreGroups, TablesAddUp};
+ghost use Rattle.std.specs.Prelude.{◌<◌, ◌^◌, All};
+ghost use Rattle.desk_report.specs.Laws.{AlikePlacesAreDeniedAlike, ClassesAreUnique, CountsAddUp, GroupsAreAlikeThroughout, GroupsAreOfAlike, GroupsCanBeTabled, HaveNumbers, IdleLinesGrantNothing, IsSoundIfRead, MostIsOfSelected, OrdersTellVerdicts, RowsHoldEachAddressOnce, SectionGroupsAreGroups, TablesAddUp};
 
 use crate::class::Class;
 use desk_impact::places_tell_scope;
@@ -33,7 +34,7 @@ pub fn counts_add_up()
     ensures { CountsAddUp }
 {}
 
-/// The rows of a table hold every address once.
+/// The rows of the verdicts at a place hold every address once.
 pub fn rows_hold_each_address_once()
     ensures { RowsHoldEachAddressOnce }
 {}
@@ -59,6 +60,23 @@ pub fn section_groups_are_groups()
     verdicts_are_discrete();
 }
 
+/// Places of one file system that are granted alike are denied alike, too.
+pub fn alike_places_are_denied_alike()
+    ensures { AlikePlacesAreDeniedAlike }
+{}
+
+/// The places of each group of a file system have the same verdicts.
+pub fn groups_are_alike_throughout()
+    ensures { GroupsAreAlikeThroughout }
+{
+    runs_exist::<Verdict<'static>>();
+    runs_are_unique::<Verdict<'static>>();
+    runs_pass_tests::<Verdict<'static>>();
+    runs_with_value_are_unique::<Verdict<'static>>();
+    runs_tell_values::<Verdict<'static>>();
+    verdicts_are_discrete();
+}
+
 /// The verdicts at the places of a file system are told apart by their places in a table.
 pub fn orders_tell_verdicts()
     ensures { OrdersTellVerdicts }
@@ -78,8 +96,8 @@ pub fn tables_add_up()
     verdicts_are_discrete();
 }
 
-/// A policy that was read from the texts of a site is sound, if it does not contradict itself. It is looked at once, since its lines
-/// have numbers of 32 bits.
+/// What has the table and the lines of a policy that was read from the texts of a site is sound, if that does not contradict itself. It is
+/// looked at, since its lines have numbers of 32 bits.
 pub fn sites_are_sound(policy: &Policy)
     ensures { IsSoundIfRead policy.now }
 {

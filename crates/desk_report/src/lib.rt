@@ -4,7 +4,8 @@
 //! how many addresses each line grants something; [`classes_of_site`] the most that they may at all. [`classes_from`] lists what the
 //! verdicts at a place come to, and [`counts_within`] counts the addresses of a range by class. [`groups_of`] puts the places into
 //! groups that are granted alike, and [`table_of`] who may mount those of a group, and who may not, into a table; [`rows_of`] puts the
-//! verdicts at a place into rows, which hold every address once. [`reasons_of_lines`] says why each line stands out.
+//! verdicts at a place into rows, which hold every address once. [`reasons_of_lines`] says why each line stands out, and
+//! [`level_of_reasons`] whether to look at it first.
 //!
 //! ```text
 //! let classes = classes_from(alloc, section.ranges.as_slice())?;      // 10.0.0.0-10.255.255.255 ReadOnly, ..
@@ -27,18 +28,19 @@ pub mod systems;
 pub mod tables;
 mod values;
 
-pub use class::Class;
+pub use class::{Class, keeps_root};
 pub use classes::{classes_from, classes_in, most_of_both};
 pub use counts::{Counts, counts_within};
-pub use grants::{LineGrants, grants_of};
+pub use grants::LineGrants;
 pub use groups::{Group, groups_of};
 pub use laws::{
-    classes_are_unique, counts_add_up, groups_are_of_alike, groups_can_be_tabled,
-    idle_lines_grant_nothing, most_is_of_selected, orders_tell_verdicts,
-    rows_hold_each_address_once, section_groups_are_groups, sites_are_sound, tables_add_up,
+    alike_places_are_denied_alike, classes_are_unique, counts_add_up, groups_are_alike_throughout,
+    groups_are_of_alike, groups_can_be_tabled, idle_lines_grant_nothing, most_is_of_selected,
+    orders_tell_verdicts, rows_hold_each_address_once, section_groups_are_groups, sites_are_sound,
+    tables_add_up,
 };
 pub use lines::{LineReasons, reasons_of_lines};
-pub use reasons::{Level, Reason, reasons_on};
+pub use reasons::{Level, Reason, are_all, are_names, level_of_reasons, reasons_on};
 pub use rows::{TableRow, rows_of};
 pub use sections::{by_filesystem, sections_of_site};
 pub use systems::{FileSystemReport, classes_of_site, systems_of_site};

@@ -1,6 +1,7 @@
 //! Why a line stands out.
 
 ghost use Rattle.std.specs.Prelude.{◌≡◌, IfOk};
+ghost use Rattle.std.specs.List.{list_any};
 ghost use Rattle.desk_report.specs.Reasons as spec;
 
 use crate::class::keeps_root;
@@ -50,6 +51,34 @@ impl Reason {
             | Reason::Wide
             | Reason::RootKeptForNames => Level::Check,
         }
+    }
+}
+
+/// Returns the highest level of these reasons: to look first, if one of them has it.
+pub fn level_of_reasons(reasons: &[Reason]) -> Level
+    ensures { result ≡ spec.level_of_all reasons.now }
+{
+    if has_first(reasons) {
+        Level::LookFirst
+    } else {
+        Level::Check
+    }
+}
+
+/// Tests whether one of these reasons is one to look at first.
+fn has_first(reasons: &[Reason]) -> bool
+    ensures { result ≡ list_any spec.is_first reasons.now }
+{
+    reasons.iter().any(|reason| is_first(*reason))
+}
+
+/// Tests whether a reason is one to look at first.
+fn is_first(reason: Reason) -> bool
+    ensures { result ≡ spec.is_first reason }
+{
+    match reason.level() {
+        Level::LookFirst => true,
+        Level::Check => false,
     }
 }
 
@@ -112,7 +141,7 @@ pub fn are_all(clients: &Clients) -> bool
 }
 
 /// Tests whether clients are written by their names.
-fn are_names(clients: &Clients) -> bool
+pub fn are_names(clients: &Clients) -> bool
     ensures { result ≡ spec.are_names clients.now }
 {
     match clients {

@@ -1,4 +1,4 @@
-//! The rows of a table: one for each verdict, with the ranges of addresses that have it.
+//! The rows of the verdicts at a place: one for each verdict, with the ranges of addresses that have it.
 
 ghost use Rattle.std.specs.Prelude.{◌≡◌, IfOk, OnOk, map};
 ghost use Rattle.std.specs.Bool.{Decides};

@@ -1,11 +1,9 @@
 //! The table of a group of places: who may mount them, and who may not.
 
-ghost use Rattle.std.specs.Prelude.{◌≡◌, ◌++◌, ◌||◌, ◌∷◌, [], All, IfOk, OnOk, filter, if◌then◌else◌, length, map, nat_lt, not};
-ghost use Rattle.std.specs.Bool.{Decides};
+ghost use Rattle.std.specs.Prelude.{◌≡◌, ◌++◌, ◌∷◌, [], IfOk, OnOk, filter, if◌then◌else◌, length, map, nat_lt};
 ghost use Rattle.std.specs.Result.{is_ok};
 ghost use Rattle.desk_policy.specs.Verdict.{verdict_result};
 ghost use Rattle.desk_who.specs.Who.{range_value};
-ghost use Rattle.desk_impact.specs.Sections.{section_value};
 ghost use Rattle.desk_report.specs.Groups.{group_value};
 ghost use Rattle.desk_report.specs.PrivateTables as inner;
 ghost use Rattle.desk_report.specs.Rows.{ByOrder, row_value};
@@ -15,10 +13,9 @@ ghost use Rattle.desk_report.specs.Values.{AreRunsOfSome};
 
 use crate::groups::Group;
 use crate::rows::{TableRow, rows_of};
-use desk_impact::Section;
 use desk_policy::Verdict;
 use desk_text::Sequence;
-use desk_who::{Alike, Range};
+use desk_who::Range;
 use std::alloc::{AllocError, Global};
 
 /// So many verdicts that deny have rows of their own.
@@ -36,42 +33,27 @@ pub struct Table<'a> {
     pub denials: usize,
 }
 
-/// Puts who may mount the places of a group, and who may not, into a table.
+/// Puts who may mount the places of a group, and who may not, into a table: those that may mount the first, since all of a group have
+/// the same verdicts.
 pub fn table_of<'a>(alloc: Global, group: &Group<'a>) -> Result<Table<'a>, AllocError>
     requires { CanBeTabled (group_value group.now) }
     ensures { IfOk result (λ table. IsTableOf (group_value group.now) (table_value table)) }
 {
-    let sections = group.sections.as_slice();
-    match sections.first() {
-        Some(first) => table_of_places(alloc, sections, first.ranges.as_slice()),
-        None => table_by(alloc, &[], true),
+    match group.sections.as_slice().first() {
+        Some(first) => table_by(alloc, first.ranges.as_slice()),
+        None => table_by(alloc, &[]),
     }
 }
 
-/// Puts the verdicts at some places into a table, given those at the first of them.
-fn table_of_places<'a>(
-    alloc: Global,
-    sections: &[Section<'a>],
-    ranges: &[Range<'a>],
-) -> Result<Table<'a>, AllocError>
-    requires first { spec.ranges_at_first (map section_value sections.now) ≡ map range_value ranges.now }
-    requires can { CanBeTabled (map section_value sections.now) }
-    ensures { IfOk result (λ table. IsTableOf (map section_value sections.now) (table_value table)) }
-{
-    let alike = are_alike(sections, ranges);
-    table_by(alloc, ranges, alike)
-}
-
-/// Puts the verdicts at the first place of a group into a table, given whether its places are alike. The rows that deny are joined if
-/// the places differ in them, or if they are more than five.
-fn table_by<'a>(alloc: Global, ranges: &[Range<'a>], alike: bool) -> Result<Table<'a>, AllocError>
+/// Puts the verdicts at a place into a table. The rows that deny are joined if they are more than five.
+fn table_by<'a>(alloc: Global, ranges: &[Range<'a>]) -> Result<Table<'a>, AllocError>
     requires order { ByOrder (map range_value ranges.now) }
     requires runs { AreRunsOfSome (map range_value ranges.now) }
-    ensures { IfOk result (λ table. IsTableBy (map range_value ranges.now) alike (table_value table)) }
+    ensures { IfOk result (λ table. IsTableBy (map range_value ranges.now) (table_value table)) }
 {
     let rows = rows_of(alloc, ranges)?;
     let count = denials_among(rows.as_slice());
-    let joined = are_joined(alike, count);
+    let joined = are_joined(count);
     let shown = rows_shown(alloc, joined, rows)?;
     Ok(Table {
         rows: Sequence::from_vec(shown),
@@ -88,11 +70,11 @@ fn others_if(joined: bool, ranges: &[Range<'_>]) -> u64
     if joined { denied_among(ranges) } else { 0 }
 }
 
-/// Tests whether the rows that deny are joined, given whether the places are alike, and how many of these rows there are.
-fn are_joined(alike: bool, denials: usize) -> bool
-    ensures { result ≡ (not alike || nat_lt spec.most_denials denials) }
+/// Tests whether so many rows that deny are joined.
+fn are_joined(denials: usize) -> bool
+    ensures { result ≡ nat_lt spec.most_denials denials }
 {
-    !alike || MOST_DENIALS < denials
+    MOST_DENIALS < denials
 }
 
 /// Counts the rows that deny.
@@ -187,40 +169,4 @@ fn denied_in(range: &Range<'_>) -> u64
     } else {
         (u64::from(range.last.number()) + 1).saturating_sub(u64::from(range.first.number()))
     }
-}
-
-/// Tests whether all places have these verdicts.
-fn are_alike(sections: &[Section<'_>], ranges: &[Range<'_>]) -> bool
-    ensures { Decides result (All (λ section. (section_value section).ranges ≡ map range_value ranges.now) sections.now) }
-{
-    for section in sections {
-        if !have_same_verdicts(section.ranges.as_slice(), ranges) {
-            return false;
-        }
-    }
-    true
-}
-
-/// Tests whether two places have the same verdicts.
-fn have_same_verdicts(ranges: &[Range<'_>], others: &[Range<'_>]) -> bool
-    ensures { Decides result (map range_value ranges.now ≡ map range_value others.now) }
-{
-    if ranges.len() != others.len() {
-        return false;
-    }
-    for place in 0..ranges.len() {
-        if !is_same(&ranges[place], &others[place]) {
-            return false;
-        }
-    }
-    true
-}
-
-/// Tests whether two ranges are the same, and their verdicts.
-fn is_same(range: &Range<'_>, other: &Range<'_>) -> bool
-    ensures { Decides result (range_value range.now ≡ range_value other.now) }
-{
-    range.first.number() == other.first.number()
-        && range.last.number() == other.last.number()
-        && range.value.is_alike(&other.value)
 }

@@ -4,8 +4,7 @@ ghost use Rattle.std.specs.Prelude.{◌≡◌, ◌++◌, IfOk, OnOk, false, map}
 ghost use Rattle.desk_text.specs.Address.{number_of};
 ghost use Rattle.desk_text.specs.AddrSet.{is_among};
 ghost use Rattle.desk_who.specs.Runs.{run_value};
-ghost use Rattle.desk_report.specs.PrivateValues.{start_at};
-ghost use Rattle.desk_report.specs.Values.{AreItsStarts, IsValueAt};
+ghost use Rattle.desk_report.specs.PrivateValues.{AreItsStarts, IsValueAt, start_at};
 
 use desk_text::laws::sorted_sets_are_unique;
 use desk_text::{Addr, AddrSet};

@@ -1,9 +1,9 @@
 """The part of the report on one file system."""
 
-from reference.definitions import changes, effect, matters, printed
+from reference.definitions import changes, contradiction, effect, fault_text, matters, printed
 from reference.idle import is_for_all
 from reference.lines import logical_lines, physical_lines, words_of
-from reference.readings import read_site
+from reference.readings import Fault, read_site
 from reference.report.data import (
     PRIVATE, SPACE, FileSystem, changed_places, classes_of, counts, network_ends, size_of,
 )  # fmt: skip
@@ -79,15 +79,15 @@ def text_row(system, part, marked, note, count):
 
 
 def verdict_rows(system, group):
-    """A row for each verdict: those that grant by their lines, then the denied ones. Together they hold each address once."""
+    """A row for each verdict: those that grant by their lines, then the denied ones. Together they hold each address once. Places that
+    are granted alike are denied alike, too, so the verdicts are those at each place of the group."""
     by_verdict = {}
     for first, last, verdict in system.who[group[0]]:
         by_verdict.setdefault(verdict, []).append((first, last))
     granted = sorted((verdict for verdict in by_verdict if effect(verdict)), key=named_line)
     rows = [granted_row(system, verdict, by_verdict[verdict]) for verdict in granted]
     denied = sorted((verdict for verdict in by_verdict if not effect(verdict)), key=denial_order)
-    differ = any(system.who[place] != system.who[group[0]] for place in group)
-    if denied and (differ or len(denied) > MOST_REASONS):
+    if len(denied) > MOST_REASONS:
         ranges = [found for verdict in denied for found in by_verdict[verdict]]
         reason = "no line matches them, or those that match them best list none of these"
         return [*rows, [class_badge(0), "everybody else", part_words(size_of(ranges)), reason]], len(granted)
@@ -222,8 +222,23 @@ def proposal_block(desk, system):
     made = '<section class="wait">\n<h4>A proposal waits</h4>\n'
     made += f"<p>{code(author)} proposes this text as revision {revision}. It is not in force{approval}.</p>\n"
     made += proposed_text(system, desk.texts.get(file_of(system), ""), text)
-    after = FileSystem(read_site({**desk.texts, file_of(system): text}), system.number)
-    return made + changes_block(system, after) + "</section>\n"
+    return made + outcome_block(system, {**desk.texts, file_of(system): text}) + "</section>\n"
+
+
+def outcome_block(system, texts):
+    """What a proposal would change, given the texts of the site with it; or the fault of these, to which a proposal comes if another
+    file changes while it waits."""
+    try:
+        site = read_site(texts)
+    except Fault as fault:
+        return refused(str(fault))
+    found = ((mount, contradiction(site, mount)) for mount in site.mounts)
+    fault = next((fault_text(mount, fault) for mount, fault in found if fault), "")
+    return refused(fault) if fault else changes_block(system, FileSystem(site, system.number))
+
+
+def refused(fault):
+    return f"<p>It cannot be put in force now: {code(fault)}.</p>\n"
 
 
 def proposed_text(system, old, text):

@@ -1,7 +1,7 @@
-use Rattle.std.proofs.Common.{subst}
+use Rattle.std.proofs.Common.{refl, subst}
 use Rattle.desk_policy.specs.Site.{texts_of}
 use Rattle.desk_report.specs.Laws.{IsSoundIfRead}
 use Rattle.desk_cases_report.proofs.questions.by_view.Goals as goal
 
 pub of_view-asked-requires : goal.of_view-asked-requires
-of_view-asked-requires g c = subst IsSoundIfRead c.policy.ensures c.sites_are_sound.ensures (texts_of c.args.texts.now) c.in-Ok.ensures.0 c.in-Ok.ensures.1
+of_view-asked-requires g c = subst IsSoundIfRead c.policy.ensures c.sites_are_sound.ensures (texts_of c.args.texts.now) _ c.in-Ok.ensures.0 refl refl c.in-Ok.ensures.1

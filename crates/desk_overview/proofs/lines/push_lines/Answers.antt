@@ -67,7 +67,7 @@ loop-place-preserved c =
     let told' : IsToldOf content fs (record { line = row.entry.line; reasons = reason.reasons }) = subst (λ n. IsToldOf content fs (record { line = n; reasons = reason.reasons })) own told in
     adds_one content fs rows place row within is (map line_value c.args.lines.now.items) (map line_value c.loop-place.lines.items) (map line_value c.push.new.self.items) _
     c.loop-place.invariant (ap (map line_value) c.in_ok-push.ensures.items ∙ map-append line_value c.loop-place.lines.items _) refl
-    (record { count = counts; reasons = subst (λ some. IsToldOf content fs (record { line = row.entry.line; reasons = some })) (sym c.as_slice.ensures) told' })
+    (record { has = (place, within, sym is); count = counts; reasons = subst (λ some. IsToldOf content fs (record { line = row.entry.line; reasons = some })) (sym c.as_slice.ensures) told' })
 
 pub returns : goal.returns
 returns c =

@@ -1,5 +1,5 @@
-use Rattle.std.proofs.Common.{◌||◌, ◌∙◌, cond, List, ap, map}
-use Rattle.std.specs.Prelude.{nat_lt, not}
+use Rattle.std.proofs.Common.{◌∙◌, cond, List, ap, map}
+use Rattle.std.specs.Prelude.{nat_lt}
 use Rattle.desk_who.specs.Who.{range_value}
 use Rattle.desk_report.specs.Rows.{row_value}
 use Rattle.desk_report.specs.Tables.{denials_among, most_denials, table_by}
@@ -13,7 +13,7 @@ returns c =
     let rows = map row_value c.in_ok-rows.rows.items in
     let joined = c.are_joined-joined.result in
     let count = c.denials_among-count.ensures ∙ ap (λ (some : List TableRow). denials_among (map row_value some)) c.as_slice.ensures.value in
-    let test = c.are_joined-joined.ensures ∙ ap (λ n. not c.args.alike || nat_lt most_denials n) count in
+    let test = c.are_joined-joined.ensures ∙ ap (λ n. nat_lt most_denials n) count in
     record {
       rows = rows;
       are = c.in_ok-rows.ensures;
