@@ -1,6 +1,6 @@
 pub mod CodesRead
-mod Gaining
-mod Gathered
+pub mod Gaining
+pub mod Gathered
 pub mod Telling
 pub mod Markup
 pub mod Threes

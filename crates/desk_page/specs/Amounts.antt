@@ -7,6 +7,10 @@ use Rattle.desk_page.specs.Numbers.{number}
 abbrev pub plural : ℕ → List ℕ → List ℕ → List ℕ
 plural count one more = number count ++ codes " " ++ (if count == 1 then one else more)
 
+-- behind some that are named, how many more there are
+abbrev pub and_more : ℕ → List ℕ
+and_more count = codes " and " ++ number count ++ codes " more"
+
 -- how much of a whole: none, all, all but a number if that is shorter, or the number
 abbrev pub part : ℕ → ℕ → List ℕ
 part count whole =

@@ -22,6 +22,15 @@ pub fn push_plural(
     write!(page, " {word}")
 }
 
+/// Adds how many more there are, behind some that are named.
+pub fn push_and_more(alloc: Global, count: u64, page: &mut String) -> Result<(), AllocError>
+    ensures { OnOk result (string_bytes page.new ≡ string_bytes page.old ++ spec.and_more count) }
+{
+    page.push_str(" and ")?;
+    push_number(alloc, count, page)?;
+    page.push_str(" more")
+}
+
 /// Adds how much of a whole a number is.
 pub fn push_part(alloc: Global, count: u64, whole: u64, page: &mut String) -> Result<(), AllocError>
     requires { count ≤ whole }

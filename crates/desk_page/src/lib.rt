@@ -17,7 +17,7 @@ mod style;
 pub mod terms;
 pub mod text_rows;
 
-pub use amounts::{push_part, push_percent, push_plural};
+pub use amounts::{push_and_more, push_part, push_percent, push_plural};
 pub use escaping::{push_attribute, push_escaped, push_escaped_line};
 pub use facts::{push_guarded, push_in_force, push_kept_by, push_revision};
 pub use head::push_page_head;

@@ -1,0 +1,2 @@
+mod InForce
+mod Lined

@@ -1,0 +1,10 @@
+pub mod Changes
+pub mod Facts
+pub mod Findings
+pub mod Gutter
+pub mod Outcomes
+pub mod Parts
+pub mod Proposals
+pub mod Sections
+pub mod Shares
+pub mod Texts

@@ -1,0 +1,2 @@
+mod Quoted
+mod Quoting

@@ -1,0 +1,16 @@
+use Rattle.std.proofs.Common.{◌++◌, ◌∙◌, ap, codes}
+use Rattle.std.specs.String.{string_bytes}
+use Rattle.desk_page.specs.Pieces.{code}
+use Rattle.desk_page_lists.specs.Files.{unlisted_too}
+use Rattle.desk_page.proofs.Gaining.{three_pieces}
+use Rattle.desk_page_lists.proofs.files.push_proposal.Goals as goal
+
+pub returns : goal.returns
+returns c =
+    let s0 = string_bytes c.args.page.now in
+    let s1 = string_bytes c.push_str.new.self in
+    let s2 = string_bytes c.push_code.new.page in
+    let s3 = string_bytes c.push_str-2.new.self in
+    three_pieces s0 s1 s2 s3
+    (codes "proposal by ") (code c.args.name.now) (unlisted_too c.args.is_unlisted)
+    c.in_ok-push_str.ensures.bytes c.in_ok-push_code.ensures (c.in_ok-push_str-2.ensures.bytes ∙ ap (λ words. s2 ++ words) c.unlisted_too.ensures)

@@ -1,0 +1,9 @@
+pub mod Again
+pub mod Files
+pub mod Laws
+pub mod Mentions
+pub mod Names
+pub mod Reading
+pub mod Shell
+pub mod Tables
+pub mod Warnings

@@ -1,0 +1,149 @@
+//! Who may mount directories that are granted alike.
+
+ghost use Rattle.std.specs.Prelude.{◌≡◌, ◌++◌, All, OnOk};
+ghost use Rattle.std.specs.String.{string_bytes};
+ghost use Rattle.desk_report.specs.Groups.{group_value};
+ghost use Rattle.desk_page_places.specs.Names.{members_value};
+ghost use Rattle.desk_page_places.specs.Groups as spec;
+ghost use Rattle.desk_page_places.specs.Tables.{HasSizes, told_value};
+
+use crate::names::{Members, members_of, push_folded_names, push_heading};
+use crate::tables::{granting, push_table_block};
+use desk_report::{Group, Table};
+use desk_tables::FsId;
+use std::alloc::{AllocError, Global};
+
+/// A group of directories that are granted alike, and who may mount them.
+#[derive(Drop)]
+pub struct GroupPart<'a> {
+    pub group: Group<'a>,
+    pub table: Table<'a>,
+    /// Its maps, if they are drawn: HTML, which comes onto the page as it is.
+    pub maps: String,
+}
+
+/// Adds who may mount the directories of each of these groups.
+#[tactic(auto, unfolding(crate::specs::Groups::groups_text))]
+pub fn push_groups(
+    alloc: Global,
+    fs: FsId,
+    groups: &[GroupPart<'_>],
+    page: &mut String,
+) -> Result<(), AllocError>
+    requires { All spec.HasToldSizes groups.now }
+    ensures { OnOk result (string_bytes page.new ≡ string_bytes page.old ++ spec.groups_text fs.0 groups.now) }
+{
+    for part in groups {
+        push_group(
+            alloc,
+            fs,
+            &part.group,
+            part.maps.as_str(),
+            &part.table,
+            page,
+        )?;
+    }
+    Ok(())
+}
+
+/// Adds who may mount the directories of a group of a file system, given its maps, as HTML, and the table of the group.
+pub fn push_group(
+    alloc: Global,
+    fs: FsId,
+    group: &Group<'_>,
+    maps: &str,
+    table: &Table<'_>,
+    page: &mut String,
+) -> Result<(), AllocError>
+    requires { HasSizes (told_value table.now) }
+    ensures { OnOk result (string_bytes page.new ≡ string_bytes page.old ++ spec.group_block fs.0 (group_value group.now) maps.now (told_value table.now)) }
+{
+    let members = members_of(alloc, group.sections.as_slice())?;
+    push_group_of(alloc, fs, &members, maps, table, page)
+}
+
+/// Adds who may mount the directories of a group, given what is in it.
+fn push_group_of(
+    alloc: Global,
+    fs: FsId,
+    members: &Members<'_>,
+    maps: &str,
+    table: &Table<'_>,
+    page: &mut String,
+) -> Result<(), AllocError>
+    requires { HasSizes (told_value table.now) }
+    ensures { OnOk result (string_bytes page.new ≡ string_bytes page.old ++ spec.group_by fs.0 (members_value members.now) maps.now (told_value table.now)) }
+{
+    push_group_head(alloc, members, page)?;
+    push_who(alloc, fs, members, maps, table, page)?;
+    page.push_str("</section>\n")
+}
+
+/// Begins a group with the names of its directories.
+fn push_group_head(
+    alloc: Global,
+    members: &Members<'_>,
+    page: &mut String,
+) -> Result<(), AllocError>
+    ensures { OnOk result (string_bytes page.new ≡ string_bytes page.old ++ spec.group_head (members_value members.now)) }
+{
+    page.push_str("<section class=\"place\">\n<h5>")?;
+    push_heading(alloc, members, page)?;
+    page.push_str("</h5>\n")?;
+    push_folded_names(alloc, members, page)
+}
+
+/// Adds who may mount the directories, or that nobody may.
+fn push_who(
+    alloc: Global,
+    fs: FsId,
+    members: &Members<'_>,
+    maps: &str,
+    table: &Table<'_>,
+    page: &mut String,
+) -> Result<(), AllocError>
+    requires { HasSizes (told_value table.now) }
+    ensures { OnOk result (string_bytes page.new ≡ string_bytes page.old ++ spec.who_block fs.0 (members_value members.now) maps.now (told_value table.now)) }
+{
+    if granting(table.rows.as_slice()) == 0 {
+        return push_nobody(members, page);
+    }
+    push_maps_and_table(alloc, fs, members, maps, table, page)
+}
+
+/// Adds the maps, and who may mount the directories.
+fn push_maps_and_table(
+    alloc: Global,
+    fs: FsId,
+    members: &Members<'_>,
+    maps: &str,
+    table: &Table<'_>,
+    page: &mut String,
+) -> Result<(), AllocError>
+    requires { HasSizes (told_value table.now) }
+    ensures { OnOk result (string_bytes page.new
+        ≡ string_bytes page.old ++ spec.maps_and_table fs.0 (members_value members.now) maps.now (told_value table.now)) }
+{
+    page.push_str(maps)?;
+    push_table_block(alloc, fs, members, table, page)
+}
+
+/// Adds that nobody may mount the directories.
+fn push_nobody(members: &Members<'_>, page: &mut String) -> Result<(), AllocError>
+    ensures { OnOk result (string_bytes page.new ≡ string_bytes page.old ++ spec.nobody (members_value members.now)) }
+{
+    page.push_str("<p>Nobody may mount ")?;
+    page.push_str(pronoun(members))?;
+    page.push_str(".</p>\n")
+}
+
+/// Returns the word for the directories.
+fn pronoun(members: &Members<'_>) -> &'static str
+    ensures { result.now ≡ spec.pronoun (members_value members.now) }
+{
+    if members.directories.len() == 1 && !members.has_others {
+        "it"
+    } else {
+        "them"
+    }
+}

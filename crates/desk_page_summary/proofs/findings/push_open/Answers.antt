@@ -1,0 +1,16 @@
+use Rattle.std.specs.String.{string_bytes}
+use Rattle.desk_page_summary.specs.Findings.{rows}
+use Rattle.desk_page_lists.specs.Tables.{table_end, table_start}
+use Rattle.desk_page_lists.specs.declared.tables.Table.TheVariants.{Findings}
+use Rattle.desk_page.proofs.Gaining.{three_pieces}
+use Rattle.desk_page_summary.proofs.findings.push_open.Goals as goal
+
+pub returns : goal.returns
+returns c =
+    let s0 = string_bytes c.args.page.now in
+    let s1 = string_bytes c.push_table_start.new.page in
+    let s2 = string_bytes c.push_rows.new.page in
+    let s3 = string_bytes c.push_table_end.new.page in
+    three_pieces s0 s1 s2 s3
+    (table_start Findings) (rows c.args.rows.now) table_end
+    c.in_ok-push_table_start.ensures c.in_ok-push_rows.ensures c.in_ok-push_table_end.ensures

@@ -1,0 +1,27 @@
+//! The summary of the page of a report: the header, the key figures, the lines that stand out, the security flavours and the file
+//! systems; and how the sections of the page begin and end.
+//!
+//! Its promise: each function adds just the text that its definition says, over plain data that it is given. Every row is printed: of
+//! many lines that stand out the first stand in the open, and all others are folded; of what a cell names, and does not list, the number
+//! is said.
+//!
+//! ```text
+//! push_header(alloc, &Header { database: "site.db", revisions: 23, files: 19, state }, &mut page)?;
+//! push_findings(alloc, findings, &mut page)?;
+//! ```
+#![tactic(auto)]
+
+mod addresses;
+pub mod figures;
+pub mod findings;
+pub mod flavours;
+pub mod header;
+pub mod overview;
+pub mod sections;
+
+pub use figures::{Figures, push_figures};
+pub use findings::{FindingRow, push_counted_findings, push_findings};
+pub use flavours::{FlavoursRow, push_flavours_table};
+pub use header::{Header, push_header};
+pub use overview::{Reach, SystemRow, push_overview};
+pub use sections::{Section, push_footer, push_section_end, push_section_start};

@@ -1,0 +1,2 @@
+pub mod Badges
+pub mod FindingWords

@@ -1,0 +1,19 @@
+//! Words of the page of a report that more than one of its parts says: the badges of classes, the marks of levels, how many addresses are
+//! of which class, and why a line stands out.
+//!
+//! Its promise: each function adds just the text that its definition says. Of the lines that decide in place of another one the first are
+//! named, and of the others the number is said.
+//!
+//! ```text
+//! push_badge(Class::RootKept, &mut page)?;              // <span class="b r">root kept</span>
+//! push_finding_words(alloc, &finding, &mut page)?;      // for everybody, read-write, sec=sys
+//! ```
+#![tactic(auto)]
+
+pub mod badges;
+pub mod finding_words;
+
+pub use badges::{
+    push_badge, push_class_parts, push_class_words, push_count_words, push_level_mark,
+};
+pub use finding_words::{Finding, push_finding_words, push_flavour_names};
