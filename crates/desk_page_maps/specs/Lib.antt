@@ -1,0 +1,8 @@
+pub mod Drawing
+pub mod Drawn
+pub mod Figures
+pub mod Grounds
+pub mod Laws
+pub mod Paths
+pub mod PrivateFigures
+pub mod Shapes

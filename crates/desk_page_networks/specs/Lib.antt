@@ -1,0 +1,4 @@
+pub mod Rows
+pub mod Cells
+pub mod Table
+pub mod Laws

@@ -1,0 +1,57 @@
+-- The table of the networks that lines write. (this project's own, over HTML)
+use Rattle.std.specs.Prelude.{◌≡◌, ℕ, ◌==◌, ◌-◌, List, [], ◌++◌, codes, length, take, if◌then◌else◌}
+use Rattle.std.specs.Fmt.{decimal}
+use Rattle.std.specs.List.{flat_map}
+use Rattle.desk_text.specs.Address.{addr_text}
+use Rattle.desk_text.specs.Network.{Block, block_size}
+use Rattle.desk_policy.specs.Policy.{Content}
+use Rattle.desk_maps.specs.Order.{AreOrdered}
+use Rattle.desk_maps.specs.Written.{written_networks}
+use Rattle.desk_page.specs.Amounts.{plural}
+use Rattle.desk_page.specs.TextRows.{count_cell}
+use Rattle.desk_page_lists.specs.Tables.{row_end, table_end}
+use Rattle.desk_page_networks.specs.Cells.{alike_cell, parts_cell}
+use Rattle.desk_page_networks.specs.Rows.{AreNetworkRows}
+use Rattle.desk_page_networks.specs.declared.rows.NetworkRow.{NetworkRow}
+use Rattle.desk_page_networks.specs.declared.table.TheConstants.{START}
+
+-- a network, which has its prefix even if it is one address
+abbrev pub network : ℕ → ℕ → List ℕ
+network first prefix = addr_text first ++ codes "/" ++ decimal prefix
+
+-- the beginning of a row, with its network
+abbrev pub row_head : Block → List ℕ
+row_head block = codes "<tr><th scope=\"row\">" ++ network block.first block.prefix ++ codes "</th>"
+
+-- a row: the network, how many addresses it has, and what they may on which file systems
+unfoldable pub row : Content → NetworkRow → List ℕ
+row content one =
+    row_head one.network ++ count_cell (block_size one.network.prefix) ++ alike_cell content one.alike ++ parts_cell content one.parts ++ row_end
+
+unfoldable pub rows : Content → List NetworkRow → List ℕ
+rows content all = flat_map (row content) all
+
+-- how many networks are not listed, if there are any
+abbrev pub not_listed : ℕ → List ℕ
+not_listed count =
+    codes "<p class=\"cut\">" ++ plural count (codes "more network is") (codes "more networks are") ++ codes " not listed, none of them wider.</p>\n"
+
+abbrev pub left_out : ℕ → List ℕ
+left_out count = if count == 0 then [] else not_listed count
+
+-- the table, if there is a network
+abbrev pub some_networks : Content → List NetworkRow → ℕ → List ℕ
+some_networks content all count = START.now ++ rows content all ++ table_end ++ left_out count
+
+abbrev pub networks_text : Content → List NetworkRow → ℕ → List ℕ
+networks_text content all count =
+    if length all == 0 then codes "<p>No line writes a network, but for /0 or one of IPv6.</p>\n" else some_networks content all count
+
+-- A page gains the table of the networks that lines of any file system write, the widest first: a row for each of the first 64 of them,
+-- and how many more there are.
+pub record GainsNetworks (content : Content) (old new : List ℕ) : Type 0 where
+  pub written : List Block
+  pub ordered : AreOrdered (flat_map written_networks content.rows) written
+  pub listed : List NetworkRow
+  pub are : AreNetworkRows content (take 64 written) listed
+  pub text : new ≡ old ++ networks_text content listed (length written - 64)
