@@ -47,10 +47,10 @@ class Desk:
         return {f"exports:{printed(path_of(mount))}" for mount, *rest in self.filesystems() if rest[0] == "!guarded"}
 
     def custodians(self, name):
-        """The custodians of an exports file, each once."""
+        """The custodians of an exports file, as they are written."""
         for mount, *rest in self.filesystems():
             if f"exports:{printed(path_of(mount))}" == name:
-                return list(dict.fromkeys(word for word in rest if word != "!guarded"))
+                return [word for word in rest if word != "!guarded"]
         return []
 
     def files(self):

@@ -15,6 +15,17 @@ MEMBER = re.compile(r"\([ \t]*([^, \t]*)[ \t]*,[^)]*\)|([^ \t(),]+)")
 sys.set_int_max_str_digits(0)  # (a number may have as many zeros as a line has room for)
 
 
+class Fault(Exception):
+    """A rule that a well-formed line breaks, by a name that no table has or by a directory of another file system; of a site, the
+    first of them in the words in which it is printed."""
+
+
+def known(table, name, rule):
+    if name not in table:
+        raise Fault(rule)
+    return table[name]
+
+
 def path_of(text):
     return tuple(part for part in text.split("/") if part)
 
@@ -55,11 +66,11 @@ class Tables:
         user, colon, rest = text.partition(":")
         groups = [name for name in rest.split(":") if name] if colon else []
         if colon or not user.isdigit():
-            uid, gid = (int(user), None) if user.isdigit() else self.users[user]
+            uid, gid = (int(user), None) if user.isdigit() else known(self.users, user, "17 UnknownUser")
         else:
-            user = next(name for name, (uid, _) in self.users.items() if uid == int(user))
-            uid, gid = self.users[user]
-        gids = [int(name) if name.isdigit() else self.groups[name][0] for name in groups]
+            user = next((name for name, (uid, _) in self.users.items() if uid == int(user)), None)
+            uid, gid = known(self.users, user, "17 UnknownUser")
+        gids = [int(name) if name.isdigit() else known(self.groups, name, "18 UnknownGroup")[0] for name in groups]
         if not colon:
             mine = [number for number, names in self.groups.values() if user in names]
             gids = list(dict.fromkeys([gid, *mine]))
@@ -70,11 +81,12 @@ class Tables:
         if ":" in text:
             return "ipv6", text
         first, slash, prefix = text.partition("/")
-        number = padded(first if first[0].isdigit() else self.networks[first])
+        number = padded(first if first[0].isdigit() else known(self.networks, first, "9 BadAddress"))
         if slash:
             return "network", number, int(prefix)
         if mask:
-            return "network", number, bin(padded(mask if mask[0].isdigit() else self.networks[mask])).count("1")
+            mask = mask if mask[0].isdigit() else known(self.networks, mask, "10 BadMask")
+            return "network", number, bin(padded(mask)).count("1")
         return "network", number, 8 if number < 2**31 else 16 if number < 3 * 2**30 else 24
 
 
@@ -82,7 +94,7 @@ def padded(text):
     return number_of(".".join((text.split(".") + ["0", "0", "0"])[:4]))
 
 
-def read_line(line, tables):
+def read_line(line, tables, is_at_home=lambda path: True):
     """An exports line, or None for a V4: line."""
     words = [(value, place.slice.startswith("-")) for value, place in lines.words_of(line)]
     if words[0][0].startswith("V4:"):
@@ -92,6 +104,8 @@ def read_line(line, tables):
         word, is_dashed = words.pop(0)
         if word.startswith("/"):
             directories.append(path_of(word))
+            if not is_at_home(directories[-1]):
+                raise Fault("4 DirectoryElsewhere")
         elif is_dashed:
             *pieces, last = word[1:].split(",")
             if last in VALUED:
@@ -131,15 +145,23 @@ def empty_site(mounts, tables):
 
 
 def read_site(texts):
-    """The site of these texts, those of exports files under `exports:` and their mount points."""
+    """The site of these texts, those of exports files under `exports:` and their mount points; or a fault is raised."""
     tables = Tables(texts)
     mounts = [path_of(line.split()[0]) for _, line in logical_lines(texts["filesystems"])]
     site = empty_site(mounts, tables)
     for mount in site.mounts:
         for line in lines.logical_lines(texts.get(f"exports:{printed(mount)}", "")):
-            entry = read_line(line, tables)
-            site.lines[mount] += [entry] if entry else []
+            site.lines[mount] += entries_of(site.mounts, mount, line, tables)
     return site
+
+
+def entries_of(mounts, mount, line, tables):
+    """The entry of a line in the file of a mount point, if it has one."""
+    try:
+        entry = read_line(line, tables, lambda path: fs_of(mounts, path) == mount)
+    except Fault as fault:
+        raise Fault(f"fault exports:{printed(mount)} line {line.number} rule {fault}") from None
+    return [entry] if entry else []
 
 
 def read_whole(text, mounts, texts):

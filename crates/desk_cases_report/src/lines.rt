@@ -1,12 +1,16 @@
 //! Questions on the lines of a file system.
 
+ghost use Rattle.std.specs.Prelude.{map};
+ghost use Rattle.desk_deciding.specs.Deciding.{AreInLineOrder, AreSectionsOf, deciding_value};
+ghost use Rattle.desk_impact.specs.Sections.{section_value};
 ghost use Rattle.desk_report.specs.Grants.{AreGrants};
 ghost use Rattle.desk_report.specs.Laws.{IsSound};
 
 use crate::classes::add_bar;
 use desk_cases_texts::answers::Asked;
+use desk_deciding::{Deciding, deciding_lines};
 use desk_policy::Policy;
-use desk_report::{Level, LineGrants, LineReasons, Reason, reasons_of_lines};
+use desk_report::{FileSystemReport, Level, LineGrants, LineReasons, Reason, reasons_of_lines};
 use desk_tables::FsId;
 use std::alloc::{AllocError, Global};
 
@@ -18,6 +22,46 @@ pub fn grants(out: &mut String, grants: &[LineGrants]) -> Asked {
         write!(out, "line {line} {count}")?;
     }
     Ok(true)
+}
+
+/// `deciding FS`: each line of the file system that matches somebody and never decides, with the lines that decide for its clients, and
+/// `|` between lines: `line 3: 1 2|line 5: 4`.
+pub fn deciding(
+    alloc: Global,
+    policy: &Policy,
+    fs: FsId,
+    system: &FileSystemReport<'_>,
+    out: &mut String,
+) -> Asked
+    requires sound { IsSound policy.now fs.0 }
+    requires grants { AreGrants policy.now fs.0 system.now.grants }
+    requires sections { AreSectionsOf policy.now fs.0 (map section_value system.now.sections) }
+{
+    let reasons = reasons_of_lines(alloc, policy, fs, system.grants.as_slice())?;
+    let sections = system.sections.as_slice();
+    let found = deciding_lines(alloc, policy, fs, sections, reasons.as_slice())?;
+    say_deciding(out, &found)
+}
+
+/// Answers with the lines that never decide, and those that do.
+fn say_deciding(out: &mut String, found: &Deciding) -> Asked
+    requires { AreInLineOrder (deciding_value found.now) }
+{
+    for (place, one) in found.lines.as_slice().iter().enumerate() {
+        add_bar(out, place)?;
+        let line = one.line;
+        write!(out, "line {line}:")?;
+        add_lines(out, found.of_line(line))?;
+    }
+    Ok(true)
+}
+
+/// Adds the numbers of lines.
+fn add_lines(out: &mut String, lines: &[u32]) -> Result<(), AllocError> {
+    for line in lines {
+        write!(out, " {line}")?;
+    }
+    Ok(())
 }
 
 /// `stands_out FS`: each line of the file system, with the reasons for which it stands out, each with its level, or `nothing`, and `|`

@@ -2,6 +2,7 @@
 //! consistent. It is compiled anew for each question, into both views; if the index tells something else, both are told (`add_by_keys`).
 
 ghost use Rattle.std.specs.Prelude.{◌≡◌, [], map};
+ghost use Rattle.desk_deciding.specs.Deciding.{AreSectionsOf};
 ghost use Rattle.desk_impact.specs.Sections.{section_value};
 ghost use Rattle.desk_policy.specs.Site.{HaveReadableLengths, texts_of};
 ghost use Rattle.desk_report.specs.Classes.{class_run};
@@ -48,9 +49,14 @@ fn of_texts(
         return Ok(false);
     }
     match question {
-        "classes" | "counts" | "grants" | "places" | "table" | "place_classes" | "stands_out" => {
-            by_both(alloc, texts, out, question, text)
-        }
+        "classes"
+        | "counts"
+        | "grants"
+        | "places"
+        | "table"
+        | "place_classes"
+        | "stands_out"
+        | "deciding" => { by_both(alloc, texts, out, question, text) }
         _ => Ok(false),
     }
 }
@@ -184,11 +190,13 @@ fn of_system(
     requires grants { AreGrants policy.now fs.0 system.grants }
     requires classes { AreRunsOfSome (map class_run system.classes) }
     requires told { TellVerdicts (map section_value system.sections) }
+    requires sections { AreSectionsOf policy.now fs.0 (map section_value system.sections) }
 {
     match question {
         "classes" => classes::say(out, system.classes.as_slice()),
         "counts" => classes::counts(out, system.classes.as_slice(), text),
         "grants" => lines::grants(out, system.grants.as_slice()),
+        "deciding" => lines::deciding(alloc, policy, fs, &system, out),
         "stands_out" => lines::stands_out(alloc, policy, fs, system.grants.as_slice(), out),
         "places" => places::groups(alloc, out, system.sections.into_vec()),
         "table" => places::table(alloc, policy, out, system.sections.into_vec(), text),

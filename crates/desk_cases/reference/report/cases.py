@@ -5,7 +5,7 @@ something, which places are granted alike, the verdicts at a place, and why each
 from reference.definitions import dotted, number_of, printed
 from reference.report import data
 
-QUESTIONS = ["classes", "counts", "grants", "places", "table", "place_classes", "stands_out"]
+QUESTIONS = ["classes", "counts", "grants", "places", "table", "place_classes", "stands_out", "deciding"]
 CLASSES = ["denied", "read-only", "read-write", "root kept"]
 # So many verdicts that deny have rows of their own.
 MOST_DENIALS = 5
@@ -34,12 +34,15 @@ def answer(question, site, text):
         return "|".join(f"line {line} {data.size_of(ranges)}" for line, ranges in system.grants.items())
     if question == "places":
         return "|".join(" ".join(place_text(system, place) for place in group) for group in system.groups())
+    if question == "deciding":
+        lines = [line for line in system.lines if "never decides" in [words for _, words in data.words_of(system, line)]]
+        return "|".join(f"line {line.number}: {' '.join(map(str, system.deciding(line)))}" for line in lines)
     if question == "stands_out":
         return "|".join(f"line {line.number} {reasons_text(system, line)}" for line in system.lines)
     place = next(place for place in system.places if place_text(system, place) == behind)
     if question == "table":
         group = next(group for group in system.groups() if place in group)
-        return table_text([system.who[one] for one in group])
+        return table_text(system.who[group[0]])
     return classes_text(data.classes_of(system.who[place]))
 
 
@@ -61,16 +64,16 @@ def classes_text(classes):
     return "|".join(f"{range_text(first, last)} {CLASSES[value]}" for first, last, value in classes)
 
 
-def table_text(who):
-    """The table of places that are granted alike, given the verdicts at each: a row for each verdict at the first of them, those that
-    grant by their lines, then those that deny by the lines that they name, then the others. All that deny are one row if the places
-    differ in them, or if they are more than five."""
-    verdicts, found, sizes = who[0], {}, {}
+def table_text(verdicts):
+    """The table of places that are granted alike, given the verdicts at the first of them, which are those at each: a row for each
+    verdict, those that grant by their lines, then those that deny by the lines that they name, then the others. All that deny are one
+    row if they are more than five."""
+    found, sizes = {}, {}
     for first, last, verdict in verdicts:
         found.setdefault(verdict, []).append(range_text(first, last))
         sizes[verdict] = sizes.get(verdict, 0) + last - first + 1
     denied = [verdict for verdict in found if not verdict.startswith("granted")]
-    are_joined = len(denied) > MOST_DENIALS or any(other != verdicts for other in who)
+    are_joined = len(denied) > MOST_DENIALS
     shown = [verdict for verdict in found if not (are_joined and verdict in denied)]
     rows = [f"{verdict} for {' '.join(found[verdict])}" for verdict in sorted(shown, key=place_of_verdict)]
     if are_joined and denied:

@@ -21,3 +21,12 @@ pub of_system-requires-clause-told : goal.of_system-requires-clause-told
 of_system-requires-clause-told c =
     let within : c.args.fs < length c.args.systems.items = omega (arith, c.if-len-place.false) in
     told c.args.policy.now c.args.systems.items c.requires.systems c.args.fs c.swap_remove-system.result within c.swap_remove-system.ensures.value c.orders_tell_verdicts.ensures c.requires.sound
+
+pub of_system-requires-clause-sections : goal.of_system-requires-clause-sections
+of_system-requires-clause-sections c =
+    let within : c.args.fs < length c.args.systems.items = omega (arith, c.if-len-place.false) in
+    record {
+      all = c.requires.systems.all;
+      are_all = c.requires.systems.are_all;
+      are = (found c.args.policy.now c.args.systems.items c.requires.systems c.args.fs c.swap_remove-system.result within c.swap_remove-system.ensures.value).sections;
+    }

@@ -1,0 +1,10 @@
+pub mod Containing
+pub mod Gathered
+pub mod Sets
+pub mod Searched
+pub mod Places
+pub mod Named
+pub mod Matched
+pub mod Told
+pub mod Kept
+pub mod Ordered

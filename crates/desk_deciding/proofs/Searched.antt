@@ -1,0 +1,132 @@
+-- The ranges that have one of some addresses, by two binary searches.
+use Rattle.std.proofs.Common.{◌≡◌, ℕ, zero, suc, ◌<◌, ◌≤◌, ◌&&◌, ◌∙◌, Bool, true, false, cond, List, [], ◌∷◌, ap, arith, drop, get_or, inl, inr, length, map, refl, subst, sym, take}
+use Rattle.std.specs.Prelude.{filter, nat_le, nat_lt, not}
+use Rattle.std.specs.List.Sorted.{IsNonDecreasingBy, IsPartitionPoint, IsPartitionedBy}
+use Rattle.std.proofs.lemmas.Bool.{cases_lt, cases_order, le-leb, le-ltb, lt-leb, lt-ltb}
+use Rattle.std.proofs.lemmas.List.{get_or-map, get_or-take, length-map, length-take}
+use Rattle.std.proofs.lemmas.List.Elements.{filter_agree}
+use Rattle.std.proofs.lemmas.List.Sorted.{IsPartitionedBy-leb, IsPartitionedBy-ltb}
+use Rattle.desk_text.specs.Address.{number_of}
+use Rattle.desk_policy.specs.declared.verdict.Verdict.{Verdict}
+use Rattle.desk_who.specs.Runs.{Run as Value}
+use Rattle.desk_who.specs.Who.{range_value}
+use Rattle.desk_who.specs.declared.runs.Run.{Run}
+use Rattle.desk_impact.specs.Sections.{section_value}
+use Rattle.desk_impact.specs.declared.sections.Section.{Section}
+use Rattle.desk_deciding.specs.PrivateDeciding.{AllInOrder, AreInOrder, meets}
+
+-- the ranges of one of the places
+pub in_order : (sections : List Section) → AllInOrder (map section_value sections) → (i : ℕ) (section : Section) → i < length sections → section ≡ get_or sections i section
+    → AreInOrder (map range_value section.ranges)
+in_order sections all i section within is =
+    let few = length-map sections section_value in
+    subst (λ one. AreInOrder one.ranges) (get_or-map section_value sections i section (section_value section) within ∙ ap section_value (sym is)) (all i (section_value section) (omega arith))
+
+module _ {X : Type 0} (p : X → Bool) where
+  -- where those that pass come first
+  first_pass : (xs : List X) (k : ℕ) → IsPartitionPoint (λ y. p y ≡ true) (λ y. p y ≡ false) xs k → k ≤ length xs → filter p xs ≡ take k xs
+  first_pass [] zero point le = refl
+  first_pass [] (suc k) point le = absurd (omega arith)
+  first_pass (x ∷ xs) zero point le =
+      let fails : p x ≡ false = point.1 0 x (omega arith) (omega arith) in
+      ap (λ b. cond b (x ∷ filter p xs) (filter p xs)) fails
+      ∙ first_pass xs zero (λ i d low high. absurd (omega arith), λ i d low high. point.1 (suc i) d (omega arith) (omega arith)) (omega arith)
+  first_pass (x ∷ xs) (suc k) point le =
+      let passes : p x ≡ true = point.0 0 x (omega arith) (omega arith) in
+      ap (λ b. cond b (x ∷ filter p xs) (filter p xs)) passes
+      ∙ ap (λ ys. x ∷ ys) (first_pass xs k (λ i d low high. point.0 (suc i) d (omega arith) (omega arith), λ i d low high. point.1 (suc i) d (omega arith) (omega arith)) (omega arith))
+
+  -- where they come last
+  last_pass : (xs : List X) (k : ℕ) → IsPartitionPoint (λ y. p y ≡ false) (λ y. p y ≡ true) xs k → k ≤ length xs → filter p xs ≡ drop k xs
+  last_pass [] zero point le = refl
+  last_pass [] (suc k) point le = absurd (omega arith)
+  last_pass (x ∷ xs) zero point le =
+      let passes : p x ≡ true = point.1 0 x (omega arith) (omega arith) in
+      ap (λ b. cond b (x ∷ filter p xs) (filter p xs)) passes
+      ∙ ap (λ ys. x ∷ ys) (last_pass xs zero (λ i d low high. absurd (omega arith), λ i d low high. point.1 (suc i) d (omega arith) (omega arith)) (omega arith))
+  last_pass (x ∷ xs) (suc k) point le =
+      let fails : p x ≡ false = point.0 0 x (omega arith) (omega arith) in
+      ap (λ b. cond b (x ∷ filter p xs) (filter p xs)) fails
+      ∙ last_pass xs k (λ i d low high. point.0 (suc i) d (omega arith) (omega arith), λ i d low high. point.1 (suc i) d (omega arith) (omega arith)) (omega arith)
+
+-- what passes two tests passes one of what passes the other
+filter_both : {X : Type 0} (p q : X → Bool) (xs : List X) → filter (λ x. p x && q x) xs ≡ filter p (filter q xs)
+filter_both p q [] = refl
+filter_both p q (x ∷ xs) = by (p x) (q x) refl (filter_both p q xs)
+  where
+    by : (a b : Bool) → p x ≡ a → filter (λ y. p y && q y) xs ≡ filter p (filter q xs)
+        → cond (a && b) (x ∷ filter (λ y. p y && q y) xs) (filter (λ y. p y && q y) xs) ≡ filter p (cond b (x ∷ filter q xs) (filter q xs))
+    by true true e rest = ap (λ ys. x ∷ ys) rest ∙ sym (ap (λ b. cond b (x ∷ filter p (filter q xs)) (filter p (filter q xs))) e)
+    by true false e rest = rest
+    by false true e rest = rest ∙ sym (ap (λ b. cond b (x ∷ filter p (filter q xs)) (filter p (filter q xs))) e)
+    by false false e rest = rest
+
+map_filter : {X Y : Type 0} (f : X → Y) (test : Y → Bool) (xs : List X) → map f (filter (λ x. test (f x)) xs) ≡ filter test (map f xs)
+map_filter f test [] = refl
+map_filter f test (x ∷ xs) = by (test (f x)) (map_filter f test xs)
+  where
+    by : (b : Bool) → map f (filter (λ y. test (f y)) xs) ≡ filter test (map f xs) → map f (cond b (x ∷ filter (λ y. test (f y)) xs) (filter (λ y. test (f y)) xs)) ≡ cond b (f x ∷ filter test (map f xs)) (filter test (map f xs))
+    by true rest = ap (λ ys. f x ∷ ys) rest
+    by false rest = rest
+
+not_below : (a b : ℕ) → nat_le a b ≡ not (nat_lt b a)
+not_below a b =
+    elim (cases_lt b a) as (λ _. nat_le a b ≡ not (nat_lt b a)) [
+      | inl less ↦ lt-leb a b less ∙ sym (ap not (lt-ltb b a less))
+      | inr le ↦ le-leb a b le ∙ sym (ap not (le-ltb b a le))
+    ]
+
+abbrev pub begins_by : ℕ → Run Verdict → Bool
+begins_by last range = nat_le (number_of range.first) last
+
+abbrev pub ends_before : ℕ → Run Verdict → Bool
+ends_before first range = nat_lt (number_of range.last) first
+
+module _ (ranges : List (Run Verdict)) (order : AreInOrder (map range_value ranges)) where
+  proper : (i : ℕ) (d : Run Verdict) → i < length ranges → number_of (get_or ranges i d).first ≤ number_of (get_or ranges i d).last
+  proper i d within =
+      let few = length-map ranges range_value in
+      subst (λ (one : Value _). one.first ≤ one.last) (get_or-map range_value ranges i d (range_value d) within) (order.proper i (range_value d) (omega arith))
+
+  apart : (i j : ℕ) (d : Run Verdict) → i < j → j < length ranges → number_of (get_or ranges i d).last < number_of (get_or ranges j d).first
+  apart i j d less within =
+      let few = length-map ranges range_value in
+      let is = order.apart i j (range_value d) less (omega arith) in
+      let left = ap (λ (one : Value _). one.last) (get_or-map range_value ranges i d (range_value d) (omega arith)) in
+      let right = ap (λ (one : Value _). one.first) (get_or-map range_value ranges j d (range_value d) within) in
+      omega arith
+
+  firsts_rise : IsNonDecreasingBy (λ (range : Run Verdict). number_of range.first) ranges
+  firsts_rise i j d le within =
+      elim (cases_order i j) as (λ _. number_of (get_or ranges i d).first ≤ number_of (get_or ranges j d).first) [
+        | inl same ↦ omega (arith, ap (λ n. number_of (get_or ranges n d).first) same)
+        | inr (inl less) ↦ (let own = proper i d (omega arith) in let between = apart i j d less within in omega arith)
+        | inr (inr more) ↦ absurd (omega arith)
+      ]
+
+  lasts_rise : (end : ℕ) → IsNonDecreasingBy (λ (range : Run Verdict). number_of range.last) (take end ranges)
+  lasts_rise end i j d le within =
+      let few = length-take end ranges in
+      let left = ap (λ (range : Run Verdict). number_of range.last) (get_or-take end ranges i d (omega arith)) in
+      let right = ap (λ (range : Run Verdict). number_of range.last) (get_or-take end ranges j d (omega arith)) in
+      elim (cases_order i j) as (λ _. number_of (get_or (take end ranges) i d).last ≤ number_of (get_or (take end ranges) j d).last) [
+        | inl same ↦ omega (arith, ap (λ n. number_of (get_or (take end ranges) n d).last) same)
+        | inr (inl less) ↦ (let own = proper j d (omega arith) in let between = apart i j d less (omega arith) in omega arith)
+        | inr (inr more) ↦ absurd (omega arith)
+      ]
+
+  pub begins_parted : (last : ℕ) → IsPartitionedBy (begins_by last) ranges
+  begins_parted last = IsPartitionedBy-leb (λ (range : Run Verdict). number_of range.first) ranges last firsts_rise
+
+  pub ends_parted : (first end : ℕ) → IsPartitionedBy (ends_before first) (take end ranges)
+  ends_parted first end = IsPartitionedBy-ltb (λ (range : Run Verdict). number_of range.last) (take end ranges) first (lasts_rise end)
+
+  -- the part between two binary searches
+  pub met_is : (first last end begin : ℕ) → end ≤ length ranges → begin ≤ length (take end ranges) → IsPartitionPoint (λ r. begins_by last r ≡ true) (λ r. begins_by last r ≡ false) ranges end
+      → IsPartitionPoint (λ r. ends_before first r ≡ true) (λ r. ends_before first r ≡ false) (take end ranges) begin → map range_value (drop begin (take end ranges)) ≡ filter (meets first last) (map range_value ranges)
+  met_is first last end begin le le' upper lower =
+      ap (map range_value) (sym (last_pass (λ r. not (ends_before first r)) (take end ranges) begin (λ i d low high. ap not (lower.0 i d low high), λ i d low high. ap not (lower.1 i d low high)) le')
+      ∙ ap (filter (λ r. not (ends_before first r))) (sym (first_pass (begins_by last) ranges end upper le))
+      ∙ sym (filter_both (λ r. not (ends_before first r)) (begins_by last) ranges)
+      ∙ sym (filter_agree (λ r. meets first last (range_value r)) (λ r. not (ends_before first r) && begins_by last r) (λ r. ap (λ b. b && begins_by last r) (not_below first (number_of r.last))) ranges))
+      ∙ map_filter range_value (meets first last) ranges
