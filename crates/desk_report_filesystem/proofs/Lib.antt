@@ -1,0 +1,4 @@
+mod Between
+mod Each
+mod Noted
+mod Standing

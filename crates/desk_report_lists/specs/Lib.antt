@@ -1,0 +1,16 @@
+pub mod Amounts
+pub mod Digests
+pub mod Files
+pub mod Hosts
+pub mod Listing
+pub mod Netgroups
+pub mod PrivateFiles
+pub mod PrivateHosts
+pub mod PrivateListing
+pub mod PrivateNetgroups
+pub mod PrivateUses
+pub mod Ranges
+pub mod State
+pub mod Uses
+pub mod Warnings
+pub mod Written

@@ -1,0 +1,37 @@
+//! The rows of the lists of the page of a report: what the desk warns of, netgroups, names of hosts, and files; and the state.
+//!
+//! Its promise: each list has just the rows that its definition says, of the policy in force, of its tables and of the files of a
+//! database, in their order, and is added as desk_page_lists says. The digest of the state is that of a line for each newest revision
+//! and each proposal.
+//!
+//! ```text
+//! let index = index_of_names(alloc, policy)?;       // if the policy has at most 256 file systems
+//! push_netgroups_of(alloc, policy, tables, index.as_slice(), &mut page)?;
+//! push_hosts_of(alloc, policy, tables, index.as_slice(), &mut page)?;
+//! push_files_of(alloc, policy.filesystems(), heads, proposals, &mut page)?;
+//! ```
+#![tactic(auto)]
+
+pub mod amounts;
+pub mod digests;
+pub mod files;
+pub mod hosts;
+pub mod laws;
+pub mod listing;
+pub mod netgroups;
+mod ranges;
+pub mod state;
+mod uses;
+pub mod warnings;
+pub mod written;
+
+pub use amounts::revisions_and_files;
+pub use digests::text_digest;
+pub use files::push_files_of;
+pub use hosts::push_hosts_of;
+pub use laws::ranges_are_longest;
+pub use listing::{HeldFile, held_files};
+pub use netgroups::push_netgroups_of;
+pub use state::state_digest;
+pub use warnings::push_warnings_of;
+pub use written::{WrittenName, index_of_names};

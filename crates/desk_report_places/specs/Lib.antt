@@ -1,0 +1,8 @@
+pub mod Changes
+pub mod Directories
+pub mod Groups
+pub mod Laws
+pub mod Maps
+pub mod PrivateChanges
+pub mod PrivateImpacts
+pub mod PrivateWriters

@@ -1,0 +1,99 @@
+//! The groups of directories of a file system, as parts for the page.
+
+ghost use Rattle.std.specs.Prelude.{◌≡◌, All, IfOk, map};
+ghost use Rattle.desk_impact.specs.Sections.{section_value};
+ghost use Rattle.desk_page_places.specs.Groups.{HasToldSizes};
+ghost use Rattle.desk_report.specs.Groups.{group_value};
+ghost use Rattle.desk_report.specs.Laws.{TellVerdicts};
+ghost use Rattle.desk_report.specs.Tables.{CanBeTabled};
+ghost use Rattle.desk_report_places.specs.Groups.{AreListed, AreListedGroups, IsPart, listed_value, part_value};
+
+use crate::left::{count_directories, has_others, places_left};
+use crate::maps::{are_drawn, maps_of_group};
+use desk_impact::Section;
+use desk_page_places::{GroupPart, tables_have_sizes};
+use desk_report::{Group, groups_can_be_tabled, groups_of, table_of};
+use desk_text::Sequence;
+use std::alloc::{AllocError, Global};
+
+/// How many groups are listed.
+pub(crate) const MOST_LISTED: usize = 100;
+
+/// The places of a file system in groups of those that are granted alike, as they are listed.
+#[derive(Drop)]
+pub struct ListedGroups<'a> {
+    /// The first groups, each with its table and its maps.
+    pub groups: Sequence<GroupPart<'a>>,
+    /// How many groups there are.
+    pub count: u64,
+    /// How many directories are in the groups that are not listed, and whether the other directories are in one of them.
+    pub unlisted: u64,
+    pub has_unlisted_others: bool,
+}
+
+/// Lists the places of a file system, with all verdicts at each, in groups of those that are granted alike: the first hundred, in the
+/// order of the first place of each. Of the other groups the directories are counted.
+pub fn listed_groups<'a>(
+    alloc: Global,
+    sections: Vec<Section<'a>>,
+) -> Result<ListedGroups<'a>, AllocError>
+    requires { TellVerdicts (map section_value sections.items) }
+    ensures groups { IfOk result (λ listed. AreListedGroups (map section_value sections.entry.items) (listed_value listed)) }
+    ensures sizes { IfOk result (λ listed. All HasToldSizes listed.groups) }
+{
+    groups_can_be_tabled();
+    let groups = groups_of(alloc, sections)?;
+    list_groups(alloc, groups)
+}
+
+/// Lists the first of these groups, and counts what is left out.
+fn list_groups<'a>(
+    alloc: Global,
+    mut groups: Vec<Group<'a>>,
+) -> Result<ListedGroups<'a>, AllocError>
+    requires { All CanBeTabled (map group_value groups.items) }
+    ensures groups { IfOk result (λ listed. AreListed (map group_value groups.entry.items) (listed_value listed)) }
+    ensures sizes { IfOk result (λ listed. All HasToldSizes listed.groups) }
+{
+    let count = groups.len();
+    let left = places_left(alloc, groups.as_slice())?;
+    groups.truncate(MOST_LISTED);
+    let parts = parts_of(alloc, are_drawn(count), groups)?;
+    Ok(ListedGroups {
+        groups: Sequence::from_vec(parts),
+        count: count as u64,
+        unlisted: count_directories(left.as_slice()) as u64,
+        has_unlisted_others: has_others(left.as_slice()),
+    })
+}
+
+/// Makes the part of each group, given whether groups have maps.
+fn parts_of<'a>(
+    alloc: Global,
+    drawn: bool,
+    groups: Vec<Group<'a>>,
+) -> Result<Vec<GroupPart<'a>>, AllocError>
+    requires { All CanBeTabled (map group_value groups.items) }
+    ensures groups { IfOk result (λ parts. map (λ part. group_value part.group) parts.items ≡ map group_value groups.entry.items) }
+    ensures parts { IfOk result (λ parts. All (λ part. IsPart drawn (part_value part)) parts.items) }
+    ensures sizes { IfOk result (λ parts. All HasToldSizes parts.items) }
+{
+    let mut parts = Vec::new(alloc);
+    for group in groups {
+        parts.push(part_of(alloc, drawn, group)?)?;
+    }
+    Ok(parts)
+}
+
+/// Makes the part of a group: its table, and its maps.
+fn part_of<'a>(alloc: Global, drawn: bool, group: Group<'a>) -> Result<GroupPart<'a>, AllocError>
+    requires { CanBeTabled (group_value group) }
+    ensures group { IfOk result (λ part. group_value part.group ≡ group_value group.entry) }
+    ensures part { IfOk result (λ part. IsPart drawn (part_value part)) }
+    ensures sizes { IfOk result HasToldSizes }
+{
+    tables_have_sizes();
+    let table = table_of(alloc, &group)?;
+    let maps = maps_of_group(alloc, drawn, group.sections.as_slice())?;
+    Ok(GroupPart { group, table, maps })
+}

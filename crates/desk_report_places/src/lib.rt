@@ -1,0 +1,27 @@
+//! What the part of the report page on one file system tells of places: the groups of its directories, and what a proposal would change
+//! at them; as parts for the page, given the data.
+//!
+//! Its promise: [`listed_groups`] puts the places of a file system into groups of those that are granted alike, each with its table and
+//! its maps; the first hundred are listed, and of the others the directories are counted. [`changes_of`] lists what lines that are proposed
+//! for a file system would change for its clients, at each of its places, and counts what would change of lines or reasons alone.
+//!
+//! ```text
+//! let listed = listed_groups(alloc, system.sections.into_vec())?;
+//! push_groups(alloc, fs, listed.groups.as_slice(), &mut page)?;
+//! changes_of(alloc, view, &proposed, fs)?.silent      // 2
+//! ```
+#![tactic(auto)]
+
+pub mod changes;
+mod directories;
+pub mod groups;
+mod impacts;
+pub mod laws;
+mod left;
+mod maps;
+mod unwritten;
+mod writers;
+
+pub use changes::{Changes, changes_of};
+pub use groups::{ListedGroups, listed_groups};
+pub use laws::{changes_are_of_whole, listed_add_up};
