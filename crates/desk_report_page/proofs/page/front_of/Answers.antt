@@ -1,0 +1,25 @@
+use Rattle.std.proofs.Common.{IfOk, map, subst, sym}
+use Rattle.std.specs.String.{string_bytes}
+use Rattle.desk_overview.specs.Lines.{line_value}
+use Rattle.desk_report.specs.Laws.{IsSoundSite}
+use Rattle.desk_report.specs.Systems.{system_value}
+use Rattle.desk_report_page.specs.Found.{IsFound}
+use Rattle.desk_report_page.specs.Page.{IsFront}
+use Rattle.desk_report_page.specs.PrivatePage.{found_by}
+use Rattle.desk_report_page.proofs.page.front_of.Goals as goal
+
+pub front_by-requires : goal.front_by-requires
+front_by-requires g c =
+    let found = found_by (map system_value c.args.systems.now) c.args.found.now (map line_value c.args.lines.now) in
+    record {
+      sound = subst IsSoundSite (sym c.policy.ensures) c.requires.sound;
+      found = subst (λ content. IsFound content found) (sym c.policy.ensures) c.requires.found;
+      order = c.requires.order;
+    }
+
+pub returns : goal.returns
+returns g c =
+    let site = c.args.site.now in
+    let found = found_by (map system_value c.args.systems.now) c.args.found.now (map line_value c.args.lines.now) in
+    subst (λ content. IfOk c.front_by.result (λ page. IsFront content site.heads.now site.proposals.now found c.args.database.now (string_bytes page)))
+    c.policy.ensures c.front_by.ensures

@@ -1,0 +1,19 @@
+use Rattle.std.proofs.Common.{subst}
+use Rattle.desk_core.specs.Head.{newest_in}
+use Rattle.desk_core.specs.Site.{site_in}
+use Rattle.desk_report.specs.Laws.{IsSoundIfRead}
+use Rattle.desk_report_page.proofs.Sites.{is_root, sound}
+use Rattle.desk_report_page.proofs.page.report_page.Goals as goal
+
+pub page_from-requires-clause-given : goal.page_from-requires-clause-given
+page_from-requires-clause-given g c =
+    let law = subst IsSoundIfRead c.policy.ensures c.sites_are_sound.ensures in
+    record {
+      kept = c.requires.kept;
+      readable = c.requires.readable;
+      is = c.requires.source;
+      sound = sound (site_in (newest_in c.args.site.heads.now)) _ law c.requires.source.in_force;
+    }
+
+pub page_from-requires-clause-root : goal.page_from-requires-clause-root
+page_from-requires-clause-root g c = is_root c.in-Ok.root c.in-Ok.ensures

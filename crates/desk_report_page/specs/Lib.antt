@@ -1,0 +1,9 @@
+pub mod Pieces
+pub mod Waiting
+pub mod Found
+pub mod Each
+pub mod Page
+pub mod Given
+pub mod PrivateEach
+pub mod PrivatePage
+pub mod PrivateSections
