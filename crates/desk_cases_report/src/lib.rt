@@ -5,6 +5,7 @@ mod cases;
 mod classes;
 mod lines;
 mod places;
+mod pages;
 mod questions;
 mod report;
 
