@@ -4,6 +4,7 @@
 mod cases;
 mod classes;
 mod lines;
+mod pages;
 mod places;
 mod questions;
 mod report;

@@ -11,7 +11,7 @@ ghost use Rattle.desk_report.specs.Laws.{IsSound, IsSoundSite, TellVerdicts};
 ghost use Rattle.desk_report.specs.Systems.{AreSystems, system_value};
 ghost use Rattle.desk_report.specs.Values.{AreRunsOfSome};
 
-use crate::{classes, lines, places};
+use crate::{classes, lines, pages, places};
 use desk_cases_texts::answers::{Asked, number, split};
 use desk_cases_texts::indexes::add_by_keys;
 use desk_cases_texts::site::Site;
@@ -49,6 +49,7 @@ fn of_texts(
         return Ok(false);
     }
     match question {
+        "page" => pages::page(alloc, texts, out, text),
         "classes"
         | "counts"
         | "grants"
