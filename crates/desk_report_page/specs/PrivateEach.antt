@@ -1,7 +1,6 @@
 -- What the part on each file system is made of, by value, and how it is put together.
 use Rattle.std.specs.Prelude.{◌≡◌, ℕ, ◌<◌, All, List, Option, length, map, slice_get}
 use Rattle.std.specs.Option.{option_copied}
-use Rattle.desk_text.specs.Lines.{IsReadable}
 use Rattle.desk_policy.specs.Policy.{Content}
 use Rattle.desk_core.specs.Head.{CanBeKept, newest_in}
 use Rattle.desk_impact.specs.Sections.{PlaceBreaches}
@@ -18,6 +17,7 @@ use Rattle.desk_page_filesystem.specs.declared.parts.ProposalPart.{ProposalPart}
 use Rattle.desk_report_filesystem.specs.Parts.{IsPartOf}
 use Rattle.desk_report_filesystem.specs.declared.parts.FileSystemData.{FileSystemData}
 use Rattle.desk_report_page.specs.Each.{TellingValue, TellsIfAny, head_in}
+use Rattle.desk_report_page.specs.Given.{HasReadableText}
 use Rattle.desk_report_page.specs.Waiting.{IsWaiting, Waiting, waiting_value}
 use Rattle.desk_report_page.specs.declared.each.Telling.{Telling}
 use Rattle.desk_report_page.specs.declared.each.ToldSystem.{ToldSystem}
@@ -31,10 +31,6 @@ telling_value in_force telling = record {
   lines = map line_value telling.lines.now;
   decided = map deciding_value telling.deciding.now;
 }
-
--- the text of a proposal is not too long to be read
-abbrev pub HasReadableText : Waiting → Type 0
-HasReadableText waiting = IsReadable waiting.proposal.body
 
 -- All of it is of one sound site, and its texts are not too long to be read.
 pub record IsOfSite (telling : TellingValue) : Type 0 where

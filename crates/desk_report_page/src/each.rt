@@ -14,8 +14,9 @@ ghost use Rattle.desk_report.specs.Systems.{AreSystems, system_value};
 ghost use Rattle.desk_report.specs.Values.{AreRunsOfSome};
 ghost use Rattle.desk_report_page.specs.Each as spec;
 ghost use Rattle.desk_report_page.specs.Each.{AreTextsFrom, IsSystemText};
+ghost use Rattle.desk_report_page.specs.Given.{HasReadableText};
 ghost use Rattle.desk_report_page.specs.Pieces.{Gains};
-ghost use Rattle.desk_report_page.specs.PrivateEach.{CanBeTold, CanWait, HasReadableText, IsOfSite, IsSystemOf, IsTextFor, IsTextWith, telling_value};
+ghost use Rattle.desk_report_page.specs.PrivateEach.{CanBeTold, CanWait, IsOfSite, IsSystemOf, IsTextFor, IsTextWith, telling_value};
 ghost use Rattle.desk_report_page.specs.Waiting.{waiting_value};
 
 use crate::waiting::{Outcome, Waiting};
