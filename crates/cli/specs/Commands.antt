@@ -14,7 +14,7 @@ use Rattle.cli_output.specs.declared.printed.Printed.{Printed}
 use Rattle.cli_words.specs.Commands.{AskForHelp, command_found, faults_of}
 use Rattle.cli_words.specs.LineWords.{IsBadWord, words_of}
 use Rattle.cli_words.specs.declared.commands.Subcommand.{Subcommand}
-use Rattle.cli_words.specs.declared.commands.Subcommand.TheVariants.{Ask, Audit, Cat, Check, Clients, Compare, Exports, Files, Impact, Init, Log, Proposal, Put, Serve, Show, Split, Test, Try, Who, Write}
+use Rattle.cli_words.specs.declared.commands.Subcommand.TheVariants.{Ask, Audit, Cat, Check, Clients, Compare, Exports, Files, Impact, Init, Log, Proposal, Put, Report, Serve, Show, Split, Test, Try, Who, Write}
 use Rattle.cli_files.specs.Input.{first_line}
 use Rattle.cli_texts.specs.CheckCommand.{AnswersCheck}
 use Rattle.cli_texts.specs.ClientsCommand.{AnswersClients}
@@ -24,6 +24,7 @@ use Rattle.cli_texts.specs.TestCommand.{AnswersTest}
 use Rattle.cli_texts.specs.TryCommand.{AnswersTry}
 use Rattle.cli_questions.specs.AuditCommand.{AnswersAudit}
 use Rattle.cli_questions.specs.QuestionCommands.{AnswersAsk, AnswersCat, AnswersExports, AnswersFiles, AnswersImpact, AnswersLog, AnswersProposal, AnswersShow, AnswersWho}
+use Rattle.cli_report.specs.ReportCommand.{AnswersReport}
 use Rattle.cli_edits.specs.InitCommand.{AnswersInit}
 use Rattle.cli_edits.specs.PutCommand.{AnswersPut}
 use Rattle.cli_serve.specs.ServeCommand.{AnswersServe}
@@ -63,6 +64,7 @@ AnswersGiven Log rows known result = AnswersLog rows result
 AnswersGiven Cat rows known result = AnswersCat rows result
 AnswersGiven Proposal rows known result = AnswersProposal rows result
 AnswersGiven Files rows known result = AnswersFiles rows result
+AnswersGiven Report rows known result = AnswersReport rows result
 AnswersGiven Write rows known result = AnswersWrite rows result
 AnswersGiven Serve rows known result = AnswersServe rows result
 

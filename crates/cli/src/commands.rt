@@ -19,6 +19,7 @@ use cli_questions::audit_command::run_audit;
 use cli_questions::question_commands::{
     run_ask, run_cat, run_exports, run_files, run_impact, run_log, run_proposal, run_show, run_who,
 };
+use cli_report::report_command::run_report;
 use cli_serve::serve_command::{Service, run_serve};
 use cli_texts::check_command::run_check;
 use cli_texts::clients_command::run_clients;
@@ -127,6 +128,7 @@ fn run_command<I: BufRead>(
         Subcommand::Cat => run_cat(rt, words),
         Subcommand::Proposal => run_proposal(rt, words),
         Subcommand::Files => run_files(rt, words),
+        Subcommand::Report => run_report(rt, words),
         Subcommand::Write => run_write(rt, words),
         Subcommand::Serve => start_service(rt, words, service),
     }

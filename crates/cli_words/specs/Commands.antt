@@ -10,7 +10,7 @@ use Rattle.cli_words.specs.declared.arguments.Kind.{Kind}
 use Rattle.cli_words.specs.declared.arguments.Kind.TheVariants as kind
 use Rattle.cli_words.specs.declared.commands.CommandRow as code
 use Rattle.cli_words.specs.declared.commands.Subcommand.{Subcommand}
-use Rattle.cli_words.specs.declared.commands.Subcommand.TheVariants.{Ask, Audit, Cat, Check, Clients, Compare, Exports, Files, Impact, Init, Log, Proposal, Put, Serve, Show, Split, Test, Try, Who, Write}
+use Rattle.cli_words.specs.declared.commands.Subcommand.TheVariants.{Ask, Audit, Cat, Check, Clients, Compare, Exports, Files, Impact, Init, Log, Proposal, Put, Report, Serve, Show, Split, Test, Try, Who, Write}
 
 -- a word that is required, and taken as it is
 abbrev pub word : List ℕ → Rule
@@ -76,6 +76,7 @@ commands =
     ∷ row Cat (codes "cat") (word (codes "DB") ∷ word (codes "NAME") ∷ []) false (option (codes "rev") ∷ [])
     ∷ row Proposal (codes "proposal") (word (codes "DB") ∷ word (codes "NAME") ∷ []) false []
     ∷ row Files (codes "files") (word (codes "DB") ∷ []) false []
+    ∷ row Report (codes "report") (word (codes "DB") ∷ []) false []
     ∷ row Write (codes "write") (word (codes "DB") ∷ word (codes "DIR") ∷ []) false []
     ∷ row Serve (codes "serve") (word (codes "DB") ∷ []) false (required_option (codes "port") ∷ required_option (codes "connections") ∷ option (codes "timeout") ∷ [])
     ∷ []

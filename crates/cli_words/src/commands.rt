@@ -30,6 +30,7 @@ pub enum Subcommand {
     Cat,
     Proposal,
     Files,
+    Report,
     Write,
     Serve,
 }
@@ -143,7 +144,7 @@ pub static TABLES: [Argument; 5] = [
 ];
 
 /// The commands, in the order of the help.
-pub static COMMANDS: [CommandRow; 20] = [
+pub static COMMANDS: [CommandRow; 21] = [
     CommandRow {
         command: Subcommand::Try,
         name: "try",
@@ -416,6 +417,13 @@ pub static COMMANDS: [CommandRow; 20] = [
     CommandRow {
         command: Subcommand::Files,
         name: "files",
+        words: &[DB],
+        tables: false,
+        options: &[],
+    },
+    CommandRow {
+        command: Subcommand::Report,
+        name: "report",
         words: &[DB],
         tables: false,
         options: &[],

@@ -182,6 +182,15 @@ pub(crate) fn help_of(command: Subcommand) -> Help {
              its proposal, if one is pending, as `exports:/usr proposed rev 2 ulf`.",
             ),
         },
+        Subcommand::Report => Help {
+            about: "Prints a page in HTML that shows who may mount what",
+            usage: None,
+            end: Some(
+                "The page needs nothing but itself: it has no script, and loads nothing. It shows by the newest texts who may\n\
+             mount which directory, on what terms, by which line and by whose hand, what stands out, and what each\n\
+             proposal would change. It has no date: of the same revisions and proposals it is the same, to the byte.",
+            ),
+        },
         Subcommand::Write => Help {
             about: "Writes the newest texts as the files that init reads",
             usage: None,

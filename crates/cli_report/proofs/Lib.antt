@@ -1,0 +1,2 @@
+pub mod Gained
+pub mod OnCopy

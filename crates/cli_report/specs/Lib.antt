@@ -1,0 +1,3 @@
+pub mod PrivateForeseen
+pub mod PrivateReport
+pub mod ReportCommand
