@@ -1,8 +1,8 @@
 -- The mount points that the files so far name are added.
 use Rattle.std.proofs.Common.{map, take, Bor, List, ℕ}
 use Rattle.desk_core.specs.declared.head.Head.{Head}
-use Rattle.desk_report_lists.specs.PrivateListing.{NamesMore}
-use Rattle.desk_report_lists.proofs.listing.push_revised.Given as goal
+use Rattle.desk_core.specs.PrivateListing.{NamesMore}
+use Rattle.desk_core.proofs.listing.push_revised.Given as goal
 
 abbrev pub invariant-loop-head : goal.invariant-loop-head
 invariant-loop-head l =

@@ -1,7 +1,7 @@
 use Rattle.std.proofs.Common.{map, Bor, List, ℕ}
-use Rattle.desk_report_lists.proofs.NamedMounts.{are_mounts}
-use Rattle.desk_report_lists.proofs.SortedTexts.{all_kept, ascending, only_given}
-use Rattle.desk_report_lists.proofs.listing.mounts_with_exports.Goals as goal
+use Rattle.desk_core.proofs.NamedMounts.{are_mounts}
+use Rattle.desk_core.proofs.SortedTexts.{all_kept, ascending, only_given}
+use Rattle.desk_core.proofs.listing.mounts_with_exports.Goals as goal
 
 pub returns : goal.returns
 returns c =

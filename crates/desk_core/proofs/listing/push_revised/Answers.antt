@@ -2,9 +2,9 @@
 use Rattle.std.proofs.Common.{map, subst, Bor, List, ℕ}
 use Rattle.std.proofs.lemmas.List.{take_all}
 use Rattle.desk_core.specs.declared.head.Head.{Head}
-use Rattle.desk_report_lists.specs.PrivateListing.{GainsNamed, NamesMore}
-use Rattle.desk_report_lists.proofs.NamedMounts.{names_next, names_none}
-use Rattle.desk_report_lists.proofs.listing.push_revised.Goals as goal
+use Rattle.desk_core.specs.PrivateListing.{GainsNamed, NamesMore}
+use Rattle.desk_core.proofs.NamedMounts.{names_next, names_none}
+use Rattle.desk_core.proofs.listing.push_revised.Goals as goal
 
 abbrev texts_in : List (Bor (List ℕ)) → List (List ℕ)
 texts_in mounts = map (λ (mount : Bor (List ℕ)). mount.now) mounts

@@ -1,7 +1,7 @@
 -- What the private contracts of `listing` cite.
 use Rattle.std.specs.Prelude.{◌≡◌, ◌⊎◌, ℕ, ◌++◌, Contains, List, [], ◌∷◌, Option, None, Some}
 use Rattle.desk_policy.specs.SiteFile.{NamesNoMount, exports_file_name}
-use Rattle.desk_report_lists.specs.Listing.{HeldFile}
+use Rattle.desk_core.specs.Listing.{HeldFile}
 
 -- these are the printed mount points that these files name
 pub record AreNamed (files mounts : List (List ℕ)) : Type 0 where

@@ -1,14 +1,15 @@
 //! Which files have a revision or a proposal.
 
 ghost use Rattle.std.specs.Prelude.{◌≡◌, ◌++◌, ◌∷◌, [], IfOk, OnOk, map};
-ghost use Rattle.std.specs.Option.{option_copied, option_map};
+ghost use Rattle.std.specs.Option.{option_map};
 ghost use Rattle.desk_policy.specs.SiteFile.{exports_file_name, file_name};
 ghost use Rattle.desk_core.specs.Head.{newest_in};
 ghost use Rattle.desk_core.specs.Standing.{proposals_in, standing_in};
-ghost use Rattle.desk_report_lists.specs.Listing as spec;
-ghost use Rattle.desk_report_lists.specs.PrivateListing.{AreNamed, GainsNamed, NamesMore, with_file};
+ghost use Rattle.desk_core.specs.Listing as spec;
+ghost use Rattle.desk_core.specs.PrivateListing.{AreNamed, GainsNamed, NamesMore, with_file};
 
-use desk_core::{Head, Proposal};
+use crate::head::{Head, newest_among};
+use crate::proposal::{Proposal, proposal_among};
 use desk_policy::{SiteFile, exports_file_name, mount_of};
 use std::alloc::{AllocError, Global};
 
@@ -48,24 +49,6 @@ pub fn held_files<'a>(
     push_seven(heads, &mut files)?;
     push_exports(alloc, heads, proposals, mounts.as_slice(), &mut files)?;
     Ok(files)
-}
-
-/// Finds the newest revision of a file.
-#[tactic(auto, unfolding(desk_core::specs::Head::newest_in))]
-fn newest_among<'a>(heads: &'a [Head], file: &str) -> Option<&'a Head>
-    ensures { option_copied result ≡ newest_in heads.now file.now }
-{
-    heads.iter().find(|head| head.file.as_str() == file)
-}
-
-/// Finds the proposal of a file.
-#[tactic(auto, unfolding(desk_core::specs::Standing::proposals_in))]
-fn proposal_among<'a>(proposals: &'a [Proposal], file: &str) -> Option<&'a Proposal>
-    ensures { option_copied result ≡ proposals_in proposals.now file.now }
-{
-    proposals
-        .iter()
-        .find(|proposal| proposal.file.as_str() == file)
 }
 
 /// Adds those of the seven files that have a revision.

@@ -1,9 +1,9 @@
 use Rattle.std.proofs.Common.{[], ◌++◌, ◌∙◌, ap, get_or, map, refl, sym, Bor, List, ℕ}
 use Rattle.std.proofs.lemmas.List.{append-nil, take_all}
 use Rattle.desk_core.specs.Standing.{standing_in}
-use Rattle.desk_report_lists.specs.Listing.{exports_file, file_of}
-use Rattle.desk_report_lists.proofs.FileLists.{map_twice, maps_next}
-use Rattle.desk_report_lists.proofs.listing.push_exports.Goals as goal
+use Rattle.desk_core.specs.Listing.{exports_file, file_of}
+use Rattle.desk_core.proofs.FileLists.{map_twice, maps_next}
+use Rattle.desk_core.proofs.listing.push_exports.Goals as goal
 
 pub loop-mount-init : goal.loop-mount-init
 loop-mount-init c = sym (append-nil (map file_of c.args.files.now.items))

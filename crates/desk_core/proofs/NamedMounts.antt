@@ -14,8 +14,8 @@ use Rattle.desk_core.specs.Head.{newest_in}
 use Rattle.desk_core.specs.Standing.{proposals_in, standing_in}
 use Rattle.desk_core.specs.declared.head.Head.{Head}
 use Rattle.desk_core.specs.declared.proposal.Proposal.{Proposal}
-use Rattle.desk_report_lists.specs.Listing.{AreMountsWithExports, IsHeld}
-use Rattle.desk_report_lists.specs.PrivateListing.{AreNamed, GainsNamed, NamesMore}
+use Rattle.desk_core.specs.Listing.{AreMountsWithExports, IsHeld}
+use Rattle.desk_core.specs.PrivateListing.{AreNamed, GainsNamed, NamesMore}
 
 same_mount : (mount other : List ℕ) → exports_file_name mount ≡ exports_file_name other → mount ≡ other
 same_mount mount other e = ap (drop 8) e

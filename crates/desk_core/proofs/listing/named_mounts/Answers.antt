@@ -1,9 +1,9 @@
 -- The revisions and the proposals name them.
 use Rattle.std.proofs.Common.{[], map, subst, sym, Bor, List, ℕ}
-use Rattle.desk_report_lists.specs.PrivateListing.{AreNamed}
+use Rattle.desk_core.specs.PrivateListing.{AreNamed}
 use Rattle.desk_core.specs.declared.head.Head.{Head}
-use Rattle.desk_report_lists.proofs.NamedMounts.{none_named}
-use Rattle.desk_report_lists.proofs.listing.named_mounts.Goals as goal
+use Rattle.desk_core.proofs.NamedMounts.{none_named}
+use Rattle.desk_core.proofs.listing.named_mounts.Goals as goal
 
 abbrev texts_in : List (Bor (List ℕ)) → List (List ℕ)
 texts_in mounts = map (λ (mount : Bor (List ℕ)). mount.now) mounts

@@ -2,8 +2,8 @@
 use Rattle.std.proofs.Common.{◌≡◌, ◌∙◌, ℕ, ◌+◌, ◌<◌, ◌++◌, List, [], ◌∷◌, Option, Some, None, ap, get_or, length, map, refl, sym, take}
 use Rattle.std.specs.List.{cons_option}
 use Rattle.std.proofs.lemmas.List.{append-nil, append_assoc, map-append, take_more}
-use Rattle.desk_report_lists.specs.Listing.{HeldFile}
-use Rattle.desk_report_lists.specs.PrivateListing.{with_file}
+use Rattle.desk_core.specs.Listing.{HeldFile}
+use Rattle.desk_core.specs.PrivateListing.{with_file}
 
 abbrev Files : Type 0
 Files = List HeldFile

@@ -1,7 +1,7 @@
 use Rattle.std.proofs.Common.{map}
-use Rattle.desk_report_lists.specs.Listing.{file_of}
-use Rattle.desk_report_lists.proofs.FileLists.{seven_added}
-use Rattle.desk_report_lists.proofs.listing.push_seven.Goals as goal
+use Rattle.desk_core.specs.Listing.{file_of}
+use Rattle.desk_core.proofs.FileLists.{seven_added}
+use Rattle.desk_core.proofs.listing.push_seven.Goals as goal
 
 pub returns : goal.returns
 returns c =

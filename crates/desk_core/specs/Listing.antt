@@ -9,7 +9,7 @@ use Rattle.desk_core.specs.Head.{Newest, Revision}
 use Rattle.desk_core.specs.Judging.{seven}
 use Rattle.desk_core.specs.Standing.{Standing}
 use Rattle.desk_core.specs.declared.proposal.Proposal.{Proposal}
-use Rattle.desk_report_lists.specs.declared.listing.HeldFile.{HeldFile as LentFile}
+use Rattle.desk_core.specs.declared.listing.HeldFile.{HeldFile as LentFile}
 
 -- a file: its newest revision, and its proposal
 pub record HeldFile : Type 0 where
