@@ -1,5 +1,5 @@
 -- The lines of policies by the directories that they write. (this project's own)
-use Rattle.std.specs.Prelude.{◌≡◌, ℕ, ◌++◌, All, Contains, List, map}
+use Rattle.std.specs.Prelude.{ℕ, ◌++◌, All, Contains, List, map}
 use Rattle.std.specs.Cmp.Lexicographic.{slice_cmp}
 use Rattle.std.specs.List.{flat_map}
 use Rattle.std.specs.List.Sorted.{IsSortedByKey}
