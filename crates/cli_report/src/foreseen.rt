@@ -50,11 +50,12 @@ fn push_waiting<'a, S: Alter + Drop, V: PolicyView + Drop>(
                 return Err(AllocError);
             }
             let outcome = outcome_of(alloc, desk, fs, proposal)?;
-            waiting.push(Waiting {
+            let foreseen = Waiting {
                 fs,
                 proposal,
                 outcome,
-            })?;
+            };
+            waiting.push(foreseen)?;
             Ok(())
         }
         None => Ok(()),

@@ -123,15 +123,12 @@ fn page_by<S: Alter + Drop, V: PolicyView + Drop>(
     ensures { IfOk result (λ page. IsOfState desk.now.state db.now (string_bytes page)) }
 {
     let waiting = waiting_of(alloc, desk)?;
-    report_page(
-        alloc,
-        db,
-        ReportedSite {
-            view,
-            tables: desk.tables(),
-            heads: desk.heads(),
-            proposals: desk.proposals(),
-            waiting: waiting.as_slice(),
-        },
-    )
+    let site = ReportedSite {
+        view,
+        tables: desk.tables(),
+        heads: desk.heads(),
+        proposals: desk.proposals(),
+        waiting: waiting.as_slice(),
+    };
+    report_page(alloc, db, site)
 }
