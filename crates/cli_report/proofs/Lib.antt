@@ -1,2 +1,4 @@
-pub mod Gained
+pub mod Foreseen
+pub mod HeadsOnce
+pub mod OfDesk
 pub mod OnCopy

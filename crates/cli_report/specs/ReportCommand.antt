@@ -3,9 +3,9 @@ use Rattle.std.specs.Prelude.{◌≡◌, ◌⊎◌, ℕ, List, Result, Ok, Err, 
 use Rattle.clap.specs.Words.{Row}
 use Rattle.sqlite.specs.Effect.{Database}
 use Rattle.std.specs.String.{string_bytes}
-use Rattle.desk_core.specs.Head.{newest_in}
-use Rattle.desk_core.specs.History.{newest_of, standing_of}
-use Rattle.desk_core.specs.Standing.{proposals_in}
+use Rattle.desk_core.specs.Head.{StandOnce}
+use Rattle.desk_core.specs.History.{standing_of}
+use Rattle.desk_core.specs.Standing.{PendOnce, standing_in}
 use Rattle.desk_core.specs.declared.head.Head.{Head}
 use Rattle.desk_core.specs.declared.proposal.Proposal.{Proposal}
 use Rattle.desk_store.specs.Desk.{History}
@@ -18,12 +18,14 @@ use Rattle.cli_output.specs.declared.printed.Printed.{Printed}
 use Rattle.cli_desk.specs.RefusalLines.{Says}
 use Rattle.cli_words.specs.Words.{ByWord}
 
--- a page is that of the newest revisions and the proposals by a history, which are listed in some order; for this word
+-- A page is that of the newest revisions and the proposals by a history, for this word. They are listed in some order, and each file at
+-- most once in either list.
 pub record IsPageBy (history : History) (word page : List ℕ) : Type 0 where
   pub heads : List Head
   pub proposals : List Proposal
-  pub newest : (file : List ℕ) → newest_in heads file ≡ newest_of history file
-  pub pending : (file : List ℕ) → proposals_in proposals file ≡ (standing_of history).proposals file
+  pub stand : standing_in heads proposals ≡ standing_of history
+  pub stand_once : StandOnce heads
+  pub pend_once : PendOnce proposals
   pub is : IsPageOf heads proposals word page
 
 -- what is printed by a history
