@@ -1,8 +1,9 @@
 //! What an accepted edit changes of what is in force.
 
-ghost use Rattle.std.specs.Prelude.{◌≡◌};
+ghost use Rattle.std.specs.Prelude.{◌≡◌, All};
 ghost use Rattle.desk_policy.specs.Site.{HaveReadableLengths, texts_of};
-ghost use Rattle.desk_core.specs.Head.{newest_in, put};
+ghost use Rattle.desk_policy.specs.View.{Compiles};
+ghost use Rattle.desk_core.specs.Head.{CanBeKept, newest_in, put};
 ghost use Rattle.desk_core.specs.PrivateState.{MayStand, PutsInForce, custodians_after, tables_after};
 ghost use Rattle.desk_core.specs.Site.{site_in};
 ghost use Rattle.desk_core.specs.State.{changed};
@@ -11,7 +12,7 @@ ghost use Rattle.desk_core.specs.Views.{shown};
 use crate::foresight::ForeseenSite;
 use crate::head::Head;
 use crate::site::{site_of, site_with};
-use desk_policy::{PolicyView, Site, SiteContents, SiteFault, SiteTables, read_contents};
+use desk_policy::{PolicyView, Site, SiteContents, SiteFault, SiteTables, compile, read_contents};
 use desk_tables::{Custodians, FsId};
 use desk_text::ReadError;
 use std::alloc::Global;
@@ -31,6 +32,19 @@ pub enum Change<V, P> {
     Whole(SiteInForce<V>),
     /// Lines that were made ready to stand for those of a file system.
     Lines(FsId, P),
+}
+
+/// Puts the policy of the site of these heads in force, read from their texts alone, so that its warnings are theirs as well; or refuses
+/// the site's first fault.
+pub fn compile_heads<V: PolicyView>(
+    alloc: Global,
+    heads: &[Head],
+) -> Result<V, ReadError<SiteFault>>
+    requires { All CanBeKept heads.now }
+    ensures { Compiles V.in_force (site_in (newest_in heads.now)) result }
+{
+    let site = site_of(alloc, heads)?;
+    compile(alloc, &site)
 }
 
 /// Takes the view of a site. The rest is dropped.

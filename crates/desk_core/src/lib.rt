@@ -26,6 +26,7 @@ pub mod proposal;
 mod site;
 pub mod state;
 
+pub use change::compile_heads;
 pub use edit::{Edit, Refusal, RefusalRow};
 pub use entry::Entry;
 pub use foresight::{ForeseenSite, Foresight};

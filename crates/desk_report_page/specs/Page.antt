@@ -1,10 +1,11 @@
 -- The page of a report. (this project's own)
 use Rattle.std.specs.Prelude.{◌≡◌, ℕ, List, [], Ok, length}
-use Rattle.desk_policy.specs.Parsing.{read_site_tables}
+use Rattle.desk_policy.specs.Contradiction.{HasNoContradiction}
+use Rattle.desk_policy.specs.Parsing.{read_site, read_site_tables}
 use Rattle.desk_policy.specs.Policy.{Content}
 use Rattle.desk_policy.specs.declared.parsing.SiteTables.{SiteTables}
 use Rattle.desk_core.specs.Head.{newest_in}
-use Rattle.desk_core.specs.Site.{IsInForce, site_in}
+use Rattle.desk_core.specs.Site.{site_in}
 use Rattle.desk_core.specs.Standing.{Standing, standing_in}
 use Rattle.desk_core.specs.declared.head.Head.{Head}
 use Rattle.desk_core.specs.declared.proposal.Proposal.{Proposal}
@@ -104,10 +105,11 @@ IsPage source found word =
     (Then (InSection Each (AreSystemTexts source found 0 found.systems))
     (IsBack source.content source.tables (standing_in source.heads source.proposals) word))
 
--- The policy and the tables are those that the newest revisions write, and of each proposal for the exports file of a listed file system
--- it is told what would be in force.
+-- The policy, with its warnings, and the tables are those that the texts of the newest revisions write, and no two of its lines contradict
+-- each other; and of each proposal for the exports file of a listed file system it is told what would be in force.
 pub record IsSource (source : Source) : Type 0 where
-  pub in_force : IsInForce (site_in (newest_in source.heads)) source.content
+  pub policy_is : read_site (site_in (newest_in source.heads)) ≡ Ok source.content
+  pub consistent : HasNoContradiction source.content
   pub tables_are : read_site_tables (site_in (newest_in source.heads)) ≡ Ok source.tables
   pub are_waiting : AreWaiting (newest_in source.heads) source.content source.proposals source.waiting
 

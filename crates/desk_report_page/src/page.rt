@@ -35,7 +35,7 @@ use std::alloc::{AllocError, Global};
 /// What a page is made of.
 #[derive(Clone, Copy)]
 pub struct ReportedSite<'a, V> {
-    /// The policy in force.
+    /// The policy of the newest revisions, read from their texts.
     pub view: &'a V,
     /// The tables that its exports files are read with.
     pub tables: &'a SiteTables,

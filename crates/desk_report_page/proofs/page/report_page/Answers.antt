@@ -12,7 +12,7 @@ page_from-requires-clause-given g c =
       kept = c.requires.kept;
       readable = c.requires.readable;
       is = c.requires.source;
-      sound = sound (site_in (newest_in c.args.site.heads.now)) _ law c.requires.source.in_force;
+      sound = sound (site_in (newest_in c.args.site.heads.now)) _ law c.requires.source.policy_is c.requires.source.consistent;
     }
 
 pub page_from-requires-clause-root : goal.page_from-requires-clause-root
