@@ -1,2 +1,2 @@
-pub mod Gained
+pub mod Foreseen
 pub mod ToldOf

@@ -1,77 +1,81 @@
 //! What would be in force with each proposal of a state.
 
-ghost use Rattle.std.specs.Prelude.{◌≡◌, ◌≤◌, All, IfOk, OnOk, Some, length, map};
-ghost use Rattle.desk_core.specs.Head.{longest_revision, newest_in};
+ghost use Rattle.std.specs.Prelude.{◌≡◌, ◌≤◌, IfOk, OnOk, Some, length, map};
 ghost use Rattle.desk_policy.specs.SiteFile.{exports_place};
-ghost use Rattle.desk_report_page.specs.Given.{HasReadableText};
-ghost use Rattle.desk_report_page.specs.Waiting.{AreWaiting, IsOutcomeOf, outcome_value, waiting_value};
-ghost use Rattle.desk_cases_report.specs.PrivateForeseen.{GainsWaiting};
+ghost use Rattle.desk_core.specs.Head.{longest_revision, newest_in};
+ghost use Rattle.desk_report_page.specs.Waiting.{IsOutcomeOf, outcome_value, waiting_value};
+ghost use Rattle.desk_cases_report.specs.PrivateForeseen.{AreForeseen, GainsForeseen};
 
 use desk_core::{Foresight, LONGEST_REVISION, Proposal, State};
-use desk_index::Index;
 use desk_policy::{PolicyView, exports_place};
 use desk_report_page::{Outcome, Waiting};
-use desk_tables::FsId;
+use desk_tables::{FileSystems, FsId};
 use desk_text::ReadError;
 use std::alloc::{AllocError, Global};
 
 /// Lists the proposals of a state for exports files of listed file systems, each with what would be in force.
-pub fn waiting_of<'a>(
+pub fn waiting_of<'a, V: PolicyView + Drop>(
     alloc: Global,
-    state: &'a State<Index>,
-) -> Result<Vec<Waiting<'a, Index>>, AllocError>
-    ensures waiting { IfOk result (λ waiting. AreWaiting (newest_in state.now.heads) state.now.view state.now.proposals
-        (map (waiting_value (λ content. content)) waiting.items)) }
-    ensures readable { IfOk result (λ waiting. All HasReadableText (map (waiting_value (λ content. content)) waiting.items)) }
+    state: &'a State<V>,
+) -> Result<Vec<Waiting<'a, V>>, AllocError>
+    ensures { IfOk result (λ waiting. AreForeseen (newest_in state.now.heads) (V.in_force state.now.view) state.now.proposals
+        (map (waiting_value V.in_force) waiting.items)) }
 {
+    let filesystems = state.view().policy().filesystems();
     let mut waiting = Vec::new(alloc);
     for proposal in state.proposals() {
-        push_waiting(alloc, state, proposal, &mut waiting)?;
+        push_waiting(alloc, state, filesystems, proposal, &mut waiting)?;
     }
     Ok(waiting)
 }
 
-/// Adds a proposal, if it is for one.
-fn push_waiting<'a>(
+/// Adds a proposal, if it is for the exports file of a listed file system. A text that is longer than a revision may be is as if memory
+/// ran out.
+fn push_waiting<'a, V: PolicyView + Drop>(
     alloc: Global,
-    state: &'a State<Index>,
+    state: &'a State<V>,
+    filesystems: &FileSystems,
     proposal: &'a Proposal,
-    waiting: &mut Vec<Waiting<'a, Index>>,
+    waiting: &mut Vec<Waiting<'a, V>>,
 ) -> Result<(), AllocError>
-    ensures { OnOk result (GainsWaiting (newest_in state.now.heads) state.now.view proposal.now
-        (map (waiting_value (λ content. content)) waiting.old.items) (map (waiting_value (λ content. content)) waiting.new.items)) }
+    requires { filesystems.now ≡ (V.in_force state.now.view).table }
+    ensures { OnOk result (GainsForeseen (newest_in state.now.heads) (V.in_force state.now.view) proposal.now
+        (map (waiting_value V.in_force) waiting.old.items) (map (waiting_value V.in_force) waiting.new.items)) }
 {
-    let filesystems = state.view().policy().filesystems();
-    if let Some(fs) = exports_place(filesystems, proposal.file.as_str()) {
-        let outcome = outcome_of(alloc, state, fs, proposal)?;
-        waiting.push(Waiting {
-            fs,
-            proposal,
-            outcome,
-        })?;
+    match exports_place(filesystems, proposal.file.as_str()) {
+        Some(fs) => {
+            if proposal.body.as_str().len() > LONGEST_REVISION {
+                return Err(AllocError);
+            }
+            let outcome = outcome_of(alloc, state, fs, proposal)?;
+            let foreseen = Waiting {
+                fs,
+                proposal,
+                outcome,
+            };
+            waiting.push(foreseen)?;
+            Ok(())
+        }
+        None => Ok(()),
     }
-    Ok(())
 }
 
-/// Finds what would be in force with a proposal. A text that is longer than a revision may be, which no desk keeps, is as if memory ran
-/// out.
-fn outcome_of(
+/// Finds what would be in force with a proposal.
+fn outcome_of<V: PolicyView + Drop>(
     alloc: Global,
-    state: &State<Index>,
+    state: &State<V>,
     fs: FsId,
     proposal: &Proposal,
-) -> Result<Outcome<Index>, AllocError>
-    requires { exports_place state.now.view.table proposal.now.file ≡ Some fs.0 }
-    ensures outcome { IfOk result (λ outcome.
-        IsOutcomeOf (newest_in state.now.heads) state.now.view fs.0 proposal.now (outcome_value (λ content. content) outcome)) }
-    ensures short { IfOk result (λ outcome. length proposal.now.body ≤ longest_revision) }
+) -> Result<Outcome<V>, AllocError>
+    requires place { exports_place (V.in_force state.now.view).table proposal.now.file ≡ Some fs.0 }
+    requires short { length proposal.now.body ≤ longest_revision }
+    ensures { IfOk result (λ outcome. IsOutcomeOf (newest_in state.now.heads) (V.in_force state.now.view) fs.0 proposal.now
+        (outcome_value V.in_force outcome)) }
 {
-    let text = proposal.body.as_str();
-    if text.len() > LONGEST_REVISION {
-        return Err(AllocError);
-    }
-    match state.foresee(alloc, proposal.file.as_str(), text) {
-        Ok(Foresight::Lines(_, view)) | Ok(Foresight::Whole(view)) => Ok(Outcome::Lines(view)),
+    match state.foresee(alloc, proposal.file.as_str(), proposal.body.as_str()) {
+        Ok(Foresight::Lines(_, view)) => Ok(Outcome::Lines(view)),
+        // Of the exports file of a listed file system the lines are foreseen alone.
+        Ok(Foresight::Whole(_)) => Err(AllocError),
         Err(ReadError::Fault(fault)) => Ok(Outcome::Refused(fault)),
         Err(ReadError::Memory) => Err(AllocError),
     }
