@@ -23,6 +23,7 @@ DATABASES = {
     "later": [("hosts", "site", LOCALHOST)],
     "guarded": [("filesystems", "site", GUARDING)],
     "proposed": [("filesystems", "site", GUARDING), ("exports:/u", "ulf", PROPOSED)],
+    "approved": [("filesystems", "site", GUARDING), ("exports:/u", "ulf", PROPOSED), ("exports:/u", "site", PROPOSED)],
 }
 
 
@@ -60,14 +61,21 @@ class Command:
 
     Among the words `DB` is a copy of a database, the one of this name, `NEW` a file that is not there, `TEXT` a file with
     this text, `KEY` one with the key of `site`, and `FOLDER` a folder with these files. `stored` are the rows that the
-    command adds, each behind the name of its table, and `taken` those that it takes out.
+    command adds, each behind the name of its table, and `taken` those that it takes out. What it prints is None if it is
+    long, and only has to be what it prints when nothing is refused.
     """
 
     def __init__(self, words, out, status=0, given="", database=None, text="", stored=(), taken=(), title=None, files=()):
-        self.words, self.wanted, self.given = words, (status, out.encode()), given.encode()
+        self.words, self.status, self.given = words, status, given.encode()
+        self.out = None if out is None else out.encode()
         self.database, self.text, self.stored, self.taken = database, text, list(stored), list(taken)
         self.files = dict(files)
         self.title = title or f"`{' '.join(map(str, words))}`"
+
+    @property
+    def makes(self):
+        """Whether it makes a database, that of the sample site."""
+        return self.status == 0 and "NEW" in self.words
 
     @property
     def edits(self):
@@ -132,8 +140,16 @@ def files_with(others):
 
 def asked_of(database, words, out, status=0):
     """A question to the database of this name."""
-    title = f"`{' '.join(words)}` of the database {database!r}, which is answered {out.split(chr(10))[0]!r}"
+    answer = "" if out is None else f", which is answered {out.split(chr(10))[0]!r}"
+    title = f"`{' '.join(words)}` of the database {database!r}{answer}"
     return Command(words, out, status, database=database, title=title)
+
+
+def made_of(changed, out, status):
+    """`init` of the sample site with some other files, which is refused."""
+    files = {name: (SITE / name).read_text() for name in FILES}
+    title = f"`init` of a folder, which is answered {out.split(chr(10))[0]!r}"
+    return Command(["init", "NEW", "FOLDER"], out, status, title=title, files={**files, **changed})
 
 
 CONTRADICTION = "/a -network 192.168.0/24\n/a /a/x{} -network 192.168.0.0 -mask 255.255.255.0\n"
@@ -189,6 +205,10 @@ PENDING_FILES = {
     "exports:/u": "exports:/u rev 1 site guarded\nexports:/u proposed rev 2 ulf\n",
 }
 U2 = "/u2 -maproot=root friends\n/u2 -alldirs -network cis-net -mask cis-mask\n"
+APPROVED_FILES = {
+    "filesystems": "filesystems rev 2 site\n",
+    "exports:/u": "exports:/u rev 2 ulf guarded\n",
+}
 FILES = [*TABLES, "exports"]
 
 FAULTY = '/a -maprot=root 10.0.0.5\n/a 10.0.0.6\n/a "x\n/c\n'
@@ -210,6 +230,25 @@ IPV6 = (
     f"{SITE}/exports:7:13: warning 2 Ipv6: \"3ffe:1ce1:1:fe80::/64\" has a colon, so it counts as IPv6 and matches nobody: "
     "write IPv4, and blanks between hosts\n"
 )
+# Lines of which all warnings and opinions are told that are about lines.
+IDLE = "/a -maproot=0:0 -network 10.0.0.0/0\n/a -maproot=0:0 -network 10.0.0.0/0\n/a -ro\n/a gone\n"
+OPINIONS = (
+    "-:1:1: warning 8 EveryAddress: the network has the prefix 0, so the line is for everybody: leave the network out, or "
+    "correct it\n"
+    "-:1:1: warning 9 WritableByAll: everybody may write to it: add -ro, or name the clients\n"
+    "-:1:1: warning 10 RootForMany: root of each client acts as root: leave out -maproot or -mapall, or name the hosts\n"
+    "-:2:1: warning 6 Repeated: the line decides nothing: earlier lines of equal weight list all that it lists, beginning "
+    "with line 1 for 0.0.0.0\n"
+    "-:2:1: warning 8 EveryAddress: the network has the prefix 0, so the line is for everybody: leave the network out, or "
+    "correct it\n"
+    "-:2:1: warning 9 WritableByAll: everybody may write to it: add -ro, or name the clients\n"
+    "-:2:1: warning 10 RootForMany: root of each client acts as root: leave out -maproot or -mapall, or name the hosts\n"
+    "-:3:1: warning 5 Shadowed: the line decides nothing: heavier lines match each of its clients, beginning with line 1 for "
+    "0.0.0.0\n"
+    '-:4:4: warning 3 UnknownHost: "gone" is not an address, a known host or (outside a triple) a known netgroup, and matches '
+    "nobody: correct it, or give the file that has it (--hosts, --netgroup or --site)\n"
+    "0 faults, 9 warnings\n"
+)
 SPLIT = "== /a\n/a -ro \\\n 10.0.0.5\n== /b\n/b\n"
 WHO = (
     "0.0.0.0-131.104.47.255 denied 2 NoLine /u2\n"
@@ -226,7 +265,9 @@ CHANGED = (
 )
 FRIENDS = "/usr friends\n/usr -network cis-net -mask cis-mask\n"
 
+# By their commands. (`help` has what is printed of the program itself.)
 COMMANDS = {
+    "help": [Command(words, None) for words in (["--help"], ["--version"], ["put", "--help"])],
     "try": [
         Command(
             [],
@@ -277,6 +318,21 @@ COMMANDS = {
         granted_as("bin", "3:7"),
         granted_as("root", "0:0:5"),
         granted_as("0:10", "0:10"),
+        tried(
+            ["try", "-", "10.0.0.5", "/a", "/a", "--as", "0:0"],
+            "/a -maproot=1:2 10.0.0.5\n",
+            "granted line 1 rw sec=sys root=1:2 as 1:2\n",
+        ),
+        tried(["try", "-", "10.0.0.5", "/b", "/a"], "/a\n", "denied 1 NoFileSystem\n", 1),
+        tried(["try", "-", "10.0.0.5", "/a", "/a"], "/a 10.0.0.6\n", "denied 2 NoLine /a\n", 1),
+        Command(
+            ["try", "-", "10.0.0.5", "/a", "/a", "--netgroup", "TEXT"],
+            "fault netgroup line 2 rule 3 Duplicate line 1\n",
+            3,
+            given="/a g\n",
+            text="g (10.0.0.5,,)\ng (10.0.0.6,,)\n",
+            title="`try` with a netgroup file that has a fault",
+        ),
         written_as("7", "fault line 1 rule 17 UnknownUser\n", 3),
         written_as("bin:nogrp", "fault line 1 rule 18 UnknownGroup\n", 3),
         written_as("4294967296:", "fault line 1 rule 21 Range\n", 3),
@@ -291,7 +347,19 @@ COMMANDS = {
             3,
         ),
         tried(["check", "-", "/usr"], FRIENDS, "0 faults, 0 warnings\n", with_tables=True),
+        tried(["check", "-", "/a", "--json"], "/a\n/a -ro\n", f"{printed_json([CLASH])}\n", 3),
+        tried(["check", "-", "/a", "--sarif"], "/a\n/a -ro\n", f"{log_text([CLASH])}\n", 3),
+        tried(["check", "-", "/a", "--brief", "--opinions"], IDLE, OPINIONS),
         Command(["check", "--site", SITE, "--brief", "--strict"], f"{IPV6}0 faults, 1 warning\n", 3, title="`check --site`"),
+        Command(
+            ["check", "-", "/a", "--hosts", "TEXT", "--brief"],
+            'text:1:1: fault 2 Number: "10.0.0" is missing or wrong here: write four numbers of 0 to 255 in hosts, one to four in '
+            "networks, an id up to 4294967295 in passwd and group, without leading zeros\n1 fault, 0 warnings\n",
+            3,
+            given="/a x\n",
+            text="10.0.0 x\n",
+            title="`check` with a hosts file that has a fault",
+        ),
     ],
     "split": [
         Command(["split", "-", "TEXT"], SPLIT, given="# c\n/b\n/a -ro \\\n 10.0.0.5\n", text="/b site\n/a site\n"),
@@ -303,6 +371,15 @@ COMMANDS = {
             "warning exports:/a line 2 Ipv6 3ffe:1ce1:1:fe80::/64\nready\n",
             title="`init` of the sample site",
         ),
+        made_of({"exports": "/b\n"}, "fault exports line 1 rule 4 DirectoryElsewhere\n", 3),
+        made_of(
+            {"exports": CONTRADICTION.format(" -ro")},
+            "fault exports:/a line 2 rule 26 Contradiction line 1 address 192.168.0.0\n",
+            3,
+        ),
+        made_of({"hosts": "10.0.0 x\n"}, "fault hosts line 1 rule 2 Number\n", 3),
+        made_of({"passwd": "#" * 65536 + "\n"}, "refused 5 TooLarge passwd\n", 1),
+        asked_of("first", ["init", "DB", str(SITE)], "refused 202 Schema\n", 4),
     ],
     "ask": [
         Command(
@@ -322,6 +399,7 @@ COMMANDS = {
             ["ask", "DB", "131.104.48.16", "/usr", "--as", "0:0"],
             "granted line 2 rw sec=sys root=1:1:5 as 1:1:5\n",
         ),
+        asked_of("approved", ["ask", "DB", "192.0.2.1", "/u"], f"granted line 1 {STANDARD.replace('rw', 'ro')}\n"),
     ],
     "show": [asked_of(name, ["show", "DB", "131.104.48.20"], SHOWN) for name in ("first", "old")],
     "exports": [asked_of(name, ["exports", "DB"], EXPORTS) for name in ("first", "old")],
@@ -329,11 +407,13 @@ COMMANDS = {
         asked_of("later", ["log", "DB", "hosts"], "rev 1 site\nrev 2 site\n"),
         asked_of("old", ["log", "DB", "exports:/u"], "rev 1 site, profile 1\n"),
         asked_of("first", ["log", "DB", "exports:/u3"], NO_PROPOSAL, 1),
+        asked_of("approved", ["log", "DB", "exports:/u"], "rev 1 site\nrev 2 ulf, approved by site\n"),
     ],
     "cat": [
         asked_of("first", ["cat", "DB", "exports:/u2"], U2),
         asked_of("later", ["cat", "DB", "hosts", "--rev", "2"], LOCALHOST),
         asked_of("old", ["cat", "DB", "exports:/private"], "/private -sec=krb5i\n"),
+        asked_of("approved", ["cat", "DB", "exports:/u"], PROPOSED),
     ],
     "put": [
         put("hosts", "site", "abc", LOCALHOST, "accepted rev 2\n", 0, stored=[STORED]),
@@ -370,6 +450,9 @@ COMMANDS = {
         put_guarded("site", "/u\n", "proposed rev 2\n", "proposed", [proposal("site", "/u\n")], [PENDING]),
         put_guarded("site", PROPOSED, "accepted rev 2\n", "proposed", APPROVED, [PENDING]),
         put_guarded("site", "/u -rw\n", "fault exports:/u line 1 rule 5 UnknownOption\n", "proposed", status=3),
+        put_guarded("site", PROPOSED, "already rev 2\n", "approved"),
+        put_guarded("ulf", "/u\n", "refused 7 Stale 2\n", "approved", status=1),
+        put("hosts", "site", "abc", "#" * 65536 + "\n", "refused 5 TooLarge\n"),
     ],
     "clients": [
         tried(
@@ -434,10 +517,6 @@ COMMANDS = {
             title="`compare` with a text that has a fault",
         ),
     ],
-    "check": [
-        tried(["check", "-", "/a", "--json"], "/a\n/a -ro\n", f"{printed_json([CLASH])}\n", 3),
-        tried(["check", "-", "/a", "--sarif"], "/a\n/a -ro\n", f"{log_text([CLASH])}\n", 3),
-    ],
     "test": [
         Command(
             ["test", "TEXT", "-", "/usr", "/home"],
@@ -480,6 +559,7 @@ COMMANDS = {
         foreseen("exports:/u", PROPOSED, FORESEEN, 1, database="guarded"),
         foreseen("exports:/u2", U2, "0 changes\n", 0, "--all"),
         foreseen("exports:/u3", "/u3\n", "refused 3 UnknownFile\n", 1),
+        foreseen("hosts", "#" * 65536 + "\n", "refused 5 TooLarge\n", 1),
         foreseen("hosts", CONTRADICTING, "fault exports:/usr line 2 rule 26 Contradiction line 1 address 131.104.48.16\n", 3),
         asked_of("proposed", ["impact", "DB", "exports:/u", "--proposal"], FORESEEN, 1),
         asked_of("guarded", ["impact", "DB", "exports:/u", "--proposal"], NO_PROPOSAL, 1),
@@ -491,19 +571,24 @@ COMMANDS = {
         audited(["audit", "DB", "-", "exports:/u", "--proposal", "--json"], PROMISED, "[]\n", 0, "proposed"),
         audited(["audit", "DB", "-", "exports:/u", "--proposal"], PROMISED, NO_PROPOSAL, 1, "guarded"),
         audited(["audit", "DB", "-"], "doc may read /u\n", "fault expectations line 1 rule 3 BadAction\n", 3),
+        audited(["audit", "DB", "-"], PROMISED, "2 expectations, 0 broken\n", 0, "approved"),
+        audited(["audit", "DB", "-", "exports:/u3", "TEXT"], PROMISED, "refused 3 UnknownFile\n", 1, text="/u3\n"),
     ],
     "proposal": [
         asked_of("proposed", ["proposal", "DB", "exports:/u"], PROPOSED),
         asked_of("guarded", ["proposal", "DB", "exports:/u"], NO_PROPOSAL, 1),
+        asked_of("old", ["proposal", "DB", "exports:/u"], NO_PROPOSAL, 1),
     ],
     "files": [
         asked_of("first", ["files", "DB"], "".join(files_with({}))),
         asked_of("proposed", ["files", "DB"], "".join(files_with(PENDING_FILES))),
+        asked_of("approved", ["files", "DB"], "".join(files_with(APPROVED_FILES))),
         asked_of("old", ["files", "DB"], "".join(files_with({}))),
     ],
     "write": [
         asked_of("first", ["write", "DB", "FOLDER"], "".join(f"written {name}\n" for name in FILES)),
         asked_of("old", ["write", "DB", "FOLDER"], "".join(f"written {name}\n" for name in FILES)),
+        asked_of("proposed", ["write", "DB", "FOLDER"], "".join(f"written {name}\n" for name in FILES)),
         Command(
             ["write", "DB", "FOLDER"],
             "written hosts\nwritten exports\n",

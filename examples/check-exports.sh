@@ -4,8 +4,9 @@
 #
 #   examples/check-exports.sh OLD NEW EXPECTATIONS MOUNT..
 #
-# OLD and NEW are exports files, EXPECTATIONS has a line for each promise (examples/promises), and MOUNT.. are the mount points of
-# the file systems. TABLES has the options of exportdesk for tables, if there are some: TABLES='--hosts hosts --netgroup netgroup'.
+# OLD and NEW are exports files, EXPECTATIONS has a line for each promise (as examples/expectations has for examples/exports), and
+# MOUNT.. are the mount points of the file systems. TABLES has the options of exportdesk for tables, if there are some:
+# TABLES='--hosts hosts --netgroup netgroup'.
 #
 # It ends with the status of exportdesk: 0 if all is well, also if something changes; 1 if an expectation is broken; 2 if a word is
 # wrong or a file cannot be read; 3 if a text has a fault.

@@ -5,7 +5,7 @@ import pathlib
 from reference import lines
 from reference.definitions import fs_of, printed
 from reference.escapes import unescaped
-from reference.readings import FILES, logical_lines, path_of, read_site
+from reference.readings import FILES, file_system_words, path_of, read_site
 
 
 class Desk:
@@ -40,7 +40,7 @@ class Desk:
 
     def filesystems(self):
         """The words of each line of `filesystems`: a mount point, the mark of a guarded one, and custodians."""
-        return [line.split() for _, line in logical_lines(self.texts["filesystems"])]
+        return file_system_words(self.texts)
 
     def guarded(self):
         """The exports files of the mount points with the mark."""

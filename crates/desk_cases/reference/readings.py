@@ -1,5 +1,5 @@
-"""Reads the texts of sites, as far as well-formed lines go; words with quotes or backslashes in exports files alone: for the script
-that looks answers up in the definitions.
+"""Reads the texts of sites, as far as well-formed lines go; words with quotes or backslashes in exports files and the table of file
+systems alone: for the script that looks answers up in the definitions.
 """
 
 import re
@@ -138,6 +138,11 @@ def acting_as(terms, own):
     return mapped if kind == "all" or own.split(":")[0] == "0" else own
 
 
+def file_system_words(texts):
+    """The words of each line of the table of file systems."""
+    return [[value for value, _ in lines.words_of(line)] for line in lines.logical_lines(texts["filesystems"])]
+
+
 def empty_site(mounts, tables):
     site = Site(mounts, tables.hosts, tables.netgroups)
     site.lines = {mount: [] for mount in site.mounts}
@@ -147,8 +152,7 @@ def empty_site(mounts, tables):
 def read_site(texts):
     """The site of these texts, those of exports files under `exports:` and their mount points; or a fault is raised."""
     tables = Tables(texts)
-    mounts = [path_of(line.split()[0]) for _, line in logical_lines(texts["filesystems"])]
-    site = empty_site(mounts, tables)
+    site = empty_site([path_of(words[0]) for words in file_system_words(texts)], tables)
     for mount in site.mounts:
         for line in lines.logical_lines(texts.get(f"exports:{printed(mount)}", "")):
             site.lines[mount] += entries_of(site.mounts, mount, line, tables)

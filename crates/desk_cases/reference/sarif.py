@@ -61,7 +61,7 @@ OF_LINES = ["Shadowed", "Repeated", "NoClient", "EveryAddress", "WritableByAll",
 OPINIONS = OF_LINES[4:]
 # What is constant, with the version that `exportdesk --version` prints.
 SCHEMA = "https://docs.oasis-open.org/sarif/sarif/v2.1.0/errata01/os/schemas/sarif-schema-2.1.0.json"
-VERSION = "0.1.0"
+VERSION = "1.0.0"
 
 
 def rule_id(number, name):

@@ -1,1 +1,2 @@
+pub mod Foreseen
 pub mod ToldOf

@@ -4,9 +4,9 @@
 
 use crate::questions;
 use crate::report::Report;
+use crate::subject::Subject;
 use desk_cases_texts::answers::split;
 use desk_cases_texts::escapes;
-use desk_cases_texts::site::Site;
 use std::alloc::{AllocError, Global};
 use std::str;
 
@@ -27,19 +27,19 @@ pub fn report_of(alloc: Global, text: &str) -> Result<Report, AllocError> {
 
 /// Tries the cases of a text, at first on a site without texts.
 fn try_lines(alloc: Global, report: &mut Report, text: &str) -> Result<(), AllocError> {
-    let mut site = Site::new(alloc);
+    let mut subject = Subject::new(alloc);
     let mut trial = Trial {
         text: Vec::new(alloc),
         wanted: Vec::new(alloc),
         found: String::new(alloc),
     };
-    try_cases(alloc, &mut site, &mut trial, report, text)
+    try_cases(alloc, &mut subject, &mut trial, report, text)
 }
 
 /// Tries the cases of a text. The lines that are skipped are no cases.
 fn try_cases(
     alloc: Global,
-    site: &mut Site,
+    subject: &mut Subject,
     trial: &mut Trial,
     report: &mut Report,
     text: &str,
@@ -47,7 +47,7 @@ fn try_cases(
     for (index, line) in text.lines().enumerate() {
         if !line.is_empty() && !line.starts_with('#') {
             report.begin_case(index);
-            try_case(alloc, site, trial, report, line)?;
+            try_case(alloc, subject, trial, report, line)?;
         }
     }
     Ok(())
@@ -56,12 +56,12 @@ fn try_cases(
 /// Tries a case. Adds to the report if it cannot be asked, or has another answer.
 fn try_case(
     alloc: Global,
-    site: &mut Site,
+    subject: &mut Subject,
     trial: &mut Trial,
     report: &mut Report,
     case: &str,
 ) -> Result<(), AllocError> {
-    match ask(alloc, site, trial, case)? {
+    match ask(alloc, subject, trial, case)? {
         Some(difference) => report.add_difference(case, difference),
         None => compare(alloc, trial, report, case),
     }
@@ -70,7 +70,7 @@ fn try_case(
 /// Asks a case. Returns why it cannot be asked, if it cannot.
 fn ask(
     alloc: Global,
-    site: &mut Site,
+    subject: &mut Subject,
     trial: &mut Trial,
     case: &str,
 ) -> Result<Option<&'static str>, AllocError> {
@@ -89,7 +89,7 @@ fn ask(
     let Ok(text) = str::from_utf8(trial.text.as_slice()) else {
         return Ok(Some("has a wrong escape"));
     };
-    if !questions::answer(alloc, site, &mut trial.found, question, text)? {
+    if !questions::answer(alloc, subject, &mut trial.found, question, text)? {
         return Ok(Some("cannot be asked"));
     }
     Ok(None)

@@ -1,12 +1,16 @@
-//! Tries the worked cases on what a report tells of a site. Each file of a folder whose name ends in `.cases` holds cases.
+//! Tries the worked cases on what a report tells of a site, and on its page. Each file of a folder whose name ends in `.cases` holds cases.
 #![tactic(auto)]
 
 mod cases;
 mod classes;
+mod foreseen;
 mod lines;
+mod pages;
 mod places;
 mod questions;
 mod report;
+mod revisions;
+mod subject;
 
 use std::alloc::{AllocError, Global};
 use std::{fs, io};

@@ -11,10 +11,10 @@ ghost use Rattle.desk_report.specs.Laws.{IsSound, IsSoundSite, TellVerdicts};
 ghost use Rattle.desk_report.specs.Systems.{AreSystems, system_value};
 ghost use Rattle.desk_report.specs.Values.{AreRunsOfSome};
 
-use crate::{classes, lines, places};
+use crate::subject::Subject;
+use crate::{classes, lines, pages, places, revisions};
 use desk_cases_texts::answers::{Asked, number, split};
 use desk_cases_texts::indexes::add_by_keys;
-use desk_cases_texts::site::Site;
 use desk_cases_texts::sites::say_fault;
 use desk_index::Index;
 use desk_policy::{Plain, Policy, PolicyView, compile};
@@ -23,18 +23,24 @@ use desk_tables::FsId;
 use desk_text::Path;
 use std::alloc::Global;
 
-/// Answers a question on what a report tells, or on the texts of the site and the policy that they write.
+/// Answers a question on a page, on what a report tells, or on the texts of the site and the policy that they write.
 pub fn answer(
     alloc: Global,
-    site: &mut Site,
+    subject: &mut Subject,
     out: &mut String,
     question: &str,
     text: &str,
 ) -> Asked {
-    Ok(
-        of_texts(alloc, &site.texts, out, question, text)?
-            || desk_cases_texts::answer(alloc, site, out, question, text)?,
-    )
+    let Subject { site, revisions } = subject;
+    match question {
+        "head" => revisions::head(alloc, revisions, site.profile, out, text),
+        "pending" => revisions::pending(alloc, revisions, out, text),
+        "page" => pages::page(alloc, revisions, out, text),
+        _ => Ok(
+            of_texts(alloc, &site.texts, out, question, text)?
+                || desk_cases_texts::answer(alloc, site, out, question, text)?,
+        ),
+    }
 }
 
 /// Answers a question on what a report tells.

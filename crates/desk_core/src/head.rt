@@ -52,7 +52,7 @@ fn is_within_limits(head: &Head) -> bool
 
 /// Finds the newest revision of a file.
 #[tactic(auto, unfolding(crate::specs::Head::newest_in))]
-pub(crate) fn newest<'a>(heads: &'a [Head], file: &str) -> Option<&'a Head>
+pub fn newest_among<'a>(heads: &'a [Head], file: &str) -> Option<&'a Head>
     ensures { option_copied result ≡ newest_in heads.now file.now }
 {
     heads.iter().find(|head| head.file.as_str() == file)

@@ -4,6 +4,7 @@
 //! the file's newest revision, it is within the limits, the site with its text is consistent, and if the file is guarded,
 //! another custodian's proposal of that text is pending. Nothing else changes anything but a file's one proposal.
 //! [`State::foresee`] and [`State::foresee_site`] say what would be in force if a file had another text, and change nothing.
+//! [`held_files`] lists the files that have a revision or a proposal.
 //!
 //! ```text
 //! let mut state: State<Plain> = State::from_heads(alloc, heads, proposals)?;
@@ -21,6 +22,7 @@ pub mod foresight;
 pub mod head;
 pub mod judging;
 pub mod laws;
+pub mod listing;
 pub mod prints;
 pub mod proposal;
 mod site;
@@ -30,7 +32,7 @@ pub use change::compile_heads;
 pub use edit::{Edit, Refusal, RefusalRow};
 pub use entry::Entry;
 pub use foresight::{ForeseenSite, Foresight};
-pub use head::{Head, LAST_REVISION, LONGEST_REVISION, can_be_kept};
+pub use head::{Head, LAST_REVISION, LONGEST_REVISION, can_be_kept, newest_among};
 pub use judging::{Case, is_exports_name, is_file_name, is_guarded, is_known};
 pub use laws::{
     answered_edits_keep_the_numbers, answers_are_right, consistent_sites_have_no_fault,
@@ -38,5 +40,6 @@ pub use laws::{
     guarded_files_have_two_keepers, histories_stay_numbered, known_files_are_listed,
     known_files_have_names, standing_of_a_longer_history,
 };
-pub use proposal::{Proposal, can_be_pending};
+pub use listing::{HeldFile, held_files};
+pub use proposal::{Proposal, can_be_pending, proposal_among};
 pub use state::{Accepted, Judged, State};

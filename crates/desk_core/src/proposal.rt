@@ -37,7 +37,7 @@ fn are_within_reach(proposals: &[Proposal]) -> bool
 
 /// Finds the proposal of a file.
 #[tactic(auto, unfolding(crate::specs::Standing::proposals_in))]
-pub(crate) fn proposal_for<'a>(proposals: &'a [Proposal], file: &str) -> Option<&'a Proposal>
+pub fn proposal_among<'a>(proposals: &'a [Proposal], file: &str) -> Option<&'a Proposal>
     ensures { option_copied result ≡ proposals_in proposals.now file.now }
 {
     proposals

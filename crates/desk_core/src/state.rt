@@ -23,9 +23,9 @@ use crate::change::{
 use crate::edit::{Edit, Refusal};
 use crate::entry::Entry;
 use crate::foresight::{ForeseenSite, Foresight};
-use crate::head::{Head, newest, newest_number, put_head};
+use crate::head::{Head, newest_among, newest_number, put_head};
 use crate::judging::{Case, entry_by, first_case, revision_of};
-use crate::proposal::{Proposal, proposal_for, put_proposal, withdraw};
+use crate::proposal::{Proposal, proposal_among, put_proposal, withdraw};
 use desk_exports::Profile;
 use desk_policy::{
     Policy, PolicyView, Row, SiteFault, SiteTables, exports_place, one_file_is_replaced, read_lines,
@@ -245,7 +245,7 @@ impl<V: PolicyView + Drop> State<V> {
     pub fn newest(&self, file: &str) -> Option<&Head>
         ensures { option_copied result ≡ newest_in self.now.heads file.now }
     {
-        newest(self.heads.as_slice(), file)
+        newest_among(self.heads.as_slice(), file)
     }
 
     /// Lends the proposals, in no order.
@@ -259,15 +259,15 @@ impl<V: PolicyView + Drop> State<V> {
     pub fn proposal(&self, file: &str) -> Option<&Proposal>
         ensures { option_copied result ≡ proposals_in self.now.proposals file.now }
     {
-        proposal_for(self.proposals.as_slice(), file)
+        proposal_among(self.proposals.as_slice(), file)
     }
 
     /// Finds the first case that holds.
     fn first_case(&self, edit: &Edit<'_>) -> Option<Case>
         ensures { result ≡ first_case (standing self.now) (asked edit.now) }
     {
-        let newest = newest(self.heads.as_slice(), edit.file);
-        let proposal = proposal_for(self.proposals.as_slice(), edit.file);
+        let newest = newest_among(self.heads.as_slice(), edit.file);
+        let proposal = proposal_among(self.proposals.as_slice(), edit.file);
         first_case(
             &self.site.custodians,
             self.site.view.policy().filesystems(),
@@ -286,7 +286,7 @@ impl<V: PolicyView + Drop> State<V> {
         requires { first_case (standing self.now) (asked edit.now) ≡ Some case }
         ensures { AnswersCase result (answer_in (newest_in self.now.heads edit.now.file.now) (asked edit.now) case) }
     {
-        let newest = newest(self.heads.as_slice(), edit.file);
+        let newest = newest_among(self.heads.as_slice(), edit.file);
         let refusal = match case {
             Case::Already => {
                 return Ok(Judged::Already {
@@ -415,7 +415,7 @@ impl<V: PolicyView + Drop> State<V> {
         requires { edit.now.base < last_revision }
         ensures { IfOk result (λ stored. stored ≡ entry_of (standing self.now) (asked edit.now)) }
     {
-        let proposal = proposal_for(self.proposals.as_slice(), edit.file);
+        let proposal = proposal_among(self.proposals.as_slice(), edit.file);
         entry_by(alloc, self.site.view.policy().filesystems(), edit, proposal)
     }
 }

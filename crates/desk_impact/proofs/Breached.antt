@@ -10,9 +10,8 @@ use Rattle.desk_policy.specs.declared.verdict.Denial.{Denial}
 use Rattle.desk_who.specs.Breaking.{AreBreaches, broken_at}
 use Rattle.desk_impact.specs.Impact.{TwoVerdicts}
 use Rattle.desk_who.specs.Runs.{HasValue, Run}
-use Rattle.desk_impact.specs.Places.{Others, Place, place_of, place_verdict}
+use Rattle.desk_impact.specs.Places.{Others, Place, place_of, place_verdict, taken_by}
 use Rattle.desk_impact.specs.PrivatePlaces.{IsFree}
-use Rattle.desk_impact.specs.PrivateReport.{taken_by}
 use Rattle.desk_impact.specs.PrivateSections.{AreBreachesOf}
 use Rattle.desk_impact.specs.Sections.{AreBreachesAt, AreBreachesIn, ArePlacesIn, PlaceBreaches, has_breach}
 use Rattle.desk_impact.specs.declared.places.Place.{Place as LentPlace}

@@ -13,10 +13,10 @@ use Rattle.desk_who.specs.Breaking.{AreBreaches, AreBrokenStarts}
 use Rattle.desk_impact.specs.Impact.{AreStartsOfBoth, IsImpact, change_value, verdicts_at}
 use Rattle.desk_who.specs.Who.{range_value}
 use Rattle.desk_impact.specs.declared.changes.TwoVerdicts.{TwoVerdicts as KeptVerdicts}
-use Rattle.desk_impact.specs.Places.{Others, place_verdict, place_verdicts, verdict_elsewhere}
-use Rattle.desk_impact.specs.PrivateKnown.{AreKnownBreaches, HasLearnedBreaches, HasLearnedChange, IsKnownAt, IsKnownChange, fs_number}
+use Rattle.desk_impact.specs.Known.{IsKnownChange, fs_number}
+use Rattle.desk_impact.specs.Places.{Others, place_verdict, place_verdicts, taken_by, verdict_elsewhere}
+use Rattle.desk_impact.specs.PrivateKnown.{AreKnownBreaches, HasLearnedBreaches, HasLearnedChange, IsKnownAt}
 use Rattle.desk_impact.specs.PrivatePlaces.{IsFree}
-use Rattle.desk_impact.specs.PrivateReport.{taken_by}
 use Rattle.desk_impact.specs.declared.known.Known.{Known}
 use Rattle.desk_impact.proofs.Breached.{breaches_of_others, same_breaches}
 use Rattle.desk_impact.proofs.Reporting.{changes_of_others, same_impact}

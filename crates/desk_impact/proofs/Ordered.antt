@@ -13,8 +13,7 @@ use Rattle.std.proofs.lemmas.List.Kept.{AllPairs-cons, Any-dedup, Contains-from_
 use Rattle.std.proofs.lemmas.List.Sorted.{Contains-permutation, IsPermutation-sym}
 use Rattle.desk_text.specs.Path.{are_printed_alike, path_text, same_path}
 use Rattle.desk_tables.specs.FileSystems.{is_before}
-use Rattle.desk_impact.specs.Places.{AreInOrder}
-use Rattle.desk_impact.specs.PrivatePlaces.{paths_in}
+use Rattle.desk_impact.specs.Places.{AreInOrder, paths_in}
 use Rattle.desk_impact.proofs.Same.{Path, contains_map, same_is}
 
 abbrev pub Lent : Type 0

@@ -15,9 +15,9 @@ use Rattle.desk_impact.specs.Impact.{IsImpact, ThoseThatMatter, TwoVerdicts, cha
 use Rattle.desk_who.specs.Runs.{HasValue, Run}
 use Rattle.desk_impact.specs.declared.changes.TwoVerdicts.{TwoVerdicts as KeptVerdicts}
 use Rattle.desk_who.specs.declared.runs.Run.{Run as KeptRun}
-use Rattle.desk_impact.specs.Places.{ArePlaces, Others, Place, dirs_of_both, is_home, mounts_of_both, place_of, place_verdicts}
+use Rattle.desk_impact.specs.Places.{ArePlaces, Others, Place, dirs_of_both, is_home, mounts_of_both, place_of, place_verdicts, taken_by}
 use Rattle.desk_impact.specs.PrivatePlaces.{IsFree}
-use Rattle.desk_impact.specs.PrivateReport.{AreTold, IsReportOf, IsTold, taken_by}
+use Rattle.desk_impact.specs.PrivateReport.{AreTold, IsReportOf, IsTold}
 use Rattle.desk_impact.specs.Report.{AreChangesAt, IsReport, PlaceChanges, last_line, mattering_count, other_count, section, section_of}
 use Rattle.desk_impact.specs.declared.places.Place.{Place as LentPlace}
 use Rattle.desk_impact.specs.declared.report.Report.{Report}

@@ -12,7 +12,8 @@ use Rattle.std.proofs.lemmas.List.{get_or-map, get_or_default, length-map}
 use Rattle.desk_text.specs.Path.{path_text, same_path}
 use Rattle.desk_tables.specs.FileSystems.{is_before}
 use Rattle.desk_policy.specs.Verdict.{is_directory_among}
-use Rattle.desk_impact.specs.PrivatePlaces.{AreAscending, IsFree, paths_in}
+use Rattle.desk_impact.specs.Places.{paths_in}
+use Rattle.desk_impact.specs.PrivatePlaces.{AreAscending, IsFree}
 use Rattle.desk_impact.proofs.Ordered.{Lent}
 use Rattle.desk_impact.proofs.Same.{Path, among, contained, contains_map, is_same, same_is}
 

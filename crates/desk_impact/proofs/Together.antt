@@ -17,7 +17,8 @@ use Rattle.desk_who.specs.Breaking.{AreBrokenStarts, broken_at}
 use Rattle.desk_impact.specs.Impact.{AreStartsOfBoth, TwoVerdicts, verdicts_at}
 use Rattle.desk_who.specs.Starts.{IsSteadyLine}
 use Rattle.desk_impact.specs.Places.{Others, dirs_of_both, mounts_of_both, place_verdict, place_verdicts, verdict_elsewhere}
-use Rattle.desk_impact.specs.PrivateWritings.{AreWritings, HasWriters, Written, writing_value, written_by, written_by_all, written_by_both}
+use Rattle.desk_impact.specs.Writings.{AreWritings, Written, writing_value, written_by, written_by_all, written_by_both}
+use Rattle.desk_impact.specs.PrivateWritings.{HasWriters}
 use Rattle.desk_impact.specs.declared.writings.Writing.{Writing}
 use Rattle.desk_impact.proofs.Covering.{flat_at}
 use Rattle.desk_impact.proofs.Elsewhere.{LacksPath, among, decided_as_others, home_fs}

@@ -12,7 +12,8 @@ use Rattle.std.proofs.lemmas.List.{get_or-drop, get_or-map, get_or-take, get_or_
 use Rattle.std.proofs.lemmas.List.Elements.{All-contains_itself, All-map}
 use Rattle.std.proofs.lemmas.List.Sorted.{Contains-permutation, searchable_from_sorted}
 use Rattle.desk_text.specs.Path.{path_text}
-use Rattle.desk_impact.specs.PrivateWritings.{AreInByteOrder, HasWriters, Written, writing_value}
+use Rattle.desk_impact.specs.Writings.{AreInByteOrder, Written, writing_value}
+use Rattle.desk_impact.specs.PrivateWritings.{HasWriters}
 use Rattle.desk_impact.specs.declared.writings.Writing.{Writing}
 use Rattle.desk_impact.proofs.Same.{Path, contains_map}
 

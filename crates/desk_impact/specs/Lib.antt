@@ -8,5 +8,7 @@ pub mod Report
 pub mod PrivateReport
 pub mod Sections
 pub mod PrivateSections
+pub mod Writings
 pub mod PrivateWritings
+pub mod Known
 pub mod PrivateKnown

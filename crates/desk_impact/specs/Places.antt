@@ -1,6 +1,7 @@
 -- The places of which two policies may say something: each mount point, each written directory, and all others of a mount point.
 -- (this project's own)
 use Rattle.std.specs.Prelude.{◌≡◌, ℕ, ◌++◌, not, ◌&&◌, ◌||◌, Bool, true, false, All, Contains, List, [], ◌∷◌, Option, Some, None, Result, Err, filter, map}
+use Rattle.std.specs.Borrow.{Bor}
 use Rattle.std.specs.List.{AllPairs, flat_map, list_all, list_any}
 use Rattle.desk_text.specs.Path.{IsPath, is_under, same_path}
 use Rattle.desk_tables.specs.FileSystems.{fs_of, is_before, mount_points}
@@ -38,6 +39,10 @@ place_verdict content (Others mount) address = verdict_elsewhere content address
 abbrev pub place_verdicts : Content → Content → Place → ℕ → TwoVerdicts
 place_verdicts before after place address = record { before = place_verdict before place address; after = place_verdict after place address }
 
+-- lent paths by value
+abbrev pub paths_in : List (Bor (List (List ℕ))) → List (List (List ℕ))
+paths_in paths = map (λ path. path.now) paths
+
 -- paths in byte order of their printed forms, each once, that are just the given ones
 pub record AreInOrder (given ordered : List (List (List ℕ))) : Type 0 where
   pub ascend : AllPairs (λ path later. is_before path later ≡ true) ordered
@@ -55,6 +60,10 @@ all_written content = flat_map written content.rows
 -- the directories that lines of two policies write
 abbrev pub dirs_of_both : Content → Content → List (List (List ℕ))
 dirs_of_both before after = all_written before ++ all_written after
+
+-- the mount points of two policies, and the directories that their lines write
+abbrev pub taken_by : Content → Content → List (List (List ℕ))
+taken_by before after = mounts_of_both before after ++ dirs_of_both before after
 
 -- a path is under this mount point, and this one under each other mount point that the path is under
 abbrev pub is_home : List (List (List ℕ)) → List (List ℕ) → List (List ℕ) → Bool

@@ -1,6 +1,5 @@
 -- What the private contracts of places cite.
-use Rattle.std.specs.Prelude.{◌≡◌, ℕ, Bool, true, false, List, ◌∷◌, [], ◌++◌, map}
-use Rattle.std.specs.Borrow.{Bor}
+use Rattle.std.specs.Prelude.{◌≡◌, ℕ, Bool, true, false, List, ◌∷◌, [], ◌++◌}
 use Rattle.std.specs.List.{AllPairs, flat_map}
 use Rattle.desk_tables.specs.FileSystems.{fs_of, is_before}
 use Rattle.desk_tables.specs.declared.filesystems.Mount.{Mount}
@@ -30,10 +29,6 @@ path_of (Others mount) = mount
 -- a place is in this file system
 abbrev pub is_place_in : List Mount → ℕ → Place → Bool
 is_place_in table fs place = is_in (fs_of table (path_of place)) fs
-
--- lent paths by value
-abbrev pub paths_in : List (Bor (List (List ℕ))) → List (List (List ℕ))
-paths_in paths = map (λ path. path.now) paths
 
 -- paths in byte order of their printed forms, each once
 abbrev pub AreAscending : List (List (List ℕ)) → Type 0

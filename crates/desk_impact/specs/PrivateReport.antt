@@ -3,14 +3,10 @@ use Rattle.std.specs.Prelude.{◌≡◌, ℕ, ◌++◌, ◌-◌, All, Bool, List
 use Rattle.std.specs.List.{flat_map}
 use Rattle.std.specs.String.{string_bytes}
 use Rattle.desk_policy.specs.Policy.{Content}
-use Rattle.desk_impact.specs.Places.{Place, dirs_of_both, mounts_of_both}
+use Rattle.desk_impact.specs.Places.{Place}
 use Rattle.desk_impact.specs.Report.{AreChangesAt, PlaceChanges, mattering_count, other_count, report_text, section}
 use Rattle.desk_impact.specs.declared.report.Report.{Report}
 use Rattle.desk_impact.specs.declared.report.Told.{Told}
-
--- the mount points of two policies, and the directories that their lines write
-abbrev pub taken_by : Content → Content → List (List (List ℕ))
-taken_by before after = mounts_of_both before after ++ dirs_of_both before after
 
 -- the section of a place was written, and these are the numbers of its changes
 pub record IsTold (before after : Content) (place : Place) (all : Bool) (old new : List ℕ) (told : Told) : Type 0 where

@@ -94,7 +94,7 @@ pub fn those_that_matter<'a>(
 }
 
 /// Tests whether two verdicts come to the same for a client: both deny the mount, or grant it on the same terms.
-fn has_same_effect(verdict: &Verdict<'_>, other: &Verdict<'_>) -> bool
+pub fn has_same_effect(verdict: &Verdict<'_>, other: &Verdict<'_>) -> bool
     ensures { Decides result (effect (verdict_result other.now) ≡ effect (verdict_result verdict.now)) }
 {
     match (verdict, other) {

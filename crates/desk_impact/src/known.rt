@@ -2,7 +2,8 @@
 
 ghost use Rattle.std.specs.Prelude.{◌≡◌, IfOk, IfSome};
 ghost use Rattle.std.specs.Bool.{Decides};
-ghost use Rattle.desk_impact.specs.PrivateKnown.{IsKnownAt, fs_number};
+ghost use Rattle.desk_impact.specs.Known.{fs_number};
+ghost use Rattle.desk_impact.specs.PrivateKnown.{IsKnownAt};
 
 use desk_tables::FsId;
 use desk_text::{AddrSet, Sequence};
@@ -12,7 +13,7 @@ use std::alloc::{AllocError, Global};
 /// What is found of the directories that no line writes in a file system of the one policy and one of the other; and the
 /// addresses at which it may change on any directory there.
 #[derive(Drop)]
-pub(crate) struct Known<T> {
+pub struct Known<T> {
     pub old: Option<FsId>,
     pub new: Option<FsId>,
     pub starts: AddrSet,

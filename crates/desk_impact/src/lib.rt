@@ -5,8 +5,8 @@
 //! a mount is granted by one of them alone, or on other terms. [`impact_report`] tells these, place by place, and how many ranges
 //! of them matter to a client. Its laws say that no path is left out: one under a mount point is decided on as one of the places
 //! is, and any other is in no file system. [`lines_report`] gives the same report of policies that differ in the lines of one file
-//! system, and asks for verdicts there alone. [`breaches_in`] lists, place by place, the addresses whose verdicts break what is
-//! expected: none exactly if all is kept.
+//! system, and asks for verdicts there alone. [`changes_at`] lists the changes of one place, for who tells them in another form.
+//! [`breaches_in`] lists, place by place, the addresses whose verdicts break what is expected: none exactly if all is kept.
 //!
 //! ```text
 //! let changes = impact(alloc, &old, &new, &path)?;    // none, if both policies say the same of every client
@@ -19,25 +19,30 @@
 pub mod beside;
 pub mod change_prints;
 pub mod changes;
-mod known;
+pub mod known;
 pub mod laws;
 mod place_breaches;
-mod place_changes;
+pub mod place_changes;
 pub mod places;
 pub mod report;
 mod sayings;
 pub mod sections;
 mod unwritten;
-mod writings;
+pub mod writings;
 
 pub use beside::impact_beside;
 pub use change_prints::impact_text;
-pub use changes::{Change, TwoVerdicts, impact, starts_of_both, those_that_matter};
+pub use changes::{
+    Change, TwoVerdicts, has_same_effect, impact, starts_of_both, those_that_matter,
+};
+pub use known::Known;
 pub use laws::{
     impacts_are_unique, impacts_tell_changes, impacts_tell_effects, mounts_have_others,
     no_section_is_all_kept, other_paths_have_none, paths_have_homes, places_tell_all,
     places_tell_scope, same_sayings_are_no_change,
 };
-pub use places::{Place, places_of_both};
+pub use place_changes::changes_at;
+pub use places::{Place, in_order, places_of_both, taken_paths};
 pub use report::{Report, impact_report, lines_report, push_heading};
 pub use sections::{Section, breaches_in, places_below};
+pub use writings::{Writing, writings_of_both};

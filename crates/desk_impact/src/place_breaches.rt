@@ -5,11 +5,10 @@ ghost use Rattle.desk_tables.specs.FileSystems.{fs_of};
 ghost use Rattle.desk_policy.specs.Verdict.{verdict_of};
 ghost use Rattle.desk_who.specs.Breaking.{AreBreaches};
 ghost use Rattle.desk_who.specs.Who.{range_value};
-ghost use Rattle.desk_impact.specs.Places.{AreInOrder, place_of, place_verdict};
-ghost use Rattle.desk_impact.specs.PrivateKnown.{AreKnownBreaches, HasLearnedBreaches, fs_number};
-ghost use Rattle.desk_impact.specs.PrivatePlaces.{paths_in};
-ghost use Rattle.desk_impact.specs.PrivateReport.{taken_by};
-ghost use Rattle.desk_impact.specs.PrivateWritings.{AreWritings};
+ghost use Rattle.desk_impact.specs.Known.{fs_number};
+ghost use Rattle.desk_impact.specs.Places.{AreInOrder, paths_in, place_of, place_verdict, taken_by};
+ghost use Rattle.desk_impact.specs.PrivateKnown.{AreKnownBreaches, HasLearnedBreaches};
+ghost use Rattle.desk_impact.specs.Writings.{AreWritings};
 
 use crate::known::{Known, copied, known_place};
 use crate::places::{Place, path_of};

@@ -3,11 +3,10 @@
 ghost use Rattle.std.specs.Prelude.{◌≡◌, All, IfOk, OnOk, map};
 ghost use Rattle.desk_tables.specs.FileSystems.{fs_of};
 ghost use Rattle.desk_impact.specs.Impact.{IsImpact, change_value, verdicts_at};
-ghost use Rattle.desk_impact.specs.Places.{AreInOrder, place_of, place_verdicts};
-ghost use Rattle.desk_impact.specs.PrivateKnown.{HasLearnedChange, IsKnownChange, fs_number};
-ghost use Rattle.desk_impact.specs.PrivatePlaces.{paths_in};
-ghost use Rattle.desk_impact.specs.PrivateReport.{taken_by};
-ghost use Rattle.desk_impact.specs.PrivateWritings.{AreWritings};
+ghost use Rattle.desk_impact.specs.Known.{IsKnownChange, fs_number};
+ghost use Rattle.desk_impact.specs.Places.{AreInOrder, paths_in, place_of, place_verdicts, taken_by};
+ghost use Rattle.desk_impact.specs.PrivateKnown.{HasLearnedChange};
+ghost use Rattle.desk_impact.specs.Writings.{AreWritings};
 
 use crate::beside::impact_beside;
 use crate::changes::{Change, TwoVerdicts, impact, starts_of_both};
@@ -21,7 +20,7 @@ use desk_who::starts_within;
 use std::alloc::{AllocError, Global};
 
 /// Lists the changes of a place. What is found of the directories that no line writes is known from then on.
-pub(crate) fn changes_at<'a, V: PolicyView>(
+pub fn changes_at<'a, V: PolicyView>(
     alloc: Global,
     before: &'a V,
     after: &'a V,

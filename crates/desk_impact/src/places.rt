@@ -6,9 +6,8 @@ ghost use Rattle.desk_text.specs.Path.{same_path};
 ghost use Rattle.desk_tables.specs.FileSystems.{mount_points};
 ghost use Rattle.desk_policy.specs.Listings.{written};
 ghost use Rattle.desk_impact.specs.Places as spec;
-ghost use Rattle.desk_impact.specs.Places.{AreInOrder, ArePlaces, all_written, dirs_below, is_home, place_of, places_at};
-ghost use Rattle.desk_impact.specs.PrivatePlaces.{ArePlacesWith, dirs_with, is_place_in, path_of, paths_in};
-ghost use Rattle.desk_impact.specs.PrivateReport.{taken_by};
+ghost use Rattle.desk_impact.specs.Places.{AreInOrder, ArePlaces, all_written, dirs_below, is_home, paths_in, place_of, places_at, taken_by};
+ghost use Rattle.desk_impact.specs.PrivatePlaces.{ArePlacesWith, dirs_with, is_place_in, path_of};
 
 use desk_policy::{Policy, Row};
 use desk_tables::{FileSystems, FsId, Mount};
@@ -120,7 +119,7 @@ pub(crate) fn path_of(place: Place<'_>) -> &Path
 }
 
 /// Lists the mount points of two policies and the directories that their lines write, in byte order, each once.
-pub(crate) fn taken_paths<'a>(
+pub fn taken_paths<'a>(
     alloc: Global,
     before: &'a Policy,
     after: &'a Policy,
@@ -176,7 +175,7 @@ fn dirs_with<'a>(
 }
 
 /// Puts paths in byte order, each once.
-pub(crate) fn in_order(mut paths: Vec<&Path>) -> Vec<&Path>
+pub fn in_order(mut paths: Vec<&Path>) -> Vec<&Path>
     ensures { AreInOrder (paths_in paths.entry.items) (paths_in result.items) }
 {
     paths.sort_unstable();

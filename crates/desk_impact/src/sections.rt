@@ -4,8 +4,7 @@ ghost use Rattle.std.specs.Prelude.{◌≡◌, ◌++◌, ◌∷◌, [], IfOk, On
 ghost use Rattle.desk_text.specs.Path.{is_under};
 ghost use Rattle.desk_tables.specs.FileSystems.{mount_points};
 ghost use Rattle.desk_who.specs.Who.{range_value};
-ghost use Rattle.desk_impact.specs.Places.{all_written, place_of};
-ghost use Rattle.desk_impact.specs.PrivatePlaces.{paths_in};
+ghost use Rattle.desk_impact.specs.Places.{all_written, paths_in, place_of};
 ghost use Rattle.desk_impact.specs.Sections.{AreBreachesIn, ArePlacesBelow, has_breach, roots_below, section_value};
 
 use crate::place_breaches::breaches_at;

@@ -2,7 +2,8 @@
 
 ghost use Rattle.std.specs.Prelude.{◌≡◌, IfOk};
 ghost use Rattle.desk_policy.specs.Verdict.{is_directory_among};
-ghost use Rattle.desk_impact.specs.PrivatePlaces.{AreAscending, IsFree, paths_in};
+ghost use Rattle.desk_impact.specs.Places.{paths_in};
+ghost use Rattle.desk_impact.specs.PrivatePlaces.{AreAscending, IsFree};
 
 use desk_text::Path;
 use std::alloc::{AllocError, Global};

@@ -2,7 +2,8 @@
 
 ghost use Rattle.std.specs.Prelude.{◌≡◌, ◌++◌, IfOk, OnOk, map};
 ghost use Rattle.std.specs.List.{flat_map};
-ghost use Rattle.desk_impact.specs.PrivateWritings.{AreInByteOrder, AreWritings, HasWriters, writing_value, written_by, written_by_all};
+ghost use Rattle.desk_impact.specs.PrivateWritings.{HasWriters};
+ghost use Rattle.desk_impact.specs.Writings.{AreInByteOrder, AreWritings, writing_value, written_by, written_by_all};
 
 use desk_policy::{Policy, Row};
 use desk_text::Path;
@@ -10,13 +11,13 @@ use std::alloc::{AllocError, Global};
 
 /// A line, and a directory that it writes.
 #[derive(Clone, Copy)]
-pub(crate) struct Writing<'a> {
+pub struct Writing<'a> {
     pub dir: &'a Path,
     pub row: &'a Row,
 }
 
 /// Lists the lines of two policies, each for each directory that it writes, in byte order of the directories.
-pub(crate) fn writings_of_both<'a>(
+pub fn writings_of_both<'a>(
     alloc: Global,
     before: &'a Policy,
     after: &'a Policy,

@@ -35,7 +35,8 @@ pub record AreLeastAndMost (class_at : ℕ → Class) (first last : ℕ) (cell :
 -- The cells of the map of a network, in the order of their addresses.
 pub record AreCells (class_at : ℕ → Class) (network : Block) (cells : List Cell) : Type 0 where
   pub count : length cells ≡ 256
-  pub each : (number : ℕ) (default : Cell) → number < 256 → AreLeastAndMost class_at (cell_first network number) (cell_last network number) (slice_index_or cells number default)
+  pub each : (number : ℕ) (default : Cell) → number < 256
+      → AreLeastAndMost class_at (cell_first network number) (cell_last network number) (slice_index_or cells number default)
 
 -- Given the runs of a function of addresses, the cells of the map of a network.
 abbrev pub AreCellsFrom : List (Run Class) → Block → List Cell → Type 0

@@ -49,7 +49,8 @@ IsWide network = network.prefix ≤ 24
 -- the maps that each file system has, so that two can be compared: of all addresses, and of the private networks (RFC 1918)
 abbrev pub fixed_maps : List Block
 fixed_maps =
-    all_addresses ∷ record { first = 167772160; prefix = 8 } ∷ record { first = 2886729728; prefix = 12 } ∷ record { first = 3232235520; prefix = 16 } ∷ []
+    all_addresses ∷ record { first = 167772160; prefix = 8 } ∷ record { first = 2886729728; prefix = 12 }
+    ∷ record { first = 3232235520; prefix = 16 } ∷ []
 
 abbrev pub same_network : Block → Block → Bool
 same_network network other = network.first == other.first && network.prefix == other.prefix

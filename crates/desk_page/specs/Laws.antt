@@ -16,7 +16,8 @@ begins_with (b ∷ bs) (t ∷ text) = b == t && begins_with bs text
 -- what stands behind an & is the rest of a reference to one of the five characters that are markup
 abbrev pub begins_reference : List ℕ → Bool
 begins_reference text =
-    begins_with (codes "amp;") text || (begins_with (codes "lt;") text || (begins_with (codes "gt;") text || (begins_with (codes "quot;") text || begins_with (codes "#39;") text)))
+    begins_with (codes "amp;") text || (begins_with (codes "lt;") text || (begins_with (codes "gt;") text
+    || (begins_with (codes "quot;") text || begins_with (codes "#39;") text)))
 
 -- no markup: no character that opens or closes a tag or an attribute, and no & but that of a reference
 abbrev pub has_no_markup : List ℕ → Bool

@@ -25,14 +25,18 @@ is_network ends prefix = (block_of ends.first prefix).first == ends.first && las
 unfoldable pub prefix_of : Ends → Option ℕ
 prefix_of ends = find (is_network ends) (range_with_len 0 33)
 
--- a network, of which one address alone is written without a prefix
+-- A network, as `10.0.0.0/8`, by its first address and its prefix.
 abbrev pub network_text : ℕ → ℕ → List ℕ
-network_text first prefix = if prefix == 32 then addr_text first else addr_text first ++ codes "/" ++ decimal prefix
+network_text first prefix = addr_text first ++ codes "/" ++ decimal prefix
+
+-- a network, of which one address alone is written without a prefix
+abbrev pub network_or_address : ℕ → ℕ → List ℕ
+network_or_address first prefix = if prefix == 32 then addr_text first else network_text first prefix
 
 -- an address, a network, or any other range by its ends, between which a line may be broken
 abbrev pub text_by_prefix : Ends → Option ℕ → List ℕ
 text_by_prefix ends None = addr_text ends.first ++ codes "-<wbr>" ++ addr_text ends.last
-text_by_prefix ends (Some prefix) = network_text ends.first prefix
+text_by_prefix ends (Some prefix) = network_or_address ends.first prefix
 
 abbrev pub range_text : Ends → List ℕ
 range_text ends = text_by_prefix ends (prefix_of ends)

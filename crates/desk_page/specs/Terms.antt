@@ -26,9 +26,13 @@ flavours_words flavours = join_by flavour_words (codes " or ") flavours
 
 -- who acts as whom
 abbrev pub mapping_words : Mapping → List ℕ
-mapping_words (Root cred) = if cred.uid == 0 then codes "root stays root (" ++ cred_text cred ++ codes ")" else codes "root acts as " ++ cred_text cred
-mapping_words (All cred) = if cred.uid == 0 then codes "every user acts as root (" ++ cred_text cred ++ codes ")" else codes "every user acts as " ++ cred_text cred
+mapping_words (Root cred) =
+    if cred.uid == 0 then codes "root stays root (" ++ cred_text cred ++ codes ")" else codes "root acts as " ++ cred_text cred
+mapping_words (All cred) =
+    if cred.uid == 0 then codes "every user acts as root (" ++ cred_text cred ++ codes ")" else codes "every user acts as " ++ cred_text cred
 
 -- terms, as `read-write; root acts as 65534:65533; user ids taken on trust (sys)`
 abbrev pub terms_words : Terms → List ℕ
-terms_words terms = (if terms.ro then codes "read-only" else codes "read-write") ++ codes "; " ++ mapping_words terms.map ++ codes "; " ++ flavours_words terms.flavours
+terms_words terms =
+    (if terms.ro then codes "read-only" else codes "read-write") ++ codes "; " ++ mapping_words terms.map ++ codes "; "
+    ++ flavours_words terms.flavours

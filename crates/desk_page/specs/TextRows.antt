@@ -10,7 +10,9 @@ marked_class is_marked = if is_marked then codes " class=\"hit\"" else []
 
 -- the beginning of a row, which links lead to, given the number of the file system, the line and the class
 abbrev pub row_with : ℕ → ℕ → List ℕ → List ℕ
-row_with fs line class = codes "<tr id=\"f" ++ decimal fs ++ codes "-" ++ decimal line ++ codes "\"" ++ class ++ codes "><th scope=\"row\">" ++ decimal line ++ codes "</th>"
+row_with fs line class =
+    codes "<tr id=\"f" ++ decimal fs ++ codes "-" ++ decimal line ++ codes "\"" ++ class ++ codes "><th scope=\"row\">" ++ decimal line
+    ++ codes "</th>"
 
 abbrev pub row_start : ℕ → ℕ → Bool → List ℕ
 row_start fs line is_marked = row_with fs line (marked_class is_marked)

@@ -27,6 +27,6 @@ pub use pieces::{
     Column, push_box_start, push_code, push_code_list, push_head_row, push_line_link,
     push_system_link, push_zero,
 };
-pub use ranges::{Span, push_range, push_ranges};
+pub use ranges::{Span, push_network, push_range, push_ranges};
 pub use terms::{push_flavours, push_terms};
 pub use text_rows::{push_count_cell, push_line_cell, push_row_start};

@@ -123,19 +123,26 @@ pub fn push_range(first: Addr, last: Addr, page: &mut String) -> Result<(), Allo
 {
     match prefix_of(first, last) {
         None => write!(page, "{first}-<wbr>{last}"),
-        Some(prefix) => push_network(first, prefix, page),
+        Some(prefix) => push_network_or_address(first, prefix, page),
     }
 }
 
 /// Adds a network: as an address, if it has no other.
-fn push_network(first: Addr, prefix: u8, page: &mut String) -> Result<(), AllocError>
-    ensures { OnOk result (string_bytes page.new ≡ string_bytes page.old ++ spec.network_text (number_of first) prefix) }
+fn push_network_or_address(first: Addr, prefix: u8, page: &mut String) -> Result<(), AllocError>
+    ensures { OnOk result (string_bytes page.new ≡ string_bytes page.old ++ spec.network_or_address (number_of first) prefix) }
 {
     if prefix == 32 {
         write!(page, "{first}")
     } else {
-        write!(page, "{first}/{prefix}")
+        push_network(first, prefix, page)
     }
+}
+
+/// Adds a network, by its first address and its prefix.
+pub fn push_network(first: Addr, prefix: u8, page: &mut String) -> Result<(), AllocError>
+    ensures { OnOk result (string_bytes page.new ≡ string_bytes page.old ++ spec.network_text (number_of first) prefix) }
+{
+    write!(page, "{first}/{prefix}")
 }
 
 /// Finds the prefix of the network that a range is.

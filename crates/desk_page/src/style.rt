@@ -48,8 +48,8 @@ tbody th{font-weight:400}
 .zero{color:var(--mute)}
 small{color:var(--mute)}
 table.o td{vertical-align:middle}
-table.o th{vertical-align:middle;white-space:nowrap}
-table.o thead th{vertical-align:bottom}
+table.o th{vertical-align:middle}
+table.o thead th{vertical-align:bottom;white-space:nowrap}
 table.s{width:auto}
 table.s th,table.s td{padding-right:1.5rem;white-space:nowrap}
 table.v{table-layout:fixed;min-width:44rem}
@@ -68,7 +68,7 @@ table.text td{vertical-align:baseline}
 table.text td:nth-child(2){white-space:nowrap}
 table.text td:last-child{width:100%}
 table.text .num{padding-right:1.25rem}
-table.text tr.hit>*{background:var(--hit)}
+table.text tr.hit{background:var(--hit)}
 ul.r{list-style:none;margin:0;padding:0;display:flex;flex-wrap:wrap;gap:0 1rem}
 ul.d{list-style:none;margin:0 0 .5rem;padding:0;font-size:.875rem;color:var(--mute)}
 ul.mine,ul.legend{list-style:none;padding:0;margin:.5rem 0 1rem}
@@ -88,9 +88,11 @@ b.l{font-size:.875rem}
 .names{font-size:.875rem;max-width:none}
 .state{font-size:.875rem;color:var(--mute);max-width:none}
 .state code{color:var(--fg)}
-table.a th code,table.f th+td code,table.o th code{white-space:pre}
+table.a th code{white-space:pre}
+table.f th+td,table.o tbody th{min-width:9rem}
 dl.words{display:grid;grid-template-columns:max-content 1fr;gap:.4rem 1.25rem;max-width:52rem}
 dl.words dd{margin:0}
+dl.words code{display:inline-block;max-width:100%}
 ul.d .r{font-size:.9375em}
 .key{font-size:.875rem;color:var(--mute)}
 table.n tbody th{min-width:9rem}
@@ -131,7 +133,7 @@ path.k{stroke:var(--in);stroke-width:.5;paint-order:stroke}
 .tiny path.k.r{fill:var(--rk);stroke:var(--rk);stroke-width:.6}
 path.k.o{fill:var(--in);stroke:var(--ro);stroke-width:.9}
 path.k.r{fill:var(--rk)}
-@media (max-width:40rem){body{padding:0 .9rem 3rem}nav{margin:1rem -.9rem 0;padding:.6rem .9rem}h1{font-size:1.5rem}figure,.place figure{width:8rem}section.place{padding-left:.7rem}table{min-width:36rem}table.o{min-width:58rem}table.h{min-width:62rem}table.n,table.i{min-width:52rem}table.v,table.v tbody,table.f,table.f tbody,table.p,table.p tbody{display:block;min-width:0}table.v thead,table.f thead,table.p thead{position:absolute;width:1px;height:1px;overflow:hidden;clip-path:inset(50%)}table.v tr,table.f tr,table.p tr{display:grid;gap:.1rem .6rem;padding:.5rem 0;border-bottom:1px solid var(--line)}table.v tr>*,table.f tr>*,table.p tr>*{padding:0;border:0}table.v tr,table.p tr{grid-template-columns:auto 1fr}table.f tr{grid-template-columns:auto 1fr auto}table.v .num,table.p .num{grid-area:1/2}table.f th{grid-area:1/1}table.f td:nth-child(2){grid-area:1/2}table.f .num{grid-area:1/3}table.v .num::before,table.f .num::before,table.p .num::before{content:"addresses: ";color:var(--mute);font-size:.8125rem}table.p td:nth-child(3)::before{content:"all of it: ";color:var(--mute);font-size:.8125rem}table.p td:nth-child(4)::before{content:"parts of it: ";color:var(--mute);font-size:.8125rem}table.v td:nth-child(2),table.v td:nth-child(4),table.f td:nth-child(3),table.p td:nth-child(3),table.p td:nth-child(4){grid-column:1/-1}ul.r{gap:0 .8rem}table.text,table.text tbody{display:block;min-width:0}table.text thead{position:absolute;width:1px;height:1px;overflow:hidden;clip-path:inset(50%)}table.text tr{display:grid;grid-template-columns:2.25rem 1fr auto;border-bottom:1px solid var(--line)}table.text td:empty{display:none}table.text td:last-child{grid-column:2/-1;width:auto}table.text .num{padding-right:0}table.s th,table.s td{padding-right:.6rem;font-size:.8125rem}dl.words{display:block}dl.words dd{margin:.1rem 0 .7rem}}
-@media print{body{max-width:none;padding:0;font-size:9pt}nav,.up{display:none}a{color:inherit;text-decoration:none}h2,h3,h4,h5,caption,thead{break-after:avoid}tr,figure,.maps,dl,.place{break-inside:avoid}thead{display:table-header-group}.wide{overflow:visible}details::details-content{content-visibility:visible;display:block;height:auto}summary{color:inherit;list-style:none}table,table.text{font-size:8.5pt}svg.tiny{width:1.1cm;height:1.1cm}figure{width:3.3cm}.place figure{width:2.9cm}}
+@media (max-width:40rem){body{padding:0 .9rem 3rem}nav{margin:1rem -.9rem 0;padding:.6rem .9rem}h1{font-size:1.5rem}figure,.place figure{width:8rem}section.place{padding-left:.7rem}table{min-width:36rem}table.a{min-width:52rem}table.o{min-width:58rem}table.h{min-width:62rem}table.n,table.i{min-width:52rem}table.v,table.v tbody,table.f,table.f tbody,table.p,table.p tbody{display:block;min-width:0}table.v thead,table.f thead,table.p thead{position:absolute;width:1px;height:1px;overflow:hidden;clip-path:inset(50%)}table.v tr,table.f tr,table.p tr{display:grid;gap:.1rem .6rem;padding:.5rem 0;border-bottom:1px solid var(--line)}table.v tr>*,table.f tr>*,table.p tr>*{padding:0;border:0}table.v tr,table.p tr{grid-template-columns:auto 1fr}table.f tr{grid-template-columns:auto 1fr auto}table.v .num,table.p .num{grid-area:1/2}table.f th{grid-area:1/1}table.f td:nth-child(2){grid-area:1/2;min-width:0}table.f .num{grid-area:1/3}table.v .num::before,table.f .num::before,table.p .num::before,table.text .num::before{content:"addresses: ";color:var(--mute);font-size:.8125rem}table.p td:nth-child(3)::before{content:"all of it: ";color:var(--mute);font-size:.8125rem}table.p td:nth-child(4)::before{content:"parts of it: ";color:var(--mute);font-size:.8125rem}table.v td:nth-child(2),table.v td:nth-child(4),table.f td:nth-child(3),table.p td:nth-child(3),table.p td:nth-child(4){grid-column:1/-1}ul.r{gap:0 .8rem}table.text,table.text tbody{display:block;min-width:0}table.text thead{position:absolute;width:1px;height:1px;overflow:hidden;clip-path:inset(50%)}table.text tr{display:grid;grid-template-columns:2.25rem 1fr auto;border-bottom:1px solid var(--line)}table.text td:empty{display:none}table.text td:last-child{grid-column:2/-1;width:auto}table.text .num{padding-right:0}table.s th,table.s td{padding-right:.6rem;font-size:.8125rem}dl.words{display:block}dl.words dd{margin:.1rem 0 .7rem}}
+@media print{html{font-size:8pt}body{max-width:none;padding:0}dl.big{grid-template-columns:repeat(7,1fr)}table.o thead th{white-space:normal}table.h th,table.h td{padding-right:.5rem}.sha{font-size:.6875rem}nav,.up{display:none}a{color:inherit;text-decoration:none}h2,h3,h4,h5,caption,thead{break-after:avoid}tr,figure,.maps,dl,.place{break-inside:avoid}thead{display:table-header-group}.wide{overflow:visible}details::details-content{content-visibility:visible;display:block;height:auto}summary{color:inherit;list-style:none}svg.tiny{width:.9cm;height:.9cm}figure{width:2.7cm}.place figure{width:2.4cm}}
 @media (forced-colors:active){.b,svg{forced-color-adjust:none}}
 "#;

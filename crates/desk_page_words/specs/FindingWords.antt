@@ -1,6 +1,6 @@
 -- Why a line stands out, in words. (this project's own)
-use Rattle.std.specs.Prelude.{ℕ, ◌==◌, Bool, true, false, List, [], ◌++◌, codes, drop, length, nat_le, take, if◌then◌else◌}
-use Rattle.std.specs.List.{join_by, list_any}
+use Rattle.std.specs.Prelude.{ℕ, ◌==◌, Bool, List, [], ◌++◌, codes, drop, length, nat_le, take, if◌then◌else◌}
+use Rattle.std.specs.List.{join_by}
 use Rattle.desk_exports.specs.Flavours.{flavour_word}
 use Rattle.desk_exports.specs.declared.entry.Flavour.{Flavour}
 use Rattle.desk_exports.specs.declared.entry.Mapping.{Mapping}
@@ -9,28 +9,9 @@ use Rattle.desk_exports.specs.declared.entry.Terms.{Terms}
 use Rattle.desk_page.specs.Pieces.{line_link}
 use Rattle.desk_page.specs.Amounts.{and_more}
 use Rattle.desk_page_words.specs.declared.finding_words.Finding.{Finding}
-use Rattle.desk_report.specs.Reasons.{level_of}
-use Rattle.desk_report.specs.declared.reasons.Level.{Level}
-use Rattle.desk_report.specs.declared.reasons.Level.TheVariants.{LookFirst, Check}
 use Rattle.desk_report.specs.declared.reasons.Reason.{Reason}
 use Rattle.desk_report.specs.declared.reasons.Reason.TheVariants.{NoClient, NeverDecides, ForEverybodyReadOnly, ForEverybodyReadWrite, Wide, RootKeptForNetworks, RootKeptForNames}
-
--- a level is that of what to look at first
-abbrev pub is_first_level : Level → Bool
-is_first_level LookFirst = true
-is_first_level Check = false
-
--- a reason is to be looked at first
-abbrev pub is_first : Reason → Bool
-is_first reason = is_first_level (level_of reason)
-
--- one of the reasons is
-abbrev pub has_first : List Reason → Bool
-has_first reasons = list_any is_first reasons
-
--- the highest level of reasons
-abbrev pub highest_level : List Reason → Level
-highest_level reasons = if has_first reasons then LookFirst else Check
+pub use Rattle.desk_report.specs.Reasons.{is_first_level, level_of_all as highest_level}
 
 -- the names of flavours, as a line writes them
 abbrev pub flavour_names : List Flavour → List ℕ

@@ -6,10 +6,11 @@ ghost use Rattle.std.specs.String.{string_bytes};
 ghost use Rattle.desk_exports.specs.Flavours.{flavour_word};
 ghost use Rattle.desk_page.specs.Pieces.{line_link};
 ghost use Rattle.desk_page_words.specs.FindingWords as spec;
+ghost use Rattle.desk_report.specs.Reasons.{level_of_all};
 
 use desk_exports::{Flavour, Mapping, Terms};
 use desk_page::{push_and_more, push_line_link};
-use desk_report::{Level, Reason};
+use desk_report::{Level, Reason, level_of_reasons};
 use desk_tables::FsId;
 use std::alloc::{AllocError, Global};
 
@@ -33,30 +34,9 @@ pub struct Finding<'a> {
 impl Finding<'_> {
     /// Returns the highest level of its reasons.
     pub fn level(&self) -> Level
-        ensures { result ≡ spec.highest_level self.now.reasons.now }
+        ensures { result ≡ level_of_all self.now.reasons.now }
     {
-        if has_first(self.reasons) {
-            Level::LookFirst
-        } else {
-            Level::Check
-        }
-    }
-}
-
-/// Tests whether one of the reasons is to be looked at first.
-fn has_first(reasons: &[Reason]) -> bool
-    ensures { result ≡ spec.has_first reasons.now }
-{
-    reasons.iter().any(|reason| is_first(*reason))
-}
-
-/// Tests whether a reason is to be looked at first.
-fn is_first(reason: Reason) -> bool
-    ensures { result ≡ spec.is_first reason }
-{
-    match reason.level() {
-        Level::LookFirst => true,
-        Level::Check => false,
+        level_of_reasons(self.reasons)
     }
 }
 

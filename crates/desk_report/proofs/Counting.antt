@@ -12,6 +12,7 @@ use Rattle.std.proofs.lemmas.List.Sums.{length-filter}
 use Rattle.std.proofs.lemmas.List.Sorted.{Contains-permutation, IsPermutation-sym}
 use Rattle.desk_text.specs.Address.{number_of}
 use Rattle.desk_policy.specs.declared.row.Row.{Row}
+use Rattle.desk_impact.proofs.Telling.{map-filter}
 use Rattle.desk_report.specs.Counts.{count_within}
 use Rattle.desk_report.specs.PrivateGrants.{AreByLine, Ascend, PieceValue, counts_of, covered, has, is_of_line, line_count, piece_value}
 use Rattle.desk_report.specs.declared.grants.LineGrants.{LineGrants}
@@ -19,7 +20,6 @@ use Rattle.desk_report.specs.declared.grants.Piece.{Piece}
 use Rattle.desk_report.proofs.AllRows.{same_tie, tie_same}
 use Rattle.desk_report.proofs.Filtered.{both_in, some_in}
 use Rattle.desk_report.proofs.Gathered.{take_next}
-use Rattle.desk_report.proofs.OfLine.{map_filter}
 
 abbrev pub line_key : Piece → ℕ
 line_key piece = piece.line
@@ -59,7 +59,7 @@ module _ (firsts sorted : List Piece) (rise : IsNonDecreasingBy first_key firsts
   -- those of a line ascend by their first addresses
   pub line_ascends : Ascend (filter (is_of_line line) (map piece_value sorted))
   line_ascends =
-      subst Ascend (ap (map piece_value) (sym same_pieces) ∙ map_filter piece_value (is_of_line line) sorted)
+      subst Ascend (ap (map piece_value) (sym same_pieces) ∙ map-filter piece_value (is_of_line line) sorted)
       (up (filter (λ (p : Piece). p.line == line) firsts) (IsNonDecreasingBy-filter first_key (λ (p : Piece). p.line == line) firsts rise))
 
 pub by_line : (pieces : List Piece) → IsNonDecreasingBy line_key pieces → AreByLine (map piece_value pieces)

@@ -1,42 +1,17 @@
 -- The pieces of a line, where pieces ascend by their lines.
-use Rattle.std.proofs.Common.{◌≡◌, ℕ, zero, suc, ◌<◌, ◌≤◌, ◌&&◌, ◌∙◌, Bool, true, false, cond, List, [], ◌∷◌, ap, arith, drop, get_or, inl, inr, length, map, refl, sym, take}
+use Rattle.std.proofs.Common.{◌≡◌, ℕ, ◌<◌, ◌≤◌, ◌&&◌, ◌∙◌, Bool, true, false, cond, List, [], ◌∷◌, ap, arith, drop, get_or, inl, inr, length, map, refl, sym, take}
 use Rattle.std.specs.Prelude.{◌==◌, filter, nat_le, nat_lt, not}
 use Rattle.std.specs.List.Sorted.{IsPartitionPoint, IsPartitionedBy}
 use Rattle.std.proofs.lemmas.Bool.{and_from, cases_order, eq-eqb, le-leb, le-ltb, leb-true, lt-leb, lt-ltb, ltb-true, ne_eqb}
 use Rattle.std.proofs.lemmas.List.{get_or-map, get_or-take, length-map, length-take}
 use Rattle.std.proofs.lemmas.List.Elements.{filter_agree}
+use Rattle.desk_who.proofs.Slices.{first_pass, last_pass}
+use Rattle.desk_impact.proofs.Telling.{map-filter}
 use Rattle.desk_report.specs.PrivateGrants.{AreByLine, PieceValue, is_of_line, piece_value}
 use Rattle.desk_report.specs.declared.grants.Piece.{Piece}
 
-module _ {X : Type 0} (p : X → Bool) where
-  -- where those that pass come first
-  first_pass : (xs : List X) (k : ℕ) → IsPartitionPoint (λ y. p y ≡ true) (λ y. p y ≡ false) xs k → k ≤ length xs → filter p xs ≡ take k xs
-  first_pass [] zero point le = refl
-  first_pass [] (suc k) point le = absurd (omega arith)
-  first_pass (x ∷ xs) zero point le =
-      let fails : p x ≡ false = point.1 0 x (omega arith) (omega arith) in
-      ap (λ b. cond b (x ∷ filter p xs) (filter p xs)) fails
-      ∙ first_pass xs zero (λ i d low high. absurd (omega arith), λ i d low high. point.1 (suc i) d (omega arith) (omega arith)) (omega arith)
-  first_pass (x ∷ xs) (suc k) point le =
-      let passes : p x ≡ true = point.0 0 x (omega arith) (omega arith) in
-      ap (λ b. cond b (x ∷ filter p xs) (filter p xs)) passes
-      ∙ ap (λ ys. x ∷ ys) (first_pass xs k (λ i d low high. point.0 (suc i) d (omega arith) (omega arith), λ i d low high. point.1 (suc i) d (omega arith) (omega arith)) (omega arith))
-
-  -- where they come last
-  last_pass : (xs : List X) (k : ℕ) → IsPartitionPoint (λ y. p y ≡ false) (λ y. p y ≡ true) xs k → k ≤ length xs → filter p xs ≡ drop k xs
-  last_pass [] zero point le = refl
-  last_pass [] (suc k) point le = absurd (omega arith)
-  last_pass (x ∷ xs) zero point le =
-      let passes : p x ≡ true = point.1 0 x (omega arith) (omega arith) in
-      ap (λ b. cond b (x ∷ filter p xs) (filter p xs)) passes
-      ∙ ap (λ ys. x ∷ ys) (last_pass xs zero (λ i d low high. absurd (omega arith), λ i d low high. point.1 (suc i) d (omega arith) (omega arith)) (omega arith))
-  last_pass (x ∷ xs) (suc k) point le =
-      let fails : p x ≡ false = point.0 0 x (omega arith) (omega arith) in
-      ap (λ b. cond b (x ∷ filter p xs) (filter p xs)) fails
-      ∙ last_pass xs k (λ i d low high. point.0 (suc i) d (omega arith) (omega arith), λ i d low high. point.1 (suc i) d (omega arith) (omega arith)) (omega arith)
-
 -- what passes two tests passes one of what passes the other
-filter_both : {X : Type 0} (p q : X → Bool) (xs : List X) → filter (λ x. p x && q x) xs ≡ filter p (filter q xs)
+pub filter_both : {X : Type 0} (p q : X → Bool) (xs : List X) → filter (λ x. p x && q x) xs ≡ filter p (filter q xs)
 filter_both p q [] = refl
 filter_both p q (x ∷ xs) = by (p x) (q x) refl (filter_both p q xs)
   where
@@ -46,14 +21,6 @@ filter_both p q (x ∷ xs) = by (p x) (q x) refl (filter_both p q xs)
     by true false e rest = rest
     by false true e rest = rest ∙ sym (ap (λ b. cond b (x ∷ filter p (filter q xs)) (filter p (filter q xs))) e)
     by false false e rest = rest
-
-pub map_filter : {X Y : Type 0} (f : X → Y) (test : Y → Bool) (xs : List X) → map f (filter (λ x. test (f x)) xs) ≡ filter test (map f xs)
-map_filter f test [] = refl
-map_filter f test (x ∷ xs) = by (test (f x)) (map_filter f test xs)
-  where
-    by : (b : Bool) → map f (filter (λ y. test (f y)) xs) ≡ filter test (map f xs) → map f (cond b (x ∷ filter (λ y. test (f y)) xs) (filter (λ y. test (f y)) xs)) ≡ cond b (f x ∷ filter test (map f xs)) (filter test (map f xs))
-    by true rest = ap (λ ys. f x ∷ ys) rest
-    by false rest = rest
 
 abbrev pub up_to : ℕ → Piece → Bool
 up_to line piece = nat_le piece.line line
@@ -109,4 +76,4 @@ module _ (pieces : List Piece) (by_line : AreByLine (map piece_value pieces)) (l
       ∙ ap (filter (λ p. not (is_before line p))) (sym (first_pass (up_to line) pieces end upper le))
       ∙ sym (filter_both (λ p. not (is_before line p)) (up_to line) pieces)
       ∙ sym (filter_agree (λ (p : Piece). p.line == line) (λ p. not (is_before line p) && up_to line p) (λ p. one_line line p.line) pieces))
-      ∙ map_filter piece_value (is_of_line line) pieces
+      ∙ map-filter piece_value (is_of_line line) pieces

@@ -24,7 +24,7 @@ use Rattle.desk_report.proofs.Grouped.{in_kept, kept_in}
 use Rattle.desk_report.proofs.Homes.{own_home}
 
 -- the file system that a verdict names
-named_fs : Result Grant Denial → Option ℕ
+pub named_fs : Result Grant Denial → Option ℕ
 named_fs (Ok grant) = Some grant.fs.0
 named_fs (Err NoFileSystem) = None
 named_fs (Err (NoLine fs)) = Some fs.0
@@ -39,7 +39,7 @@ among_named fs listing (first ∷ others) = by (find listing (first ∷ others))
     by None = refl
     by (Some row) = refl
 
-path_named : (content : Content) (address : ℕ) (path : List (List ℕ)) → named_fs (verdict_of content address path) ≡ fs_of content.table path
+pub path_named : (content : Content) (address : ℕ) (path : List (List ℕ)) → named_fs (verdict_of content address path) ≡ fs_of content.table path
 unfolding named_fs verdict_of
 path_named content address path = by (fs_of content.table path)
   where
@@ -47,7 +47,7 @@ path_named content address path = by (fs_of content.table path)
     by None = refl
     by (Some fs) = among_named (record { 0 = fs }) (lists content fs path) (selected (rows_of content fs) address)
 
-place_named : (content : Content) (address : ℕ) (place : Place) → named_fs (place_verdict content place address) ≡ fs_of content.table (path_at place)
+pub place_named : (content : Content) (address : ℕ) (place : Place) → named_fs (place_verdict content place address) ≡ fs_of content.table (path_at place)
 unfolding named_fs
 place_named content address (Directory path) = path_named content address path
 place_named content address (Others mount) = by (fs_of content.table mount)

@@ -22,6 +22,10 @@ pub record AreCounts (class_at : ℕ → Class) (first last : ℕ) (counts : Cou
   pub read_write : counts.read_write ≡ class_count class_at ReadWrite first last
   pub root_kept : counts.root_kept ≡ class_count class_at RootKept first last
 
+-- how many of them may mount something: those of each class but that of denial
+abbrev pub granted_of : Counts → ℕ
+granted_of counts = counts.read_only + counts.read_write + counts.root_kept
+
 -- Given the runs of a function, how many addresses of a range are of each class.
 abbrev pub AreCountsFrom : List (Run Class) → ℕ → ℕ → Counts → Type 0
 AreCountsFrom runs first last counts = (class_at : ℕ → Class) → AreRuns class_at runs → AreCounts class_at first last counts

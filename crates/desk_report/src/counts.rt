@@ -3,7 +3,7 @@
 ghost use Rattle.std.specs.Prelude.{◌≡◌, ◌≤◌, ◌^◌, map};
 ghost use Rattle.desk_text.specs.Address.{number_of};
 ghost use Rattle.desk_report.specs.Classes.{class_run};
-ghost use Rattle.desk_report.specs.Counts.{AreCountsFrom};
+ghost use Rattle.desk_report.specs.Counts.{AreCountsFrom, granted_of};
 ghost use Rattle.desk_report.specs.PrivateCounts as spec;
 ghost use Rattle.desk_report.specs.Values.{AreRunsOfSome};
 
@@ -18,6 +18,16 @@ pub struct Counts {
     pub read_only: u64,
     pub read_write: u64,
     pub root_kept: u64,
+}
+
+impl Counts {
+    /// Adds up how many may mount something.
+    pub fn granted(&self) -> u64
+        requires { granted_of self.now ≤ 2 ^ 32 }
+        ensures { result ≡ granted_of self.now }
+    {
+        self.read_only + self.read_write + self.root_kept
+    }
 }
 
 /// Counts the addresses from the first to the last by their classes.

@@ -4,11 +4,11 @@ use Rattle.std.specs.Option.{option_copied, option_map}
 use Rattle.desk_tables.specs.declared.filesystems.Mount.{Mount}
 use Rattle.desk_core.specs.Head.{Revision}
 use Rattle.desk_core.specs.Judging.{is_known}
+use Rattle.desk_core.specs.Listing.{AreHeldFiles, HeldFile, name_of}
 use Rattle.desk_core.specs.Standing.{Standing}
 use Rattle.desk_page_lists.specs.Files as lists
 use Rattle.desk_page_lists.specs.declared.files.FileRow.{FileRow}
 use Rattle.desk_report_lists.specs.Digests.{text_digest}
-use Rattle.desk_report_lists.specs.Listing.{AreHeldFiles, HeldFile, name_of}
 
 -- a row of the table by value: a file, its newest revision and the digest of its text, who proposes another text, and whether it is the
 -- exports file of no file system that is listed

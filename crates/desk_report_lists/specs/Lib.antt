@@ -2,11 +2,9 @@ pub mod Amounts
 pub mod Digests
 pub mod Files
 pub mod Hosts
-pub mod Listing
 pub mod Netgroups
 pub mod PrivateFiles
 pub mod PrivateHosts
-pub mod PrivateListing
 pub mod PrivateNetgroups
 pub mod PrivateUses
 pub mod Ranges

@@ -1,8 +1,8 @@
 -- What the private contracts of files cite.
 use Rattle.std.specs.Option.{option_copied, option_map}
 use Rattle.std.specs.String.{string_bytes}
+use Rattle.desk_core.specs.Listing.{file_of, name_of}
 use Rattle.desk_report_lists.specs.Files.{RowValue}
-use Rattle.desk_report_lists.specs.Listing.{file_of, name_of}
 use Rattle.desk_report_lists.specs.declared.files.DigestedFile.{DigestedFile}
 
 -- the row of a file with its digest

@@ -5,10 +5,10 @@ use Rattle.std.specs.List.{flat_map}
 use Rattle.desk_exports.specs.Profile.{profile_number}
 use Rattle.desk_policy.specs.SiteFile.{is_of_seven}
 use Rattle.desk_core.specs.Head.{Revision}
+use Rattle.desk_core.specs.Listing.{AreHeldFiles, HeldFile}
 use Rattle.desk_core.specs.Standing.{Standing}
 use Rattle.desk_core.specs.declared.proposal.Proposal.{Proposal}
 use Rattle.desk_report_lists.specs.Digests.{text_digest}
-use Rattle.desk_report_lists.specs.Listing.{AreHeldFiles, HeldFile}
 
 -- a file, the number of its revision, and who wrote it
 abbrev pub written : List ℕ → ℕ → List ℕ → List ℕ

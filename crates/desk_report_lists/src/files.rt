@@ -3,14 +3,13 @@
 ghost use Rattle.std.specs.Prelude.{◌≡◌, IfOk, OnOk, map};
 ghost use Rattle.std.specs.Option.{option_copied, option_map};
 ghost use Rattle.std.specs.String.{string_bytes};
+ghost use Rattle.desk_core.specs.Listing.{file_of};
 ghost use Rattle.desk_core.specs.Standing.{standing_in};
 ghost use Rattle.desk_report_lists.specs.Files as spec;
-ghost use Rattle.desk_report_lists.specs.Listing.{file_of};
 ghost use Rattle.desk_report_lists.specs.PrivateFiles.{digested_row};
 
 use crate::digests::text_digest;
-use crate::listing::{HeldFile, held_files};
-use desk_core::{Head, Proposal, is_known};
+use desk_core::{Head, HeldFile, Proposal, held_files, is_known};
 use desk_page_lists::{FileRow, push_files};
 use desk_tables::FileSystems;
 use desk_text::Text;

@@ -3,13 +3,12 @@
 ghost use Rattle.std.specs.Prelude.{◌≡◌, ◌++◌, IfOk, OnOk, map};
 ghost use Rattle.std.specs.Option.{option_copied};
 ghost use Rattle.std.specs.String.{string_bytes};
+ghost use Rattle.desk_core.specs.Listing.{file_of};
 ghost use Rattle.desk_core.specs.Standing.{standing_in};
-ghost use Rattle.desk_report_lists.specs.Listing.{file_of};
 ghost use Rattle.desk_report_lists.specs.State as spec;
 
 use crate::digests::text_digest;
-use crate::listing::{HeldFile, held_files};
-use desk_core::{Head, Proposal};
+use desk_core::{Head, HeldFile, Proposal, held_files};
 use desk_policy::SiteFile;
 use desk_text::Text;
 use std::alloc::{AllocError, Global};

@@ -21,7 +21,7 @@ use Rattle.desk_who.specs.Starts.{IsSteadyLine}
 use Rattle.desk_impact.specs.Impact.{AreStartsOfBoth, IsImpact, TwoVerdicts, verdicts_at}
 use Rattle.desk_impact.specs.Places.{AreInOrder, Others, dirs_of_both, is_home, mounts_of_both, place_verdict, place_verdicts, verdict_elsewhere}
 use Rattle.desk_impact.specs.PrivatePlaces.{IsFree}
-use Rattle.desk_impact.specs.PrivateWritings.{Written, written_by, written_by_all}
+use Rattle.desk_impact.specs.Writings.{Written, written_by, written_by_all}
 use Rattle.desk_impact.proofs.Covering.{flat_at}
 use Rattle.desk_impact.proofs.Elsewhere.{LacksPath, among, decided_as_others, home_fs}
 use Rattle.desk_impact.proofs.HavingOthers.{mounts_have_others}

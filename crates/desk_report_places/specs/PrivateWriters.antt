@@ -5,7 +5,7 @@ use Rattle.std.specs.List.Sorted.{IsSortedByKey}
 use Rattle.std.specs.Ordering.{nat_cmp}
 use Rattle.desk_text.specs.Path.{path_text}
 use Rattle.desk_policy.specs.declared.row.Row.{Row}
-use Rattle.desk_impact.specs.PrivateWritings.{Written, written_by_all}
+use Rattle.desk_impact.specs.Writings.{Written, written_by_all}
 use Rattle.desk_report_places.specs.declared.writers.Writing.{Writing}
 
 -- a line with a directory that it writes, by value

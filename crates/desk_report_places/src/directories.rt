@@ -5,8 +5,7 @@ ghost use Rattle.desk_text.specs.Path.{same_path};
 ghost use Rattle.desk_tables.specs.FileSystems.{fs_of};
 ghost use Rattle.desk_policy.specs.Listings.{written};
 ghost use Rattle.desk_policy.specs.Verdict.{is_in};
-ghost use Rattle.desk_impact.specs.Places.{AreInOrder, Directory, place_of};
-ghost use Rattle.desk_impact.specs.PrivatePlaces.{paths_in};
+ghost use Rattle.desk_impact.specs.Places.{AreInOrder, Directory, paths_in, place_of};
 ghost use Rattle.desk_report_places.specs.Directories as spec;
 ghost use Rattle.desk_report_places.specs.Directories.{below, own_dirs, own_of};
 

@@ -3,8 +3,8 @@
 ghost use Rattle.std.specs.Prelude.{◌≡◌, ◌++◌, All, IfOk, OnOk, Some, map};
 ghost use Rattle.desk_tables.specs.FileSystems.{fs_of};
 ghost use Rattle.desk_impact.specs.Impact.{IsImpact, change_value, verdicts_at};
-ghost use Rattle.desk_impact.specs.Places.{AreInOrder, place_of, place_verdicts};
-ghost use Rattle.desk_impact.specs.PrivatePlaces.{path_of, paths_in};
+ghost use Rattle.desk_impact.specs.Places.{AreInOrder, paths_in, place_of, place_verdicts};
+ghost use Rattle.desk_impact.specs.PrivatePlaces.{path_of};
 ghost use Rattle.desk_report_places.specs.Changes.{each_with, row_value};
 ghost use Rattle.desk_report_places.specs.Directories.{own_dirs};
 ghost use Rattle.desk_report_places.specs.PrivateImpacts.{AreAllAt, GainsImpact, IsElsewhere, IsKnown, IsKnownFor};

@@ -3,8 +3,8 @@
 ghost use Rattle.std.specs.Prelude.{◌≡◌, ◌++◌, IfOk, OnOk};
 ghost use Rattle.desk_tables.specs.FileSystems.{mount_points};
 ghost use Rattle.desk_policy.specs.Verdict.{is_directory_among};
-ghost use Rattle.desk_impact.specs.Places.{AreInOrder};
-ghost use Rattle.desk_impact.specs.PrivatePlaces.{AreAscending, IsFree, paths_in};
+ghost use Rattle.desk_impact.specs.Places.{AreInOrder, paths_in};
+ghost use Rattle.desk_impact.specs.PrivatePlaces.{AreAscending, IsFree};
 
 use crate::directories::in_order;
 use desk_tables::{FileSystems, Mount};

@@ -1,7 +1,7 @@
 //! The lines of a file system that write a directory.
 
 ghost use Rattle.std.specs.Prelude.{◌≡◌, ◌++◌, IfOk, OnOk, map};
-ghost use Rattle.desk_impact.specs.PrivateWritings.{written_by, written_by_all};
+ghost use Rattle.desk_impact.specs.Writings.{written_by, written_by_all};
 ghost use Rattle.desk_report_places.specs.PrivateWriters.{AreInByteOrder, AreWritings, HasWriters, writing_value};
 
 use desk_policy::Row;

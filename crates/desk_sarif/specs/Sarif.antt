@@ -107,7 +107,7 @@ abbrev pub driver : Data
 driver = object
     (member (codes "name") (string (codes "exportdesk"))
     (member (codes "rules") (list (map rule_data log_rules))
-    (member (codes "version") (string (codes "0.1.0")) no_members)))
+    (member (codes "version") (string (codes "1.0.0")) no_members)))
 
 -- the run that has these results; its columns count characters, and not the halves that UTF-16 makes of some
 abbrev pub run_of : List Finding → Data

@@ -28,7 +28,7 @@ const SCHEMA: &str =
     "https://docs.oasis-open.org/sarif/sarif/v2.1.0/errata01/os/schemas/sarif-schema-2.1.0.json";
 
 /// The version of this program, as `exportdesk --version` prints it.
-const VERSION: &str = "0.1.0";
+const VERSION: &str = "1.0.0";
 
 /// Prints findings in their order as the results of one log, in compact JSON and a line end. A result has `level` (`error`,
 /// `warning` or, for an opinion, `note`), one of `locations` (the file and the region of its slice), `message`, for what names

@@ -5,8 +5,9 @@ use Rattle.desk_policy.specs.Verdict.{verdict_of}
 use Rattle.desk_policy.specs.declared.verdict.Verdict.{Verdict}
 use Rattle.desk_who.specs.Breaking.{AreBreaches, AreBrokenStarts}
 use Rattle.desk_who.specs.Who.{range_value}
-use Rattle.desk_impact.specs.PrivateKnown.{HasLearnedBreaches, fs_number}
-use Rattle.desk_impact.specs.PrivatePlaces.{paths_in}
+use Rattle.desk_impact.specs.Known.{fs_number}
+use Rattle.desk_impact.specs.Places.{paths_in}
+use Rattle.desk_impact.specs.PrivateKnown.{HasLearnedBreaches}
 use Rattle.desk_impact.specs.declared.known.Known.{Known}
 use Rattle.desk_impact.proofs.Learned.{learned_breaches, number_is}
 use Rattle.desk_impact.proofs.place_breaches.learn_breaches.Goals as goal

@@ -1,8 +1,7 @@
 -- The places of the mount points so far.
 use Rattle.std.proofs.Common.{◌≡◌, map, take}
 use Rattle.std.specs.List.{flat_map}
-use Rattle.desk_impact.specs.Places.{place_of, places_at}
-use Rattle.desk_impact.specs.PrivatePlaces.{paths_in}
+use Rattle.desk_impact.specs.Places.{paths_in, place_of, places_at}
 use Rattle.desk_impact.proofs.places.places_among.Given as goal
 
 abbrev pub invariant-loop-mount : goal.invariant-loop-mount

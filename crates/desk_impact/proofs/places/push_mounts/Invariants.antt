@@ -1,7 +1,7 @@
 -- The mount points so far are added.
 use Rattle.std.proofs.Common.{◌≡◌, ◌++◌, take}
 use Rattle.desk_tables.specs.FileSystems.{mount_points}
-use Rattle.desk_impact.specs.PrivatePlaces.{paths_in}
+use Rattle.desk_impact.specs.Places.{paths_in}
 use Rattle.desk_impact.proofs.places.push_mounts.Given as goal
 
 abbrev pub invariant-loop-mount : goal.invariant-loop-mount

@@ -1,5 +1,5 @@
 use Rattle.std.proofs.Common.{refl}
-use Rattle.desk_impact.specs.PrivatePlaces.{paths_in}
+use Rattle.desk_impact.specs.Places.{paths_in}
 use Rattle.desk_impact.proofs.Gathered.{gathers}
 use Rattle.desk_impact.proofs.places.push_paths.Goals as goal
 

@@ -1,6 +1,6 @@
 -- The paths so far are added.
 use Rattle.std.proofs.Common.{◌≡◌, ◌++◌, take}
-use Rattle.desk_impact.specs.PrivatePlaces.{paths_in}
+use Rattle.desk_impact.specs.Places.{paths_in}
 use Rattle.desk_impact.proofs.places.push_paths.Given as goal
 
 abbrev pub invariant-loop-dir : goal.invariant-loop-dir

@@ -1,7 +1,6 @@
 -- The mount point, and the directories so far that are below it.
 use Rattle.std.proofs.Common.{◌≡◌, ◌++◌, ◌∷◌, map, take}
-use Rattle.desk_impact.specs.Places.{Directory, dirs_below, place_of}
-use Rattle.desk_impact.specs.PrivatePlaces.{paths_in}
+use Rattle.desk_impact.specs.Places.{Directory, dirs_below, paths_in, place_of}
 use Rattle.desk_impact.proofs.places.push_places.Given as goal
 
 abbrev pub invariant-loop-dir : goal.invariant-loop-dir

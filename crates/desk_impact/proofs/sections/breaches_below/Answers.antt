@@ -3,11 +3,9 @@ use Rattle.std.specs.List.{All}
 use Rattle.std.proofs.lemmas.List.Elements.{All-nil}
 use Rattle.desk_policy.specs.Policy.{Content}
 use Rattle.desk_who.specs.Who.{range_value}
-use Rattle.desk_impact.specs.Places.{AreInOrder, place_of}
+use Rattle.desk_impact.specs.Places.{AreInOrder, paths_in, place_of, taken_by}
 use Rattle.desk_impact.specs.PrivateKnown.{AreKnownBreaches}
-use Rattle.desk_impact.specs.PrivatePlaces.{paths_in}
-use Rattle.desk_impact.specs.PrivateReport.{taken_by}
-use Rattle.desk_impact.specs.PrivateWritings.{AreWritings}
+use Rattle.desk_impact.specs.Writings.{AreWritings}
 use Rattle.desk_impact.specs.Sections.{ArePlacesBelow, section_value}
 use Rattle.desk_impact.proofs.Breached.{all, next, none_yet}
 use Rattle.desk_impact.proofs.sections.breaches_below.Goals as goal

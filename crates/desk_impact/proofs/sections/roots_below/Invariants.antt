@@ -3,7 +3,7 @@ use Rattle.std.proofs.Common.{◌≡◌, ◌∷◌, take}
 use Rattle.std.specs.Prelude.{filter}
 use Rattle.desk_text.specs.Path.{is_under}
 use Rattle.desk_tables.specs.FileSystems.{mount_points}
-use Rattle.desk_impact.specs.PrivatePlaces.{paths_in}
+use Rattle.desk_impact.specs.Places.{paths_in}
 use Rattle.desk_impact.proofs.sections.roots_below.Given as goal
 
 abbrev pub invariant-loop-mount : goal.invariant-loop-mount

@@ -1,6 +1,6 @@
 -- Those of the directories so far are added.
 use Rattle.std.proofs.Common.{◌≡◌, ◌++◌, map, take}
-use Rattle.desk_impact.specs.PrivateWritings.{writing_value}
+use Rattle.desk_impact.specs.Writings.{writing_value}
 use Rattle.desk_impact.proofs.writings.push_row.Given as goal
 
 abbrev pub invariant-loop-dir : goal.invariant-loop-dir

@@ -1,6 +1,6 @@
 -- Those of the lines so far are added.
 use Rattle.std.proofs.Common.{◌≡◌, ◌++◌, map, take}
-use Rattle.desk_impact.specs.PrivateWritings.{writing_value, written_by_all}
+use Rattle.desk_impact.specs.Writings.{writing_value, written_by_all}
 use Rattle.desk_impact.proofs.writings.push_rows.Given as goal
 
 abbrev pub invariant-loop-row : goal.invariant-loop-row

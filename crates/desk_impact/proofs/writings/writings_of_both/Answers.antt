@@ -1,7 +1,7 @@
 use Rattle.std.proofs.Common.{◌≡◌, ◌++◌, ◌∙◌, ap, map, rules}
 use Rattle.std.specs.List.{flat_map}
 use Rattle.std.proofs.lemmas.Fn.{always_returns_same}
-use Rattle.desk_impact.specs.PrivateWritings.{writing_value, written_by_all, written_by_both}
+use Rattle.desk_impact.specs.Writings.{writing_value, written_by_all, written_by_both}
 use Rattle.desk_impact.specs.declared.writings.Writing.{Writing}
 use Rattle.desk_impact.proofs.WrittenLines.{sorted_all}
 use Rattle.desk_impact.proofs.writings.writings_of_both.Goals as goal

@@ -1,7 +1,7 @@
 -- What is told of the files so far.
 use Rattle.std.proofs.Common.{◌≡◌, map, take}
+use Rattle.desk_core.specs.Listing.{file_of}
 use Rattle.desk_report_lists.specs.Files.{row_of}
-use Rattle.desk_report_lists.specs.Listing.{file_of}
 use Rattle.desk_report_lists.specs.PrivateFiles.{digested_row}
 use Rattle.desk_report_lists.proofs.files.digested_files.Given as goal
 

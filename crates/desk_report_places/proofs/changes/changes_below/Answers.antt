@@ -1,8 +1,8 @@
 use Rattle.std.proofs.Common.{◌≡◌, ◌∙◌, All, Some, ap, map, subst, sym}
 use Rattle.std.proofs.lemmas.Result.{IfOk-weaker}
 use Rattle.desk_tables.specs.FileSystems.{fs_of}
-use Rattle.desk_impact.specs.Places.{AreInOrder, Place, place_of}
-use Rattle.desk_impact.specs.PrivatePlaces.{path_of, paths_in}
+use Rattle.desk_impact.specs.Places.{AreInOrder, Place, paths_in, place_of}
+use Rattle.desk_impact.specs.PrivatePlaces.{path_of}
 use Rattle.desk_impact.specs.declared.places.Place.{Place as LentPlace}
 use Rattle.desk_report_places.specs.Changes.{row_value}
 use Rattle.desk_report_places.specs.Directories.{own_dirs, places_with}

@@ -1,7 +1,6 @@
 -- The mount point, and the directories so far that are below it.
 use Rattle.std.proofs.Common.{◌≡◌, ◌∷◌, map, take}
-use Rattle.desk_impact.specs.Places.{Directory, place_of}
-use Rattle.desk_impact.specs.PrivatePlaces.{paths_in}
+use Rattle.desk_impact.specs.Places.{Directory, paths_in, place_of}
 use Rattle.desk_report_places.specs.Directories.{below}
 use Rattle.desk_report_places.proofs.directories.places_with.Given as goal
 

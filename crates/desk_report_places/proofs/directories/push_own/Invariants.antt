@@ -1,7 +1,7 @@
 -- Those of the lines so far are added.
 use Rattle.std.proofs.Common.{◌≡◌, ◌++◌, take}
 use Rattle.desk_policy.specs.Listings.{written}
-use Rattle.desk_impact.specs.PrivatePlaces.{paths_in}
+use Rattle.desk_impact.specs.Places.{paths_in}
 use Rattle.desk_report_places.specs.Directories.{own_of}
 use Rattle.desk_report_places.proofs.directories.push_own.Given as goal
 

@@ -1,6 +1,6 @@
 -- Those of the directories so far that are in the file system are added.
 use Rattle.std.proofs.Common.{◌≡◌, ◌++◌, take}
-use Rattle.desk_impact.specs.PrivatePlaces.{paths_in}
+use Rattle.desk_impact.specs.Places.{paths_in}
 use Rattle.desk_report_places.specs.Directories.{own_of}
 use Rattle.desk_report_places.proofs.directories.push_own_of_line.Given as goal
 

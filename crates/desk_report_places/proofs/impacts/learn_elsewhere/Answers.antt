@@ -2,7 +2,8 @@ use Rattle.std.proofs.Common.{◌++◌, ap, map, subst, sym, ◌∙◌}
 use Rattle.desk_tables.specs.FileSystems.{mount_points}
 use Rattle.desk_policy.specs.Policy.{Content}
 use Rattle.desk_impact.specs.Impact.{AreStartsOfBoth, IsImpact, change_value, verdicts_at}
-use Rattle.desk_impact.specs.PrivatePlaces.{IsFree, paths_in}
+use Rattle.desk_impact.specs.Places.{paths_in}
+use Rattle.desk_impact.specs.PrivatePlaces.{IsFree}
 use Rattle.desk_report_places.proofs.Beside.{changes_elsewhere}
 use Rattle.desk_report_places.proofs.impacts.learn_elsewhere.Goals as goal
 

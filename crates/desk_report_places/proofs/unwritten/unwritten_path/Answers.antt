@@ -1,8 +1,8 @@
 use Rattle.std.proofs.Common.{◌++◌, subst}
 use Rattle.std.proofs.lemmas.Result.{IfOk-weaker}
 use Rattle.desk_tables.specs.FileSystems.{mount_points}
-use Rattle.desk_impact.specs.Places.{AreInOrder}
-use Rattle.desk_impact.specs.PrivatePlaces.{IsFree, paths_in}
+use Rattle.desk_impact.specs.Places.{AreInOrder, paths_in}
+use Rattle.desk_impact.specs.PrivatePlaces.{IsFree}
 use Rattle.desk_impact.proofs.Searched.{free_of_given}
 use Rattle.desk_report_places.proofs.unwritten.unwritten_path.Goals as goal
 use Rattle.std.proofs.Common.{sym}

@@ -1,6 +1,6 @@
 use Rattle.std.proofs.Common.{◌≡◌, ◌+◌, ◌++◌, ◌∷◌, ◌∙◌, [], ap, map, sym, take}
 use Rattle.std.proofs.lemmas.List.{append_assoc, map-append, take_more}
-use Rattle.desk_impact.specs.PrivateWritings.{Written}
+use Rattle.desk_impact.specs.Writings.{Written}
 use Rattle.desk_report_places.specs.PrivateWriters.{writing_value}
 use Rattle.desk_impact.proofs.Same.{Path}
 use Rattle.desk_report_places.proofs.writers.push_row.Goals as goal

@@ -1,6 +1,6 @@
 -- Those of the lines so far are added.
 use Rattle.std.proofs.Common.{◌≡◌, ◌++◌, map, take}
-use Rattle.desk_impact.specs.PrivateWritings.{written_by_all}
+use Rattle.desk_impact.specs.Writings.{written_by_all}
 use Rattle.desk_report_places.specs.PrivateWriters.{writing_value}
 use Rattle.desk_report_places.proofs.writers.push_rows.Given as goal
 

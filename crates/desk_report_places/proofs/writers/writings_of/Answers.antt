@@ -1,6 +1,6 @@
 use Rattle.std.proofs.Common.{◌≡◌, ◌++◌, ◌∙◌, ap, map, rules}
 use Rattle.std.proofs.lemmas.Fn.{always_returns_same}
-use Rattle.desk_impact.specs.PrivateWritings.{written_by_all}
+use Rattle.desk_impact.specs.Writings.{written_by_all}
 use Rattle.desk_report_places.specs.PrivateWriters.{writing_value}
 use Rattle.desk_report_places.specs.declared.writers.Writing.{Writing}
 use Rattle.desk_report_places.proofs.Writings.{sorted_all}

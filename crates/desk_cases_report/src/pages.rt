@@ -1,0 +1,86 @@
+//! The page of a report.
+
+ghost use Rattle.std.specs.Prelude.{All};
+ghost use Rattle.desk_core.specs.Head.{CanBeKept, newest_in};
+ghost use Rattle.desk_core.specs.Site.{site_in};
+ghost use Rattle.desk_cases_report.specs.PrivateForeseen.{IsRead};
+
+use crate::foreseen::waiting_of;
+use crate::revisions::Revisions;
+use desk_cases_texts::answers::Asked;
+use desk_cases_texts::sites::say_fault;
+use desk_core::{State, can_be_kept, can_be_pending, compile_heads};
+use desk_index::Index;
+use desk_policy::{PolicyView, SiteFault};
+use desk_report_lists::text_digest;
+use desk_report_page::{ReportedSite, report_page};
+use desk_text::ReadError;
+use std::alloc::Global;
+use std::mem;
+
+/// `page DB`: the page for this word, of a database with the revisions and the proposals that were kept, which are then forgotten: the
+/// SHA-256 of the page, and how many bytes it has; or the fault of the site.
+pub fn page(alloc: Global, revisions: &mut Revisions, out: &mut String, database: &str) -> Asked {
+    let heads = mem::replace(&mut revisions.heads, Vec::new(alloc));
+    let proposals = mem::replace(&mut revisions.proposals, Vec::new(alloc));
+    if !can_be_kept(heads.as_slice()) || !can_be_pending(proposals.as_slice()) {
+        drop(heads);
+        drop(proposals);
+        return Ok(false);
+    }
+    match State::<Index>::from_heads(alloc, heads, proposals) {
+        Ok(state) => {
+            let asked = of_state(alloc, &state, out, database);
+            drop(state);
+            asked
+        }
+        Err(error) => say_fault(out, error),
+    }
+}
+
+/// Answers by the page of a state, whose policy is read from its texts once more.
+fn of_state(alloc: Global, state: &State<Index>, out: &mut String, database: &str) -> Asked {
+    if !can_be_kept(state.heads()) {
+        return Ok(false);
+    }
+    let read: Result<Index, ReadError<SiteFault>> = compile_heads(alloc, state.heads());
+    match read {
+        Ok(view) => {
+            let asked = by_view(alloc, state, &view, out, database);
+            drop(view);
+            asked
+        }
+        Err(error) => say_fault(out, error),
+    }
+}
+
+/// Answers by the page of a state, by the policy that was read from its texts.
+fn by_view<V: PolicyView + Drop>(
+    alloc: Global,
+    state: &State<V>,
+    view: &V,
+    out: &mut String,
+    database: &str,
+) -> Asked
+    requires kept { All CanBeKept state.now.heads }
+    requires read { IsRead (site_in (newest_in state.now.heads)) (V.in_force view.now) }
+{
+    let waiting = waiting_of(alloc, state)?;
+    let site = ReportedSite {
+        view,
+        tables: state.tables(),
+        heads: state.heads(),
+        proposals: state.proposals(),
+        waiting: waiting.as_slice(),
+    };
+    let page = report_page(alloc, database, site)?;
+    say_page(alloc, out, page.as_str())
+}
+
+/// Answers with the digest of a page, and how long it is.
+fn say_page(alloc: Global, out: &mut String, page: &str) -> Asked {
+    let digest = text_digest(alloc, page)?;
+    let (digest, bytes) = (digest.as_str(), page.len());
+    write!(out, "{digest} {bytes}")?;
+    Ok(true)
+}
