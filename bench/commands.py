@@ -590,6 +590,7 @@ COMMANDS = {
         asked_of("approved", ["files", "DB"], "".join(files_with(APPROVED_FILES))),
         asked_of("old", ["files", "DB"], "".join(files_with({}))),
     ],
+    "report": [asked_of(name, ["report", "DB"], None) for name in ("first", "old", "proposed")],
     "write": [
         asked_of("first", ["write", "DB", "FOLDER"], "".join(f"written {name}\n" for name in FILES)),
         asked_of("old", ["write", "DB", "FOLDER"], "".join(f"written {name}\n" for name in FILES)),
