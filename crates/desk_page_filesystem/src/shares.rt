@@ -99,12 +99,7 @@ fn push_share(alloc: Global, share: &Share, page: &mut String) -> Result<(), All
     push_space(share.space, page)?;
     push_size_cell(alloc, size_of(&share.counts), page)?;
     push_class_cells(alloc, &share.counts, page)?;
-    push_granted_cell(
-        alloc,
-        share.counts.granted(),
-        size_of(&share.counts),
-        page,
-    )
+    push_granted_cell(alloc, share.counts.granted(), size_of(&share.counts), page)
 }
 
 /// Counts the addresses that a share is of.
