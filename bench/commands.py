@@ -59,8 +59,8 @@ APPROVED = [revision("exports:/u", "ulf", PROPOSED), ("approval", "exports:/u", 
 class Command:
     """The words of a command, its input, and what it answers: its status and what it prints.
 
-    Among the words `DB` is a copy of a database, the one of this name, `NEW` a file that is not there, `TEXT` a file with
-    this text, `KEY` one with the key of `site`, and `FOLDER` a folder with these files. `stored` are the rows that the
+    Among the words `DB` is a copy of a database, the one of this name, `NEW` a file that is not there, `EMPTY` an empty one,
+    `TEXT` a file with this text, `KEY` one with the key of `site`, and `FOLDER` a folder with these files. `stored` are the rows that the
     command adds, each behind the name of its table, and `taken` those that it takes out. What it prints is None if it is
     long, and only has to be what it prints when nothing is refused.
     """
@@ -74,8 +74,8 @@ class Command:
 
     @property
     def makes(self):
-        """Whether it makes a database, that of the sample site."""
-        return self.status == 0 and "NEW" in self.words
+        """The word for the database that it makes, if it makes one: that of the sample site."""
+        return next((word for word in ("NEW", "EMPTY") if word in self.words and self.status == 0), None)
 
     @property
     def edits(self):
@@ -371,6 +371,11 @@ COMMANDS = {
             "warning exports:/a line 2 Ipv6 3ffe:1ce1:1:fe80::/64\nready\n",
             title="`init` of the sample site",
         ),
+        Command(
+            ["init", "EMPTY", SITE],
+            "warning exports:/a line 2 Ipv6 3ffe:1ce1:1:fe80::/64\nready\n",
+            title="`init` of the sample site into an empty file",
+        ),
         made_of({"exports": "/b\n"}, "fault exports line 1 rule 4 DirectoryElsewhere\n", 3),
         made_of(
             {"exports": CONTRADICTION.format(" -ro")},
@@ -585,6 +590,7 @@ COMMANDS = {
         asked_of("approved", ["files", "DB"], "".join(files_with(APPROVED_FILES))),
         asked_of("old", ["files", "DB"], "".join(files_with({}))),
     ],
+    "report": [asked_of(name, ["report", "DB"], None) for name in ("first", "old", "proposed")],
     "write": [
         asked_of("first", ["write", "DB", "FOLDER"], "".join(f"written {name}\n" for name in FILES)),
         asked_of("old", ["write", "DB", "FOLDER"], "".join(f"written {name}\n" for name in FILES)),

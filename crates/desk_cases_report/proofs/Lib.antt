@@ -1,2 +1,2 @@
-pub mod Foreseen
 pub mod ToldOf
+pub mod Waits

@@ -1,5 +1,4 @@
 pub mod Containing
-pub mod Gathered
 pub mod Sets
 pub mod Searched
 pub mod Places

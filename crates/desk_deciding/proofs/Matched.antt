@@ -11,9 +11,10 @@ use Rattle.desk_policy.specs.Keys.{HasBlock}
 use Rattle.desk_policy.specs.Policy.{Content}
 use Rattle.desk_policy.specs.Weights.{name_weight, weight_by}
 use Rattle.desk_impact.specs.Sections.{PlaceBreaches}
+use Rattle.desk_report.proofs.Granted.{from_flat, to_flat}
 use Rattle.desk_deciding.specs.Deciding.{AreSectionsOf}
 use Rattle.desk_deciding.specs.PrivateDeciding.{lines_between, lines_for}
-use Rattle.desk_deciding.proofs.Containing.{among_contains, contains_among, from_flat, none_there, to_flat}
+use Rattle.desk_deciding.proofs.Containing.{among_contains, contains_among, none_there}
 use Rattle.desk_deciding.proofs.Named.{between_has, from_between}
 use Rattle.desk_deciding.proofs.Places.{NamedAt}
 

@@ -5,9 +5,12 @@ use Rattle.std.specs.Option.{option_to_list}
 use Rattle.std.proofs.lemmas.Bool.{and_from, and_parts, cases_lt, le-leb, leb-true}
 use Rattle.desk_policy.specs.Policy.{Content}
 use Rattle.desk_impact.specs.Sections.{PlaceBreaches}
+use Rattle.desk_report.proofs.Containing.{here, here_or_there}
+use Rattle.desk_report.proofs.Granted.{from_flat, to_flat}
+use Rattle.desk_report.proofs.Grouped.{in_kept, kept_in}
 use Rattle.desk_deciding.specs.Deciding.{AreSectionsOf}
 use Rattle.desk_deciding.specs.PrivateDeciding.{lines_at, lines_between, meets, named_in, named_line}
-use Rattle.desk_deciding.proofs.Containing.{from_flat, here, here_or_there, in_kept, kept_in, none_there, to_flat}
+use Rattle.desk_deciding.proofs.Containing.{none_there}
 use Rattle.desk_deciding.proofs.Places.{NamedAt, own_value}
 
 named_has : (o : Option ℕ) (line : ℕ) → o ≡ Some line → Contains (option_to_list o) line

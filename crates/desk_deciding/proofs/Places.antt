@@ -1,6 +1,6 @@
 -- The verdicts on the paths of a file system are those at its places.
-use Rattle.std.proofs.Common.{◌≡◌, ℕ, ◌<◌, ◌≤◌, ◌^◌, ◌∙◌, Bool, true, List, [], ◌∷◌, Option, None, Some, ap, arith, get_or, map, refl, subst, sym}
-use Rattle.std.specs.Prelude.{Contains, Result, Ok, Err, filter, find}
+use Rattle.std.proofs.Common.{◌≡◌, ℕ, ◌<◌, ◌≤◌, ◌^◌, ◌∙◌, true, List, [], ◌∷◌, None, Some, ap, arith, get_or, map, refl, subst, sym}
+use Rattle.std.specs.Prelude.{Contains, Result, Ok, Err, filter}
 use Rattle.std.specs.List.{AllByRecursion}
 use Rattle.std.proofs.lemmas.Bool.{and_parts, eq-eqb, eqb-true, leb-true, true≢false}
 use Rattle.std.proofs.lemmas.List.Elements.{All-contains, All-from_recursion, Contains-get_or}
@@ -8,56 +8,22 @@ use Rattle.std.proofs.lemmas.List.Folds.{Any-from_list_any}
 use Rattle.std.proofs.lemmas.List.Kept.{AllPairs-cons}
 use Rattle.std.specs.List.{AllPairs}
 use Rattle.desk_tables.specs.FileSystems.{fs_of}
-use Rattle.desk_tables.specs.declared.filesystems.FsId.{FsId}
-use Rattle.desk_policy.specs.Policy.{Content, rows_of}
-use Rattle.desk_policy.specs.Verdict.{Grant, granted_by, is_in, lists, verdict_among, verdict_in, verdict_of}
-use Rattle.desk_policy.specs.Weights.{selected}
-use Rattle.desk_policy.specs.declared.row.Row.{Row}
+use Rattle.desk_policy.specs.Policy.{Content}
+use Rattle.desk_policy.specs.Verdict.{Grant, is_in, verdict_of}
 use Rattle.desk_policy.specs.declared.verdict.Denial.{Denial}
 use Rattle.desk_policy.specs.declared.verdict.Denial.TheVariants.{NoFileSystem, NoLine, NotListed}
 use Rattle.desk_who.specs.Runs.{AreRuns, Ascend, HasValue, Run, holds}
 use Rattle.desk_idle.specs.Idle.{names_line}
-use Rattle.desk_impact.specs.Places.{Directory, Others, Place, place_verdict, verdict_elsewhere}
+use Rattle.desk_impact.specs.Places.{place_verdict}
 use Rattle.desk_impact.specs.Sections.{HasPathFor, HasPlaceFor, PlaceBreaches, PlacesTellScope}
 use Rattle.desk_report.specs.Sections.{AreVerdictsAt, is_section_in, path_at}
+use Rattle.desk_report.proofs.AllRows.{from_map, to_map}
+use Rattle.desk_report.proofs.Grouped.{in_kept, kept_in}
+use Rattle.desk_report.proofs.Standing.{named_fs, path_named, place_named, same_fs}
 use Rattle.desk_deciding.specs.Deciding.{AreSectionsOf}
 use Rattle.desk_deciding.specs.PrivateDeciding.{AllInOrder, AreInOrder, named_line}
-use Rattle.desk_deciding.proofs.Containing.{from_map, in_kept, kept_in, to_map}
 
--- ---- the file system that a verdict names
-named_fs : Result Grant Denial → Option ℕ
-named_fs (Ok grant) = Some grant.fs.0
-named_fs (Err NoFileSystem) = None
-named_fs (Err (NoLine fs)) = Some fs.0
-named_fs (Err (NotListed fs line)) = Some fs.0
-
-among_named : (fs : FsId) (listing : Row → Bool) (chosen : List Row) → named_fs (verdict_among fs listing chosen) ≡ Some fs.0
-unfolding named_fs
-among_named fs listing [] = refl
-among_named fs listing (first ∷ others) = by (find listing (first ∷ others))
-  where
-    by : (found : Option Row) → named_fs (granted_by fs first found) ≡ Some fs.0
-    by None = refl
-    by (Some row) = refl
-
-path_named : (content : Content) (address : ℕ) (path : List (List ℕ)) → named_fs (verdict_of content address path) ≡ fs_of content.table path
-unfolding named_fs verdict_of
-path_named content address path = by (fs_of content.table path)
-  where
-    by : (o : Option ℕ) → named_fs (verdict_in content address path o) ≡ o
-    by None = refl
-    by (Some fs) = among_named (record { 0 = fs }) (lists content fs path) (selected (rows_of content fs) address)
-
-place_named : (content : Content) (address : ℕ) (place : Place) → named_fs (place_verdict content place address) ≡ fs_of content.table (path_at place)
-unfolding named_fs
-place_named content address (Directory path) = path_named content address path
-place_named content address (Others mount) = by (fs_of content.table mount)
-  where
-    by : (o : Option ℕ) → named_fs (verdict_elsewhere content address o) ≡ o
-    by None = refl
-    by (Some fs) = among_named (record { 0 = fs }) (λ row. row.entry.alldirs) (selected (rows_of content fs) address)
-
--- ---- the line that it names
+-- ---- the line that a verdict names
 pub names : (line : ℕ) (verdict : Result Grant Denial) → named_line verdict ≡ Some line → names_line line verdict ≡ true
 names line (Ok grant) is = eq-eqb grant.line line (some_same grant.line line is)
   where
@@ -130,10 +96,6 @@ module _ (content : Content) (fs : ℕ) (own : List PlaceBreaches) (are : AreSec
       by : (sections : List PlaceBreaches) → ((section : PlaceBreaches) → Contains sections section → AreInOrder section.ranges) → AllInOrder sections
       by sections each = λ k d within. each (get_or sections k d) (Contains-get_or sections k d within)
 
-  same_fs : (o : Option ℕ) → is_in o fs ≡ true → o ≡ Some fs
-  same_fs None is = absurd (true≢false (sym is))
-  same_fs (Some other) is = ap Some (eqb-true other fs is)
-
   module _ (tells : PlacesTellScope) (address line : ℕ) where
     pub on_path : NamedAt own address line → PathNames content fs address line
     on_path at =
@@ -144,7 +106,7 @@ module _ (content : Content) (fs : ℕ) (own : List PlaceBreaches) (are : AreSec
         (tells content [] true (map (λ (s : PlaceBreaches). s.place) are.all) are.are_all.places).1 (to_map (λ (s : PlaceBreaches). s.place) are.all at.section in_all.0) in
         record {
           path = has_path.path;
-          here = sym (path_named content 0 has_path.path) ∙ ap named_fs (has_path.stands 0) ∙ place_named content 0 place ∙ same_fs (fs_of content.table (path_at place)) in_all.1;
+          here = sym (path_named content 0 has_path.path) ∙ ap named_fs (has_path.stands 0) ∙ place_named content 0 place ∙ same_fs fs (fs_of content.table (path_at place)) in_all.1;
           names = ap (names_line line) (has_path.stands address ∙ value.values address at.low at.high) ∙ names line at.range.value at.named;
         }
 

@@ -1,5 +1,5 @@
 -- The ranges that have one of some addresses, by two binary searches.
-use Rattle.std.proofs.Common.{◌≡◌, ℕ, zero, suc, ◌<◌, ◌≤◌, ◌&&◌, ◌∙◌, Bool, true, false, cond, List, [], ◌∷◌, ap, arith, drop, get_or, inl, inr, length, map, refl, subst, sym, take}
+use Rattle.std.proofs.Common.{◌≡◌, ℕ, ◌<◌, ◌≤◌, ◌&&◌, ◌∙◌, Bool, true, false, List, ap, arith, drop, get_or, inl, inr, length, map, subst, sym, take}
 use Rattle.std.specs.Prelude.{filter, nat_le, nat_lt, not}
 use Rattle.std.specs.List.Sorted.{IsNonDecreasingBy, IsPartitionPoint, IsPartitionedBy}
 use Rattle.std.proofs.lemmas.Bool.{cases_lt, cases_order, le-leb, le-ltb, lt-leb, lt-ltb}
@@ -13,6 +13,9 @@ use Rattle.desk_who.specs.Who.{range_value}
 use Rattle.desk_who.specs.declared.runs.Run.{Run}
 use Rattle.desk_impact.specs.Sections.{section_value}
 use Rattle.desk_impact.specs.declared.sections.Section.{Section}
+use Rattle.desk_who.proofs.Slices.{first_pass, last_pass}
+use Rattle.desk_impact.proofs.Telling.{map-filter}
+use Rattle.desk_report.proofs.OfLine.{filter_both}
 use Rattle.desk_deciding.specs.PrivateDeciding.{AllInOrder, AreInOrder, meets}
 
 -- the ranges of one of the places
@@ -21,53 +24,6 @@ pub in_order : (sections : List Section) → AllInOrder (map section_value secti
 in_order sections all i section within is =
     let few = length-map sections section_value in
     subst (λ one. AreInOrder one.ranges) (get_or-map section_value sections i section (section_value section) within ∙ ap section_value (sym is)) (all i (section_value section) (omega arith))
-
-module _ {X : Type 0} (p : X → Bool) where
-  -- where those that pass come first
-  first_pass : (xs : List X) (k : ℕ) → IsPartitionPoint (λ y. p y ≡ true) (λ y. p y ≡ false) xs k → k ≤ length xs → filter p xs ≡ take k xs
-  first_pass [] zero point le = refl
-  first_pass [] (suc k) point le = absurd (omega arith)
-  first_pass (x ∷ xs) zero point le =
-      let fails : p x ≡ false = point.1 0 x (omega arith) (omega arith) in
-      ap (λ b. cond b (x ∷ filter p xs) (filter p xs)) fails
-      ∙ first_pass xs zero (λ i d low high. absurd (omega arith), λ i d low high. point.1 (suc i) d (omega arith) (omega arith)) (omega arith)
-  first_pass (x ∷ xs) (suc k) point le =
-      let passes : p x ≡ true = point.0 0 x (omega arith) (omega arith) in
-      ap (λ b. cond b (x ∷ filter p xs) (filter p xs)) passes
-      ∙ ap (λ ys. x ∷ ys) (first_pass xs k (λ i d low high. point.0 (suc i) d (omega arith) (omega arith), λ i d low high. point.1 (suc i) d (omega arith) (omega arith)) (omega arith))
-
-  -- where they come last
-  last_pass : (xs : List X) (k : ℕ) → IsPartitionPoint (λ y. p y ≡ false) (λ y. p y ≡ true) xs k → k ≤ length xs → filter p xs ≡ drop k xs
-  last_pass [] zero point le = refl
-  last_pass [] (suc k) point le = absurd (omega arith)
-  last_pass (x ∷ xs) zero point le =
-      let passes : p x ≡ true = point.1 0 x (omega arith) (omega arith) in
-      ap (λ b. cond b (x ∷ filter p xs) (filter p xs)) passes
-      ∙ ap (λ ys. x ∷ ys) (last_pass xs zero (λ i d low high. absurd (omega arith), λ i d low high. point.1 (suc i) d (omega arith) (omega arith)) (omega arith))
-  last_pass (x ∷ xs) (suc k) point le =
-      let fails : p x ≡ false = point.0 0 x (omega arith) (omega arith) in
-      ap (λ b. cond b (x ∷ filter p xs) (filter p xs)) fails
-      ∙ last_pass xs k (λ i d low high. point.0 (suc i) d (omega arith) (omega arith), λ i d low high. point.1 (suc i) d (omega arith) (omega arith)) (omega arith)
-
--- what passes two tests passes one of what passes the other
-filter_both : {X : Type 0} (p q : X → Bool) (xs : List X) → filter (λ x. p x && q x) xs ≡ filter p (filter q xs)
-filter_both p q [] = refl
-filter_both p q (x ∷ xs) = by (p x) (q x) refl (filter_both p q xs)
-  where
-    by : (a b : Bool) → p x ≡ a → filter (λ y. p y && q y) xs ≡ filter p (filter q xs)
-        → cond (a && b) (x ∷ filter (λ y. p y && q y) xs) (filter (λ y. p y && q y) xs) ≡ filter p (cond b (x ∷ filter q xs) (filter q xs))
-    by true true e rest = ap (λ ys. x ∷ ys) rest ∙ sym (ap (λ b. cond b (x ∷ filter p (filter q xs)) (filter p (filter q xs))) e)
-    by true false e rest = rest
-    by false true e rest = rest ∙ sym (ap (λ b. cond b (x ∷ filter p (filter q xs)) (filter p (filter q xs))) e)
-    by false false e rest = rest
-
-map_filter : {X Y : Type 0} (f : X → Y) (test : Y → Bool) (xs : List X) → map f (filter (λ x. test (f x)) xs) ≡ filter test (map f xs)
-map_filter f test [] = refl
-map_filter f test (x ∷ xs) = by (test (f x)) (map_filter f test xs)
-  where
-    by : (b : Bool) → map f (filter (λ y. test (f y)) xs) ≡ filter test (map f xs) → map f (cond b (x ∷ filter (λ y. test (f y)) xs) (filter (λ y. test (f y)) xs)) ≡ cond b (f x ∷ filter test (map f xs)) (filter test (map f xs))
-    by true rest = ap (λ ys. f x ∷ ys) rest
-    by false rest = rest
 
 not_below : (a b : ℕ) → nat_le a b ≡ not (nat_lt b a)
 not_below a b =
@@ -129,4 +85,4 @@ module _ (ranges : List (Run Verdict)) (order : AreInOrder (map range_value rang
       ∙ ap (filter (λ r. not (ends_before first r))) (sym (first_pass (begins_by last) ranges end upper le))
       ∙ sym (filter_both (λ r. not (ends_before first r)) (begins_by last) ranges)
       ∙ sym (filter_agree (λ r. meets first last (range_value r)) (λ r. not (ends_before first r) && begins_by last r) (λ r. ap (λ b. b && begins_by last r) (not_below first (number_of r.last))) ranges))
-      ∙ map_filter range_value (meets first last) ranges
+      ∙ map-filter range_value (meets first last) ranges

@@ -12,12 +12,12 @@ use Rattle.desk_policy.specs.Policy.{Content, rows_of}
 use Rattle.desk_policy.specs.declared.row.Row.{Row}
 use Rattle.desk_impact.specs.Sections.{PlaceBreaches, PlacesTellScope}
 use Rattle.desk_report.specs.declared.lines.LineReasons.{LineReasons}
+use Rattle.desk_report.proofs.Gathered.{take_next}
 use Rattle.desk_deciding.specs.Deciding.{AreDeciding, AreSectionsOf, DecidedFor, DecidesFor, IsDecidedFor, never_decides}
 use Rattle.desk_deciding.specs.PrivateDeciding.{IsListed, IsWithLine, lines_for}
 use Rattle.desk_deciding.specs.declared.deciding.NeverDecides.{NeverDecides}
 use Rattle.desk_deciding.specs.declared.lists.Lists.{Lists}
 use Rattle.desk_deciding.proofs.Containing.{among_contains, contains_among}
-use Rattle.desk_deciding.proofs.Gathered.{take_next}
 use Rattle.desk_deciding.proofs.Kept.{all_more}
 use Rattle.desk_deciding.proofs.Matched.{for_has, from_for}
 use Rattle.desk_deciding.proofs.Places.{at_place, on_path}

@@ -1,7 +1,6 @@
 pub mod Mapped
 pub mod Adding
 pub mod Distinct
-pub mod Ordered
 pub mod Counted
 pub mod Telling
 pub mod Using

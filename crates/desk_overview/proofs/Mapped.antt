@@ -6,16 +6,12 @@ use Rattle.std.specs.List.Sorted.{IsSortedByKey}
 use Rattle.std.specs.Ordering.{is_lt}
 use Rattle.std.proofs.lemmas.List.{get_or-map, length-map}
 use Rattle.std.proofs.lemmas.List.Sums.{sum_by-cons}
+use Rattle.desk_impact.proofs.Telling.{map-filter}
 
 module _ {X Y : Type 0} (f : X → Y) where
   -- those that pass a test
   pub filter_mapped : (test : Y → Bool) (xs : List X) → map f (filter (λ x. test (f x)) xs) ≡ filter test (map f xs)
-  filter_mapped test [] = refl
-  filter_mapped test (x ∷ xs) = by (test (f x)) (filter_mapped test xs)
-    where
-      by : (b : Bool) → map f (filter (λ y. test (f y)) xs) ≡ filter test (map f xs) → map f (cond b (x ∷ filter (λ y. test (f y)) xs) (filter (λ y. test (f y)) xs)) ≡ cond b (f x ∷ filter test (map f xs)) (filter test (map f xs))
-      by true rest = ap (λ ys. f x ∷ ys) rest
-      by false rest = rest
+  filter_mapped = map-filter f
 
   pub count_mapped : (test : Y → Bool) (xs : List X) → count_by (λ x. test (f x)) xs ≡ count_by test (map f xs)
   count_mapped test [] = refl

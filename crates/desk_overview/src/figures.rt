@@ -2,12 +2,12 @@
 
 ghost use Rattle.std.specs.Prelude.{◌≡◌, ◌++◌, IfOk, OnOk, count_by, map};
 ghost use Rattle.std.specs.List.{flat_map};
-ghost use Rattle.desk_impact.specs.Places.{AreInOrder};
 ghost use Rattle.desk_overview.specs.Figures as spec;
 ghost use Rattle.desk_overview.specs.Figures.{AreFigures, HasDirectories, directories_of};
 ghost use Rattle.desk_overview.specs.Lines.{line_value};
 
 use crate::lines::SiteLine;
+use desk_impact::in_order;
 use desk_policy::Policy;
 use desk_report::{are_all, are_names, keeps_root};
 use desk_text::Path;
@@ -152,13 +152,4 @@ fn push_directories<'a>(paths: &mut Vec<&'a Path>, dirs: &'a [Path]) -> Result<(
         paths.push(dir)?;
     }
     Ok(())
-}
-
-/// Puts paths in byte order, each once.
-fn in_order(mut paths: Vec<&Path>) -> Vec<&Path>
-    ensures { AreInOrder (map (λ path. path.now) paths.entry.items) (map (λ path. path.now) result.items) }
-{
-    paths.sort_unstable();
-    paths.dedup_by(|path, last| **path == **last);
-    paths
 }

@@ -1,6 +1,6 @@
 //! The page of a report, in HTML.
 //!
-//! Its promise so far: each text of a file, a name, an author and the word for the database comes onto the page by [`push_escaped`], in a
+//! Its promise: each text of a file, a name, an author and the word for the database comes onto the page by [`push_escaped`], in a
 //! line of a file by [`push_escaped_line`], or within an attribute by [`push_attribute`]. None of its characters is markup, and two texts
 //! that differ are shown differently. [`push_number`] adds a number, with a comma before each three digits.
 #![tactic(auto)]

@@ -61,7 +61,10 @@ change_rows rows = flat_map change_row rows
 
 -- the beginning of the table
 unfoldable pub change_heads : List ℕ
-change_heads = codes "<div class=\"wide\" tabindex=\"0\" role=\"region\" aria-label=\"What it would change\"><table class=\"i\">\n<caption>What it would change</caption>\n<thead><tr><th scope=\"col\">Directory</th><th scope=\"col\">Clients</th><th scope=\"col\" class=\"num\">Addresses</th><th scope=\"col\">Now</th><th scope=\"col\">Then</th></tr></thead>\n<tbody>\n"
+change_heads =
+    codes "<div class=\"wide\" tabindex=\"0\" role=\"region\" aria-label=\"What it would change\"><table class=\"i\">\n"
+    ++ codes "<caption>What it would change</caption>\n<thead><tr><th scope=\"col\">Directory</th><th scope=\"col\">Clients</th>"
+    ++ codes "<th scope=\"col\" class=\"num\">Addresses</th><th scope=\"col\">Now</th><th scope=\"col\">Then</th></tr></thead>\n<tbody>\n"
 
 abbrev pub change_table : List ChangeRow → List ℕ
 change_table rows = change_heads ++ change_rows rows ++ codes "</tbody>\n</table></div>\n"

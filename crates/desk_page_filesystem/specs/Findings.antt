@@ -3,13 +3,14 @@ use Rattle.std.specs.Prelude.{ℕ, ◌==◌, List, [], ◌++◌, codes, length, 
 use Rattle.std.specs.List.{flat_map}
 use Rattle.desk_page.specs.Pieces.{line_link}
 use Rattle.desk_page_words.specs.Badges.{level_mark}
-use Rattle.desk_page_words.specs.FindingWords.{finding_words, highest_level}
+use Rattle.desk_page_words.specs.FindingWords.{finding_words}
 use Rattle.desk_page_words.specs.declared.finding_words.Finding.{Finding}
+use Rattle.desk_report.specs.Reasons.{level_of_all}
 
 -- the item of a line: its level, a link to it, and why it stands out
 abbrev pub item_start : Finding → List ℕ
 item_start finding =
-    codes "<li>" ++ level_mark (highest_level finding.reasons.now) ++ codes " " ++ line_link finding.fs.0 finding.line ++ codes ": "
+    codes "<li>" ++ level_mark (level_of_all finding.reasons.now) ++ codes " " ++ line_link finding.fs.0 finding.line ++ codes ": "
 
 abbrev pub item : Finding → List ℕ
 item finding = item_start finding ++ finding_words finding ++ codes "</li>\n"

@@ -1,4 +1,4 @@
--- The part of the page that tells of one file system, but for its maps. (this project's own, over HTML)
+-- The part of the page that tells of one file system, given its maps as HTML. (this project's own, over HTML)
 use Rattle.std.specs.Prelude.{◌≡◌, ℕ, ◌+◌, ◌<◌, ◌==◌, ◌^◌, All, IfSome, List, [], ◌++◌, Option, Some, None, if◌then◌else◌}
 use Rattle.std.specs.List.{AllPairs}
 use Rattle.std.specs.Option.{option_copied}

@@ -48,7 +48,9 @@ proposed_rows in_force before (line ∷ others) = proposed_row (is_among in_forc
 
 -- the beginning of the table
 unfoldable pub proposed_heads : List ℕ
-proposed_heads = codes "<table class=\"text\"><caption class=\"off\">Proposed text</caption><thead><tr><th scope=\"col\">Line</th><th scope=\"col\">In force?</th><th scope=\"col\">Text</th></tr></thead><tbody>"
+proposed_heads =
+    codes "<table class=\"text\"><caption class=\"off\">Proposed text</caption>"
+    ++ codes "<thead><tr><th scope=\"col\">Line</th><th scope=\"col\">In force?</th><th scope=\"col\">Text</th></tr></thead><tbody>"
 
 -- The text that is proposed in the place of the one in force.
 abbrev pub proposed_text : List ℕ → List ℕ → List ℕ → List ℕ

@@ -1,20 +1,18 @@
 -- How many addresses of which networks may mount some directory of a file system. (this project's own, over HTML)
 use Rattle.std.specs.Prelude.{ℕ, ◌+◌, ◌==◌, ◌≤◌, ◌^◌, List, [], ◌++◌, codes, if◌then◌else◌}
-use Rattle.std.specs.Fmt.{decimal}
 use Rattle.std.specs.List.{flat_map}
-use Rattle.desk_text.specs.Address.{addr_text, number_of}
+use Rattle.desk_text.specs.Address.{number_of}
+use Rattle.desk_report.specs.Counts.{granted_of}
 use Rattle.desk_report.specs.declared.counts.Counts.{Counts}
 use Rattle.desk_page.specs.Amounts.{part, percent, plural}
 use Rattle.desk_page.specs.Numbers.{number}
 use Rattle.desk_page.specs.Pieces.{box_start, code, zero}
+use Rattle.desk_page.specs.Ranges.{network_text}
 use Rattle.desk_page_filesystem.specs.declared.shares.Share.{Share}
 use Rattle.desk_page_filesystem.specs.declared.shares.Space.{Space}
 use Rattle.desk_page_filesystem.specs.declared.shares.Space.TheVariants as spaces
 
--- how many addresses may mount something, and how many there are
-abbrev pub granted_of : Counts → ℕ
-granted_of counts = counts.read_only + counts.read_write + counts.root_kept
-
+-- how many addresses there are
 abbrev pub size_of : Counts → ℕ
 size_of counts = counts.denied + granted_of counts
 
@@ -26,7 +24,7 @@ HasSize share = size_of share.counts ≤ 2 ^ 32
 abbrev pub space_name : Space → List ℕ
 space_name spaces.All = codes "all of IPv4"
 space_name spaces.OutsidePrivate = codes "outside private space"
-space_name (spaces.Network first prefix) = addr_text (number_of first) ++ codes "/" ++ decimal prefix
+space_name (spaces.Network first prefix) = network_text (number_of first) prefix
 
 abbrev pub space_head : Space → List ℕ
 space_head space = codes "<tr><th scope=\"row\">" ++ space_name space ++ codes "</th>"
@@ -59,7 +57,10 @@ share_rows shares = flat_map share_row shares
 
 -- the end of the caption, and the heads of the columns
 unfoldable pub heads : List ℕ
-heads = codes "</caption>\n<thead><tr><th scope=\"col\">Network</th><th scope=\"col\" class=\"num\">has</th><th scope=\"col\" class=\"num\">read-only</th><th scope=\"col\" class=\"num\">read-write</th><th scope=\"col\" class=\"num\">root kept</th><th scope=\"col\" class=\"num\">may mount</th></tr></thead>\n<tbody>\n"
+heads =
+    codes "</caption>\n<thead><tr><th scope=\"col\">Network</th><th scope=\"col\" class=\"num\">has</th>"
+    ++ codes "<th scope=\"col\" class=\"num\">read-only</th><th scope=\"col\" class=\"num\">read-write</th>"
+    ++ codes "<th scope=\"col\" class=\"num\">root kept</th><th scope=\"col\" class=\"num\">may mount</th></tr></thead>\n<tbody>\n"
 
 abbrev pub shares_head : List ℕ → List ℕ
 shares_head name =

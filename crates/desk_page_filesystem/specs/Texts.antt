@@ -21,7 +21,9 @@ text_rows fs notes before (line ∷ others) = text_row fs notes (before + 1) lin
 
 -- the end of the caption, and the heads of the columns
 unfoldable pub text_heads : List ℕ
-text_heads = codes ", and what each line grants</caption>\n<thead><tr><th scope=\"col\">Line</th><th scope=\"col\">It grants</th><th scope=\"col\" class=\"num\">to addresses</th><th scope=\"col\">Text</th></tr></thead>\n<tbody>\n"
+text_heads =
+    codes ", and what each line grants</caption>\n<thead><tr><th scope=\"col\">Line</th><th scope=\"col\">It grants</th>"
+    ++ codes "<th scope=\"col\" class=\"num\">to addresses</th><th scope=\"col\">Text</th></tr></thead>\n<tbody>\n"
 
 abbrev pub text_head : List ℕ → List ℕ
 text_head name = box_start (codes "Text of ") name ++ codes "<table class=\"text\"><caption class=\"off\">Text of " ++ code name ++ text_heads

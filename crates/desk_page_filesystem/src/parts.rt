@@ -1,4 +1,4 @@
-//! The part of the page that tells of one file system, but for its maps.
+//! The part of the page that tells of one file system, given its maps as HTML.
 
 ghost use Rattle.std.specs.Prelude.{◌≡◌, ◌<◌, ◌++◌, OnOk};
 ghost use Rattle.std.specs.List.{AllPairs};

@@ -4,7 +4,9 @@ ghost use Rattle.std.specs.Prelude.{◌≡◌, ◌≤◌, ◌^◌, ◌++◌, All
 ghost use Rattle.std.specs.String.{string_bytes};
 ghost use Rattle.desk_page_filesystem.specs.Shares as spec;
 
-use desk_page::{push_box_start, push_code, push_number, push_part, push_percent, push_plural};
+use desk_page::{
+    push_box_start, push_code, push_network, push_number, push_part, push_percent, push_plural,
+};
 use desk_report::Counts;
 use desk_text::Addr;
 use std::alloc::{AllocError, Global};
@@ -97,12 +99,7 @@ fn push_share(alloc: Global, share: &Share, page: &mut String) -> Result<(), All
     push_space(share.space, page)?;
     push_size_cell(alloc, size_of(&share.counts), page)?;
     push_class_cells(alloc, &share.counts, page)?;
-    push_granted_cell(
-        alloc,
-        granted_of(&share.counts),
-        size_of(&share.counts),
-        page,
-    )
+    push_granted_cell(alloc, share.counts.granted(), size_of(&share.counts), page)
 }
 
 /// Counts the addresses that a share is of.
@@ -110,15 +107,7 @@ fn size_of(counts: &Counts) -> u64
     requires { spec.size_of counts.now ≤ 2 ^ 32 }
     ensures { result ≡ spec.size_of counts.now }
 {
-    counts.denied + granted_of(counts)
-}
-
-/// Counts those that may mount something.
-fn granted_of(counts: &Counts) -> u64
-    requires { spec.size_of counts.now ≤ 2 ^ 32 }
-    ensures { result ≡ spec.granted_of counts.now }
-{
-    counts.read_only + counts.read_write + counts.root_kept
+    counts.denied + counts.granted()
 }
 
 /// Begins a row with the addresses that it tells of.
@@ -137,7 +126,7 @@ fn push_space_name(space: Space, page: &mut String) -> Result<(), AllocError>
     match space {
         Space::All => page.push_str("all of IPv4"),
         Space::OutsidePrivate => page.push_str("outside private space"),
-        Space::Network(first, prefix) => write!(page, "{first}/{prefix}"),
+        Space::Network(first, prefix) => push_network(first, prefix, page),
     }
 }
 

@@ -1,13 +1,15 @@
 -- The path of grounds has just the cells that are meant.
-use Rattle.std.proofs.Common.{◌≡◌, ℕ, ◌+◌, ◌*◌, ◌/◌, ◌%◌, ◌<◌, ◌∙◌, ◌&&◌, Bool, true, false, List, [], ◌∷◌, ap, append-nil, arith, cond, drop, eqb, get_or, inl, inr, leb, length, ltb, refl, sym}
+use Rattle.std.proofs.Common.{◌≡◌, ℕ, zero, suc, ◌+◌, ◌*◌, ◌/◌, ◌%◌, ◌<◌, ◌∙◌, ◌&&◌, Bool, true, false, List, [], ◌∷◌, ap, append-nil, arith, cond, drop, eqb, get_or, inl, inr, leb, length, ltb, refl, sym}
 use Rattle.std.specs.List.{count_by, flat_map, range_with_len, sum_by}
+use Rattle.std.specs.Prelude.{◌≤◌, All, not}
 use Rattle.std.proofs.lemmas.Bool.{and_from, and_left, and_right, cases_Bool, cases_lt, cases_eq, cond-false, cond-true, le-leb, lt-ltb, ne_eqb, eq-eqb, le-ltb, lt-leb, true≢false}
 use Rattle.std.proofs.lemmas.List.{get_or-drop, get_or-take, length-drop, length-take}
-use Rattle.std.proofs.lemmas.List.Elements.{All-get_or}
+use Rattle.std.proofs.lemmas.List.Elements.{All-append, All-cons, All-get_or, All-nil}
 use Rattle.std.proofs.lemmas.List.FromFn.{get_or-map-range_with_len, length-map-range_with_len}
 use Rattle.std.proofs.lemmas.List.Sums.{AllPass-from_list_all}
-use Rattle.desk_page_maps.specs.Grounds.{GroundsHaveJustTheCells, Rectangle, has_cell, is_from, rectangle_text}
+use Rattle.desk_page_maps.specs.Grounds.{GroundsHaveJustTheCells, IsInside, Rectangle, has_cell, is_from, rectangle_text}
 use Rattle.desk_page_maps.specs.Paths.{begins_at, ground_path, is_meant, is_whole, length_from, piece_at, pieces, row_of, row_path, whole_at, whole_rows}
+use Rattle.desk_page_maps.proofs.Ends.{at_most_length}
 use Rattle.desk_page_maps.proofs.Spans.{covered, covers, not_covered, start, start_le, start_meant}
 use Rattle.desk_page_maps.proofs.Summed.{at_one, count_in_each, no_value, one_value, same_sums, same_texts, text_of_each}
 
@@ -92,6 +94,47 @@ many_rows : (which : List Bool) → length (whole_rows which) ≡ 16
 unfolding whole_rows
 many_rows which = length-map-range_with_len (λ y. is_whole (row_of which y)) 0 16
 
+row_length : (which : List Bool) (y : ℕ) → length which ≡ 256 → y < 16 → length (row_of which y) ≡ 16
+row_length which y long few =
+    let rest = length-drop (16 * y) which in
+    let own = length-take 16 (drop (16 * y) which) in
+    omega arith
+
+-- each rectangle lies inside the map
+all_if : (b : Bool) (one : Rectangle) → IsInside one → All IsInside (cond b (one ∷ []) [])
+all_if true one is = All-cons IsInside one [] is (All-nil IsInside)
+all_if false one is = All-nil IsInside
+
+all_of_each : (of : ℕ → List Rectangle) (a n : ℕ) → ((k : ℕ) → a ≤ k → k < a + n → All IsInside (of k)) → All IsInside (flat_map of (range_with_len a n))
+all_of_each of a zero each = All-nil IsInside
+all_of_each of a (suc n) each =
+    All-append IsInside (of a) (flat_map of (range_with_len (a + 1) n)) (each a (omega arith) (omega arith))
+    (all_of_each of (a + 1) n (λ k from to. each k (omega arith) (omega arith)))
+
+within_length : (which : List Bool) (place : ℕ) → place < length which → place + length_from which place ≤ length which
+within_length which place within =
+    let rest = length-drop place which in
+    let most = at_most_length not (drop place which) in
+    omega arith
+
+pieces_inside : (row : List Bool) (y : ℕ) → length row ≡ 16 → y < 16 → All IsInside (row_pieces row y)
+pieces_inside row y size few =
+    all_of_each (pieces_at row y) 0 16
+    (λ x from to. all_if (begins_at row x) (piece_rectangle row y x) (let most = within_length row x (omega arith) in (omega arith, omega arith)))
+
+row_inside : (which : List Bool) (y : ℕ) → length which ≡ 256 → y < 16 → All IsInside (row_rectangles which (whole_rows which) y)
+row_inside which y long few = by (is_whole (row_of which y))
+  where
+    by : (b : Bool) → All IsInside (cond b (wholes_at (whole_rows which) y) (row_pieces (row_of which y) y))
+    by true =
+        let many = many_rows which in
+        let most = within_length (whole_rows which) y (omega arith) in
+        all_if (begins_at (whole_rows which) y) (whole_rectangle (whole_rows which) y) (omega arith, omega arith)
+    by false = pieces_inside (row_of which y) y (row_length which y long few) few
+
+all_inside : (which : List Bool) → length which ≡ 256 → All IsInside (all_rectangles which)
+all_inside which long = all_of_each (row_rectangles which (whole_rows which)) 0 16 (λ y from to. row_inside which y long to)
+
 module _ (which : List Bool) (long : length which ≡ 256) (cell : ℕ) (within : cell < 256) where
   abbrev cx : ℕ
   cx = cell % 16
@@ -107,12 +150,6 @@ module _ (which : List Bool) (long : length which ≡ 256) (cell : ℕ) (within 
 
   few_y : cy < 16
   few_y = omega arith
-
-  row_length : (y : ℕ) → y < 16 → length (row_of which y) ≡ 16
-  row_length y few =
-      let rest = length-drop (16 * y) which in
-      let own = length-take 16 (drop (16 * y) which) in
-      omega arith
 
   cell_of_row : is_meant (row_of which cy) cx ≡ is_meant which cell
   cell_of_row =
@@ -189,7 +226,7 @@ module _ (which : List Bool) (long : length which ≡ 256) (cell : ℕ) (within 
         | inr own ↦
             elim (cases_eq y cy) as (λ _. count_by has (row_rectangles which rows y) ≡ at_one cy (cond (is_meant which cell) 1 0) y) [
               | inl same ↦
-                  if_not y own ∙ pieces_here (row_of which y) y same (row_length y few)
+                  if_not y own ∙ pieces_here (row_of which y) y same (row_length which y long few)
                   ∙ ap (λ b. cond b 1 0) (ap (λ n. is_meant (row_of which n) cx) same ∙ cell_of_row)
                   ∙ sym (cond-true (eqb y cy) (cond (is_meant which cell) 1 0) 0 (eq-eqb y cy same))
               | inr apart ↦
@@ -205,7 +242,7 @@ module _ (which : List Bool) (long : length which ≡ 256) (cell : ℕ) (within 
             let le = start_le rows cy in
             let few = few_y in
             let low = few_x in
-            let size = row_length cy few_y in
+            let size = row_length which cy long few_y in
             let meant : is_meant which cell ≡ true = sym cell_of_row ∙ of_whole (row_of which cy) cx whole (omega arith) in
             same_sums (λ y. count_by has (row_rectangles which rows y)) (at_one (start rows cy) 1) 0 16 (λ y from to. in_whole whole y to)
             ∙ one_value (start rows cy) 1 0 16 (omega arith) (omega arith) ∙ sym (cond-true (is_meant which cell) 1 0 meant)
@@ -216,4 +253,4 @@ module _ (which : List Bool) (long : length which ≡ 256) (cell : ℕ) (within 
       ]
 
 pub grounds_have_just_the_cells : GroundsHaveJustTheCells
-grounds_have_just_the_cells which long = record { rectangles = all_rectangles which; text = text_of_all which; cells = once which long }
+grounds_have_just_the_cells which long = record { rectangles = all_rectangles which; inside = all_inside which long; text = text_of_all which; cells = once which long }

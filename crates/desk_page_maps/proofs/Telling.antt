@@ -1,17 +1,18 @@
 -- All maps that are needed are drawn or counted by prefix.
-use Rattle.std.proofs.Common.{◌≡◌, ◌⊎◌, ℕ, ◌+◌, ◌*◌, ◌/◌, ◌%◌, ◌<◌, ◌^◌, ◌∙◌, Bool, true, List, [], ◌∷◌, ap, arith, cond, drop, eqb, get_or, inl, inr, length, refl, subst, sym}
+use Rattle.std.proofs.Common.{◌≡◌, ◌⊎◌, ℕ, ◌+◌, ◌*◌, ◌/◌, ◌%◌, ◌<◌, ◌^◌, ◌∙◌, Bool, true, List, [], ◌∷◌, ap, arith, cond, drop, eqb, get_or, inl, inr, length, refl, subst, sym, take}
 use Rattle.std.specs.Prelude.{All, Contains, filter, not}
 use Rattle.std.proofs.lemmas.Bool.{and_parts, cases_Bool, cond-false, cond-true, cond_both, eqb-true, not_from_false, true≢false}
 use Rattle.std.proofs.lemmas.List.{get_or-drop, length-drop, take-append-drop}
-use Rattle.std.proofs.lemmas.List.Elements.{All-cons, All-drop, All-from_get_or, All-head, All-nil, All-tail, Contains-append_left, Contains-append_right, Contains-get_or}
+use Rattle.std.proofs.lemmas.List.Elements.{All-cons, All-drop, All-from_get_or, All-get_or, All-head, All-nil, All-tail, Contains-append_cases, Contains-append_left, Contains-append_right, Contains-get_or}
 use Rattle.std.proofs.lemmas.List.Folds.{Any-from_list_any}
 use Rattle.std.proofs.lemmas.List.Sums.{sum_by-cons}
 use Rattle.desk_text.specs.Network.{Block, block_of}
+use Rattle.desk_who.specs.Runs.{AreRuns, Run}
 use Rattle.desk_report.specs.declared.class.Class.{Class}
 use Rattle.desk_maps.specs.Maps.{AreMaps, IsNeeded, all_addresses, fixed_maps, is_listed, map_at, maps_with_fixed, same_network}
-use Rattle.desk_maps.proofs.Mapped.{contains_filter}
-use Rattle.desk_page_maps.specs.Figures.{count_of}
-use Rattle.desk_page_maps.specs.Laws.{AreCountedByPrefix, NeededMapsAreTold}
+use Rattle.desk_maps.proofs.Mapped.{all_filter, contains_filter}
+use Rattle.desk_page_maps.specs.Figures.{GainsFileSystemMaps, GainsGroupMaps, GainsMaps, count_of, most_of_file_system, most_of_group}
+use Rattle.desk_page_maps.specs.Laws.{AreCountedByPrefix, AreDrawnOrCounted, NeededMapsAreTold}
 
 -- a prefix that is counted
 abbrev IsCounted : Block → Type 0
@@ -117,16 +118,56 @@ with_fixed maps network has =
       | inr other ↦ Contains-append_right fixed_maps (filter is_other maps) network (contains_filter is_other maps network has (not_from_false (is_listed fixed_maps network) other))
     ]
 
+-- of a list the first so many have its elements, or the rest has them
+in_either : (most : ℕ) (networks : List Block) (network : Block) → Contains networks network → Contains (take most networks) network ⊎ Contains (drop most networks) network
+in_either most networks network has =
+    Contains-append_cases (take most networks) (drop most networks) network
+    (subst (λ (all : List Block). Contains all network) (sym (take-append-drop most networks)) has)
+
+module _ (class_at : ℕ → Class) (runs : List (Run Class)) where
+  -- a page that gains maps of networks among which are all that are needed
+  drawn_or_counted : (most : ℕ) (networks : List Block) (page gained : List ℕ) → GainsMaps runs most networks page gained
+      → ((network : Block) → IsNeeded class_at network → Contains networks network) → All (IsNeeded class_at) (drop most networks)
+      → All IsCounted (drop most networks) → AreDrawnOrCounted class_at runs page gained
+  drawn_or_counted most networks page gained maps all only prefixes = record {
+    drawn = maps.drawn;
+    others = drop most networks;
+    text = maps.text;
+    each = maps.are.each;
+    needed = λ network need.
+        subst (λ (some : List Block). Contains some network ⊎ Contains (drop most networks) network) (sym maps.are.of)
+        (in_either most networks network (all network need));
+    only = only;
+    counted = counted (drop most networks) prefixes;
+  }
+
+  needed_all : (maps : List Block) → AreMaps class_at maps → All (IsNeeded class_at) maps
+  needed_all maps are =
+      All-from_get_or (IsNeeded class_at) maps all_addresses
+      (λ i within. are.only (get_or maps i all_addresses) (Contains-get_or maps i all_addresses within))
+
+  of_group : AreRuns class_at runs → (page gained : List ℕ) → GainsGroupMaps runs page gained → AreDrawnOrCounted class_at runs page gained
+  of_group of page gained own =
+      let maps = own.needed in
+      let are = own.are class_at of in
+      drawn_or_counted most_of_group maps page gained own.maps are.all (All-drop (IsNeeded class_at) most_of_group maps (needed_all maps are))
+      (counted_of_group class_at maps are)
+
+  of_file_system : AreRuns class_at runs → (page gained : List ℕ) → GainsFileSystemMaps runs page gained → AreDrawnOrCounted class_at runs page gained
+  of_file_system of page gained own =
+      let maps = own.needed in
+      let are = own.are class_at of in
+      let needs = needed_all maps are in
+      let either_all : All IsEither maps = All-from_get_or IsEither maps all_addresses
+      (λ i within. either class_at (get_or maps i all_addresses) (All-get_or (IsNeeded class_at) maps i all_addresses within needs)) in
+      let behind : drop most_of_file_system (maps_with_fixed maps) ≡ drop 8 (filter is_other maps) = refl in
+      drawn_or_counted most_of_file_system (maps_with_fixed maps) page gained own.maps
+      (λ network need. with_fixed maps network (are.all network need))
+      (subst (All (IsNeeded class_at)) (sym behind) (All-drop (IsNeeded class_at) 8 (filter is_other maps) (all_filter (IsNeeded class_at) is_other maps needs)))
+      (subst (All IsCounted) (sym behind) (All-drop IsCounted 8 (filter is_other maps) (others maps either_all)))
+
 pub needed_maps_are_told : NeededMapsAreTold
-needed_maps_are_told class_at maps are =
-    let either_all : All IsEither maps = All-from_get_or IsEither maps all_addresses
-    (λ i within. either class_at (get_or maps i all_addresses) (are.only (get_or maps i all_addresses) (Contains-get_or maps i all_addresses within))) in
-    let behind : drop 12 (maps_with_fixed maps) ≡ drop 8 (filter is_other maps) = refl in
-    record {
-      of_group = record { all = take-append-drop 6 maps; counted = counted (drop 6 maps) (counted_of_group class_at maps are) };
-      of_file_system = record {
-        all = take-append-drop 12 (maps_with_fixed maps);
-        counted = counted (drop 12 (maps_with_fixed maps)) (subst (All IsCounted) (sym behind) (All-drop IsCounted 8 (filter is_other maps) (others maps either_all)));
-      };
-      needed = λ network need. (are.all network need, with_fixed maps network (are.all network need));
-    }
+needed_maps_are_told class_at runs of = record {
+  of_group = of_group class_at runs of;
+  of_file_system = of_file_system class_at runs of;
+}

@@ -18,7 +18,7 @@ use Rattle.desk_maps.specs.Order.{ComesBefore}
 use Rattle.desk_maps.specs.declared.cells.Cell.{Cell}
 use Rattle.desk_maps.proofs.Containing.{here, here_or_there, there}
 use Rattle.desk_page_maps.specs.Drawn.{AreDrawnFrom, IsDrawnFrom}
-use Rattle.desk_page_maps.specs.Figures.{GainsFileSystemMaps, GainsGroupMaps, GainsMaps, GainsOverviewMaps, figures, small_cell}
+use Rattle.desk_page_maps.specs.Figures.{GainsFileSystemMaps, GainsGroupMaps, GainsMaps, GainsOverviewMaps, figures, most_of_file_system, most_of_group, small_cell}
 use Rattle.desk_page_maps.specs.Laws.{MapsAreToldInOneWay}
 use Rattle.desk_page_maps.specs.declared.drawn.DrawnMap.{DrawnMap}
 
@@ -157,13 +157,13 @@ module _ (class_at : ℕ → Class) where
     of_file_system : (page gained other : List ℕ) → GainsFileSystemMaps runs page gained → GainsFileSystemMaps runs page other → gained ≡ other
     of_file_system page gained other own its =
         let same = one_list own.needed its.needed (own.are class_at of) (its.are class_at of) in
-        one_text 12 (maps_with_fixed own.needed) page gained other own.maps
-        (subst (λ (needed : List Block). GainsMaps runs 12 (maps_with_fixed needed) page other) (sym same) its.maps)
+        one_text most_of_file_system (maps_with_fixed own.needed) page gained other own.maps
+        (subst (λ (needed : List Block). GainsMaps runs most_of_file_system (maps_with_fixed needed) page other) (sym same) its.maps)
 
     of_group : (page gained other : List ℕ) → GainsGroupMaps runs page gained → GainsGroupMaps runs page other → gained ≡ other
     of_group page gained other own its =
         let same = one_list own.needed its.needed (own.are class_at of) (its.are class_at of) in
-        one_text 6 own.needed page gained other own.maps (subst (λ (needed : List Block). GainsMaps runs 6 needed page other) (sym same) its.maps)
+        one_text most_of_group own.needed page gained other own.maps (subst (λ (needed : List Block). GainsMaps runs most_of_group needed page other) (sym same) its.maps)
 
     in_overview : (page gained other : List ℕ) → GainsOverviewMaps runs page gained → GainsOverviewMaps runs page other → gained ≡ other
     in_overview page gained other own its =

@@ -1,14 +1,13 @@
 -- A map as an image. (this project's own, over SVG and HTML)
 use Rattle.std.specs.Prelude.{ℕ, ◌==◌, ◌&&◌, Bool, not, List, [], ◌++◌, codes, map, if◌then◌else◌}
-use Rattle.std.specs.Fmt.{decimal}
 use Rattle.std.specs.List.{list_any}
-use Rattle.desk_text.specs.Address.{addr_text}
 use Rattle.desk_text.specs.Network.{Block, block_size}
 use Rattle.desk_report.specs.Class.{same_class}
 use Rattle.desk_report.specs.declared.class.Class.{Class}
 use Rattle.desk_report.specs.declared.class.Class.TheVariants.{Denied, ReadOnly, ReadWrite, RootKept}
 use Rattle.desk_maps.specs.declared.cells.Cell.{Cell}
 use Rattle.desk_page.specs.Numbers.{number}
+use Rattle.desk_page.specs.Ranges.{network_text}
 use Rattle.desk_page_words.specs.Badges.{count_words}
 use Rattle.desk_page_maps.specs.Paths.{ground_path, mark_path}
 use Rattle.desk_page_maps.specs.declared.drawn.DrawnMap.{DrawnMap}
@@ -64,13 +63,9 @@ marks cells =
 abbrev pub map_paths : List Cell → List ℕ
 map_paths cells = grounds cells ++ marks cells
 
--- a network, as `10.0.0.0/8`
-abbrev pub network_text : Block → List ℕ
-network_text network = addr_text network.first ++ codes "/" ++ decimal network.prefix
-
 -- what is said to those who do not see the map, as `Map of 10.0.0.0/8: read-only 256, of 16,777,216 addresses`
 abbrev pub label_start : Block → List ℕ
-label_start network = codes "Map of " ++ network_text network ++ codes ": "
+label_start network = codes "Map of " ++ network_text network.first network.prefix ++ codes ": "
 
 abbrev pub label_end : Block → List ℕ
 label_end network = codes ", of " ++ number (block_size network.prefix) ++ codes " addresses"

@@ -1,10 +1,9 @@
 -- What is drawn of a network. (this project's own)
-use Rattle.std.specs.Prelude.{◌≡◌, ℕ, ◌+◌, ◌≤◌, All, List, length, map}
+use Rattle.std.specs.Prelude.{◌≡◌, ◌≤◌, All, List, length, map}
 use Rattle.desk_text.specs.Network.{Block, block_size, last_of}
 use Rattle.desk_who.specs.Runs.{Run}
-use Rattle.desk_report.specs.Counts.{AreCountsFrom}
+use Rattle.desk_report.specs.Counts.{AreCountsFrom, granted_of}
 use Rattle.desk_report.specs.declared.class.Class.{Class}
-use Rattle.desk_report.specs.declared.counts.Counts.{Counts}
 use Rattle.desk_maps.specs.Cells.{AreCellsFrom}
 use Rattle.desk_maps.specs.Maps.{IsWide}
 use Rattle.desk_page_maps.specs.declared.drawn.DrawnMap.{DrawnMap}
@@ -19,10 +18,6 @@ pub record IsDrawnFrom (runs : List (Run Class)) (drawn : DrawnMap) : Type 0 whe
 pub record AreDrawnFrom (runs : List (Run Class)) (networks : List Block) (drawn : List DrawnMap) : Type 0 where
   pub of : map (λ one. one.network) drawn ≡ networks
   pub each : All (IsDrawnFrom runs) drawn
-
--- how many addresses may mount something
-abbrev pub granted_of : Counts → ℕ
-granted_of counts = counts.read_only + counts.read_write + counts.root_kept
 
 -- What can be drawn: each cell has an address at least, there are 256 of them, and no more addresses may mount something than there are.
 pub record IsDrawable (drawn : DrawnMap) : Type 0 where

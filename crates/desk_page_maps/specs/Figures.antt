@@ -4,16 +4,18 @@ use Rattle.std.specs.Fmt.{decimal}
 use Rattle.std.specs.List.{flat_map, join_by}
 use Rattle.desk_text.specs.Network.{Block, block_size}
 use Rattle.desk_who.specs.Runs.{Run}
+use Rattle.desk_report.specs.Counts.{granted_of}
 use Rattle.desk_report.specs.declared.class.Class.{Class}
 use Rattle.desk_maps.specs.Maps.{AreMapsFrom, fixed_maps, maps_with_fixed}
 use Rattle.desk_page.specs.Amounts.{part, plural}
-use Rattle.desk_page_maps.specs.Drawing.{large_map, network_text, small_map}
-use Rattle.desk_page_maps.specs.Drawn.{AreDrawnFrom, granted_of}
+use Rattle.desk_page.specs.Ranges.{network_text}
+use Rattle.desk_page_maps.specs.Drawing.{large_map, small_map}
+use Rattle.desk_page_maps.specs.Drawn.{AreDrawnFrom}
 use Rattle.desk_page_maps.specs.declared.drawn.DrawnMap.{DrawnMap}
 
 -- what a network is called below its map
 abbrev pub network_name : Block → List ℕ
-network_name network = if network.prefix == 0 then codes "all of IPv4" else network_text network
+network_name network = if network.prefix == 0 then codes "all of IPv4" else network_text network.first network.prefix
 
 -- how many of its addresses may mount something
 abbrev pub caption : DrawnMap → List ℕ
@@ -65,17 +67,25 @@ pub record GainsMaps (runs : List (Run Class)) (most : ℕ) (networks : List Blo
   pub are : AreDrawnFrom runs (take most networks) drawn
   pub text : gained ≡ page ++ figures drawn (drop most networks)
 
--- The maps of a file system: those that each one has, and then the others that are needed, at most 12.
+-- how many maps a file system has at most
+abbrev pub most_of_file_system : ℕ
+most_of_file_system = 12
+
+-- how many maps a group of directories has at most
+abbrev pub most_of_group : ℕ
+most_of_group = 6
+
+-- The maps of a file system, no more than it has at most: those that each one has, and then the others that are needed.
 pub record GainsFileSystemMaps (runs : List (Run Class)) (page gained : List ℕ) : Type 0 where
   pub needed : List Block
   pub are : AreMapsFrom runs needed
-  pub maps : GainsMaps runs 12 (maps_with_fixed needed) page gained
+  pub maps : GainsMaps runs most_of_file_system (maps_with_fixed needed) page gained
 
--- The maps of a group of directories: those that are needed, at most 6.
+-- The maps of a group of directories, no more than it has at most: those that are needed.
 pub record GainsGroupMaps (runs : List (Run Class)) (page gained : List ℕ) : Type 0 where
   pub needed : List Block
   pub are : AreMapsFrom runs needed
-  pub maps : GainsMaps runs 6 needed page gained
+  pub maps : GainsMaps runs most_of_group needed page gained
 
 -- a cell of a table with a small map
 abbrev pub small_cell : DrawnMap → List ℕ

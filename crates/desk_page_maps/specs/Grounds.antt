@@ -1,5 +1,5 @@
 -- What the path of grounds has. (this project's own)
-use Rattle.std.specs.Prelude.{◌≡◌, ℕ, ◌+◌, ◌/◌, ◌%◌, ◌<◌, ◌&&◌, Bool, List, count_by, length, nat_le, nat_lt, if◌then◌else◌}
+use Rattle.std.specs.Prelude.{◌≡◌, ℕ, ◌+◌, ◌/◌, ◌%◌, ◌<◌, ◌≤◌, ◌&&◌, All, Bool, List, count_by, length, nat_le, nat_lt, if◌then◌else◌}
 use Rattle.std.specs.List.{flat_map}
 use Rattle.desk_page_maps.specs.Paths.{ground_path, is_meant, rectangle}
 
@@ -21,9 +21,14 @@ is_from first count number = nat_le first number && nat_lt number (first + count
 abbrev pub has_cell : ℕ → Rectangle → Bool
 has_cell cell one = is_from one.left one.width (cell % 16) && is_from one.top one.height (cell / 16)
 
--- The path of grounds is one of rectangles that have just the cells that are meant, each of them once.
+-- each cell of a rectangle lies inside the map, which has 16 columns and 16 rows
+abbrev pub IsInside : Rectangle → Type 0
+IsInside one = (one.left + one.width ≤ 16) × (one.top + one.height ≤ 16)
+
+-- The path of grounds is one of rectangles inside the map that have just the cells that are meant, each of them once.
 pub record HasJustTheCells (which : List Bool) : Type 0 where
   pub rectangles : List Rectangle
+  pub inside : All IsInside rectangles
   pub text : ground_path which ≡ flat_map rectangle_text rectangles
   pub cells : (cell : ℕ) → cell < 256 → count_by (has_cell cell) rectangles ≡ (if is_meant which cell then 1 else 0)
 

@@ -56,7 +56,7 @@ pieces row y = flat_map (piece_at row y) (range_with_len 0 16)
 abbrev pub row_path : List Bool → List Bool → ℕ → List ℕ
 row_path which wholes y = if is_whole (row_of which y) then whole_at wholes y else pieces (row_of which y) y
 
--- The grounds of the cells that are meant.
+-- The grounds of the cells that are meant, given of each of the 256 cells whether it is: row by row, what begins there.
 unfoldable pub ground_path : List Bool → List ℕ
 ground_path which = flat_map (row_path which (whole_rows which)) (range_with_len 0 16)
 
@@ -69,6 +69,6 @@ shape Diamond x y = codes "M" ++ decimal (4 * x + 2) ++ codes " " ++ decimal (4 
 abbrev pub mark_at : List Bool → Shape → ℕ → List ℕ
 mark_at which mark cell = if is_meant which cell then shape mark (cell % 16) (cell / 16) else []
 
--- The marks of the cells that are meant.
+-- The marks of the cells that are meant, given the same.
 unfoldable pub mark_path : List Bool → Shape → List ℕ
 mark_path which mark = flat_map (mark_at which mark) (range_with_len 0 256)

@@ -10,7 +10,7 @@ ghost use Rattle.desk_page_maps.specs.Drawing as spec;
 use crate::drawn::DrawnMap;
 use crate::paths::{Shape, push_ground_path, push_mark_path};
 use desk_maps::Cell;
-use desk_page::push_number;
+use desk_page::{push_network, push_number};
 use desk_page_words::push_count_words;
 use desk_report::Class;
 use desk_text::Net;
@@ -76,18 +76,9 @@ fn push_label_start(network: Net, page: &mut String) -> Result<(), AllocError>
     ensures { OnOk result (string_bytes page.new ≡ string_bytes page.old ++ spec.label_start network) }
 {
     page.push_str("Map of ")?;
-    push_network(network, page)?;
+    push_network(network.first(), network.prefix().get(), page)?;
     page.push_str(": ")?;
     Ok(())
-}
-
-/// Adds a network.
-pub(crate) fn push_network(network: Net, page: &mut String) -> Result<(), AllocError>
-    ensures { OnOk result (string_bytes page.new ≡ string_bytes page.old ++ spec.network_text network) }
-{
-    let first = network.first();
-    let prefix = network.prefix().get();
-    write!(page, "{first}/{prefix}")
 }
 
 /// Adds how many addresses it has.

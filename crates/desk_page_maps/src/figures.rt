@@ -6,20 +6,20 @@ ghost use Rattle.std.specs.String.{string_bytes};
 ghost use Rattle.desk_report.specs.Classes.{class_run};
 ghost use Rattle.desk_report.specs.Values.{AreRunsOfSome};
 ghost use Rattle.desk_maps.specs.Maps.{IsWide};
-ghost use Rattle.desk_page_maps.specs.Drawn.{IsDrawable, granted_of};
+ghost use Rattle.desk_page_maps.specs.Drawn.{IsDrawable};
 ghost use Rattle.desk_page_maps.specs.Figures as spec;
 ghost use Rattle.desk_page_maps.specs.PrivateFigures.{GainsCells, GainsFigures};
 
-use crate::drawing::{push_large_map, push_network, push_small_map, size_of};
+use crate::drawing::{push_large_map, push_small_map, size_of};
 use crate::drawn::{DrawnMap, drawn_map};
 use desk_maps::{maps_of, with_fixed_maps};
-use desk_page::{push_part, push_plural};
-use desk_report::{Class, Counts};
+use desk_page::{push_network, push_part, push_plural};
+use desk_report::Class;
 use desk_text::Net;
 use desk_who::Run;
 use std::alloc::{AllocError, Global};
 
-/// How many maps a file system has at most, and how many a group of directories.
+/// How many maps a file system has at most, and how many a group of directories: `most_of_file_system` and `most_of_group`.
 const MOST_OF_FILE_SYSTEM: usize = 12;
 
 const MOST_OF_GROUP: usize = 6;
@@ -122,7 +122,7 @@ fn push_caption(alloc: Global, drawn: &DrawnMap, page: &mut String) -> Result<()
     requires { IsDrawable drawn.now }
     ensures { OnOk result (string_bytes page.new ≡ string_bytes page.old ++ spec.caption drawn.now) }
 {
-    let granted = granted_of(&drawn.counts);
+    let granted = drawn.counts.granted();
     page.push_str("<figcaption><b>")?;
     push_name(drawn.network, page)?;
     page.push_str("</b> ")?;
@@ -138,16 +138,8 @@ fn push_name(network: Net, page: &mut String) -> Result<(), AllocError>
     if network.prefix().get() == 0 {
         page.push_str("all of IPv4")
     } else {
-        push_network(network, page)
+        push_network(network.first(), network.prefix().get(), page)
     }
-}
-
-/// Adds up how many addresses may mount something.
-fn granted_of(counts: &Counts) -> u64
-    requires { granted_of counts.now ≤ 2 ^ 32 }
-    ensures { result ≡ granted_of counts.now }
-{
-    counts.read_only + counts.read_write + counts.root_kept
 }
 
 /// Adds how many maps are not drawn, if any.

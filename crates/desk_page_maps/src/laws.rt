@@ -13,7 +13,7 @@ pub fn grounds_have_just_the_cells()
     ensures { GroundsHaveJustTheCells }
 {}
 
-/// Given the runs of a function of addresses, there is just one text of its maps.
+/// Given the runs of a function of addresses, there is at most one text of its maps.
 pub fn maps_are_told_in_one_way()
     ensures { MapsAreToldInOneWay }
 {}

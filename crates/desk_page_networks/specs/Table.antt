@@ -1,13 +1,12 @@
 -- The table of the networks that lines write. (this project's own, over HTML)
 use Rattle.std.specs.Prelude.{◌≡◌, ℕ, ◌==◌, ◌-◌, List, [], ◌++◌, codes, length, take, if◌then◌else◌}
-use Rattle.std.specs.Fmt.{decimal}
 use Rattle.std.specs.List.{flat_map}
-use Rattle.desk_text.specs.Address.{addr_text}
 use Rattle.desk_text.specs.Network.{Block, block_size}
 use Rattle.desk_policy.specs.Policy.{Content}
 use Rattle.desk_maps.specs.Order.{AreOrdered}
 use Rattle.desk_maps.specs.Written.{written_networks}
 use Rattle.desk_page.specs.Amounts.{plural}
+use Rattle.desk_page.specs.Ranges.{network_text}
 use Rattle.desk_page.specs.TextRows.{count_cell}
 use Rattle.desk_page_lists.specs.Tables.{row_end, table_end}
 use Rattle.desk_page_networks.specs.Cells.{alike_cell, parts_cell}
@@ -15,13 +14,9 @@ use Rattle.desk_page_networks.specs.Rows.{AreNetworkRows}
 use Rattle.desk_page_networks.specs.declared.rows.NetworkRow.{NetworkRow}
 use Rattle.desk_page_networks.specs.declared.table.TheConstants.{START}
 
--- a network, which has its prefix even if it is one address
-abbrev pub network : ℕ → ℕ → List ℕ
-network first prefix = addr_text first ++ codes "/" ++ decimal prefix
-
--- the beginning of a row, with its network
+-- the beginning of a row, with its network, which has its prefix even if it is one address
 abbrev pub row_head : Block → List ℕ
-row_head block = codes "<tr><th scope=\"row\">" ++ network block.first block.prefix ++ codes "</th>"
+row_head block = codes "<tr><th scope=\"row\">" ++ network_text block.first block.prefix ++ codes "</th>"
 
 -- a row: the network, how many addresses it has, and what they may on which file systems
 unfoldable pub row : Content → NetworkRow → List ℕ

@@ -2,7 +2,6 @@
 
 ghost use Rattle.std.specs.Prelude.{◌≡◌, ◌++◌, OnOk, map, take};
 ghost use Rattle.std.specs.String.{string_bytes};
-ghost use Rattle.desk_text.specs.Address.{number_of};
 ghost use Rattle.desk_report.specs.Laws.{IsSoundSite};
 ghost use Rattle.desk_report.specs.Systems.{AreSystems, system_value};
 ghost use Rattle.desk_page_networks.specs.Table as spec;
@@ -11,11 +10,11 @@ ghost use Rattle.desk_page_networks.specs.Table.{GainsNetworks};
 use crate::cells::{push_alike_cell, push_parts_cell};
 use crate::rows::{NetworkRow, network_rows, size_of};
 use desk_maps::written_in_site;
-use desk_page::{push_count_cell, push_plural};
+use desk_page::{push_count_cell, push_network, push_plural};
 use desk_page_lists::{push_row_end, push_table_end};
 use desk_policy::Policy;
 use desk_report::FileSystemReport;
-use desk_text::{Addr, Net};
+use desk_text::Net;
 use std::alloc::{AllocError, Global};
 
 /// So many networks are listed.
@@ -133,23 +132,9 @@ fn push_row_head(network: Net, page: &mut String) -> Result<(), AllocError>
     ensures { OnOk result (string_bytes page.new ≡ string_bytes page.old ++ spec.row_head network) }
 {
     page.push_str("<tr><th scope=\"row\">")?;
-    push_network(network, page)?;
+    push_network(network.first(), network.prefix().get(), page)?;
     page.push_str("</th>")?;
     Ok(())
-}
-
-/// Adds a network.
-fn push_network(network: Net, page: &mut String) -> Result<(), AllocError>
-    ensures { OnOk result (string_bytes page.new ≡ string_bytes page.old ++ spec.network network.first network.prefix) }
-{
-    push_prefixed(network.first(), network.prefix().get(), page)
-}
-
-/// Adds a network by its first address and its prefix.
-fn push_prefixed(first: Addr, prefix: u8, page: &mut String) -> Result<(), AllocError>
-    ensures { OnOk result (string_bytes page.new ≡ string_bytes page.old ++ spec.network (number_of first) prefix) }
-{
-    write!(page, "{first}/{prefix}")
 }
 
 /// Adds how many networks are not listed, if there are any.

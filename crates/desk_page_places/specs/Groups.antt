@@ -1,5 +1,5 @@
 -- Who may mount directories that are granted alike. (this project's own, over HTML)
-use Rattle.std.specs.Prelude.{ℕ, ◌==◌, ◌&&◌, List, ◌++◌, codes, length, not, if◌then◌else◌}
+use Rattle.std.specs.Prelude.{ℕ, ◌==◌, List, ◌++◌, codes, if◌then◌else◌}
 use Rattle.std.specs.List.{flat_map}
 use Rattle.std.specs.String.{string_bytes}
 use Rattle.desk_impact.specs.Sections.{PlaceBreaches}
@@ -8,12 +8,10 @@ use Rattle.desk_page_places.specs.Names.{MembersValue, folded_names, heading, me
 use Rattle.desk_page_places.specs.Tables.{HasSizes, TableValue, granting, table_block, told_value}
 use Rattle.desk_page_places.specs.declared.groups.GroupPart.{GroupPart}
 
--- the word for what is in a group: one directory, or more
-abbrev pub pronoun : MembersValue → List ℕ
-pronoun members = if length members.directories == 1 && not members.has_others then codes "it" else codes "them"
-
-abbrev pub nobody : MembersValue → List ℕ
-nobody members = codes "<p>Nobody may mount " ++ pronoun members ++ codes ".</p>\n"
+-- nobody may mount them: such a group is never one directory alone, since who may mount the other directories may mount each, and so
+-- they are in it too
+abbrev pub nobody : List ℕ
+nobody = codes "<p>Nobody may mount them.</p>\n"
 
 -- the beginning of a group: the names of its directories
 abbrev pub group_head : MembersValue → List ℕ
@@ -25,7 +23,7 @@ maps_and_table fs members maps told = maps ++ table_block fs members told
 
 -- or that nobody may mount them
 abbrev pub who_block : ℕ → MembersValue → List ℕ → TableValue → List ℕ
-who_block fs members maps told = if granting told.rows == 0 then nobody members else maps_and_table fs members maps told
+who_block fs members maps told = if granting told.rows == 0 then nobody else maps_and_table fs members maps told
 
 -- all of it, given what is in the group
 abbrev pub group_by : ℕ → MembersValue → List ℕ → TableValue → List ℕ

@@ -106,7 +106,7 @@ fn push_who(
     ensures { OnOk result (string_bytes page.new ≡ string_bytes page.old ++ spec.who_block fs.0 (members_value members.now) maps.now (told_value table.now)) }
 {
     if granting(table.rows.as_slice()) == 0 {
-        return push_nobody(members, page);
+        return push_nobody(page);
     }
     push_maps_and_table(alloc, fs, members, maps, table, page)
 }
@@ -129,21 +129,8 @@ fn push_maps_and_table(
 }
 
 /// Adds that nobody may mount the directories.
-fn push_nobody(members: &Members<'_>, page: &mut String) -> Result<(), AllocError>
-    ensures { OnOk result (string_bytes page.new ≡ string_bytes page.old ++ spec.nobody (members_value members.now)) }
+fn push_nobody(page: &mut String) -> Result<(), AllocError>
+    ensures { OnOk result (string_bytes page.new ≡ string_bytes page.old ++ spec.nobody) }
 {
-    page.push_str("<p>Nobody may mount ")?;
-    page.push_str(pronoun(members))?;
-    page.push_str(".</p>\n")
-}
-
-/// Returns the word for the directories.
-fn pronoun(members: &Members<'_>) -> &'static str
-    ensures { result.now ≡ spec.pronoun (members_value members.now) }
-{
-    if members.directories.len() == 1 && !members.has_others {
-        "it"
-    } else {
-        "them"
-    }
+    page.push_str("<p>Nobody may mount them.</p>\n")
 }

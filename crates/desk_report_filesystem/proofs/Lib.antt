@@ -1,4 +1,4 @@
 mod Between
 mod Each
 mod Noted
-mod Standing
+pub mod Standing

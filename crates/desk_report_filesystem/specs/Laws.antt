@@ -25,6 +25,7 @@ OutsideIsOutside =
 -- If the lines of a file system are those of a text that is read, each logical line of the text has a note, in their order.
 abbrev pub EachLineHasANote : Type 0
 EachLineHasANote =
-    (tables : TableRows) (scope : Scope) (text : List ℕ) (entries : List (FsId × Entry)) (lines : List LineValue) → text_answer tables scope text ≡ Ok entries
+    (tables : TableRows) (scope : Scope) (text : List ℕ) (entries : List (FsId × Entry)) (lines : List LineValue)
+    → text_answer tables scope text ≡ Ok entries
     → map (λ line. line.row.entry.line) lines ≡ map (λ placed. placed.1.line) entries
     → map (λ note. note.line) (notes_of lines text) ≡ map (λ line. line.number) (logical_lines text)

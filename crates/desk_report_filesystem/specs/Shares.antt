@@ -1,5 +1,5 @@
 -- The shares of which a file system is told. (this project's own)
-use Rattle.std.specs.Prelude.{◌≡◌, ◌-◌, ◌^◌, All, List, ◌∷◌, [], ◌++◌, filter, length, map, not, take}
+use Rattle.std.specs.Prelude.{◌≡◌, ℕ, ◌-◌, ◌^◌, All, List, ◌∷◌, [], ◌++◌, filter, length, map, not, take}
 use Rattle.desk_text.specs.Address.{number_of}
 use Rattle.desk_text.specs.Network.{Block, last_of}
 use Rattle.desk_policy.specs.declared.row.Row.{Row}
@@ -58,9 +58,13 @@ pub record AreOwnNetworks (rows : List Row) (own : List Block) : Type 0 where
   pub ordered : AreOrdered (written_networks rows) written
   pub are : own ≡ filter (λ network. not (is_listed private_networks network)) written
 
--- The shares of a file system with these lines: of its networks the first 12 have one.
+-- how many of the networks that lines write have a share at most, beside the private ones
+abbrev pub most_networks : ℕ
+most_networks = 12
+
+-- The shares of a file system with these lines: of the networks that they write the first have one, and the others are counted.
 pub record AreShares (runs : List (Run Class)) (rows : List Row) (made : Shares) : Type 0 where
   pub own : List Block
   pub networks : AreOwnNetworks rows own
-  pub shares : AreSharesOf runs (spaces (take 12 own)) made.shares
-  pub left_out : made.left_out ≡ length own - 12
+  pub shares : AreSharesOf runs (spaces (take most_networks own)) made.shares
+  pub left_out : made.left_out ≡ length own - most_networks

@@ -20,7 +20,7 @@ ghost use Rattle.desk_report_page.specs.PrivateEach.{CanBeTold, CanWait, IsOfSit
 ghost use Rattle.desk_report_page.specs.Waiting.{waiting_value};
 
 use crate::waiting::{Outcome, Waiting};
-use desk_core::Head;
+use desk_core::{Head, newest_among};
 use desk_deciding::Deciding;
 use desk_overview::SiteLine;
 use desk_page_filesystem::{Outcome as ToldOutcome, ProposalPart};
@@ -278,13 +278,5 @@ fn head_of<'a>(
     ensures { IfOk result (λ head. option_copied head ≡ newest_in heads.now (exports_file_name (path_text mount.now.path))) }
 {
     let file = exports_file_name(alloc, mount.path.text())?;
-    Ok(newest_in(heads, file.as_str()))
-}
-
-/// Finds the newest revision of a file.
-#[tactic(auto, unfolding(desk_core::specs::Head::newest_in))]
-fn newest_in<'a>(heads: &'a [Head], file: &str) -> Option<&'a Head>
-    ensures { option_copied result ≡ newest_in heads.now file.now }
-{
-    heads.iter().find(|head| head.file.as_str() == file)
+    Ok(newest_among(heads, file.as_str()))
 }

@@ -3,10 +3,12 @@ use Rattle.std.proofs.Common.{◌≡◌, ◌<◌, ◌+◌, ◌++◌, ◌∙◌, 
 use Rattle.std.proofs.lemmas.List.{append_assoc, flat_map_more, map-append}
 use Rattle.std.proofs.lemmas.List.Elements.{All-nil, All-push}
 use Rattle.desk_policy.specs.Policy.{Content}
-use Rattle.desk_impact.specs.Places.{Place}
+use Rattle.desk_who.specs.Runs.{Run}
+use Rattle.desk_impact.specs.Impact.{IsImpact, TwoVerdicts}
+use Rattle.desk_impact.specs.Places.{Place, place_verdicts}
 use Rattle.desk_report.proofs.Gathered.{take_next}
-use Rattle.desk_report_places.specs.Changes.{IsImpactAt, PlaceChange, PlaceImpact, changes_at}
-use Rattle.desk_report_places.specs.PrivateImpacts.{AreAllAt, GainsImpact}
+use Rattle.desk_report_places.specs.Changes.{IsImpactAt, PlaceChange, PlaceImpact, changes_at, each_with}
+use Rattle.desk_report_places.specs.PrivateImpacts.{AreAllAt}
 
 module _ {X Y : Type 0} (f : X → Y) (xs : List X) (i : ℕ) (x : X) (below : i < length xs) (is : x ≡ get_or xs i x) where
   pub more : map f (take (i + 1) xs) ≡ map f (take i xs) ++ f x ∷ []
@@ -23,13 +25,13 @@ module _ {X Y : Type 0} (f : X → Y) (xs : List X) (i : ℕ) (x : X) (below : i
 pub none_at : (before after : Content) (rows : List PlaceChange) → rows ≡ [] → AreAllAt before after [] rows
 none_at before after rows none = record { found = []; places_are = refl; impacts = All-nil (IsImpactAt before after); are = none }
 
-pub one_more : (before after : Content) (places : List Place) (old new : List PlaceChange) (place : Place) → AreAllAt before after places old → GainsImpact before after place old new
-    → AreAllAt before after (places ++ place ∷ []) new
-one_more before after places old new place so_far one =
-    let found : PlaceImpact = record { place = place; changes = one.changes } in
+pub one_more : (before after : Content) (places : List Place) (old new : List PlaceChange) (place : Place) (changes : List (Run TwoVerdicts)) → AreAllAt before after places old
+    → IsImpact before after (place_verdicts before after place) changes → new ≡ old ++ each_with place changes → AreAllAt before after (places ++ place ∷ []) new
+one_more before after places old new place changes so_far impact gained =
+    let found : PlaceImpact = record { place = place; changes = changes } in
     record {
       found = so_far.found ++ found ∷ [];
       places_are = map-append (λ (f : PlaceImpact). f.place) so_far.found (found ∷ []) ∙ ap (λ (ps : List Place). ps ++ place ∷ []) so_far.places_are;
-      impacts = All-push (IsImpactAt before after) so_far.found found so_far.impacts one.impact;
-      are = one.gained ∙ ap (λ (rows : List PlaceChange). rows ++ changes_at found) so_far.are ∙ flat_map_more changes_at [] so_far.found found;
+      impacts = All-push (IsImpactAt before after) so_far.found found so_far.impacts impact;
+      are = gained ∙ ap (λ (rows : List PlaceChange). rows ++ changes_at found) so_far.are ∙ flat_map_more changes_at [] so_far.found found;
     }

@@ -1,9 +1,8 @@
 -- Each place of a mount point is in its file system.
-use Rattle.std.proofs.Common.{◌≡◌, ◌∙◌, ℕ, ◌++◌, true, List, [], ◌∷◌, ap, arith, get_or, inl, inr, map, refl, subst, sym}
+use Rattle.std.proofs.Common.{◌≡◌, ◌∙◌, ℕ, ◌++◌, true, List, [], ◌∷◌, ap, get_or, inl, inr, map, refl, sym}
 use Rattle.std.specs.Prelude.{All, Contains, None, Option, Some, not, slice_get}
 use Rattle.std.specs.Option.{option_map}
 use Rattle.std.proofs.lemmas.Bool.{eqb-true, true≢false}
-use Rattle.std.proofs.lemmas.List.{get_or-map, length-map}
 use Rattle.std.proofs.lemmas.List.Elements.{All-append, All-cons, All-filter, All-map, All-nil, Contains-append_cases}
 use Rattle.std.proofs.lemmas.Option.{get_or_from_slice_get, same_Some, slice_get_within}
 use Rattle.desk_text.specs.Path.{same_path}
@@ -28,11 +27,6 @@ mount_home_of table fs (Some one) mount at is up =
 
 pub mount_home : (table : List Mount) → AreAscending table → (fs : ℕ) (mount : Path) → option_map (λ (one : Mount). one.path) (slice_get table fs) ≡ Some mount → fs_of table mount ≡ Some fs
 mount_home table up fs mount is = mount_home_of table fs (slice_get table fs) mount refl is up
-
--- ---- what holds of what values come to
-pub all_before : {X Y : Type 0} (f : X → Y) (P : Y → Type 0) (Q : X → Type 0) → ((x : X) → P (f x) → Q x) → (xs : List X) → All P (map f xs) → All Q xs
-all_before f P Q of xs all k d below =
-    of (get_or xs k d) (subst P (get_or-map f xs k d (f d) below) (all k (f d) (omega (arith, below, length-map xs f))))
 
 -- ---- the places of a mount point
 in_place : (found : Option ℕ) (fs : ℕ) → is_in found fs ≡ true → found ≡ Some fs

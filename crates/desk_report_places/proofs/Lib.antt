@@ -1,8 +1,6 @@
 pub mod Adding
-pub mod Beside
 pub mod Counted
 pub mod Gathered
 pub mod Homes
 pub mod Listed
 pub mod WithLines
-pub mod Writings

@@ -5,4 +5,3 @@ pub mod Laws
 pub mod Maps
 pub mod PrivateChanges
 pub mod PrivateImpacts
-pub mod PrivateWriters

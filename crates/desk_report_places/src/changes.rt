@@ -1,17 +1,16 @@
 //! What lines that are proposed for a file system would change for its clients.
 
 ghost use Rattle.std.specs.Prelude.{◌≡◌, ◌<◌, IfOk, Some, length, map};
-ghost use Rattle.std.specs.Bool.{Decides};
 ghost use Rattle.desk_tables.specs.FileSystems.{AreAscending};
-ghost use Rattle.desk_policy.specs.Verdict.{verdict_result};
-ghost use Rattle.desk_impact.specs.Impact.{effect, mount_at};
+ghost use Rattle.desk_impact.specs.Impact.{mount_at};
 ghost use Rattle.desk_report_places.specs.Changes.{AreChangesIn, changes_value, row_value};
 ghost use Rattle.desk_report_places.specs.PrivateChanges.{AreAllChanges, AreTold};
 
 use crate::directories::{own_directories, places_with};
-use crate::impacts::{changes_at_places, learn};
+use crate::impacts::changes_at_places;
+use desk_impact::has_same_effect;
 use desk_page_filesystem::ChangeRow;
-use desk_policy::{PolicyView, Verdict, same_terms};
+use desk_policy::PolicyView;
 use desk_tables::FsId;
 use desk_text::{Path, Sequence};
 use desk_who::verdicts_are_discrete;
@@ -53,16 +52,12 @@ fn changes_below<'a, V: PolicyView>(
     fs: FsId,
     mount: &'a Path,
 ) -> Result<Vec<ChangeRow<'a>>, AllocError>
-    requires fs { fs.0 < length (V.in_force before.now).table }
-    requires ascending { AreAscending (V.in_force before.now).table }
-    requires table { (V.in_force lines.now).table ≡ (V.in_force before.now).table }
-    requires mount { mount_at (V.in_force before.now) fs.0 ≡ Some mount.now }
+    requires { mount_at (V.in_force before.now) fs.0 ≡ Some mount.now }
     ensures { IfOk result (λ rows. AreAllChanges (V.in_force before.now) (V.in_force lines.now) fs.0 (map row_value rows.items)) }
 {
     let dirs = own_directories(alloc, before.policy(), lines.policy(), fs)?;
     let places = places_with(alloc, mount, dirs.as_slice())?;
-    let known = learn(alloc, before, lines, fs, mount, dirs.as_slice())?;
-    changes_at_places(alloc, before, lines, &known, places.as_slice())
+    changes_at_places(alloc, before, lines, places.as_slice())
 }
 
 /// Keeps the changes that matter to a client, and counts the others.
@@ -76,19 +71,5 @@ fn those_that_matter(mut rows: Vec<ChangeRow<'_>>) -> Changes<'_>
     Changes {
         rows: Sequence::from_vec(rows),
         silent,
-    }
-}
-
-/// Tests whether two verdicts come to the same for a client: both deny the mount, or grant it on the same terms.
-fn has_same_effect(verdict: &Verdict<'_>, other: &Verdict<'_>) -> bool
-    ensures { Decides result (effect (verdict_result other.now) ≡ effect (verdict_result verdict.now)) }
-{
-    match (verdict, other) {
-        (Verdict::Denied(_), Verdict::Denied(_)) => true,
-        (Verdict::Granted { terms, .. }, Verdict::Granted { terms: others, .. }) => same_terms(
-            others, terms,
-        ),
-        (Verdict::Granted { .. }, Verdict::Denied(_))
-        | (Verdict::Denied(_), Verdict::Granted { .. }) => false,
     }
 }

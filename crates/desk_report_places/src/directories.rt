@@ -9,7 +9,7 @@ ghost use Rattle.desk_impact.specs.Places.{AreInOrder, Directory, paths_in, plac
 ghost use Rattle.desk_report_places.specs.Directories as spec;
 ghost use Rattle.desk_report_places.specs.Directories.{below, own_dirs, own_of};
 
-use desk_impact::Place;
+use desk_impact::{Place, in_order};
 use desk_policy::{Policy, Row};
 use desk_tables::{FileSystems, FsId};
 use desk_text::Path;
@@ -29,15 +29,6 @@ pub(crate) fn own_directories<'a>(
     push_own(&mut dirs, table, fs, before.rows(fs))?;
     push_own(&mut dirs, table, fs, after.rows(fs))?;
     Ok(in_order(dirs))
-}
-
-/// Puts paths in byte order, each once.
-pub(crate) fn in_order(mut paths: Vec<&Path>) -> Vec<&Path>
-    ensures { AreInOrder (paths_in paths.entry.items) (paths_in result.items) }
-{
-    paths.sort_unstable();
-    paths.dedup_by(|path, last| **path == **last);
-    paths
 }
 
 /// Adds the directories of a file system that these lines write.

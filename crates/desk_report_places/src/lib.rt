@@ -19,8 +19,6 @@ mod impacts;
 pub mod laws;
 mod left;
 mod maps;
-mod unwritten;
-mod writers;
 
 pub use changes::{Changes, changes_of};
 pub use groups::{ListedGroups, listed_groups};

@@ -1,9 +1,9 @@
 -- How far file systems reach: the most that an address may, and how many addresses may something. (this project's own)
-use Rattle.std.specs.Prelude.{◌≡◌, ℕ, ◌+◌, ◌-◌, ◌^◌, List, map}
+use Rattle.std.specs.Prelude.{◌≡◌, ℕ, ◌-◌, ◌^◌, List, map}
 use Rattle.std.specs.List.{fold}
 use Rattle.desk_who.specs.Runs.{Run}
 use Rattle.desk_report.specs.Class.{most_of}
-use Rattle.desk_report.specs.Counts.{AreCountsFrom}
+use Rattle.desk_report.specs.Counts.{AreCountsFrom, granted_of}
 use Rattle.desk_report.specs.declared.class.Class.{Class}
 use Rattle.desk_report.specs.declared.class.Class.TheVariants.{Denied}
 use Rattle.desk_report.specs.declared.counts.Counts.{Counts}
@@ -17,7 +17,7 @@ most_among runs = fold most_of Denied (map (λ run. run.value) runs)
 pub record MaySomething (runs : List (Run Class)) (count : ℕ) : Type 0 where
   pub counts : Counts
   pub are : AreCountsFrom runs 0 (2 ^ 32 - 1) counts
-  pub count_is : count ≡ counts.read_only + counts.read_write + counts.root_kept
+  pub count_is : count ≡ granted_of counts
 
 -- How far these runs reach, with the cells of their maps.
 pub record IsReachOf (runs : List (Run Class)) (maps : List ℕ) (reach : Reach) : Type 0 where

@@ -1,13 +1,11 @@
 //! The exports files of the file systems.
 
 ghost use Rattle.std.specs.Prelude.{◌≡◌, ◌++◌, ◌∷◌, [], IfOk, OnOk, map};
-ghost use Rattle.std.specs.Option.{option_copied};
 ghost use Rattle.std.specs.Str.Lines.{lines};
-ghost use Rattle.desk_core.specs.Head.{newest_in};
 ghost use Rattle.desk_report_summary.specs.Files as spec;
 ghost use Rattle.desk_report_summary.specs.Files.{line_values};
 
-use desk_core::{Head, Proposal};
+use desk_core::{Head, Proposal, newest_among};
 use desk_policy::exports_file_name;
 use desk_tables::{FileSystems, FsId, Mount};
 use desk_text::Sequence;
@@ -21,14 +19,6 @@ pub(crate) fn name_of(table: &FileSystems, fs: FsId) -> &str
         Some(mount) => mount.text(),
         None => "",
     }
-}
-
-/// Finds the newest revision of a file.
-#[tactic(auto, unfolding(desk_core::specs::Head::newest_in))]
-pub(crate) fn newest_in<'a>(heads: &'a [Head], file: &str) -> Option<&'a Head>
-    ensures { option_copied result ≡ newest_in heads.now file.now }
-{
-    heads.iter().find(|head| head.file.as_str() == file)
 }
 
 /// Tests whether a proposal of a file waits.
@@ -65,7 +55,7 @@ fn text_in_force<'a>(
     ensures { IfOk result (λ text. line_values text.items ≡ spec.text_in_force heads.now mount.now) }
 {
     let file = exports_file_name(alloc, mount.path.text())?;
-    match newest_in(heads, file.as_str()) {
+    match newest_among(heads, file.as_str()) {
         Some(head) => lines_of(alloc, head.body.as_str()),
         None => Ok(Vec::new(alloc)),
     }

@@ -9,9 +9,9 @@ ghost use Rattle.desk_report_summary.specs.SiteData.{HasParts, site_parts};
 ghost use Rattle.desk_report_summary.specs.SystemRows as spec;
 ghost use Rattle.desk_report_summary.specs.SystemRows.{AreOverviewRows, AreSystemRows, IsRowOf, overview_text};
 
-use crate::files::{has_proposal, newest_in};
+use crate::files::has_proposal;
 use crate::reach::reach_of;
-use desk_core::{Head, Proposal};
+use desk_core::{Head, Proposal, newest_among};
 use desk_page_summary::{SystemRow, push_overview};
 use desk_policy::{Policy, exports_file_name};
 use desk_report::{FileSystemReport, Level, LineReasons, classes_of_site, level_of_reasons};
@@ -79,7 +79,7 @@ fn system_row<'a>(
         reach: reach_of(runs, site.maps[place + 1].as_str()),
         custodians: mount.custodians.as_slice(),
         guarded: mount.guarded,
-        head: newest_in(site.heads, file.as_str()),
+        head: newest_among(site.heads, file.as_str()),
         has_proposal: has_proposal(site.proposals, file.as_str()),
         first: count_first(reasons) as u64,
         check: count_check(reasons) as u64,

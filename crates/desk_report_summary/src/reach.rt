@@ -42,5 +42,5 @@ fn count_allowed(runs: &[Run<Class>]) -> u64
     let first = Addr::from_number(0);
     let last = Addr::from_number(u32::MAX);
     let counts = counts_within(runs, first, last);
-    counts.read_only + counts.read_write + counts.root_kept
+    counts.granted()
 }

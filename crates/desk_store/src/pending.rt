@@ -1,6 +1,6 @@
 //! Who approved the revisions that are read of a database, and the proposals that are pending behind them.
 
-ghost use Rattle.std.specs.Prelude.{◌≡◌, ◌↔◌, ◌==◌, ◌++◌, All, Err, IfErr, IsPermutation, IsTrue, List, OnOk, map, not, option_copied, reverse};
+ghost use Rattle.std.specs.Prelude.{◌≡◌, ◌↔◌, ◌==◌, ◌++◌, All, Err, IfErr, IsPermutation, IsTrue, List, OnOk, map, not, reverse};
 ghost use Rattle.std.specs.List.{filter_map, list_all};
 ghost use Rattle.std.specs.List.Sorted.{IsSortedBy};
 ghost use Rattle.std.specs.Option.{option_to_list};
@@ -15,7 +15,7 @@ ghost use Rattle.desk_store.specs.declared.error.DeskError.TheVariants as error;
 
 use crate::error::DeskError;
 use crate::stored::Approval;
-use desk_core::{Head, Proposal};
+use desk_core::{Head, Proposal, newest_among};
 use std::alloc::AllocError;
 
 /// Writes into revisions who approved them; `Schema` if an approval is of none of them, or two are of one.
@@ -133,16 +133,8 @@ fn is_first(earlier: &[Proposal], proposal: &Proposal) -> bool
 fn follows(heads: &[Head], proposal: &Proposal) -> bool
     ensures { result ≡ (newest_number (newest_in heads.now proposal.now.file) == proposal.now.base) }
 {
-    match newest(heads, proposal.file.as_str()) {
+    match newest_among(heads, proposal.file.as_str()) {
         Some(head) => head.rev == proposal.base,
         None => proposal.base == 0,
     }
-}
-
-/// Finds the newest revision of a file.
-#[tactic(auto, unfolding(desk_core::specs::Head::newest_in))]
-fn newest<'a>(heads: &'a [Head], file: &str) -> Option<&'a Head>
-    ensures { option_copied result ≡ newest_in heads.now file.now }
-{
-    heads.iter().find(|head| head.file.as_str() == file)
 }

@@ -131,8 +131,7 @@ def group_block(system, group, is_drawn):
     if rest:
         made += folded(directories_more(len(rest)), f'<p class="names">{codes(rest)}</p>\n')
     if not system.granted(group[0]):
-        it = "it" if len(group) == 1 and group[0] != system.other else "them"
-        return f"{made}<p>Nobody may mount {it}.</p>\n</section>\n"
+        return f"{made}<p>Nobody may mount them.</p>\n</section>\n"
     made += figures(classes_of(system.who[group[0]]), False) if is_drawn else ""
     return made + verdict_table(system, group) + "</section>\n"
 

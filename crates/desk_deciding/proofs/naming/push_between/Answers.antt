@@ -9,7 +9,7 @@ use Rattle.desk_who.specs.declared.runs.Run.{Run}
 use Rattle.desk_impact.specs.Sections.{PlaceBreaches, section_value}
 use Rattle.desk_impact.specs.declared.sections.Section.{Section}
 use Rattle.desk_deciding.specs.PrivateDeciding.{AreInOrder, lines_at}
-use Rattle.desk_deciding.proofs.Gathered.{writes}
+use Rattle.desk_report.proofs.Gathered.{writes}
 use Rattle.desk_deciding.proofs.Searched.{in_order}
 use Rattle.desk_deciding.proofs.naming.push_between.Goals as goal
 

@@ -1,7 +1,6 @@
 use Rattle.std.proofs.Common.{arith, subst}
 use Rattle.std.proofs.lemmas.List.{length-map}
-use Rattle.desk_impact.specs.Places.{AreInOrder}
-use Rattle.desk_overview.proofs.Ordered.{paths_in}
+use Rattle.desk_impact.specs.Places.{AreInOrder, paths_in}
 use Rattle.desk_overview.proofs.figures.count_directories.Goals as goal
 
 pub returns : goal.returns

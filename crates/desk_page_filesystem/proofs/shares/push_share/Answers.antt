@@ -1,7 +1,8 @@
 use Rattle.std.proofs.Common.{◌++◌, ◌∙◌, ap}
 use Rattle.std.specs.String.{string_bytes}
 use Rattle.std.proofs.lemmas.Result.{on_ok_weaker}
-use Rattle.desk_page_filesystem.specs.Shares.{class_cells, granted_cell, granted_of, size_cell, size_of, space_head}
+use Rattle.desk_report.specs.Counts.{granted_of}
+use Rattle.desk_page_filesystem.specs.Shares.{class_cells, granted_cell, size_cell, size_of, space_head}
 use Rattle.desk_page.proofs.Gaining.{four_pieces}
 use Rattle.desk_page_filesystem.proofs.shares.push_share.Goals as goal
 
@@ -14,6 +15,6 @@ returns c =
     (granted_cell (granted_of c.args.share.now.counts) (size_of c.args.share.now.counts)) c.in_ok-push_space.ensures
     (c.in_ok-push_size_cell.ensures ∙ ap (λ n. (string_bytes c.push_space.new.page) ++ size_cell n) c.size_of.ensures)
     c.in_ok-push_class_cells.ensures (ended ∙ (ap (λ n. (string_bytes c.push_class_cells.new.page) ++ granted_cell n c.size_of-2.result)
-    c.granted_of.ensures ∙ ap (λ n. (string_bytes c.push_class_cells.new.page) ++ granted_cell (granted_of c.args.share.now.counts) n)
+    c.granted.ensures ∙ ap (λ n. (string_bytes c.push_class_cells.new.page) ++ granted_cell (granted_of c.args.share.now.counts) n)
     c.size_of-2.ensures)))
     c.push_granted_cell.ensures

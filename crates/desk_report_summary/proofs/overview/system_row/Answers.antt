@@ -53,7 +53,7 @@ returns c =
           (subst (λ text. IsReachOf (map class_run c.as_slice-runs.result.now) text c.reach_of.result) maps c.reach_of.ensures);
       custodians = c.as_slice-2.ensures;
       guarded = refl;
-      head = c.newest_in.ensures ∙ ap (newest_in site.heads.now) file_2;
+      head = c.newest_among.ensures ∙ ap (newest_in site.heads.now) file_2;
       waits = c.has_proposal.ensures ∙ ap (has_proposal site.proposals.now) file_3;
       first = c.count_first.ensures ∙ ap (count_by is_first_line) reasons;
       check = c.count_check.ensures ∙ ap (count_by is_check_line) reasons;
