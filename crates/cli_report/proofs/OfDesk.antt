@@ -17,7 +17,7 @@ use Rattle.desk_report_page.specs.Waiting.{AreWaiting}
 use Rattle.cli_output.specs.declared.printed.Printed.{Printed}
 use Rattle.cli_report.specs.PrivateForeseen.{AreForeseen}
 use Rattle.cli_report.specs.PrivateReport.{IsOfState, IsRead, PrintsOnDesk}
-use Rattle.cli_report.proofs.Foreseen.{same_lines, waiting_alike}
+use Rattle.cli_report.proofs.Gained.{same_lines, waiting_alike}
 
 -- what the page is made of is that of the desk's state
 pub source_of : (source : Source) (heads : List Head) (proposals : List Proposal) (old : Content) → source.heads ≡ heads → source.proposals ≡ proposals
