@@ -1,4 +1,4 @@
-pub mod Foreseen
+pub mod Gained
 pub mod HeadsOnce
 pub mod OfDesk
 pub mod OnCopy

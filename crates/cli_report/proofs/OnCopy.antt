@@ -1,5 +1,5 @@
 -- What a desk on a copy prints is printed of the database at a path.
-use Rattle.std.proofs.Common.{◌≡◌, ℕ, List, codes, inl, inr, Result, Ok, Err, subst, sym}
+use Rattle.std.proofs.Common.{ℕ, List, codes, inl, inr, Result, Ok, Err, subst, sym}
 use Rattle.sqlite_trees.specs.declared.store.Store.{Ghosts}
 use Rattle.desk_store.specs.Desk.{Shown}
 use Rattle.cli_output.specs.Failure.{IsUnread}

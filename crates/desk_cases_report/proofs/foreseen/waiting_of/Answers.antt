@@ -19,7 +19,7 @@ loop-proposal-preserved g c =
     let within : place < length proposals = subst (λ (some : List Proposal). place < length some) same c.loop-proposal-test.true in
     let is : proposal ≡ get_or proposals place proposal = c.proposal-item.is ∙ ap (λ (some : List Proposal). get_or some place proposal) same in
     let next : take (place + 1) proposals ≡ take place proposals ++ proposal ∷ [] =
-        take_more proposals place proposal within ∙ ap (λ (one : Proposal). take place proposals ++ one ∷ []) (sym is) in
+    take_more proposals place proposal within ∙ ap (λ (one : Proposal). take place proposals ++ one ∷ []) (sym is) in
     let old = map (waiting_value in_force) c.loop-proposal.waiting.items in
     let new = map (waiting_value in_force) c.push_waiting.new.waiting.items in
     subst (λ some. AreForeseen newest content some new) (sym next)

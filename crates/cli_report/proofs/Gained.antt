@@ -1,8 +1,11 @@
 -- Proposals with what would be in force: one more, and the same by the policy that is read from the texts.
-use Rattle.std.proofs.Common.{◌≡◌, ◌++◌, ◌∙◌, ◌<◌, ℕ, List, [], ◌∷◌, Result, Ok, Err, ap, get_or, length, map, refl, subst, sym}
-use Rattle.std.specs.Prelude.{All, filter, slice_set}
+use Rattle.std.proofs.Common.{◌≡◌, ◌++◌, ◌∙◌, ◌<◌, ℕ, List, [], ◌∷◌, Option, Some, None, Result, Ok, Err, ap, arith, cond, get_or, length, map, refl, subst, sym}
+use Rattle.std.specs.Prelude.{All, filter, is_some, slice_set}
+use Rattle.std.specs.Option.{option_map}
 use Rattle.std.proofs.lemmas.List.{map-append}
-use Rattle.std.proofs.lemmas.List.Elements.{All-append, filter-append}
+use Rattle.std.proofs.lemmas.List.Elements.{All-append, All-push, filter-append}
+use Rattle.desk_text.specs.Lines.{IsReadable}
+use Rattle.desk_tables.specs.declared.filesystems.FsId.{FsId}
 use Rattle.desk_policy.specs.Parsing.{read_site}
 use Rattle.desk_policy.specs.Policy.{Content, content_of_lines, rows_of, with_lines_of}
 use Rattle.desk_policy.specs.Site.{SiteTexts}
@@ -29,6 +32,27 @@ one_more newest content proposals proposal old new before gains = record {
     each = subst (All (IsWaiting newest content)) (sym gains.gained) (All-append (IsWaiting newest content) old gains.more before.are.each gains.each);
   };
   readable = subst (All HasReadableText) (sym gains.gained) (All-append HasReadableText old gains.more before.readable gains.readable);
+}
+
+-- the place that a look-up found
+pub placed : (found : Option ℕ) (fs : FsId) → Some fs ≡ option_map (λ place. record { 0 = place }) found → found ≡ Some fs.0
+placed (Some place) fs is = ap (option_map (λ (at : FsId). at.0)) (sym is)
+placed None fs is = absurd (cc)
+
+-- what is told of a proposal
+abbrev told_of : ℕ → Proposal → Result Content SiteFault → Waiting
+told_of fs proposal told = record { fs = fs; proposal = proposal; outcome = told }
+
+-- a proposal for the exports file of a listed file system is added
+pub gains_one : (newest : Newest) (content : Content) (proposal : Proposal) (fs : ℕ) (told : Result Content SiteFault) (old : List Waiting)
+    → exports_place content.table proposal.file ≡ Some fs → IsOutcomeOf newest content fs proposal told → IsReadable proposal.body
+    → GainsForeseen newest content proposal old (old ++ told_of fs proposal told ∷ [])
+gains_one newest content proposal fs told old place is short = record {
+  more = told_of fs proposal told ∷ [];
+  gained = refl;
+  of_proposal = sym (ap (λ (found : Option ℕ). cond (is_some found) (proposal ∷ []) []) place);
+  each = All-push (IsWaiting newest content) [] (told_of fs proposal told) (λ k d below. absurd (omega arith)) (record { place = place; outcome = is });
+  readable = All-push HasReadableText [] (told_of fs proposal told) (λ k d below. absurd (omega arith)) short;
 }
 
 -- the policy that is read from the texts of a site has the lines of the one in force

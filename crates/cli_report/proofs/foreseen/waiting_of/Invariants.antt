@@ -1,0 +1,11 @@
+-- The proposals so far are foreseen.
+use Rattle.std.proofs.Common.{map, take}
+use Rattle.desk_core.specs.Head.{newest_in}
+use Rattle.desk_report_page.specs.Waiting.{waiting_value}
+use Rattle.cli_report.specs.PrivateForeseen.{AreForeseen}
+use Rattle.cli_report.proofs.foreseen.waiting_of.Given as goal
+
+abbrev pub invariant-loop-proposal : goal.invariant-loop-proposal
+invariant-loop-proposal g l =
+    AreForeseen (newest_in l.desk.state.heads) (g.V.PolicyView.in_force l.desk.state.view) (take l.proposal-index l.proposal-items)
+    (map (waiting_value g.V.PolicyView.in_force) l.waiting.items)
