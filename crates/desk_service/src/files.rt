@@ -1,22 +1,19 @@
 //! Which files have a revision or a proposal.
 
-ghost use Rattle.std.specs.Prelude.{◌≡◌, ◌++◌, ◌∷◌, [], IfOk, OnOk, map};
-ghost use Rattle.std.specs.List.{filter_map};
-ghost use Rattle.std.specs.Option.{option_copied, option_map};
-ghost use Rattle.desk_policy.specs.SiteFile.{file_name};
+ghost use Rattle.std.specs.Prelude.{◌≡◌, IfOk, map};
+ghost use Rattle.std.specs.Option.{option_copied};
 ghost use Rattle.desk_core.specs.Head.{newest_in};
-ghost use Rattle.desk_core.specs.Judging.{seven};
-ghost use Rattle.desk_core.specs.Standing.{proposals_in, standing_in};
+ghost use Rattle.desk_core.specs.Listing as listing;
+ghost use Rattle.desk_core.specs.Standing.{standing_in};
 ghost use Rattle.desk_store.specs.Desk.{History, StandsAt};
 ghost use Rattle.desk_service.specs.Files as spec;
-ghost use Rattle.desk_service.specs.PrivateFiles.{AreNamed, GainsNamed, NamesMore, with_file};
 ghost use Rattle.desk_service.specs.Questions as questions;
 ghost use Rattle.desk_service.specs.Questions.{AnswersByHistory, answer_of};
 
 use crate::foreseeing::listed_now;
 use crate::questions::Answer;
-use desk_core::{Head, Proposal};
-use desk_policy::{PolicyView, SiteFile, exports_file_name, mount_of};
+use desk_core::{Head, HeldFile, Proposal, held_files, is_guarded, is_known, newest_among};
+use desk_policy::PolicyView;
 use desk_store::Desk;
 use desk_tables::FileSystems;
 use sqlite::Alter;
@@ -86,17 +83,8 @@ fn files_among<'a>(
     ensures heads { IfOk result (λ listed. listed.heads.now ≡ heads.now) }
     ensures files { IfOk result (λ listed. spec.AreFilesOf filesystems.now (standing_in heads.now proposals.now) (map spec.file_of listed.files.items)) }
 {
-    let mounts = mounts_with_exports(alloc, heads, proposals)?;
-    let mut files = Vec::new(alloc);
-    push_seven(heads, &mut files)?;
-    push_exports(
-        alloc,
-        filesystems,
-        heads,
-        proposals,
-        mounts.as_slice(),
-        &mut files,
-    )?;
+    let held = held_files(alloc, heads, proposals)?;
+    let files = marked_files(alloc, filesystems, held.as_slice())?;
     Ok(ListedFiles {
         filesystems,
         heads,
@@ -104,184 +92,41 @@ fn files_among<'a>(
     })
 }
 
-/// Finds the newest revision of a file.
-#[tactic(auto, unfolding(desk_core::specs::Head::newest_in))]
-fn newest_among<'a>(heads: &'a [Head], file: &str) -> Option<&'a Head>
-    ensures { option_copied result ≡ newest_in heads.now file.now }
-{
-    heads.iter().find(|head| head.file.as_str() == file)
-}
-
-/// Finds the proposal of a file.
-#[tactic(auto, unfolding(desk_core::specs::Standing::proposals_in))]
-fn proposal_among<'a>(proposals: &'a [Proposal], file: &str) -> Option<&'a Proposal>
-    ensures { option_copied result ≡ proposals_in proposals.now file.now }
-{
-    proposals
-        .iter()
-        .find(|proposal| proposal.file.as_str() == file)
-}
-
-/// Adds those of the seven files that have a revision.
-fn push_seven<'a>(heads: &'a [Head], files: &mut Vec<ListedFile<'a>>) -> Result<(), AllocError>
-    ensures { OnOk result (map spec.file_of files.new.items ≡ map spec.file_of files.old.items ++ spec.seven_files (newest_in heads.now)) }
-{
-    push_one(heads, SiteFile::Custodians, files)?;
-    push_one(heads, SiteFile::Filesystems, files)?;
-    push_one(heads, SiteFile::Hosts, files)?;
-    push_one(heads, SiteFile::Networks, files)?;
-    push_one(heads, SiteFile::Passwd, files)?;
-    push_one(heads, SiteFile::Group, files)?;
-    push_one(heads, SiteFile::Netgroup, files)?;
-    Ok(())
-}
-
-/// Adds one of the seven files, if it has a revision. None of them is guarded, so none has a proposal.
-fn push_one<'a>(
-    heads: &'a [Head],
-    file: SiteFile,
-    files: &mut Vec<ListedFile<'a>>,
-) -> Result<(), AllocError>
-    ensures { OnOk result (map spec.file_of files.new.items ≡ with_file (map spec.file_of files.old.items) (option_map spec.plain_file (newest_in heads.now (file_name file)))) }
-{
-    match newest_among(heads, file.name()) {
-        Some(head) => {
-            files.push(ListedFile {
-                newest: Some(head),
-                proposal: None,
-                mark: Mark::Plain,
-            })?;
-            Ok(())
-        }
-        None => Ok(()),
-    }
-}
-
-/// Adds the exports files of these printed mount points.
-fn push_exports<'a>(
+/// Marks files.
+fn marked_files<'a>(
     alloc: Global,
     filesystems: &FileSystems,
-    heads: &'a [Head],
-    proposals: &'a [Proposal],
-    mounts: &[&str],
-    files: &mut Vec<ListedFile<'a>>,
-) -> Result<(), AllocError>
-    ensures { OnOk result (map spec.file_of files.new.items ≡ map spec.file_of files.old.items
-        ++ map (spec.exports_file filesystems.now (standing_in heads.now proposals.now)) (map (λ mount. mount.now) mounts.now)) }
+    held: &[HeldFile<'a>],
+) -> Result<Vec<ListedFile<'a>>, AllocError>
+    ensures { IfOk result (λ files. map spec.file_of files.items ≡ map (spec.marked filesystems.now) (map listing.file_of held.now)) }
 {
-    for mount in mounts {
-        push_mount(alloc, filesystems, heads, proposals, mount, files)?;
+    let mut files = Vec::new(alloc);
+    for file in held {
+        files.push(marked(filesystems, *file))?;
     }
-    Ok(())
+    Ok(files)
 }
 
-/// Adds the exports file of a printed mount point.
-fn push_mount<'a>(
-    alloc: Global,
-    filesystems: &FileSystems,
-    heads: &'a [Head],
-    proposals: &'a [Proposal],
-    mount: &str,
-    files: &mut Vec<ListedFile<'a>>,
-) -> Result<(), AllocError>
-    ensures { OnOk result (map spec.file_of files.new.items ≡ map spec.file_of files.old.items
-        ++ spec.exports_file filesystems.now (standing_in heads.now proposals.now) mount.now ∷ []) }
-{
-    let name = exports_file_name(alloc, mount)?;
-    let file = listed_file(heads, proposals, name.as_str(), mark_of(filesystems, mount));
-    files.push(file)?;
-    Ok(())
-}
-
-/// Finds the newest revision and the proposal of a file.
-fn listed_file<'a>(
-    heads: &'a [Head],
-    proposals: &'a [Proposal],
-    name: &str,
-    mark: Mark,
-) -> ListedFile<'a>
-    ensures { spec.file_of result ≡ record { newest = newest_in heads.entry.now name.entry.now; proposal = proposals_in proposals.entry.now name.entry.now; mark = mark } }
+/// Marks a file.
+fn marked<'a>(filesystems: &FileSystems, file: HeldFile<'a>) -> ListedFile<'a>
+    ensures { spec.file_of result ≡ spec.marked filesystems.now (listing.file_of file.entry) }
 {
     ListedFile {
-        newest: newest_among(heads, name),
-        proposal: proposal_among(proposals, name),
-        mark,
+        newest: file.newest,
+        proposal: file.proposal,
+        mark: mark_of(filesystems, file.name()),
     }
 }
 
-/// Returns the mark of the exports file of a printed mount point.
-fn mark_of(filesystems: &FileSystems, mount: &str) -> Mark
-    ensures { result ≡ spec.mark_of filesystems.now mount.now }
+/// Returns the mark of a file.
+fn mark_of(filesystems: &FileSystems, file: &str) -> Mark
+    ensures { result ≡ spec.mark_of filesystems.now file.now }
 {
-    match filesystems.printed_as(mount) {
-        Some(place) => {
-            if filesystems.guarded(place) {
-                Mark::Guarded
-            } else {
-                Mark::Plain
-            }
-        }
-        None => Mark::Unlisted,
-    }
-}
-
-/// Finds the printed mount points whose exports files are among those of these revisions and proposals, in byte order, each once.
-fn mounts_with_exports<'a>(
-    alloc: Global,
-    heads: &'a [Head],
-    proposals: &'a [Proposal],
-) -> Result<Vec<&'a str>, AllocError>
-    ensures { IfOk result (λ mounts. spec.AreMountsWithExports (standing_in heads.now proposals.now) (map (λ mount. mount.now) mounts.items)) }
-{
-    let mut mounts = named_mounts(alloc, heads, proposals)?;
-    mounts.sort_unstable();
-    mounts.dedup();
-    Ok(mounts)
-}
-
-/// Finds the printed mount points that the files of these revisions and proposals name, in their order.
-fn named_mounts<'a>(
-    alloc: Global,
-    heads: &'a [Head],
-    proposals: &'a [Proposal],
-) -> Result<Vec<&'a str>, AllocError>
-    ensures { IfOk result (λ mounts. AreNamed (map (λ head. head.file) heads.now ++ map (λ proposal. proposal.file) proposals.now) (map (λ mount. mount.now) mounts.items)) }
-{
-    let mut mounts = Vec::new(alloc);
-    push_revised(heads, &mut mounts)?;
-    push_proposed(proposals, &mut mounts)?;
-    Ok(mounts)
-}
-
-/// Adds the printed mount points that the files of these revisions name.
-fn push_revised<'a>(heads: &'a [Head], mounts: &mut Vec<&'a str>) -> Result<(), AllocError>
-    ensures { OnOk result (NamesMore (map (λ head. head.file) heads.now) (map (λ mount. mount.now) mounts.old.items) (map (λ mount. mount.now) mounts.new.items)) }
-{
-    for head in heads {
-        push_named(head.file.as_str(), mounts)?;
-    }
-    Ok(())
-}
-
-/// Adds the printed mount points that the files of these proposals name.
-fn push_proposed<'a>(proposals: &'a [Proposal], mounts: &mut Vec<&'a str>) -> Result<(), AllocError>
-    ensures { OnOk result (NamesMore (map (λ proposal. proposal.file) proposals.now) (map (λ mount. mount.now) mounts.old.items) (map (λ mount. mount.now) mounts.new.items)) }
-{
-    for proposal in proposals {
-        push_named(proposal.file.as_str(), mounts)?;
-    }
-    Ok(())
-}
-
-/// Adds the printed mount point that a file names, if it is an exports file.
-fn push_named<'a>(file: &'a str, mounts: &mut Vec<&'a str>) -> Result<(), AllocError>
-    ensures { OnOk result (GainsNamed file.now (map (λ mount. mount.now) mounts.old.items) (map (λ mount. mount.now) mounts.new.items)) }
-{
-    match mount_of(file) {
-        Some(mount) => {
-            mounts.push(mount)?;
-            Ok(())
-        }
-        None => Ok(()),
+    if is_guarded(filesystems, file) {
+        Mark::Guarded
+    } else if is_known(filesystems, file) {
+        Mark::Plain
+    } else {
+        Mark::Unlisted
     }
 }
