@@ -312,7 +312,7 @@ def hosts_table(report):
 
 def host_row(report, name):
     found = host_addresses(report.site, name)
-    kind = "of the table hosts" if found else "of IPv6: nobody" if ":" in name else "known to no table: nobody"
+    kind = "of the table hosts" if found else "of IPv6: nobody" if ":" in name else "no IPv4 address in the table hosts: nobody"
     return [code(name), kind, number(len(found)), addresses_cell(found), uses_cell(report, name)]
 
 
