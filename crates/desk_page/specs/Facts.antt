@@ -26,7 +26,7 @@ revision_words (Some head) = codes "revision " ++ number head.rev ++ signature_w
 
 -- whether a change needs two custodians
 abbrev pub guarded_words : Bool → List ℕ
-guarded_words guarded = if guarded then codes "yes: a change needs two of them" else codes "no: each of them may change it alone"
+guarded_words guarded = if guarded then codes "yes: a change of its exports needs two of them" else codes "no: each of them may change it alone"
 
 -- the facts that the database has of an exports file: its newest revision, and who keeps it
 abbrev pub in_force : Option Head → List ℕ

@@ -51,7 +51,7 @@ fn guarded_words(guarded: bool) -> &'static str
     ensures { result.now ≡ spec.guarded_words guarded }
 {
     if guarded {
-        "yes: a change needs two of them"
+        "yes: a change of its exports needs two of them"
     } else {
         "no: each of them may change it alone"
     }

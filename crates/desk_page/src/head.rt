@@ -14,7 +14,7 @@ const HEAD: &str = r#"<!DOCTYPE html>
 <html lang="en">
 <head>
 <meta charset="utf-8">
-<meta http-equiv="Content-Security-Policy" content="default-src 'none'; style-src 'sha256-7nzjFwuz5Z1dNlX2Ty9u0qB10Gsy/SyL888+bronhmM='">
+<meta http-equiv="Content-Security-Policy" content="default-src 'none'; style-src 'sha256-4MS0OOE8/yguxu6YXIhsHzKYRNFcsllH2mnZaPn+lFA='">
 <meta name="viewport" content="width=device-width, initial-scale=1">
 <meta name="color-scheme" content="light dark">
 <meta name="referrer" content="no-referrer">

@@ -64,7 +64,7 @@ netgroups groups = if length groups == 0 then codes "<p>The table <code>netgroup
 abbrev pub kind_words : HostKind → List ℕ
 kind_words Known = codes "of the table hosts"
 kind_words Ipv6 = codes "of IPv6: nobody"
-kind_words Unknown = codes "known to no table: nobody"
+kind_words Unknown = codes "no IPv4 address in the table hosts: nobody"
 
 abbrev pub kind_cell : HostKind → List ℕ
 kind_cell kind = words_cell (kind_words kind)

@@ -41,7 +41,7 @@ pub enum HostKind {
     Known,
     /// An address of IPv6.
     Ipv6,
-    /// No table has it.
+    /// The table hosts has no IPv4 address for it: it does not have the name, or only with addresses of IPv6.
     Unknown,
 }
 
@@ -274,6 +274,6 @@ fn kind_words(kind: HostKind) -> &'static str
     match kind {
         HostKind::Known => "of the table hosts",
         HostKind::Ipv6 => "of IPv6: nobody",
-        HostKind::Unknown => "known to no table: nobody",
+        HostKind::Unknown => "no IPv4 address in the table hosts: nobody",
     }
 }

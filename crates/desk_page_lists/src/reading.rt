@@ -16,6 +16,7 @@ const HOW_TO_READ: &str = r##"<section id="read">
 <dt><span class="b w">read-write</span></dt><dd>It may mount it read-write, and no user of the client acts as uid 0.</dd>
 <dt><span class="b r">root kept</span></dt><dd>It may mount it, read-only or read-write, and its root, or every user, acts as uid 0 (<code>-maproot=0</code>, <code>-mapall=0</code>).</dd>
 <dt>other directories</dt><dd>All directories of the file system that no line writes, but for its mount point, which is listed by its name. They have the same verdicts, so one list holds for all of them. Where directories are counted, these are not.</dd>
+<dt>Guarded</dt><dd>A change of the exports file takes two of its custodians. <code>site</code> alone keeps the tables: it may change whom names mean (<code>hosts</code>, <code>netgroup</code>), and take the guard away (<code>filesystems</code>).</dd>
 <dt>to addresses</dt><dd>To how many addresses the line grants some directory: those for which it is the line that the verdict names.</dd>
 <dt>State</dt><dd>The SHA-256 of a line <code>NAME rev N by AUTHOR SHA-256</code> for each file in the order of the table of files, with <code> approved by APPROVER</code> behind the author if there is one, and <code> profile P</code> before the digest of exports; and of a line <code>NAME proposed rev N by AUTHOR SHA-256</code> behind it if the file has a proposal. Equal states have equal texts in force, numbers of revisions, authors, approvers, profiles and proposals: all that this page shows.</dd>
 </dl>
@@ -41,7 +42,9 @@ const HOW_TO_READ: &str = r##"<section id="read">
 <ul>
 <li>A client is an IPv4 address. Addresses can be forged, and with <code>sys</code> a client says itself who its users are.</li>
 <li>The page is about the texts in the database. Whether the server has the same ones it does not know.</li>
+<li>A denial does not bind every client to whom another directory of the same file system is granted. NFSv4 reaches all of that file system, and so does a client that guesses file handles; and mountd(8) grants a directory by any line for the client's hosts or networks that lists it. If in doubt, go by the most that a client may mount of the file system.</li>
 <li>Hosts and networks of IPv6 match nobody here, and <code>V4:</code> lines are neither read nor counted.</li>
+<li>When a revision was put: the database keeps no times. Revision 1 by <code>site</code> is what <code>init</code> read, whoever wrote it.</li>
 <li>What is too long is cut, and how much is left out is counted there. <code>exportdesk who</code> lists all clients of a directory.</li>
 <li>Under Kerberos the principal decides as whom a user acts; the words on root are for <code>sys</code>.</li>
 <li>Keys, and their digests, are not in it. Keep it as you keep the exports themselves.</li>

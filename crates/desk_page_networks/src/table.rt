@@ -22,7 +22,7 @@ const MOST: usize = 64;
 
 /// What stands before the rows.
 const START: &str =
-    r#"<p>The networks that lines write, but for /0 and those of IPv6, the widest first, and what their addresses may mount.</p>
+    r#"<p>The networks that lines write, but for /0 and those of IPv6, the widest first, and what their addresses may mount at the most, on some directory of each file system.</p>
 <div class="wide" tabindex="0" role="region" aria-label="What the networks may mount that lines write"><table class="p">
 <caption class="off">What the networks may mount that lines write</caption>
 <thead><tr><th scope="col">Network</th><th scope="col" class="num">Addresses</th><th scope="col">All of it, alike</th><th scope="col">Parts of it, and how many addresses</th></tr></thead>

@@ -229,7 +229,7 @@ def networks_table(report):
     made = table("What the networks may mount that lines write", heads, rows, "p", True)
     rest = len(ordered) - MOST_NETWORKS
     more = plural(rest, "more network is", "more networks are")
-    words = "The networks that lines write, but for /0 and those of IPv6, the widest first, and what their addresses may mount."
+    words = "The networks that lines write, but for /0 and those of IPv6, the widest first, and what their addresses may mount at the most, on some directory of each file system."
     return f"<p>{words}</p>\n" + made + (cut(f"{more} not listed, none of them wider") if rest > 0 else "")
 
 
@@ -312,7 +312,7 @@ def hosts_table(report):
 
 def host_row(report, name):
     found = host_addresses(report.site, name)
-    kind = "of the table hosts" if found else "of IPv6: nobody" if ":" in name else "known to no table: nobody"
+    kind = "of the table hosts" if found else "of IPv6: nobody" if ":" in name else "no IPv4 address in the table hosts: nobody"
     return [code(name), kind, number(len(found)), addresses_cell(found), uses_cell(report, name)]
 
 

@@ -290,7 +290,7 @@ def revision_words(desk, name):
 
 def facts(desk, system):
     name = file_of(system)
-    guarded = "yes: a change needs two of them" if name in desk.guarded() else "no: each of them may change it alone"
+    guarded = "yes: a change of its exports needs two of them" if name in desk.guarded() else "no: each of them may change it alone"
     found = counts(system.classes, 0, SPACE - 1)
     some = ", ".join(f"{class_badge(value)} {part_words(found[value])}" for value in (3, 2, 1) if found[value]) or "nobody"
     rows = [("In force", revision_words(desk, name)), ("Custodians", codes(desk.custodians(name))), ("Guarded", guarded)]
