@@ -1,4 +1,2 @@
-pub mod Gained
 pub mod HeadsOnce
-pub mod OfDesk
 pub mod OnCopy

@@ -1,3 +1,2 @@
-pub mod PrivateForeseen
 pub mod PrivateReport
 pub mod ReportCommand

@@ -2,15 +2,8 @@
 use Rattle.std.specs.Prelude.{◌≡◌, ℕ, Bool, List, [], Ok, Result, Err, not}
 use Rattle.std.specs.Str.{bytes_eq}
 use Rattle.sqlite_trees.specs.declared.store.Store.{Ghosts}
-use Rattle.desk_policy.specs.Contradiction.{HasNoContradiction}
-use Rattle.desk_policy.specs.Parsing.{read_site}
-use Rattle.desk_policy.specs.Policy.{Content}
-use Rattle.desk_policy.specs.Site.{SiteTexts}
-use Rattle.desk_core.specs.Standing.{PendOnce}
-use Rattle.desk_core.specs.Views.{Kept}
 use Rattle.desk_core.specs.declared.head.Head.{Head}
 use Rattle.desk_store.specs.Desk.{History, Shown, StandsAt}
-use Rattle.desk_report_page.specs.Page.{IsPageOf}
 use Rattle.cli_output.specs.declared.failure.Failure.{Failure}
 use Rattle.cli_output.specs.declared.failure.Failure.TheVariants.{Memory}
 use Rattle.cli_output.specs.declared.printed.Printed.{Printed}
@@ -20,16 +13,6 @@ use Rattle.cli_report.specs.ReportCommand.{PrintsPage}
 abbrev pub PrintsOnDesk : {S V : Type 0} → Ghosts S → Shown S V → List ℕ → Result Printed Failure → Type 0
 PrintsOnDesk g desk word (Ok printed) = (history : History) → StandsAt g desk history [] → PrintsPage word history printed
 PrintsOnDesk g desk word (Err failure) = failure ≡ Memory
-
--- the page of a state, which has at most one proposal of each file
-pub record IsOfState {V : Type 0} (state : Kept V) (word page : List ℕ) : Type 0 where
-  pub once : PendOnce state.proposals
-  pub is : IsPageOf state.heads state.proposals word page
-
--- a policy is that which a site's texts write, and no two of its lines contradict each other
-pub record IsRead (texts : SiteTexts) (content : Content) : Type 0 where
-  pub is : read_site texts ≡ Ok content
-  pub consistent : HasNoContradiction content
 
 -- a newest revision is not of the file of this one
 abbrev pub is_apart : Head → Head → Bool

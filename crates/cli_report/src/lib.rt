@@ -8,5 +8,4 @@
 //! ```
 #![tactic(auto)]
 
-mod foreseen;
 pub mod report_command;

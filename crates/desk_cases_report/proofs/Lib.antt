@@ -1,2 +1,1 @@
 pub mod ToldOf
-pub mod Waits

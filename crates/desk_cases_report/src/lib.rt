@@ -3,7 +3,6 @@
 
 mod cases;
 mod classes;
-mod foreseen;
 mod lines;
 mod pages;
 mod places;

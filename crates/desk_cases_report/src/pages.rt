@@ -1,20 +1,12 @@
 //! The page of a report.
 
-ghost use Rattle.std.specs.Prelude.{All};
-ghost use Rattle.desk_core.specs.Head.{CanBeKept, newest_in};
-ghost use Rattle.desk_core.specs.Site.{site_in};
-ghost use Rattle.desk_cases_report.specs.PrivateForeseen.{IsRead};
-
-use crate::foreseen::waiting_of;
 use crate::revisions::Revisions;
 use desk_cases_texts::answers::Asked;
 use desk_cases_texts::sites::say_fault;
-use desk_core::{State, can_be_kept, can_be_pending, compile_heads};
+use desk_core::{State, can_be_kept, can_be_pending};
 use desk_index::Index;
-use desk_policy::{PolicyView, SiteFault};
 use desk_report_lists::text_digest;
-use desk_report_page::{ReportedSite, report_page};
-use desk_text::ReadError;
+use desk_report_page::page_of_state;
 use std::alloc::Global;
 use std::mem;
 
@@ -38,42 +30,12 @@ pub fn page(alloc: Global, revisions: &mut Revisions, out: &mut String, database
     }
 }
 
-/// Answers by the page of a state, whose policy is read from its texts once more.
+/// Answers by the page of a state.
 fn of_state(alloc: Global, state: &State<Index>, out: &mut String, database: &str) -> Asked {
     if !can_be_kept(state.heads()) {
         return Ok(false);
     }
-    let read: Result<Index, ReadError<SiteFault>> = compile_heads(alloc, state.heads());
-    match read {
-        Ok(view) => {
-            let asked = by_view(alloc, state, &view, out, database);
-            drop(view);
-            asked
-        }
-        Err(error) => say_fault(out, error),
-    }
-}
-
-/// Answers by the page of a state, by the policy that was read from its texts.
-fn by_view<V: PolicyView + Drop>(
-    alloc: Global,
-    state: &State<V>,
-    view: &V,
-    out: &mut String,
-    database: &str,
-) -> Asked
-    requires kept { All CanBeKept state.now.heads }
-    requires read { IsRead (site_in (newest_in state.now.heads)) (V.in_force view.now) }
-{
-    let waiting = waiting_of(alloc, state)?;
-    let site = ReportedSite {
-        view,
-        tables: state.tables(),
-        heads: state.heads(),
-        proposals: state.proposals(),
-        waiting: waiting.as_slice(),
-    };
-    let page = report_page(alloc, database, site)?;
+    let page = page_of_state(alloc, database, state)?;
     say_page(alloc, out, page.as_str())
 }
 

@@ -5,18 +5,19 @@ use Rattle.desk_page.specs.Amounts.{plural}
 use Rattle.desk_page.specs.Escaping.{escaped_line}
 use Rattle.desk_page.specs.Numbers.{number}
 use Rattle.desk_page.specs.Pieces.{line_link, system_link}
-use Rattle.desk_page_words.specs.FindingWords.{finding_words, highest_level, is_first_level}
+use Rattle.desk_page_words.specs.FindingWords.{finding_words}
 use Rattle.desk_page_words.specs.Badges.{level_mark}
 use Rattle.desk_page_lists.specs.Tables.{fold_end, fold_start, row_end, table_end, table_start}
 use Rattle.desk_page_summary.specs.Addresses.{part_cell}
 use Rattle.desk_page_words.specs.declared.finding_words.Finding.{Finding}
+use Rattle.desk_report.specs.Reasons.{is_first_level, level_of_all}
 use Rattle.desk_page_summary.specs.declared.findings.FindingRow.{FindingRow}
 use Rattle.desk_page_summary.specs.declared.findings.TheConstants.{RULES}
 use Rattle.desk_page_lists.specs.declared.tables.Table.TheVariants.{Findings, MoreFindings}
 
 -- a line is to be looked at first
 abbrev pub is_first_row : FindingRow → Bool
-is_first_row row = is_first_level (highest_level row.finding.reasons.now)
+is_first_row row = is_first_level (level_of_all row.finding.reasons.now)
 
 -- how many lines are to be looked at first, and how many are to be checked
 abbrev pub counts : ℕ → ℕ → List ℕ
@@ -34,7 +35,7 @@ counted_findings rows = codes "<h3>What stands out</h3>\n<p>" ++ levels rows ++ 
 
 -- a row: the level, where the line stands, why it stands out with its text, and to how many addresses it grants something
 abbrev pub level_head : Finding → List ℕ
-level_head finding = codes "<tr><th scope=\"row\">" ++ level_mark (highest_level finding.reasons.now) ++ codes "</th>"
+level_head finding = codes "<tr><th scope=\"row\">" ++ level_mark (level_of_all finding.reasons.now) ++ codes "</th>"
 
 abbrev pub where_cell : FindingRow → List ℕ
 where_cell row =

@@ -11,7 +11,6 @@ use Rattle.desk_page.specs.Amounts.{and_more}
 use Rattle.desk_page_words.specs.declared.finding_words.Finding.{Finding}
 use Rattle.desk_report.specs.declared.reasons.Reason.{Reason}
 use Rattle.desk_report.specs.declared.reasons.Reason.TheVariants.{NoClient, NeverDecides, ForEverybodyReadOnly, ForEverybodyReadWrite, Wide, RootKeptForNetworks, RootKeptForNames}
-pub use Rattle.desk_report.specs.Reasons.{is_first_level, level_of_all as highest_level}
 
 -- the names of flavours, as a line writes them
 abbrev pub flavour_names : List Flavour → List ℕ

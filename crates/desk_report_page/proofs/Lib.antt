@@ -1,6 +1,6 @@
 mod Finding
-mod InOrder
 pub mod OfSite
 mod Parts
 pub mod Pieces
 mod Sites
+mod Waits

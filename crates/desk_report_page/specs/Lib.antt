@@ -5,5 +5,6 @@ pub mod Each
 pub mod Page
 pub mod Given
 pub mod PrivateEach
+pub mod PrivateForeseen
 pub mod PrivatePage
 pub mod PrivateSections

@@ -142,6 +142,14 @@ impl<S: Alter + Drop, V: PolicyView + Drop> Desk<S, V> {
         }
     }
 
+    /// Lends the newest revisions and the proposals, with the site in force. This takes no statement.
+    pub fn current(&self) -> &State<V>
+        ensures state { result.now ≡ self.now.state }
+        ensures once { PendOnce self.now.state.proposals }
+    {
+        &self.current
+    }
+
     /// Lends the view of the policy in force.
     pub fn view(&self) -> &V
         ensures value { result.now ≡ self.now.state.view }

@@ -1,7 +1,7 @@
 use Rattle.std.proofs.Common.{◌++◌, ◌∙◌, ap, codes}
 use Rattle.std.specs.String.{string_bytes}
 use Rattle.desk_page_words.specs.Badges.{level_mark}
-use Rattle.desk_page_words.specs.FindingWords.{highest_level}
+use Rattle.desk_report.specs.Reasons.{level_of_all}
 use Rattle.desk_page.proofs.Gaining.{three_pieces}
 use Rattle.desk_page_summary.proofs.findings.push_level_head.Goals as goal
 
@@ -12,6 +12,6 @@ returns c =
     let s2 = string_bytes c.push_level_mark.new.page in
     let s3 = string_bytes c.push_str-2.new.self in
     three_pieces s0 s1 s2 s3
-    (codes "<tr><th scope=\"row\">") (level_mark (highest_level c.args.finding.now.reasons.now)) (codes "</th>")
+    (codes "<tr><th scope=\"row\">") (level_mark (level_of_all c.args.finding.now.reasons.now)) (codes "</th>")
     c.in_ok-push_str.ensures.bytes (c.in_ok-push_level_mark.ensures ∙ ap (λ level. s1 ++ level_mark level) c.level-level.ensures)
     c.in_ok-push_str-2.ensures.bytes

@@ -8,7 +8,7 @@ use Rattle.desk_page_maps.specs.Figures.{GainsFileSystemMaps}
 use Rattle.desk_report.specs.Classes.{class_run}
 use Rattle.desk_report.specs.Laws.{TellVerdicts}
 use Rattle.desk_report.specs.Systems.{system_value}
-use Rattle.desk_report_page.proofs.InOrder.{by_filesystem}
+use Rattle.desk_report_filesystem.proofs.Standing.{by_filesystem}
 use Rattle.desk_report_findings.specs.Findings.{findings_among}
 use Rattle.desk_report_findings.specs.declared.findings.SiteFinding.{SiteFinding}
 use Rattle.desk_report_places.specs.Groups.{AreListedGroups, listed_value}

@@ -3,9 +3,9 @@ use Rattle.std.proofs.lemmas.List.{take_more}
 use Rattle.desk_core.specs.Head.{newest_in}
 use Rattle.desk_core.specs.declared.proposal.Proposal.{Proposal}
 use Rattle.desk_report_page.specs.Waiting.{waiting_value}
-use Rattle.desk_cases_report.specs.PrivateForeseen.{AreForeseen}
-use Rattle.desk_cases_report.proofs.Waits.{one_more}
-use Rattle.desk_cases_report.proofs.foreseen.waiting_of.Goals as goal
+use Rattle.desk_report_page.specs.PrivateForeseen.{AreForeseen}
+use Rattle.desk_report_page.proofs.Waits.{one_more}
+use Rattle.desk_report_page.proofs.foreseen.waiting_of.Goals as goal
 
 pub loop-proposal-preserved : goal.loop-proposal-preserved
 loop-proposal-preserved g c =

@@ -1,9 +1,9 @@
 use Rattle.std.proofs.Common.{map, subst, sym}
 use Rattle.desk_core.specs.Head.{newest_in}
 use Rattle.desk_report_page.specs.Waiting.{waiting_value}
-use Rattle.desk_cases_report.specs.PrivateForeseen.{AreForeseen}
-use Rattle.desk_cases_report.proofs.Waits.{source_of}
-use Rattle.desk_cases_report.proofs.pages.by_view.Goals as goal
+use Rattle.desk_report_page.specs.PrivateForeseen.{AreForeseen}
+use Rattle.desk_report_page.proofs.Waits.{source_of}
+use Rattle.desk_report_page.proofs.of_state.page_by_view.Goals as goal
 
 pub report_page-requires-clause-source : goal.report_page-requires-clause-source
 report_page-requires-clause-source g c =

@@ -2,8 +2,8 @@
 use Rattle.std.proofs.Common.{map, take}
 use Rattle.desk_core.specs.Head.{newest_in}
 use Rattle.desk_report_page.specs.Waiting.{waiting_value}
-use Rattle.desk_cases_report.specs.PrivateForeseen.{AreForeseen}
-use Rattle.desk_cases_report.proofs.foreseen.waiting_of.Given as goal
+use Rattle.desk_report_page.specs.PrivateForeseen.{AreForeseen}
+use Rattle.desk_report_page.proofs.foreseen.waiting_of.Given as goal
 
 abbrev pub invariant-loop-proposal : goal.invariant-loop-proposal
 invariant-loop-proposal g l =

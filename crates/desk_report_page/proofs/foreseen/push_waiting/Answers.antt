@@ -6,7 +6,7 @@ use Rattle.desk_core.specs.Head.{newest_in}
 use Rattle.desk_policy.specs.SiteFile.{exports_place}
 use Rattle.desk_report_page.specs.Given.{HasReadableText}
 use Rattle.desk_report_page.specs.Waiting.{IsWaiting, Waiting, outcome_value, waiting_value}
-use Rattle.desk_cases_report.proofs.foreseen.push_waiting.Goals as goal
+use Rattle.desk_report_page.proofs.foreseen.push_waiting.Goals as goal
 
 pub returns-in_ok-push-in-Some : goal.returns-in_ok-push-in-Some
 returns-in_ok-push-in-Some g c =

@@ -16,7 +16,7 @@ use Rattle.desk_report_page.specs.Found.{Source}
 use Rattle.desk_report_page.specs.Given.{HasReadableText}
 use Rattle.desk_report_page.specs.Page.{IsSource}
 use Rattle.desk_report_page.specs.Waiting.{AreWaiting, IsOutcomeOf, IsWaiting, Waiting, is_for_listed}
-use Rattle.desk_cases_report.specs.PrivateForeseen.{AreForeseen, GainsForeseen, IsRead}
+use Rattle.desk_report_page.specs.PrivateForeseen.{AreForeseen, GainsForeseen, IsRead}
 
 -- one more is foreseen
 pub one_more : (newest : Newest) (content : Content) (proposals : List Proposal) (proposal : Proposal) (old new : List Waiting)
