@@ -4,7 +4,7 @@ STYLE = r'''
 :root{color-scheme:light dark;--bg:#fff;--fg:#1b1f23;--mute:#57606a;--line:#d3d9df;--soft:#f4f6f8;--hit:#fff6e5;--link:#0a58a6;--ro:#1f62a8;--rw:#c2560a;--rwt:#964206;--rk:#8b0a50;--in:#fff}
 @media screen and (prefers-color-scheme:dark){:root{--bg:#13161a;--fg:#e4e8ec;--mute:#a4adb6;--line:#3a4149;--soft:#1c2025;--hit:#2b2416;--link:#83bbf7;--ro:#74b4f2;--rw:#ee8f43;--rwt:#f3a565;--rk:#ff85b6;--in:#13161a}}
 @media print{:root{color-scheme:light}}
-@media screen{section.fs{content-visibility:auto;contain-intrinsic-size:auto 80rem}table.text thead th{white-space:nowrap}dl.words dd code{display:inline;white-space:pre}}
+@media screen{section.fs{content-visibility:auto;contain-intrinsic-size:auto 80rem}table.text thead th{white-space:nowrap}dl.words dd code{white-space:pre}}
 *{box-sizing:border-box}
 html{scroll-padding-top:3rem;-webkit-text-size-adjust:100%;text-size-adjust:100%}
 body{margin:0 auto;padding:0 1.25rem 4rem;max-width:80rem;background:var(--bg);color:var(--fg);font:1rem/1.5 system-ui,-apple-system,"Segoe UI",Roboto,"Liberation Sans",Arial,sans-serif;font-variant-numeric:tabular-nums}
@@ -39,7 +39,7 @@ dl.facts dd{margin:0}
 table{border-collapse:collapse;font-size:.9375rem;width:100%}
 caption{text-align:left;color:var(--mute);font-size:.875rem;padding:.25rem 0}
 .off{position:absolute;width:1px;height:1px;overflow:hidden;clip-path:inset(50%)}
-th,td{text-align:left;vertical-align:top;padding:.4rem .75rem .4rem 0;border-bottom:1px solid var(--line)}
+th,td{text-align:left;vertical-align:baseline;padding:.4rem .75rem .4rem 0;border-bottom:1px solid var(--line)}
 th:last-child,td:last-child{padding-right:0}
 thead th{font-size:.8125rem;font-weight:600;color:var(--mute);vertical-align:bottom}
 tbody th{font-weight:400}
@@ -92,10 +92,12 @@ table.a th code{white-space:pre}
 table.f th+td,table.o tbody th{min-width:9rem}
 dl.words{display:grid;grid-template-columns:max-content 1fr;gap:.4rem 1.25rem;max-width:52rem}
 dl.words dd{margin:0}
-dl.words code{display:inline-block;max-width:100%}
+dl.words dt code{display:inline-block;max-width:100%}
 ul.d .r{font-size:.9375em}
 .key{font-size:.875rem;color:var(--mute)}
-table.n tbody th{min-width:9rem}
+table.n tbody th,table.n td:nth-child(3){min-width:9rem}
+table:not([class]) td:nth-child(3){min-width:7rem}
+.sha{display:inline-block;min-width:16rem}
 .cut{font-size:.875rem;border-left:3px solid var(--rw);padding-left:.6rem}
 section.fs{border-top:1px solid var(--line);padding-top:.25rem;margin-top:2.5rem}
 section.fs>h3{font-size:1.375rem;margin-top:1rem}
@@ -117,7 +119,7 @@ svg.big{width:100%;height:auto}
 svg.tiny{width:4.25rem;height:4.25rem}
 svg.key{display:inline-block;width:1.25rem;height:1.25rem;vertical-align:-.3rem}
 path.g{fill:var(--soft);stroke:var(--mute);stroke-width:.6}
-path.h{fill:none;stroke:var(--in);stroke-width:.5;stroke-opacity:.55}
+path.h{fill:none;stroke:var(--mute);stroke-width:.4;stroke-opacity:.45}
 .y text{font-size:6px;fill:var(--mute);text-anchor:end}
 path.po{fill:var(--ro)}
 path.pr{fill:var(--rk)}
@@ -125,24 +127,21 @@ path.px{fill:var(--in)}
 path.o{fill:url(#po)}
 path.w{fill:var(--rw)}
 path.r{fill:url(#pr)}
-.tiny path.r{fill:url(#pt)}
 path.k{stroke:var(--in);stroke-width:.5;paint-order:stroke}
-.tiny path.k{stroke-width:1;paint-order:normal}
-.tiny path.k.o{stroke-width:1}
+.tiny path.k{stroke-width:1}
 .tiny path.k.w{stroke:var(--rw)}
-.tiny path.k.r{fill:var(--rk);stroke:var(--rk);stroke-width:.6}
+.tiny path.k.r{stroke-width:1.6}
 path.k.o{fill:var(--in);stroke:var(--ro);stroke-width:.9}
 path.k.r{fill:var(--rk)}
-@media (max-width:40rem){body{padding:0 .9rem 3rem}nav{flex-wrap:wrap;position:static;margin:1rem -.9rem 0;padding:.6rem .9rem}h1{font-size:1.5rem}figure,.place figure{width:8rem}section.place{padding-left:.7rem}section.wait{padding:.25rem .7rem}table,tbody,caption{display:block}table.v,table.p{min-width:0}thead{position:absolute;width:1px;height:1px;overflow:hidden;clip-path:inset(50%)}tr{display:flex;flex-wrap:wrap;gap:.1rem .8rem;padding:.5rem 0;border-bottom:1px solid var(--line)}tr>*,table.s tr>*{padding:0;border:0}tbody th{flex:0 0 100%}td:empty{display:none}td::before{content:var(--c);color:var(--mute);font-size:.8125rem}table.n td:not(.num),table.a td:not(.num),table.i td:nth-child(n+4){flex:0 0 100%}.num{--c:"addresses: ";white-space:normal}table.p td:nth-child(3){--c:"all of it: "}table.p td:nth-child(4){--c:"parts of it: "}table.a td:nth-child(3){--c:"lines: "}table.a td:nth-child(4){--c:"without -ro: "}table.a td:nth-child(5){--c:"file systems: "}table.i td:nth-child(2){--c:"clients: "}table.i td:nth-child(4){--c:"now: "}table.i td:nth-child(5){--c:"then: "}table.s td:nth-child(2){--c:"has: "}table.s td:nth-child(3){--c:"read-only: "}table.s td:nth-child(4){--c:"read-write: "}table.s td:nth-child(5){--c:"root kept: "}table.s td:nth-child(6){--c:"may mount: "}table.h td:nth-child(2){--c:"revision: "}table.h td:nth-child(3){--c:"author: "}table.h td:nth-child(4){--c:"approver: "}table.h td:nth-child(5){--c:"profile: "}table.h td:nth-child(6){--c:"bytes: "}table.h td:nth-child(7){--c:"SHA-256: "}table.h td:nth-child(8){--c:"remark: "}table.n td:last-child{--c:"written by: "}table.n td:nth-last-child(2){--c:"stands for: "}table.n .num:nth-last-child(4){--c:"host names: "}table.n td:nth-last-child(5){--c:"in it: "}table.n td:nth-last-child(6){--c:"line: "}table:not([class]) td:nth-child(3){--c:"word: "}table:not([class]) td:nth-child(4){--c:"name: "}table.o td:nth-child(3){--c:"all of IPv4"}table.o td:nth-child(4){--c:"10.0.0.0/8"}table.o td:nth-child(5){--c:"172.16.0.0/12"}table.o td:nth-child(6){--c:"192.168.0.0/16"}table.o td:nth-child(8){--c:"kept by: "}table.o td:nth-child(9){--c:"in force: "}table.o td:nth-child(10){--c:"stands out: "}table.o tr{display:grid;gap:.1rem .25rem;grid-template-columns:repeat(4,auto)}table.o td b{display:inline-block;margin-left:.4rem}table.o svg{width:100%;max-width:min(4.25rem,17vw);height:auto}table.o th{grid-column:1/3}table.o td:nth-child(2){grid-column:3/-1}table.o td:nth-child(-n+6)::before{font-size:min(.6875rem,3vw)}table.o td:nth-child(n+7){grid-column:1/-1;text-align:left}table.v tr,table.p tr{display:grid;grid-template-columns:auto 1fr}table.f tr{display:grid;grid-template-columns:auto 1fr auto}table.v .num,table.p .num{grid-area:1/2}table.f td:nth-child(2){min-width:0}table.f .num{grid-area:1/3}table.v td:nth-child(2),table.v td:nth-child(4),table.f td:nth-child(3),table.p td:nth-child(n+3){grid-column:1/-1}ul.r{gap:0 .8rem}table.n ul.r{display:inline-flex}table.text tr{display:grid;gap:0 .6rem;grid-template-columns:2rem 1fr auto;padding:.12rem 0}table.text tbody th{width:auto}table.text td:last-child{grid-column:2/-1;width:auto}table.text .num{padding:0}table.text td:nth-child(2){white-space:normal}pre code{white-space:pre-wrap}dl.words{display:block}dl.words dd:last-child code{white-space:break-spaces}dl.words dd{margin:.1rem 0 .7rem}}
-@media print{html{font-size:8pt}body{max-width:none;padding:0}dl.big{grid-template-columns:repeat(7,1fr)}table.o thead th{white-space:normal}table.h th,table.h td{padding-right:.5rem}.sha{font-size:.6875rem}nav,.up{display:none}a{color:inherit;text-decoration:none}h2,h3,h4,h5,caption,thead{break-after:avoid}tr,figure,.maps,dl,.place{break-inside:avoid}thead{display:table-header-group}.wide{overflow:visible}details::details-content{content-visibility:visible;display:block;height:auto}summary{color:inherit;list-style:none}svg.tiny{width:.9cm;height:.9cm}figure{width:2.7cm}.place figure{width:2.4cm}}
+@media (max-width:40rem){body{padding:0 .9rem 3rem}nav{flex-wrap:wrap;position:static;margin:1rem -.9rem 0;padding:.6rem .9rem}h1{font-size:1.5rem}figure,.place figure{width:8rem}section.place{padding-left:.7rem}section.wait{padding:.25rem .7rem}table,tbody,caption{display:block}table.v,table.p{min-width:0}thead{position:absolute;width:1px;height:1px;overflow:hidden;clip-path:inset(50%)}tr{display:flex;flex-wrap:wrap;gap:.1rem .8rem;padding:.5rem 0;border-bottom:1px solid var(--line)}tr>*,table.s tr>*{padding:0;border:0}tbody th{flex:0 0 100%}td:empty{display:none}td::before{content:var(--c);color:var(--mute);font-size:.8125rem}table.n td:not(.num),table.a td:not(.num),table.i td:nth-child(n+4){flex:0 0 100%}.num{--c:"addresses: ";white-space:normal}table.p td:nth-child(3){--c:"all of it: "}table.p td:nth-child(4){--c:"parts of it: "}table.a td:nth-child(3){--c:"lines: "}table.a td:nth-child(4){--c:"without -ro: "}table.a td:nth-child(5){--c:"file systems: "}table.i td:nth-child(2){--c:"clients: "}table.i td:nth-child(4){--c:"now: "}table.i td:nth-child(5){--c:"then: "}table.s td:nth-child(2){--c:"has: "}table.s td:nth-child(3){--c:"read-only: "}table.s td:nth-child(4){--c:"read-write: "}table.s td:nth-child(5){--c:"root kept: "}table.s td:nth-child(6){--c:"may mount: "}table.h td:nth-child(2){--c:"revision: "}table.h td:nth-child(3){--c:"author: "}table.h td:nth-child(4){--c:"approver: "}table.h td:nth-child(5){--c:"profile: "}table.h td:nth-child(6){--c:"bytes: "}table.h td:nth-child(7){--c:"SHA-256: "}table.h td:nth-child(8){--c:"remark: "}table.n td:last-child{--c:"written by: "}table.n td:nth-last-child(2){--c:"stands for: "}table.n .num:nth-last-child(4){--c:"host names: "}table.n td:nth-last-child(5){--c:"in it: "}table.n td:nth-last-child(6){--c:"line: "}table:not([class]) td:nth-child(3){--c:"word: "}table:not([class]) td:nth-child(4){--c:"name: "}table.o td:nth-child(3){--c:"all of IPv4"}table.o td:nth-child(4){--c:"10.0.0.0/8"}table.o td:nth-child(5){--c:"172.16.0.0/12"}table.o td:nth-child(6){--c:"192.168.0.0/16"}table.o td:nth-child(8){--c:"kept by: "}table.o td:nth-child(9){--c:"in force: "}table.o td:nth-child(10){--c:"stands out: "}table.o tr{display:grid;gap:.1rem .25rem;grid-template-columns:repeat(4,minmax(0,1fr))}table.o td b{display:inline-block;margin-left:.4rem}table.o svg{width:100%;max-width:min(4.25rem,17vw);height:auto}table.o th{grid-column:1/3}table.o td:nth-child(2){grid-column:3/-1}table.o td:nth-child(-n+6)::before{font-size:min(.6875rem,2.7vw)}table.o td:nth-child(n+7){grid-column:1/-1;text-align:left}table.v tr,table.p tr{display:grid;grid-template-columns:auto 1fr}table.f tbody th{flex:0 0 auto}table.v .num,table.p .num{grid-area:1/2}table.f td:nth-child(2){min-width:0}table.f .num{margin-left:auto}table.v td:nth-child(2),table.v td:nth-child(4),table.p td:nth-child(n+3){grid-column:1/-1}table.f td:nth-child(3){flex:0 0 100%;order:1}ul.r{gap:0 .8rem}table.n ul.r{display:inline-flex}table.text tr{display:grid;align-items:baseline;gap:0 .6rem;grid-template-columns:2rem 1fr auto;padding:.12rem 0}table.text tbody th{width:auto}table.text td:last-child{grid-column:2/-1;width:auto}table.text .num{padding:0 .4rem 0 0}table.text td:nth-child(2){white-space:normal}pre code{white-space:pre-wrap}dl.words{display:block}dl.words dd:last-child code{white-space:break-spaces}dl.words dd{margin:.1rem 0 .7rem}}
+@media print{html{font-size:8pt}body{max-width:none;padding:0}dl.big{grid-template-columns:repeat(7,1fr)}table.o thead th{white-space:normal}table.h th,table.h td{padding-right:.5rem}.sha{font-size:.6875rem}nav,.up{display:none}a{color:inherit;text-decoration:none}h2,h3,h4,h5,summary,caption,thead{break-after:avoid}tbody tr:first-child{break-before:avoid}path.o{fill:var(--ro);fill-opacity:.5}path.k.o{fill:var(--in);fill-opacity:1}path.r{fill:var(--rk)}tr.hit{print-color-adjust:exact;-webkit-print-color-adjust:exact}section.wait{box-decoration-break:clone;-webkit-box-decoration-break:clone}tr,figure,.maps,dl,.place{break-inside:avoid}thead{display:table-header-group}.wide{overflow:visible}details::details-content{content-visibility:visible;display:block;height:auto}summary{color:inherit;list-style:none}svg.tiny{width:.9cm;height:.9cm}figure{width:2.7cm}.place figure{width:2.4cm}}
 @media (forced-colors:active){.b,svg{forced-color-adjust:none}}
 '''
 
 DEFINITIONS = '''<svg class="defs" width="0" height="0" aria-hidden="true" focusable="false">
 <defs>
 <pattern id="po" width="2" height="2" patternUnits="userSpaceOnUse" patternTransform="rotate(45)"><path class="po" d="M0 0h1.1v2h-1.1z"/></pattern>
-<pattern id="pr" width="4" height="4" patternUnits="userSpaceOnUse"><path class="pr" d="M0 0h4v4h-4z"/><path class="px" d="M1.6 1h.8v.6h.6v.8h-.6v.6h-.8v-.6h-.6v-.8h.6z"/></pattern>
-<pattern id="pt" width="8" height="8" patternUnits="userSpaceOnUse"><path class="pr" d="M0 0h8v8h-8z"/><path class="px" d="M1 1h2v2h-2z"/></pattern>
+<pattern id="pr" width="4" height="4" patternUnits="userSpaceOnUse"><path class="pr" d="M0 0h4v4h-4z"/><path class="px" d="M1.5 .5h1v1h1v1h-1v1h-1v-1h-1v-1h1z"/></pattern>
 <path id="g" class="g" d="M0 0h64v64h-64z"/>
 <path id="h" class="h" d="M4 0v64M8 0v64M12 0v64M16 0v64M20 0v64M24 0v64M28 0v64M32 0v64M36 0v64M40 0v64M44 0v64M48 0v64M52 0v64M56 0v64M60 0v64M0 4h64M0 8h64M0 12h64M0 16h64M0 20h64M0 24h64M0 28h64M0 32h64M0 36h64M0 40h64M0 44h64M0 48h64M0 52h64M0 56h64M0 60h64"/>
 <g id="y" class="y"><text x="-2" y="4">0</text><text x="-2" y="20">64</text><text x="-2" y="36">128</text><text x="-2" y="52">192</text></g>
