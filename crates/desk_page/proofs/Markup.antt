@@ -9,8 +9,8 @@ use Rattle.std.proofs.lemmas.Bool.{cases_Bool, cases_lt, eqb-true, le-ltb, lt-lt
 use Rattle.std.proofs.lemmas.List.{append-nil, append_assoc}
 use Rattle.std.proofs.lemmas.Str.{inside_one}
 use Rattle.desk_shown.specs.ShownText.{code, is_coded, is_tab}
-use Rattle.desk_page.specs.Escaping.{attribute, before_code, behind_code, in_attribute, seen, shown, shown_in_line}
-use Rattle.desk_page.specs.Laws.{IsOwnElement, NoTextIsMarkup, begins_reference, has_no_markup, is_delimiter}
+use Rattle.desk_page.specs.Escaping.{attribute, before_code, behind_code, hyphen, in_attribute, seen, shown, shown_in_line}
+use Rattle.desk_page.specs.Laws.{HasNoOtherMarkup, NoTextIsMarkup, begins_reference, has_no_markup, is_delimiter}
 use Rattle.desk_page.proofs.Telling.{is_seen, no_delimiter}
 
 -- a byte that is neither a delimiter nor an &
@@ -94,22 +94,29 @@ attributes_free : (cs : List ℕ) → has_no_markup (flat_map in_attribute cs) �
 attributes_free [] = refl
 attributes_free (c ∷ cs) = attribute_free c (flat_map in_attribute cs) ∙ attributes_free cs
 
-shown_free : (c : ℕ) → (has_no_markup (shown c) ≡ true) ⊎ IsOwnElement (shown c)
-shown_free c =
-    elim (cases_Bool (is_coded c)) as (λ _. (has_no_markup (shown c) ≡ true) ⊎ IsOwnElement (shown c)) [
-      | inl coded ↦ inr (record {
-        inner = code c;
-        are = ap (λ b. cond b (before_code ++ code c ++ behind_code) (seen c)) coded;
-        free = ap has_no_markup (sym (append-nil (code c))) ∙ code_free c [];
-      })
-      | inr plain ↦ inl (ap (λ b. has_no_markup (cond b (before_code ++ code c ++ behind_code) (seen c))) plain ∙ ap has_no_markup (sym (append-nil (seen c))) ∙ seen_free c [])
+uncoded_free : (c : ℕ) → HasNoOtherMarkup (cond (c == 45) hyphen (seen c))
+uncoded_free c =
+    elim (cases_Bool (c == 45)) as (λ _. HasNoOtherMarkup (cond (c == 45) hyphen (seen c))) [
+      | inl is ↦ inr (inr (ap (λ b. cond b hyphen (seen c)) is))
+      | inr other ↦ inl (ap (λ b. has_no_markup (cond b hyphen (seen c))) other ∙ ap has_no_markup (sym (append-nil (seen c))) ∙ seen_free c [])
     ]
 
-line_free : (c : ℕ) → (has_no_markup (shown_in_line c) ≡ true) ⊎ IsOwnElement (shown_in_line c)
+shown_free : (c : ℕ) → HasNoOtherMarkup (shown c)
+shown_free c =
+    elim (cases_Bool (is_coded c)) as (λ _. HasNoOtherMarkup (shown c)) [
+      | inl coded ↦ inr (inl (record {
+        inner = code c;
+        are = ap (λ b. cond b (before_code ++ code c ++ behind_code) (cond (c == 45) hyphen (seen c))) coded;
+        free = ap has_no_markup (sym (append-nil (code c))) ∙ code_free c [];
+      }))
+      | inr plain ↦ subst HasNoOtherMarkup (sym (ap (λ b. cond b (before_code ++ code c ++ behind_code) (cond (c == 45) hyphen (seen c))) plain)) (uncoded_free c)
+    ]
+
+line_free : (c : ℕ) → HasNoOtherMarkup (shown_in_line c)
 line_free c =
-    elim (cases_Bool (is_tab c)) as (λ _. (has_no_markup (shown_in_line c) ≡ true) ⊎ IsOwnElement (shown_in_line c)) [
+    elim (cases_Bool (is_tab c)) as (λ _. HasNoOtherMarkup (shown_in_line c)) [
       | inl tab ↦ inl (ap (λ b. has_no_markup (cond b (c ∷ []) (shown c))) tab ∙ ap (λ x. has_no_markup (x ∷ [])) (eqb-true c 9 tab))
-      | inr other ↦ subst (λ bs. (has_no_markup bs ≡ true) ⊎ IsOwnElement bs) (sym (ap (λ b. cond b (c ∷ []) (shown c)) other)) (shown_free c)
+      | inr other ↦ subst HasNoOtherMarkup (sym (ap (λ b. cond b (c ∷ []) (shown c)) other)) (shown_free c)
     ]
 
 pub no_text_is_markup : NoTextIsMarkup

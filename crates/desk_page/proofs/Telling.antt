@@ -10,7 +10,7 @@ use Rattle.std.proofs.lemmas.List.{append_assoc, append_cancel_left}
 use Rattle.std.proofs.lemmas.Str.{char_from_byte, cons_from_encodes, encode_ascii, encode_same, encodes-chars, scalars-chars}
 use Rattle.std.proofs.Math.Utf8.{scalar_fits}
 use Rattle.desk_shown.specs.ShownText.{code, is_coded, is_tab}
-use Rattle.desk_page.specs.Escaping.{attribute, before_code, behind_code, escaped, escaped_line, in_attribute, seen, shown, shown_in_line}
+use Rattle.desk_page.specs.Escaping.{attribute, before_code, behind_code, escaped, escaped_line, hyphen, in_attribute, seen, shown, shown_in_line}
 use Rattle.desk_page.specs.Laws.{TextsAreToldApart, has_no_markup, is_delimiter}
 use Rattle.desk_page.proofs.CodesRead.{code_read, read}
 
@@ -115,7 +115,7 @@ is_attribute_sign b = b == 38 || b == 92
 
 -- what is told between tags, and within an attribute
 decode : List ℕ → ℕ
-decode bytes = cond (first bytes == 38) (character_of (second bytes)) (read 0 (behind 16 bytes))
+decode bytes = cond (first bytes == 38) (character_of (second bytes)) (cond (second bytes == 117) 45 (read 0 (behind 16 bytes)))
 
 decode_attribute : List ℕ → ℕ
 decode_attribute bytes = cond (first bytes == 38) (character_of (second bytes)) (cond (second bytes == 92) 92 (read 0 (behind 3 bytes)))
@@ -196,14 +196,28 @@ seen_told c =
       | inr itself ↦ inr (record { are = itself.are; no_sign = ap (λ b. b || (c == 60)) (ne_eqb c 38 itself.no_reference) ∙ ne_eqb c 60 itself.no_tag })
     ]
 
+-- one that is not shown by its code
+abbrev uncoded : ℕ → List ℕ
+uncoded c = cond (c == 45) hyphen (seen c)
+
+uncoded_told : (c : ℕ) → IsShown is_sign decode c (uncoded c)
+unfolding is_sign decode first second
+uncoded_told c =
+    elim (cases_eq c 45) as (λ _. IsShown is_sign decode c (uncoded c)) [
+      | inl is ↦
+          let are : uncoded c ≡ hyphen = ap (λ b. cond b hyphen (seen c)) (eq-eqb c 45 is) in
+          inl (record { start = 60; others = codes "u>-</u>"; are = are; signed = refl; tells = λ rest. ap (λ bs. decode (bs ++ rest)) are ∙ sym is })
+      | inr other ↦ subst (IsShown is_sign decode c) (sym (ap (λ b. cond b hyphen (seen c)) (ne_eqb c 45 other))) (seen_told c)
+    ]
+
 shown_told : (c : ℕ) → IsScalar c → IsShown is_sign decode c (shown c)
 unfolding is_sign
 shown_told c is =
     elim (cases_Bool (is_coded c)) as (λ _. IsShown is_sign decode c (shown c)) [
       | inl coded ↦
-          let are : shown c ≡ before_code ++ code c ++ behind_code = ap (λ b. cond b (before_code ++ code c ++ behind_code) (seen c)) coded in
+          let are : shown c ≡ before_code ++ code c ++ behind_code = ap (λ b. cond b (before_code ++ code c ++ behind_code) (uncoded c)) coded in
           inl (record { start = 60; others = codes "i class=\"x\">" ++ code c ++ behind_code; are = are; signed = refl; tells = λ rest. ap (λ bs. decode (bs ++ rest)) are ∙ coded_told c is rest })
-      | inr plain ↦ subst (IsShown is_sign decode c) (sym (ap (λ b. cond b (before_code ++ code c ++ behind_code) (seen c)) plain)) (seen_told c)
+      | inr plain ↦ subst (IsShown is_sign decode c) (sym (ap (λ b. cond b (before_code ++ code c ++ behind_code) (uncoded c)) plain)) (uncoded_told c)
     ]
 
 line_told : (c : ℕ) → IsScalar c → IsShown is_sign decode c (shown_in_line c)

@@ -1,7 +1,7 @@
 -- What a page of HTML makes of the texts of files. (this project's own, over the HTML Living Standard, 13.1.2 to 13.1.4)
 use Rattle.std.specs.Prelude.{◌≡◌, ℕ, ◌==◌, ◌&&◌, ◌||◌, ◌⊎◌, Bool, true, false, List, [], ◌∷◌, ◌++◌, codes, not, if◌then◌else◌}
 use Rattle.std.specs.Str.{IsUtf8}
-use Rattle.desk_page.specs.Escaping.{attribute, before_code, behind_code, escaped, escaped_line, shown, shown_in_line}
+use Rattle.desk_page.specs.Escaping.{attribute, before_code, behind_code, escaped, escaped_line, hyphen, shown, shown_in_line}
 
 -- a character that opens or closes a tag or an attribute: < > " '
 abbrev pub is_delimiter : ℕ → Bool
@@ -30,12 +30,16 @@ pub record IsOwnElement (bytes : List ℕ) : Type 0 where
   pub are : bytes ≡ before_code ++ inner ++ behind_code
   pub free : has_no_markup inner ≡ true
 
+-- bytes have no markup, or they are an element of the page's own: around a text without markup, or around a hyphen
+abbrev pub HasNoOtherMarkup : List ℕ → Type 0
+HasNoOtherMarkup bytes = (has_no_markup bytes ≡ true) ⊎ (IsOwnElement bytes ⊎ (bytes ≡ hyphen))
+
 -- No character of a text is markup: within an attribute there is none at all, and between tags each character is shown without markup or
 -- in an element of the page's own.
 pub record NoTextIsMarkup : Type 0 where
   pub attributes : (text : List ℕ) → has_no_markup (attribute text) ≡ true
-  pub characters : (c : ℕ) → (has_no_markup (shown c) ≡ true) ⊎ IsOwnElement (shown c)
-  pub lines : (c : ℕ) → (has_no_markup (shown_in_line c) ≡ true) ⊎ IsOwnElement (shown_in_line c)
+  pub characters : (c : ℕ) → HasNoOtherMarkup (shown c)
+  pub lines : (c : ℕ) → HasNoOtherMarkup (shown_in_line c)
 
 -- Two texts that differ are shown differently.
 pub record TextsAreToldApart : Type 0 where

@@ -8,7 +8,7 @@ use desk_shown::{is_coded, push_code};
 use std::alloc::AllocError;
 
 /// Adds a text between tags. A character that cannot be seen, or that turns or breaks its line, is shown by its code in an element of its
-/// own.
+/// own. So is a hyphen as it is, behind which the style sheet lets no line be broken: `-` alone would look like a word.
 pub fn push_escaped(text: &str, page: &mut String) -> Result<(), AllocError>
     ensures { OnOk result (string_bytes page.new ≡ string_bytes page.old ++ spec.escaped text.now) }
 {
@@ -51,6 +51,8 @@ fn push_character(c: char, page: &mut String) -> Result<(), AllocError>
         page.push_str("<i class=\"x\">")?;
         push_code(c, page)?;
         page.push_str("</i>")
+    } else if c == '-' {
+        page.push_str("<u>-</u>")
     } else {
         push_seen(c, page)
     }

@@ -3,17 +3,21 @@ use Rattle.std.specs.Prelude.{ℕ, ◌==◌, List, ◌++◌, codes, drop, length
 use Rattle.std.specs.List.{join_by}
 use Rattle.desk_policy.specs.Policy.{Content}
 use Rattle.desk_policy.specs.Prints.{mount_text}
-use Rattle.desk_page.specs.Amounts.{and_more}
+use Rattle.desk_page.specs.Amounts.{plural}
 use Rattle.desk_page.specs.Pieces.{system_link, zero}
 use Rattle.desk_page_words.specs.Badges.{class_words, count_words}
 use Rattle.desk_page_networks.specs.declared.rows.SystemClass.{SystemClass}
 use Rattle.desk_page_networks.specs.declared.rows.SystemCounts.{SystemCounts}
 
--- the first 12 of some values, each told in words, and how many more there are
+-- behind those file systems that are named, how many more there are
+abbrev pub more_systems : List ℕ → ℕ → List ℕ
+more_systems between count = between ++ plural count (codes "more file system") (codes "more file systems")
+
+-- of some values, each of a file system, the first 12 in words, and how many more there are
 abbrev pub some_of : {X : Type 0} → (X → List ℕ) → List ℕ → List X → List ℕ
 some_of words between values =
     if nat_le (length values) 12 then join_by words between values
-    else join_by words between (take 12 values) ++ and_more (length (drop 12 values))
+    else join_by words between (take 12 values) ++ more_systems between (length (drop 12 values))
 
 -- the same, and a dash if there are none
 abbrev pub some_or_dash : {X : Type 0} → (X → List ℕ) → List ℕ → List X → List ℕ

@@ -6,7 +6,7 @@ ghost use Rattle.std.specs.String.{string_bytes};
 ghost use Rattle.desk_page_networks.specs.Cells as spec;
 
 use crate::rows::{SystemClass, SystemCounts};
-use desk_page::{push_and_more, push_system_link, push_zero};
+use desk_page::{push_plural, push_system_link, push_zero};
 use desk_page_words::{push_class_words, push_count_words};
 use desk_policy::{Policy, mount_text};
 use desk_tables::FsId;
@@ -60,7 +60,7 @@ fn push_some_alike(
     }
     let (named, others) = ones.split_at(MOST);
     push_all_alike(policy, named, page)?;
-    push_and_more(alloc, others.len() as u64, page)
+    push_more_systems(alloc, "; ", others.len() as u64, page)
 }
 
 /// Adds all of them.
@@ -93,6 +93,20 @@ fn push_later_alike(
         page.push_str("; ")?;
         push_alike(policy, one, page)?;
     }
+    Ok(())
+}
+
+/// Adds how many more file systems there are, behind those that are named.
+fn push_more_systems(
+    alloc: Global,
+    between: &str,
+    count: u64,
+    page: &mut String,
+) -> Result<(), AllocError>
+    ensures { OnOk result (string_bytes page.new ≡ string_bytes page.old ++ spec.more_systems between.now count) }
+{
+    page.push_str(between)?;
+    push_plural(alloc, count, "more file system", "more file systems", page)?;
     Ok(())
 }
 
@@ -152,7 +166,7 @@ fn push_some_parts(
     }
     let (named, others) = ones.split_at(MOST);
     push_all_parts(alloc, policy, named, page)?;
-    push_and_more(alloc, others.len() as u64, page)
+    push_more_systems(alloc, "<br>", others.len() as u64, page)
 }
 
 /// Adds all of them.

@@ -48,16 +48,16 @@ abbrev pub each_or_nobody : (Class → List ℕ) → List Class → List ℕ
 each_or_nobody words [] = codes "nobody"
 each_or_nobody words (first ∷ others) = join_by words (codes ", ") (first ∷ others)
 
--- how many addresses are of which class, as `root kept 1, read-only 255`
+-- how many addresses are of which class, as `root kept 1, read-only 255`; no line is broken before a number
 abbrev pub class_count : Counts → Class → List ℕ
-class_count counts class = class_words class ++ codes " " ++ number (count_of counts class)
+class_count counts class = class_words class ++ codes "&nbsp;" ++ number (count_of counts class)
 
 abbrev pub count_words : Counts → List ℕ
 count_words counts = each_or_nobody (class_count counts) (present counts)
 
 -- what part of all addresses is of which class, with its badge
 abbrev pub class_part : Counts → Class → List ℕ
-class_part counts class = badge class ++ codes " " ++ part (count_of counts class) (2 ^ 32)
+class_part counts class = badge class ++ codes "&nbsp;" ++ part (count_of counts class) (2 ^ 32)
 
 abbrev pub class_parts : Counts → List ℕ
 class_parts counts = each_or_nobody (class_part counts) (present counts)

@@ -89,7 +89,7 @@ fn push_class_count(
     ensures { OnOk result (string_bytes page.new ≡ string_bytes page.old ++ spec.class_count counts.now class) }
 {
     push_class_words(class, page)?;
-    page.push_str(" ")?;
+    page.push_str("&nbsp;")?;
     push_number(alloc, count_of(counts, class), page)
 }
 
@@ -156,7 +156,7 @@ fn push_class_part(
     ensures { OnOk result (string_bytes page.new ≡ string_bytes page.old ++ spec.class_part counts.now class) }
 {
     page.push_str(badge_of(class))?;
-    page.push_str(" ")?;
+    page.push_str("&nbsp;")?;
     push_part(alloc, count_of(counts, class), ALL, page)
 }
 

@@ -25,8 +25,9 @@ def is_hidden(letter):
 
 def escaped(text):
     """The one way on which such a text comes onto the page: no character is markup, and one that is hidden is shown by its code, in
-    an element of its own."""
-    return "".join(f'<i class="x">\\u{{{ord(c):x}}}</i>' if is_hidden(c) else MARKUP.get(c, c) for c in text)
+    an element of its own. So is a hyphen, behind which no line is broken."""
+    shown = {"-": "<u>-</u>", **MARKUP}
+    return "".join(f'<i class="x">\\u{{{ord(c):x}}}</i>' if is_hidden(c) else shown.get(c, c) for c in text)
 
 
 def escaped_attribute(text):

@@ -10,7 +10,7 @@ pub returns : goal.returns
 returns c =
     on_ok_weaker c.push_number.result
     (λ ended. three_pieces (string_bytes c.args.page.now) (string_bytes c.push_class_words.new.page) (string_bytes c.push_str.new.self)
-    (string_bytes c.push_number.new.page) (class_words c.args.class) (codes " ") (number (count_of c.args.counts.now c.args.class))
+    (string_bytes c.push_number.new.page) (class_words c.args.class) (codes "&nbsp;") (number (count_of c.args.counts.now c.args.class))
     c.in_ok-push_class_words.ensures c.in_ok-push_str.ensures.bytes
     (ended ∙ ap (λ n. (string_bytes c.push_str.new.self) ++ number n) c.count_of.ensures))
     c.push_number.ensures

@@ -24,7 +24,7 @@ pub returns : goal.returns
 returns c =
     on_ok_weaker c.push_part.result
     (λ ended. three_pieces (string_bytes c.args.page.now) (string_bytes c.push_str.new.self) (string_bytes c.push_str-2.new.self)
-    (string_bytes c.push_part.new.page) (badge c.args.class) (codes " ") (part (count_of c.args.counts.now c.args.class) (2 ^ 32))
+    (string_bytes c.push_part.new.page) (badge c.args.class) (codes "&nbsp;") (part (count_of c.args.counts.now c.args.class) (2 ^ 32))
     (c.in_ok-push_str.ensures.bytes ∙ ap (λ t. (string_bytes c.args.page.now) ++ t) c.badge_of.ensures) c.in_ok-push_str-2.ensures.bytes
     (ended ∙ ap (λ n. (string_bytes c.push_str-2.new.self) ++ part n (2 ^ 32)) c.count_of.ensures))
     c.push_part.ensures
