@@ -14,7 +14,7 @@ const HEAD: &str = r#"<!DOCTYPE html>
 <html lang="en">
 <head>
 <meta charset="utf-8">
-<meta http-equiv="Content-Security-Policy" content="default-src 'none'; style-src 'sha256-n30qOf7TKMiQYwOt/XVmM8HM8VHML3MGstsb+PSwg3o='">
+<meta http-equiv="Content-Security-Policy" content="default-src 'none'; style-src 'sha256-Vt3hH22s/QPvcJI7PB0yBwUzR7WtzDRNQ4xieI6r7vU='">
 <meta name="viewport" content="width=device-width, initial-scale=1">
 <meta name="color-scheme" content="light dark">
 <meta name="referrer" content="no-referrer">

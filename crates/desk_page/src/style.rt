@@ -10,6 +10,8 @@ pub(crate) const STYLE: &str = r#"
 html{scroll-padding-top:3rem;-webkit-text-size-adjust:100%;text-size-adjust:100%}
 body{margin:0 auto;padding:0 1.25rem 4rem;max-width:80rem;background:var(--bg);color:var(--fg);font:1rem/1.5 system-ui,-apple-system,"Segoe UI",Roboto,"Liberation Sans",Arial,sans-serif;font-variant-numeric:tabular-nums}
 code,pre,ul.r{font-family:ui-monospace,SFMono-Regular,Menlo,Consolas,"DejaVu Sans Mono","Liberation Mono",monospace;font-size:.875em}
+u{text-decoration:none}
+u::after{content:"\2060";content:"\2060"/""}
 code{overflow-wrap:anywhere;white-space:break-spaces;tab-size:8;unicode-bidi:isolate}
 pre{background:var(--soft);border:1px solid var(--line);border-radius:6px;padding:.75rem 1rem;overflow:auto}
 pre code{font-size:1em;white-space:pre}

@@ -48,7 +48,7 @@ fn level_mark_of(level: Level) -> &'static str
     }
 }
 
-/// Adds how many addresses are of which class, in words without markup.
+/// Adds how many addresses are of which class, in words without elements, as an attribute may have them, too.
 pub fn push_count_words(alloc: Global, counts: &Counts, page: &mut String) -> Result<(), AllocError>
     ensures { OnOk result (string_bytes page.new ≡ string_bytes page.old ++ spec.count_words counts.now) }
 {

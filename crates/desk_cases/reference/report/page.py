@@ -16,7 +16,7 @@ from reference.report.maps import small_map
 from reference.report.pieces import cut, folded, folded_if_long, level_mark, line_link, ranges_cell, system_link, table, zero
 from reference.report.systems import file_of, finding_words, network_of, system_section, widest_first
 from reference.report.text import (
-    CLASS_WORDS, and_more, class_badge, code, codes, escaped, escaped_attribute, escaped_line, flavour_words, network_text, number,
+    CLASS_WORDS, and_more, class_badge, code, codes, count_words, escaped, escaped_attribute, escaped_line, flavour_words, network_text, number,
     part_words, plural, shell_word,
 )  # fmt: skip
 from reference.warnings import NAMES, site_warnings
@@ -241,10 +241,15 @@ def network_row(report, first, prefix):
         if values and found[values[0]] == whole:
             alike.append(f"{system_link(system)} {CLASS_WORDS[values[0]]}")
         elif values:
-            words = ", ".join(f"{CLASS_WORDS[value]} {number(found[value])}" for value in values)
-            parts.append(f"{system_link(system)} {words}")
-    cells = [and_more(words, MOST_SYSTEMS, between) if words else zero("-") for words, between in ((alike, "; "), (parts, "<br>"))]
-    return [network_text(first, prefix), number(whole), *cells]
+            parts.append(f"{system_link(system)} {count_words(found)}")
+    return [network_text(first, prefix), number(whole), systems_cell(alike, "; "), systems_cell(parts, "<br>")]
+
+
+def systems_cell(words, between):
+    """Of file systems with their words the first, and how many more there are."""
+    rest = len(words) - MOST_SYSTEMS
+    more = [plural(rest, "more file system")] if rest > 0 else []
+    return between.join(words[:MOST_SYSTEMS] + more) or zero("-")
 
 
 # ---- warnings, names, files

@@ -101,7 +101,7 @@ def denial_order(verdict):
 
 def granted_row(system, verdict, ranges):
     terms = effect(verdict)
-    by = f"{line_link(system, named_line(verdict))}: {escaped(terms_words(terms))}"
+    by = f"{line_link(system, named_line(verdict))}: {terms_words(terms)}"
     return [terms_badge(terms), ranges_cell(ranges), part_words(size_of(ranges)), by]
 
 
@@ -273,7 +273,7 @@ def change_row(are_others, place, first, last, verdicts):
 
 def verdict_words(verdict):
     terms = effect(verdict)
-    return f"{terms_badge(terms)} line {named_line(verdict)}: {escaped(terms_words(terms))}" if terms else class_badge(0)
+    return f"{terms_badge(terms)} line {named_line(verdict)}: {terms_words(terms)}" if terms else class_badge(0)
 
 
 # ---- all of it
@@ -292,7 +292,7 @@ def facts(desk, system):
     name = file_of(system)
     guarded = "yes: a change of its exports needs two of them" if name in desk.guarded() else "no: each of them may change it alone"
     found = counts(system.classes, 0, SPACE - 1)
-    some = ", ".join(f"{class_badge(value)} {part_words(found[value])}" for value in (3, 2, 1) if found[value]) or "nobody"
+    some = ", ".join(f"{class_badge(value)}&nbsp;{part_words(found[value])}" for value in (3, 2, 1) if found[value]) or "nobody"
     rows = [("In force", revision_words(desk, name)), ("Custodians", codes(desk.custodians(name))), ("Guarded", guarded)]
     rows.append(("May mount some of it", some))
     made = "".join(f"<div><dt>{term}</dt><dd>{words}</dd></div>\n" for term, words in rows)

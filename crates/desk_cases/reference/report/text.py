@@ -140,4 +140,4 @@ def terms_badge(terms):
 
 def count_words(found):
     """How many addresses have each class that there is, the most first, as `root kept 1, read-only 255`."""
-    return ", ".join(f"{CLASS_WORDS[value]} {number(found[value])}" for value in (3, 2, 1) if found[value]) or "nobody"
+    return ", ".join(f"{CLASS_WORDS[value]}&nbsp;{number(found[value])}" for value in (3, 2, 1) if found[value]) or "nobody"
