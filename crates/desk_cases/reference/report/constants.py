@@ -189,7 +189,7 @@ HOW_TO_READ = '''<section id="read">
 <li>A denial does not bind every client to whom another directory of the same file system is granted. NFSv4 reaches all of that file system, and so does a client that guesses file handles; and mountd(8) grants a directory by any line for the client's hosts or networks that lists it. If in doubt, go by the most that a client may mount of the file system.</li>
 <li>Hosts and networks of IPv6 match nobody here, and <code>V4:</code> lines are neither read nor counted.</li>
 <li>When a revision was put: the database keeps no times. Revision 1 by <code>site</code> is what <code>init</code> read, whoever wrote it.</li>
-<li>What is too long is cut, and how much is left out is counted there. <code>exportdesk who</code> lists all clients of a directory.</li>
+<li>What is too long is cut, and how much is left out is counted there. <code>exportdesk who</code> lists all clients of a directory. Shares in percent are rounded down.</li>
 <li>Under Kerberos the principal decides as whom a user acts; the words on root are for <code>sys</code>.</li>
 <li>Keys, and their digests, are not in it. Keep it as you keep the exports themselves.</li>
 </ul>

@@ -16,8 +16,8 @@ from reference.report.maps import small_map
 from reference.report.pieces import cut, folded, folded_if_long, level_mark, line_link, ranges_cell, system_link, table, zero
 from reference.report.systems import file_of, finding_words, network_of, system_section, widest_first
 from reference.report.text import (
-    CLASS_WORDS, and_more, class_badge, code, codes, count_words, escaped, escaped_attribute, escaped_line, flavour_words, network_text, number,
-    part_words, plural, shell_word,
+    CLASS_WORDS, and_more, class_badge, code, codes, count_words, escaped, escaped_attribute, escaped_line, flavour_words,
+    network_text, number, part_words, plural, shell_word,
 )  # fmt: skip
 from reference.warnings import NAMES, site_warnings
 
