@@ -16,7 +16,7 @@ abbrev pub part : ℕ → ℕ → List ℕ
 part count whole =
     if count == 0 then codes "none"
     else if count == whole then codes "all"
-    else if nat_lt (whole / 2) count then codes "all but " ++ number (whole - count)
+    else if nat_lt (whole / 2) count then codes "all but&nbsp;" ++ number (whole - count)
     else number count
 
 -- digits behind a point, without zeros at the end: one, two, three and four of them

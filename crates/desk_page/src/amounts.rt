@@ -41,7 +41,7 @@ pub fn push_part(alloc: Global, count: u64, whole: u64, page: &mut String) -> Re
     } else if count == whole {
         page.push_str("all")
     } else if count > whole / 2 {
-        page.push_str("all but ")?;
+        page.push_str("all but&nbsp;")?;
         push_number(alloc, whole - count, page)
     } else {
         push_number(alloc, count, page)

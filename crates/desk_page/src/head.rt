@@ -14,7 +14,7 @@ const HEAD: &str = r#"<!DOCTYPE html>
 <html lang="en">
 <head>
 <meta charset="utf-8">
-<meta http-equiv="Content-Security-Policy" content="default-src 'none'; style-src 'sha256-Vt3hH22s/QPvcJI7PB0yBwUzR7WtzDRNQ4xieI6r7vU='">
+<meta http-equiv="Content-Security-Policy" content="default-src 'none'; style-src 'sha256-f+YsKoOLF425WIWyC22A3CXI89pvYeT01qxdXKv6CfQ='">
 <meta name="viewport" content="width=device-width, initial-scale=1">
 <meta name="color-scheme" content="light dark">
 <meta name="referrer" content="no-referrer">

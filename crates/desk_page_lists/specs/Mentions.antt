@@ -12,7 +12,7 @@ abbrev pub line_start : ℕ → ℕ → List ℕ
 line_start fs line = codes "<a href=\"#f" ++ decimal fs ++ codes "-" ++ decimal line ++ codes "\">"
 
 abbrev pub line_end : ℕ → List ℕ
-line_end line = codes " line " ++ decimal line ++ codes "</a>"
+line_end line = codes " line&nbsp;" ++ decimal line ++ codes "</a>"
 
 abbrev pub line_of : ℕ → List ℕ → ℕ → List ℕ
 line_of fs name line = line_start fs line ++ code name ++ line_end line

@@ -98,7 +98,7 @@ fn push_line_start(fs: u32, line: u32, page: &mut String) -> Result<(), AllocErr
 fn push_line_end(line: u32, page: &mut String) -> Result<(), AllocError>
     ensures { OnOk result (string_bytes page.new ≡ string_bytes page.old ++ spec.line_end line) }
 {
-    write!(page, " line {line}</a>")
+    write!(page, " line&nbsp;{line}</a>")
 }
 
 /// Adds a netgroup.

@@ -274,7 +274,7 @@ def names_tables(report):
 def uses_cell(report, name):
     """The lines that write a name."""
     uses = [
-        f'<a href="#f{system.number}-{line.number}">{code(system.name)} line {line.number}</a>'
+        f'<a href="#f{system.number}-{line.number}">{code(system.name)} line&nbsp;{line.number}</a>'
         for system, line in report.lines
         if name in names_on(line)
     ]

@@ -71,7 +71,7 @@ def part_words(count, whole=SPACE):
     """How much of a whole: none, all, all but a number, or a number."""
     if count in (0, whole):
         return "none" if count == 0 else "all"
-    return f"all but {number(whole - count)}" if count > whole // 2 else number(count)
+    return f"all but&nbsp;{number(whole - count)}" if count > whole // 2 else number(count)
 
 
 def percent(count, whole):
