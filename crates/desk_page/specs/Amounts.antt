@@ -11,12 +11,16 @@ plural count one more = number count ++ codes " " ++ (if count == 1 then one els
 abbrev pub and_more : ℕ → List ℕ
 and_more count = codes " and " ++ number count ++ codes " more"
 
+-- all but a number, before which no line is broken
+abbrev pub all_but : ℕ → List ℕ
+all_but count = codes "all but&nbsp;" ++ number count
+
 -- how much of a whole: none, all, all but a number if that is shorter, or the number
 abbrev pub part : ℕ → ℕ → List ℕ
 part count whole =
     if count == 0 then codes "none"
     else if count == whole then codes "all"
-    else if nat_lt (whole / 2) count then codes "all but&nbsp;" ++ number (whole - count)
+    else if nat_lt (whole / 2) count then all_but (whole - count)
     else number count
 
 -- digits behind a point, without zeros at the end: one, two, three and four of them

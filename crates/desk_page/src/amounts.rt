@@ -41,11 +41,19 @@ pub fn push_part(alloc: Global, count: u64, whole: u64, page: &mut String) -> Re
     } else if count == whole {
         page.push_str("all")
     } else if count > whole / 2 {
-        page.push_str("all but&nbsp;")?;
-        push_number(alloc, whole - count, page)
+        push_all_but(alloc, whole - count, page)
     } else {
         push_number(alloc, count, page)
     }
+}
+
+/// Adds that it is all but a number, before which no line is broken.
+fn push_all_but(alloc: Global, count: u64, page: &mut String) -> Result<(), AllocError>
+    ensures { OnOk result (string_bytes page.new ≡ string_bytes page.old ++ spec.all_but count) }
+{
+    page.push_str("all but&nbsp;")?;
+    push_number(alloc, count, page)?;
+    Ok(())
 }
 
 /// Adds how much of a whole a number is, as a percentage that is rounded down.
