@@ -1,0 +1,1 @@
+-- What mountd's rule grants.

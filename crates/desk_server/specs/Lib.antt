@@ -1,0 +1,4 @@
+pub mod Laws
+pub mod RepeatedClients
+pub mod Server
+pub mod WiderGrants
