@@ -1,1 +1,6 @@
+pub mod Lists
+pub mod Asking
+pub mod Terms
 pub mod Granting
+pub mod Agreeing
+pub mod Loading
