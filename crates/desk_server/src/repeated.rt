@@ -1,4 +1,4 @@
-//! Lines that mountd leaves out, since an earlier line of their file system has one of their clients.
+//! Lines that have a client of an earlier line of their file system. mountd leaves such a line out if it has put that one in force.
 
 ghost use Rattle.std.specs.Prelude.{◌≡◌, IfOk, map, slice_get};
 ghost use Rattle.std.specs.List.Sorted.{IsStrictlyIncreasing};
@@ -27,7 +27,7 @@ pub struct RepeatedClient {
 }
 
 /// Lists the lines of a file system that have a client of an earlier one, in the order of the lines: an address that their names
-/// stand for, their network, or everybody. mountd(8) leaves such a line out as a whole.
+/// stand for, their network, or everybody. mountd(8) leaves such a line out as a whole, unless each such earlier line is left out, too.
 pub fn repeated_clients(
     alloc: Global,
     index: &Index,
