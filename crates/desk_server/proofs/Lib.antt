@@ -4,3 +4,5 @@ pub mod Terms
 pub mod Granting
 pub mod Agreeing
 pub mod Loading
+pub mod Sharing
+pub mod Repeating

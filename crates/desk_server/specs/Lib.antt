@@ -1,4 +1,5 @@
 pub mod Laws
+pub mod PrivateRepeated
 pub mod RepeatedClients
 pub mod Server
 pub mod WiderGrants
