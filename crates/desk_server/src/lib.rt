@@ -14,7 +14,10 @@
 
 pub mod deciding;
 pub mod laws;
+mod looking;
+pub mod probe;
 pub mod repeated;
+pub mod stubs;
 pub mod wider;
 
 pub use deciding::server_decide;
