@@ -3,7 +3,7 @@ use Rattle.std.proofs.Common.{◌≡◌, ◌⊎◌, ◌∙◌, ℕ, zero, suc, �
 use Rattle.std.specs.Prelude.{filter, find, slice_get}
 use Rattle.std.specs.List.{All, Contains, list_any}
 use Rattle.std.specs.Option.{option_copied}
-use Rattle.std.proofs.lemmas.Bool.{cases_Bool, cases_lt, cond-true, cond-false, eq-eqb, eqb-true, true≢false}
+use Rattle.std.proofs.lemmas.Bool.{and_parts, cases_Bool, cases_lt, cond-true, cond-false, eq-eqb, eqb-true, not-true, true≢false}
 use Rattle.std.proofs.lemmas.List.{get_or_default}
 use Rattle.std.proofs.lemmas.List.Elements.{All-contains, All-contains_itself, All-filter}
 use Rattle.std.proofs.lemmas.List.Folds.{list_any_at}
@@ -17,12 +17,12 @@ use Rattle.desk_policy.specs.Keys.{HasBlock}
 use Rattle.desk_policy.specs.Policy.{AreAscending}
 use Rattle.desk_policy.specs.Weights.{name_weight, selected, weight_by, weight_of}
 use Rattle.desk_policy.specs.declared.row.Row.{Row}
+use Rattle.desk_index.specs.Lighter.{AreHeaviestBelow, IsHeaviestBelow, is_weight, weighing}
+use Rattle.desk_index.specs.declared.lighter.Weighed.{Weighed}
 use Rattle.desk_idle.specs.Laws.{brings}
 use Rattle.desk_idle.proofs.Looks.{first_or, found_passes, none_passes}
 use Rattle.desk_server.specs.PrivateWider.{IsWidest, Widened}
-use Rattle.desk_server.specs.Stubs.{AreHeaviestBelow, IsHeaviestBelow, is_weight, weighing}
 use Rattle.desk_server.specs.WiderGrants.{Widens, WidensFirst}
-use Rattle.desk_server.specs.declared.stubs.Weighed.{Weighed}
 use Rattle.desk_server.proofs.Widening.{filter_from, filter_has}
 
 -- ---- weights
@@ -89,6 +89,12 @@ module _ (rows : List Row) (address : ℕ) where
 
   pub all_below : All (λ (row : Row). HasBlock row.entry.clients) rows → WidenBelow 35
   all_below blocks row own w = few_by row.entry.clients row.addrs address own (All-contains (λ (r : Row). HasBlock r.entry.clients) rows row blocks w.has) w.matches
+
+  -- to lines of which one has -alldirs nothing can be brought
+  pub all_listed : list_any (λ (row : Row). row.entry.alldirs) (selected rows address) ≡ true → Widened rows address → ⊥
+  all_listed all wide =
+      let s = and_parts _ _ wide.widens.brought in
+      true≢false (sym all ∙ not-true (list_any (λ (row : Row). row.entry.alldirs) (selected rows address)) s.0)
 
   pub none_left : (below : ℕ) → WidenBelow below → AreHeaviestBelow rows address below None → Widened rows address → ⊥
   none_left below all none wide = none wide.row wide.weight wide.widens.has wide.widens.matches (all wide.row wide.weight wide.widens)

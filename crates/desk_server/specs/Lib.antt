@@ -2,5 +2,4 @@ pub mod Laws
 pub mod PrivateWider
 pub mod RepeatedClients
 pub mod Server
-pub mod Stubs
 pub mod WiderGrants

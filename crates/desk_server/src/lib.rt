@@ -17,7 +17,6 @@ pub mod laws;
 mod looking;
 pub mod probe;
 pub mod repeated;
-pub mod stubs;
 pub mod wider;
 
 pub use deciding::server_decide;

@@ -1,6 +1,7 @@
 //! What there is to see at an address: by which line the server grants more there, and what.
 
 ghost use Rattle.std.specs.Prelude.{◌≡◌, All, Contains, IfOk, List, find, slice_get};
+ghost use Rattle.std.specs.List.{list_any};
 ghost use Rattle.std.specs.Option.{option_copied};
 ghost use Rattle.desk_text.specs.Address.{number_of};
 ghost use Rattle.desk_policy.specs.Policy.{AreAscending, rows_of};
@@ -8,12 +9,12 @@ ghost use Rattle.desk_policy.specs.Weights.{selected};
 ghost use Rattle.desk_policy.specs.declared.row.Row.{Row};
 ghost use Rattle.desk_index.specs.Keys.{numbers};
 ghost use Rattle.desk_idle.specs.Laws.{brings};
+ghost use Rattle.desk_idle.specs.Listed.{IsListedBy};
 ghost use Rattle.desk_server.specs.PrivateWider.{IsLook, IsWidest};
-ghost use Rattle.desk_server.specs.Stubs.{IsListedBy};
 
-use crate::stubs::{Listed, heaviest_below, row_numbered};
 use crate::wider::WiderGrant;
-use desk_index::{Index, Probes};
+use desk_idle::Listed;
+use desk_index::{Index, Probes, row_numbered};
 use desk_policy::{PolicyView, Row};
 use desk_tables::FsId;
 use desk_text::Addr;
@@ -54,6 +55,9 @@ pub(crate) fn look_at<'a>(
 {
     let rows = index.policy().rows(fs);
     let lines = selected_lines(index, fs, address);
+    if have_alldirs(rows, lines) {
+        return Ok(None);
+    }
     let listed = listed_by(alloc, rows, lines)?;
     match widest(index, fs, address, &listed) {
         Some(row) => Ok(Some(WiderGrant {
@@ -74,6 +78,21 @@ fn selected_lines(index: &Index, fs: FsId, address: Addr) -> &[u32]
         Some(found) => found.lines(),
         None => &[],
     }
+}
+
+/// Tests whether one of the lines of these numbers has -alldirs.
+fn have_alldirs(rows: &[Row], lines: &[u32]) -> bool
+    requires { AreAscending rows.now }
+    ensures { (chosen : List Row) → lines.now ≡ numbers chosen → All (Contains rows.now) chosen → result ≡ list_any (λ row. row.entry.alldirs) chosen }
+{
+    for line in lines {
+        if let Some(row) = row_numbered(rows, *line) {
+            if row.entry.alldirs {
+                return true;
+            }
+        }
+    }
+    false
 }
 
 /// Gathers what the lines of these numbers list.
@@ -100,7 +119,7 @@ fn widest<'a>(
     index: &'a Index,
     fs: FsId,
     address: Addr,
-    listed: &Listed,
+    listed: &Listed<'a>,
 ) -> Option<&'a Row>
     requires ascending { AreAscending (rows_of index.now fs.0) }
     requires listed { IsListedBy listed.now (selected (rows_of index.now fs.0) (number_of address)) }
@@ -109,7 +128,7 @@ fn widest<'a>(
     let _probes = Probes::new(index);
     let rows = index.policy().rows(fs);
     let mut below = 35;
-    while let Some(group) = heaviest_below(index, fs, address, below) {
+    while let Some(group) = index.heaviest_below(fs, address, below) {
         if group.weight == 0 {
             return None;
         }
@@ -122,7 +141,7 @@ fn widest<'a>(
 }
 
 /// Finds the first of the lines of these numbers that lists what is not listed yet.
-fn first_new<'a>(rows: &'a [Row], lines: &[u32], listed: &Listed) -> Option<&'a Row>
+fn first_new<'a>(rows: &'a [Row], lines: &[u32], listed: &Listed<'a>) -> Option<&'a Row>
     requires { AreAscending rows.now }
     ensures { (chosen earlier : List Row) → lines.now ≡ numbers chosen → All (Contains rows.now) chosen → IsListedBy listed.now earlier
         → option_copied result ≡ find (brings earlier) chosen }

@@ -140,7 +140,7 @@ fn keep<'a>(
     seen: Option<WiderGrant<'a>>,
 ) -> Result<(), AllocError>
     ensures { OnOk result ((line : ℕ) → tree.get nat_cmp known.new line
-        ≡ (if is_kept seen first.now && first.now.entry.line == line then Some seen else tree.get nat_cmp known.old line)) }
+        ≡ (if is_kept seen.entry first.now && first.now.entry.line == line then Some seen.entry else tree.get nat_cmp known.old line)) }
 {
     if seen.is_some() || has_one_key(&first.entry.clients) {
         known.insert(first.entry.line, seen)?;
