@@ -5,3 +5,4 @@ pub mod Nesting
 pub mod Telling
 pub mod Finding
 pub mod Lighter
+pub mod Asking

@@ -1,10 +1,10 @@
 -- The first of the heaviest lines that widen what is selected, group by group of lighter lines.
-use Rattle.std.proofs.Common.{◌≡◌, ◌⊎◌, ◌∙◌, ℕ, zero, suc, ◌+◌, ◌<◌, ◌≤◌, Bool, true, false, cond, List, [], ◌∷◌, Option, Some, None, ap, arith, get_or, inl, inr, length, refl, subst, sym}
+use Rattle.std.proofs.Common.{◌≡◌, ◌⊎◌, ◌∙◌, ℕ, zero, suc, ◌+◌, ◌<◌, ◌≤◌, ◌++◌, Bool, true, List, [], ◌∷◌, Option, Some, None, ap, arith, drop, get_or, inl, inr, length, refl, subst, sym, take}
 use Rattle.std.specs.Prelude.{filter, find, slice_get}
 use Rattle.std.specs.List.{All, Contains, list_any}
 use Rattle.std.specs.Option.{option_copied}
 use Rattle.std.proofs.lemmas.Bool.{and_parts, cases_Bool, cases_lt, cond-true, cond-false, eq-eqb, eqb-true, not-true, true≢false}
-use Rattle.std.proofs.lemmas.List.{get_or_default}
+use Rattle.std.proofs.lemmas.List.{append_assoc, get_or_default, take-append-drop}
 use Rattle.std.proofs.lemmas.List.Elements.{All-contains, All-contains_itself, All-filter}
 use Rattle.std.proofs.lemmas.List.Folds.{list_any_at}
 use Rattle.std.proofs.lemmas.List.Kept.{AllPairs-filter}
@@ -20,7 +20,8 @@ use Rattle.desk_policy.specs.declared.row.Row.{Row}
 use Rattle.desk_index.specs.Lighter.{AreHeaviestBelow, IsHeaviestBelow, is_weight, weighing}
 use Rattle.desk_index.specs.declared.lighter.Weighed.{Weighed}
 use Rattle.desk_idle.specs.Laws.{brings}
-use Rattle.desk_idle.proofs.Looks.{first_or, found_passes, none_passes}
+use Rattle.desk_idle.proofs.Lists.{in_middle}
+use Rattle.desk_idle.proofs.Looks.{first_or, none_passes}
 use Rattle.desk_server.specs.PrivateWider.{IsWidest, Widened}
 use Rattle.desk_server.specs.WiderGrants.{Widens, WidensFirst}
 use Rattle.desk_server.proofs.Widening.{filter_from, filter_has}
@@ -30,13 +31,13 @@ use Rattle.desk_server.proofs.Widening.{filter_from, filter_has}
 some_same : (a b : ℕ) → Some a ≡ Some b → a ≡ b
 some_same a b e = cc
 
-few_by : (who : Clients) (addresses : List ℕ) (address own : ℕ) → HasBlock who → weight_by who addresses address ≡ Some own → own < 35
+pub few_by : (who : Clients) (addresses : List ℕ) (address own : ℕ) → HasBlock who → weight_by who addresses address ≡ Some own → own < 35
 few_by (clients.Hosts names) addresses address own block e = let s = cond_some (is_among address addresses) name_weight own e in let same : 34 ≡ own = s.1 in omega arith
 few_by (clients.Net net noted) addresses address own block e = let s = cond_some (covers net address) (net.prefix + 1) own e in let same = s.1 in let few = block.prefix in omega arith
 few_by (clients.Net6 value) addresses address own block e = let wrong : None ≡ Some own = e in cc
 few_by clients.World addresses address own block e = let same : 0 ≡ own = some_same 0 own e in omega arith
 
-weight_is : (o : Option ℕ) (weight : ℕ) → is_weight weight o ≡ true → o ≡ Some weight
+pub weight_is : (o : Option ℕ) (weight : ℕ) → is_weight weight o ≡ true → o ≡ Some weight
 weight_is None weight e = absurd (true≢false (sym e))
 weight_is (Some own) weight e = ap (λ (n : ℕ). Some n) (eqb-true own weight e)
 
@@ -65,7 +66,7 @@ first_least p (x ∷ xs) row other up e has passes =
       ]
     ]
 
-found_has : (p : Row → Bool) (xs : List Row) (row : Row) → find p xs ≡ Some row → Contains xs row × (p row ≡ true)
+pub found_has : (p : Row → Bool) (xs : List Row) (row : Row) → find p xs ≡ Some row → Contains xs row × (p row ≡ true)
 found_has p [] row e = let wrong : None ≡ Some row = e in cc
 found_has p (x ∷ xs) row e =
     elim (cases_Bool (p x)) [
@@ -141,3 +142,10 @@ module _ (rows : List Row) (address : ℕ) where
 -- the lines of one weight are lines of the file system
 pub weighing_has : (rows : List Row) (address weight : ℕ) → All (Contains rows) (weighing rows address weight)
 weighing_has rows address weight = All-filter (λ (r : Row). is_weight weight (weight_of r address)) (Contains rows) rows (All-contains_itself rows)
+
+-- the next line is one of them
+pub next_has : (xs : List Row) (i : ℕ) (row : Row) → take (i + 1) xs ≡ take i xs ++ row ∷ [] → Contains xs row
+next_has xs i row next =
+    subst (λ (ys : List Row). Contains ys row)
+    (sym (sym (take-append-drop (i + 1) xs) ∙ ap (λ (ys : List Row). ys ++ drop (i + 1) xs) next ∙ append_assoc (take i xs) (row ∷ []) (drop (i + 1) xs)))
+    (in_middle (take i xs) row (drop (i + 1) xs))

@@ -1,11 +1,16 @@
 -- What is known of lines from looks at addresses, one after another.
-use Rattle.std.proofs.Common.{◌≡◌, ◌⊎◌, ◌∙◌, ℕ, ◌<◌, ◌≤◌, ◌^◌, ◌&&◌, ◌||◌, ◌++◌, Bool, true, false, cond, eqb, List, [], ◌∷◌, Option, Some, None, ap, arith, inl, inr, nat_cmp, refl, subst, sym}
-use Rattle.std.specs.BTreeMap.{BTreeMap}
+use Rattle.std.proofs.Common.{◌≡◌, ◌⊎◌, ◌∙◌, ℕ, suc, ◌<◌, ◌≤◌, ◌^◌, ◌&&◌, ◌||◌, ◌++◌, Bool, true, false, cond, eqb, List, [], ◌∷◌, Option, Some, None, ap, arith, get_or, inl, inr, length, nat_cmp, refl, subst, sym, take}
+use Rattle.std.specs.Prelude.{slice_get}
+use Rattle.std.specs.BTreeMap.{BTreeMap, is_at}
 use Rattle.std.specs.BTreeMap as tree
 use Rattle.std.specs.List.{All, Contains}
+use Rattle.std.specs.List.Sorted.{IsStrictlyIncreasing}
+use Rattle.std.specs.Map.{lookup}
 use Rattle.std.specs.Option.{is_some}
 use Rattle.std.proofs.lemmas.Bool.{and_left, and_right, cases_Bool, cases_eq, cond-true, cond-false, eq-eqb, eqb-true, ne_eqb, or_cases, or_left, or_right, true≢false}
+use Rattle.std.proofs.lemmas.List.{get_or-take, length-take}
 use Rattle.std.proofs.lemmas.List.Folds.{list_any-append}
+use Rattle.std.proofs.lemmas.List.Kept.{AllPairs-from_increasing}
 use Rattle.desk_text.specs.Address.{number_of}
 use Rattle.desk_text.specs.AddrSet.{is_among}
 use Rattle.desk_policy.specs.Keys.{HasBlock, LinesAreSelectedByKeys}
@@ -15,6 +20,7 @@ use Rattle.desk_policy.specs.declared.row.Row.{Row}
 use Rattle.desk_idle.specs.Idle.{first_selected}
 use Rattle.desk_idle.specs.PrivateMarks.{has_one_key}
 use Rattle.desk_idle.proofs.Bringing.{one_line, selected_has}
+use Rattle.desk_idle.proofs.Lists.{in_middle}
 use Rattle.desk_server.specs.PrivateWider.{AreTold, AreUpTo, IsFoundAmong, IsFoundAt, IsLook, IsSeen, IsTold, IsWide, Widened, is_kept}
 use Rattle.desk_server.specs.declared.wider.WiderGrant.{WiderGrant}
 use Rattle.desk_server.proofs.Nesting.{same_wide}
@@ -153,3 +159,40 @@ module _ (rows : List Row) (before : List ℕ) (address : ℕ) where
         and_true : (b : Bool) → (b && true) ≡ b
         and_true true = refl
         and_true false = refl
+
+-- ---- the first look, and the first line
+
+pub first_has : (chosen : List Row) (row : Row) → Some row ≡ slice_get chosen 0 → Contains chosen row
+first_has [] row e = let wrong : Some row ≡ None = e in cc
+first_has (first ∷ others) row e = let same : first ≡ row = (let f : Some row ≡ Some first = e in cc) in subst (Contains (first ∷ others)) same (in_middle [] first others)
+
+-- without any look nothing is known
+pub none_told : (rows : List Row) (known : BTreeMap ℕ (Option WiderGrant)) → known.entries ≡ [] → AreTold rows [] known
+none_told rows known empty = λ line. subst (IsTold rows [] line) (sym (ap (λ (es : List (ℕ × Option WiderGrant)). lookup (is_at (nat_cmp line)) es) empty)) (λ address among wide. absurd (true≢false (sym among)))
+
+pub none_up_to : (address : ℕ) → AreUpTo [] address
+none_up_to address = λ other among. absurd (true≢false (sym among))
+
+among_place : (xs : List ℕ) (other : ℕ) → is_among other xs ≡ true → (k : ℕ) × (k < length xs) × (get_or xs k 0 ≡ other)
+among_place [] other e = absurd (true≢false (sym e))
+among_place (x ∷ xs) other e =
+    elim (or_cases (eqb x other) (is_among other xs) e) [
+      | inl here ↦ (0, omega arith, eqb-true x other here)
+      | inr later ↦ let rest = among_place xs other later in (suc rest.0, (let b = rest.1 in omega arith), rest.2)
+    ]
+
+-- numbers that rise are up to the next of them
+pub rise_up_to : (numbers : List ℕ) (i : ℕ) → IsStrictlyIncreasing numbers → i < length numbers → AreUpTo (0 ∷ take i numbers) (get_or numbers i 0)
+rise_up_to numbers i rise within other among =
+    elim (or_cases (eqb 0 other) (is_among other (take i numbers)) among) [
+      | inl here ↦ (let same = eqb-true 0 other here in omega arith)
+      | inr later ↦
+          let p = among_place (take i numbers) other later in
+          let k = p.0 in
+          let few = length-take i numbers in
+          let b = p.1 in
+          let small : k < i = omega arith in
+          let less = AllPairs-from_increasing numbers rise k i 0 small within in
+          let is : get_or numbers k 0 ≡ other = sym (get_or-take i numbers k 0 small) ∙ p.2 in
+          omega arith
+    ]

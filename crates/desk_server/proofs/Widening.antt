@@ -55,11 +55,11 @@ not_empty xs x has none = let b = has.1 in let e = ap length none in absurd (ome
 
 -- ---- lines that mountd asks
 
-named_weight : (o : Option ℕ) → is_named o ≡ true → (w : ℕ) × (o ≡ Some w) × (0 < w)
+pub named_weight : (o : Option ℕ) → is_named o ≡ true → (w : ℕ) × (o ≡ Some w) × (0 < w)
 named_weight None e = absurd (true≢false (sym e))
 named_weight (Some w) e = (w, refl, ltb-true 0 w e)
 
-everybody_weight : (o : Option ℕ) → is_everybody o ≡ true → o ≡ Some 0
+pub everybody_weight : (o : Option ℕ) → is_everybody o ≡ true → o ≡ Some 0
 everybody_weight None e = absurd (true≢false (sym e))
 everybody_weight (Some w) e = ap (λ (n : ℕ). Some n) (eqb-true w 0 e)
 
@@ -67,7 +67,7 @@ low : (o : Option ℕ) → is_named o ≡ false → is_at_most o 0 ≡ true
 low None e = refl
 low (Some w) e = le-leb w 0 (ltb-false 0 w e)
 
-or_either : (ns es : List Row) (row : Row) → Contains (or_others ns es) row → Contains ns row ⊎ ((ns ≡ []) × Contains es row)
+pub or_either : (ns es : List Row) (row : Row) → Contains (or_others ns es) row → Contains ns row ⊎ ((ns ≡ []) × Contains es row)
 or_either [] es row has = inr (refl, has)
 or_either (n ∷ ns) es row has = inl has
 
@@ -153,7 +153,7 @@ pub selected_line : (chosen : List Row) (line : ℕ) → option_map (λ (row : R
 selected_line [] line e = let wrong : None ≡ Some line = e in cc
 selected_line (row ∷ others) line e = record { row = row; has = in_middle [] row others; number = (let f : Some row.entry.line ≡ Some line = e in cc) }
 
-selected_from : (rows : List Row) (address : ℕ) (row : Row) → Contains (selected rows address) row → Contains rows row
+pub selected_from : (rows : List Row) (address : ℕ) (row : Row) → Contains (selected rows address) row → Contains rows row
 unfolding selected
 selected_from rows address row has = (filter_from (λ (other : Row). is_greatest rows address (weight_of other address)) rows row has).0
 
