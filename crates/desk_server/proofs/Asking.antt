@@ -169,7 +169,7 @@ module _ (listing : Row → Bool) (rows : List Row) (address : ℕ) where
         filter_has (λ (r : Row). is_named (weight_of r address)) rows row f.0 (ap is_named (weight_is (weight_of row address) group.weight f.1) ∙ lt-ltb 0 group.weight names)
 
     -- no line names the client, if the first group is for everybody
-    none_named : All (λ (row : Row). HasBlock row.entry.clients) rows → group.weight ≡ 0 → below ≡ 35 → named rows address ≡ []
+    none_named : All (λ (row : Row). HasBlock row.entry.clients) rows → group.weight ≡ 0 → 35 ≤ below → named rows address ≡ []
     none_named blocks weightless first = none_has (named rows address) (λ row has.
         let f = filter_from (λ (r : Row). is_named (weight_of r address)) rows row has in
         let w = named_weight (weight_of row address) f.1 in
@@ -179,7 +179,7 @@ module _ (listing : Row → Bool) (rows : List Row) (address : ℕ) where
         absurd (omega arith))
 
     -- of the lines of the group those that list are those that are asked, and list
-    same_found : All (λ (row : Row). HasBlock row.entry.clients) rows → (group.weight ≡ 0 → below ≡ 35) → (row : Row) → Contains (weighing rows address group.weight) row
+    same_found : All (λ (row : Row). HasBlock row.entry.clients) rows → (group.weight ≡ 0 → 35 ≤ below) → (row : Row) → Contains (weighing rows address group.weight) row
         → find (weighs address group.weight) listed ≡ find listing (weighing rows address group.weight)
     same_found blocks first row has =
         find_kept (weighs address group.weight) listing (asked rows address)
@@ -206,7 +206,7 @@ module _ (listing : Row → Bool) (rows : List Row) (address : ℕ) where
         by_weight row has (Some own) e = ap (λ o. is_at_most o group.weight) e ∙ le-leb own group.weight (at_most row own has e)
 
     -- the first of the group that lists the path grants
-    pub first_grants : All (λ (row : Row). HasBlock row.entry.clients) rows → (group.weight ≡ 0 → below ≡ 35) → (row : Row) → find listing (weighing rows address group.weight) ≡ Some row
+    pub first_grants : All (λ (row : Row). HasBlock row.entry.clients) rows → (group.weight ≡ 0 → 35 ≤ below) → (row : Row) → find listing (weighing rows address group.weight) ≡ Some row
         → Some row ≡ slice_get (granting listing rows address) 0
     first_grants blocks first row found =
         let f = found_has listing (weighing rows address group.weight) row found in
@@ -216,7 +216,7 @@ module _ (listing : Row → Bool) (rows : List Row) (address : ℕ) where
         sym (ap (λ (rs : List Row). slice_get rs 0) (selected-some listed address group.weight any all_at_most) ∙ first_kept (weighs address group.weight) listed ∙ same)
 
     -- if none of the group lists it, all that do are lighter
-    pub lighter_asked : All (λ (row : Row). HasBlock row.entry.clients) rows → (group.weight ≡ 0 → below ≡ 35) → (row : Row) → Contains (weighing rows address group.weight) row
+    pub lighter_asked : All (λ (row : Row). HasBlock row.entry.clients) rows → (group.weight ≡ 0 → 35 ≤ below) → (row : Row) → Contains (weighing rows address group.weight) row
         → find listing (weighing rows address group.weight) ≡ None → AskedBelow group.weight
     lighter_asked blocks first some has none = record {
       all = λ row own is_listed e. elim (cases_lt own group.weight) [

@@ -15,7 +15,6 @@
 pub mod deciding;
 pub mod laws;
 mod looking;
-pub mod probe;
 pub mod repeated;
 pub mod wider;
 
