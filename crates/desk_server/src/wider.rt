@@ -4,14 +4,11 @@
 //! addresses, in ascending order, finds each line that is the first selected where the server grants more, and the least address at
 //! which it is. A line for a network or for everybody is looked at once: wherever it is the first selected, the same lines match.
 
-ghost use Rattle.std.specs.Prelude.{◌≡◌, ◌++◌, ◌∷◌, ◌&&◌, ◌==◌, [], false, Contains, IfOk, List, OnOk, Some, ℕ, if◌then◌else◌, slice_get};
+ghost use Rattle.std.specs.Prelude.{◌≡◌, ◌++◌, ◌∷◌, ◌&&◌, ◌==◌, [], IfOk, List, OnOk, Some, ℕ, if◌then◌else◌};
 ghost use Rattle.std.specs.BTreeMap as tree;
-ghost use Rattle.std.specs.Option.{is_some};
 ghost use Rattle.std.specs.Ordering.{nat_cmp};
 ghost use Rattle.desk_text.specs.Address.{number_of};
 ghost use Rattle.desk_policy.specs.Policy.{AreAscending, Content, rows_of};
-ghost use Rattle.desk_policy.specs.Weights.{selected};
-ghost use Rattle.desk_policy.specs.declared.row.Row.{Row};
 ghost use Rattle.desk_idle.specs.Laws.{WriteDirectories};
 ghost use Rattle.desk_idle.specs.PrivateMarks as marks;
 ghost use Rattle.desk_server.specs.PrivateWider.{AreAllTold, AreTold, AreUpTo, IsFinding, is_kept};
