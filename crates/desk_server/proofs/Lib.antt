@@ -6,3 +6,10 @@ pub mod Agreeing
 pub mod Loading
 pub mod Sharing
 pub mod Repeating
+pub mod Widening
+pub mod Between
+pub mod Nesting
+pub mod Telling
+pub mod Finding
+pub mod Lighter
+pub mod ByGroups

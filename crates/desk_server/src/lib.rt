@@ -14,6 +14,7 @@
 
 pub mod deciding;
 pub mod laws;
+mod looking;
 pub mod repeated;
 pub mod wider;
 
