@@ -1,9 +1,8 @@
 -- The first of some lines, by its number.
-use Rattle.std.proofs.Common.{◌≡◌, ◌∙◌, ◌+◌, ◌++◌, ◌<◌, ℕ, List, [], ◌∷◌, Some, None, ap, arith, get_or, length, refl, sym, take}
+use Rattle.std.proofs.Common.{◌≡◌, ◌∙◌, ℕ, List, [], ◌∷◌, Some, None, ap, refl}
 use Rattle.std.specs.Prelude.{slice_get}
 use Rattle.std.specs.List.{All, Contains}
-use Rattle.std.proofs.lemmas.List.{get_or-map, take_more}
-use Rattle.std.proofs.lemmas.List.Elements.{All-get_or, All-head}
+use Rattle.std.proofs.lemmas.List.Elements.{All-head}
 use Rattle.desk_policy.specs.declared.row.Row.{Row}
 use Rattle.desk_index.specs.Keys.{listed, numbers}
 

@@ -1,14 +1,11 @@
 -- Marks of lines that are selected at one address, one after another.
-use Rattle.std.proofs.Common.{◌≡◌, ◌∙◌, ℕ, ◌||◌, ◌++◌, Bool, true, false, eqb, List, [], ◌∷◌, Result, Ok, Err, ap, arith, length, nat_cmp, not, refl, sym}
+use Rattle.std.proofs.Common.{◌≡◌, ◌∙◌, ℕ, ◌++◌, Bool, eqb, List, [], ◌∷◌, Result, Ok, Err, ap, arith, length, nat_cmp, not, sym}
 use Rattle.std.specs.Prelude.{OnOk}
 use Rattle.std.specs.BTreeMap.{BTreeMap, is_at}
 use Rattle.std.specs.Map.{lookup}
 use Rattle.std.specs.List.{list_any}
 use Rattle.std.proofs.lemmas.Bool.{ne_eqb}
-use Rattle.std.proofs.lemmas.Grind.{flat_map-append}
 use Rattle.std.proofs.lemmas.List.{append-nil, append_assoc}
-use Rattle.std.proofs.lemmas.List.Folds.{list_any-append}
-use Rattle.desk_policy.specs.Listings.{written}
 use Rattle.desk_policy.specs.declared.row.Row.{Row}
 use Rattle.desk_idle.specs.Laws.{brings}
 use Rattle.desk_policy.specs.Verdict.{is_directory_among}

@@ -1,5 +1,5 @@
 -- The lines so far are marked, and it is known what they list.
-use Rattle.std.proofs.Common.{◌≡◌, ◌++◌, [], List, map, take}
+use Rattle.std.proofs.Common.{◌++◌, [], List, map, take}
 use Rattle.desk_text.specs.Address.{number_of}
 use Rattle.desk_idle.specs.Listed.{IsListedBy}
 use Rattle.desk_idle.specs.PrivateMarks.{AreMarks, Look, looks_among}
