@@ -155,12 +155,12 @@ module _ (listing : Row → Bool) (rows : List Row) (address : ℕ) where
         let lt = is.weight in
         let by = are.names few (omega arith) in
         none_granting (λ row has.
-            let f = filter_from listing (asked rows address) row has in
-            let g = filter_from (λ (other : Row). is_named (weight_of other address)) rows row (subst (λ (rs : List Row). Contains rs row) (asked_named rows address by.0 by.1) f.0) in
-            let w = named_weight (weight_of row address) g.1 in
-            let le = at_most row w.0 has w.1 in
-            let names = w.2 in
-            absurd (omega arith))
+        let f = filter_from listing (asked rows address) row has in
+        let g = filter_from (λ (other : Row). is_named (weight_of other address)) rows row (subst (λ (rs : List Row). Contains rs row) (asked_named rows address by.0 by.1) f.0) in
+        let w = named_weight (weight_of row address) g.1 in
+        let le = at_most row w.0 has w.1 in
+        let names = w.2 in
+        absurd (omega arith))
 
     -- a line of the group is asked, if the group names the client, or is the first
     named_group : 0 < group.weight → (row : Row) → Contains (weighing rows address group.weight) row → Contains (named rows address) row

@@ -44,12 +44,7 @@ fn decide_in<'a>(index: &'a Index, fs: FsId, address: Addr, path: &Path) -> Verd
 }
 
 /// Finds the line that grants a path of this file system: of the lines that mountd asks, and that list it, the first of the heaviest.
-fn granting_row<'a>(
-    index: &'a Index,
-    fs: FsId,
-    address: Addr,
-    path: &Path,
-) -> Option<&'a Row>
+fn granting_row<'a>(index: &'a Index, fs: FsId, address: Addr, path: &Path) -> Option<&'a Row>
     requires { AreAscending (rows_of index.now fs.0) }
     ensures { option_copied result ≡ slice_get (granting (lists_here path.now) (rows_of index.now fs.0) (number_of address)) 0 }
 {

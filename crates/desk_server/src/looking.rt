@@ -96,11 +96,7 @@ fn have_alldirs(rows: &[Row], lines: &[u32]) -> bool
 }
 
 /// Gathers what the lines of these numbers list.
-fn listed_by<'a>(
-    alloc: Global,
-    rows: &'a [Row],
-    lines: &[u32],
-) -> Result<Listed<'a>, AllocError>
+fn listed_by<'a>(alloc: Global, rows: &'a [Row], lines: &[u32]) -> Result<Listed<'a>, AllocError>
     requires { AreAscending rows.now }
     ensures { IfOk result (λ listed.
         (chosen : List Row) → lines.now ≡ numbers chosen → All (Contains rows.now) chosen → IsListedBy listed chosen) }
@@ -115,12 +111,7 @@ fn listed_by<'a>(
 }
 
 /// Finds the first of the heaviest lines that name the client and list what the selected ones do not.
-fn widest<'a>(
-    index: &'a Index,
-    fs: FsId,
-    address: Addr,
-    listed: &Listed<'a>,
-) -> Option<&'a Row>
+fn widest<'a>(index: &'a Index, fs: FsId, address: Addr, listed: &Listed<'a>) -> Option<&'a Row>
     requires ascending { AreAscending (rows_of index.now fs.0) }
     requires listed { IsListedBy listed.now (selected (rows_of index.now fs.0) (number_of address)) }
     ensures { IsWidest (rows_of index.now fs.0) (number_of address) (option_copied result) }

@@ -75,10 +75,7 @@ fn findings<'a>(
 }
 
 /// Finds what is known of a line, if the server grants more where it is the first selected.
-fn finding<'a>(
-    known: &BTreeMap<u32, Option<WiderGrant<'a>>>,
-    row: &Row,
-) -> Option<WiderGrant<'a>>
+fn finding<'a>(known: &BTreeMap<u32, Option<WiderGrant<'a>>>, row: &Row) -> Option<WiderGrant<'a>>
     ensures { (content : Content) (fs : ℕ) → WriteDirectories content fs → AreAllTold (rows_of content fs) known.now → IsFinding content fs row.now.entry.line result }
 {
     match known.get(&row.entry.line).copied() {
