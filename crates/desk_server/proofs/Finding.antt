@@ -1,5 +1,5 @@
 -- The findings of lines, by what is known of them from looks.
-use Rattle.std.proofs.Common.{◌≡◌, ◌∙◌, ℕ, ◌<◌, ◌≤◌, ◌^◌, ◌++◌, true, eqb, List, [], ◌∷◌, Option, Some, None, ap, arith, get_or, inl, inr, length, refl, subst, sym}
+use Rattle.std.proofs.Common.{◌≡◌, ◌∙◌, ℕ, ◌<◌, ◌++◌, eqb, List, [], ◌∷◌, Option, Some, None, ap, arith, get_or, inl, inr, length, refl, subst, sym}
 use Rattle.std.specs.List.{All, AllPairs, Contains, list_any}
 use Rattle.std.proofs.lemmas.Bool.{cases_lt, eq-eqb, or_left, or_right}
 use Rattle.std.proofs.lemmas.List.{get_or_append_left, get_or_default, get_or_push, length_push}
@@ -10,7 +10,6 @@ use Rattle.desk_policy.specs.Policy.{AreAscending, Content, rows_of}
 use Rattle.desk_policy.specs.Weights.{selected}
 use Rattle.desk_policy.specs.declared.row.Row.{Row}
 use Rattle.desk_who.specs.Starts.{AreStarts}
-use Rattle.desk_idle.specs.Idle.{first_selected}
 use Rattle.desk_idle.specs.Laws.{WriteDirectories}
 use Rattle.desk_idle.proofs.Bringing.{selected_has}
 use Rattle.desk_idle.proofs.Lists.{in_middle}

@@ -1,8 +1,6 @@
 -- Where a line for a network or for everybody is the first that is selected, the same lines widen.
-use Rattle.std.proofs.Common.{◌≡◌, ◌∙◌, ℕ, ◌+◌, ◌-◌, ◌*◌, ◌/◌, ◌<◌, ◌≤◌, ◌^◌, Bool, true, cond, eqb, List, Option, Some, None, ap, arith, refl, subst, sym}
-use Rattle.std.specs.Prelude.{slice_get}
+use Rattle.std.proofs.Common.{◌≡◌, ◌∙◌, ℕ, ◌+◌, ◌-◌, ◌*◌, ◌/◌, ◌<◌, ◌≤◌, ◌^◌, true, List, Option, Some, None, ap, arith, sym}
 use Rattle.std.specs.List.{All, Contains}
-use Rattle.std.specs.Option.{option_map}
 use Rattle.std.proofs.lemmas.Bool.{cond-true, eq-eqb, eqb-true, leb-true, true≢false}
 use Rattle.std.proofs.lemmas.List.Elements.{All-contains}
 use Rattle.std.proofs.lemmas.Nat.{pow-add}
@@ -20,7 +18,6 @@ use Rattle.desk_idle.specs.PrivateMarks.{has_one_key}
 use Rattle.desk_idle.proofs.OneKey.{same_lines, weighs}
 use Rattle.desk_idle.proofs.Matching.{all_of}
 use Rattle.desk_server.specs.PrivateWider.{Widened}
-use Rattle.desk_server.specs.WiderGrants.{Widens}
 
 -- ---- networks
 

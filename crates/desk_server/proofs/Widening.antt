@@ -1,7 +1,7 @@
 -- The server grants some path that is denied here exactly where a line that names the client lists what no selected line does.
-use Rattle.std.proofs.Common.{◌≡◌, ◌⊎◌, ◌∙◌, ℕ, ◌<◌, ◌≤◌, ◌^◌, ◌||◌, ◌++◌, Bool, true, false, cond, List, [], ◌∷◌, Option, Some, None, Result, Ok, Err, IsSome, ap, arith, get_or, inl, inr, length, refl, subst, sym}
+use Rattle.std.proofs.Common.{◌≡◌, ◌⊎◌, ◌∙◌, ℕ, ◌<◌, ◌^◌, Bool, true, false, List, [], ◌∷◌, Option, Some, None, Ok, Err, IsSome, ap, arith, inl, inr, length, refl, subst, sym}
 use Rattle.std.specs.Prelude.{filter, find, slice_get}
-use Rattle.std.specs.List.{All, AllByRecursion, Contains, list_all, list_any}
+use Rattle.std.specs.List.{Contains, list_all, list_any}
 use Rattle.std.specs.Option.{option_map}
 use Rattle.std.proofs.lemmas.Bool.{and_from, and_parts, cases_Bool, cond-true, cond-false, eqb-true, false_from_ne_true, le-leb, ltb-false, ltb-true, lt-ltb, not-true, or_cases, or_left, or_right, true≢false}
 use Rattle.std.proofs.lemmas.List.Elements.{All-contains, All-contains_itself, All-filter, Contains-append_right, filter_passes}
@@ -10,7 +10,7 @@ use Rattle.desk_tables.specs.FileSystems.{fs_of}
 use Rattle.desk_tables.specs.declared.filesystems.FsId.{FsId}
 use Rattle.desk_policy.specs.Listings.{written}
 use Rattle.desk_policy.specs.Policy.{Content, rows_of}
-use Rattle.desk_policy.specs.Verdict.{Grant, granted_by, is_directory_among, lists, verdict_among, verdict_of}
+use Rattle.desk_policy.specs.Verdict.{Grant, granted_by, lists, verdict_among}
 use Rattle.desk_policy.specs.Weights.{is_at_most, is_greatest, selected, weight_of}
 use Rattle.desk_policy.specs.declared.row.Row.{Row}
 use Rattle.desk_policy.specs.declared.verdict.Denial.{Denial}
@@ -23,8 +23,8 @@ use Rattle.desk_idle.proofs.Lists.{in_middle}
 use Rattle.desk_idle.proofs.Looks.{first_or, none_found, none_passes}
 use Rattle.desk_idle.proofs.Matching.{selects}
 use Rattle.desk_server.specs.PrivateWider.{Widened}
-use Rattle.desk_server.specs.Server.{asked, for_everybody, granted_on, granting, is_everybody, is_named, named, or_others, server_verdict_among, server_verdict_by, server_verdict_in, server_verdict_of}
-use Rattle.desk_server.specs.WiderGrants.{IsWiderAt, Widens}
+use Rattle.desk_server.specs.Server.{asked, for_everybody, granting, is_everybody, is_named, named, or_others, server_verdict_among, server_verdict_by, server_verdict_in, server_verdict_of}
+use Rattle.desk_server.specs.WiderGrants.{IsWiderAt}
 
 -- ---- lists
 

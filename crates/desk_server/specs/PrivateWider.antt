@@ -1,5 +1,5 @@
 -- What the private contracts of wider grants cite.
-use Rattle.std.specs.Prelude.{◌≡◌, ℕ, ◌<◌, ◌≤◌, ◌^◌, ◌==◌, ◌||◌, All, Bool, true, Contains, List, [], ◌∷◌, Option, Some, None}
+use Rattle.std.specs.Prelude.{◌≡◌, ℕ, ◌<◌, ◌≤◌, ◌^◌, ◌==◌, ◌||◌, All, Bool, true, Contains, List, ◌∷◌, Option, Some, None}
 use Rattle.std.specs.List.{AllPairs, list_any}
 use Rattle.std.specs.BTreeMap.{BTreeMap}
 use Rattle.std.specs.BTreeMap as tree

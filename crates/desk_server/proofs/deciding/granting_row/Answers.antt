@@ -1,4 +1,4 @@
-use Rattle.std.proofs.Common.{◌≡◌, ◌≤◌, ap, arith, subst, sym}
+use Rattle.std.proofs.Common.{◌≡◌, ◌≤◌, subst, sym}
 use Rattle.std.specs.List.{All}
 use Rattle.desk_text.specs.Address.{number_of}
 use Rattle.desk_policy.specs.Keys.{HasBlock}

@@ -5,7 +5,6 @@ use Rattle.desk_text.specs.Address.{number_of}
 use Rattle.desk_tables.specs.FileSystems.{fs_of}
 use Rattle.desk_tables.specs.declared.filesystems.FsId.{FsId}
 use Rattle.desk_policy.specs.Policy.{Content, rows_of}
-use Rattle.desk_policy.specs.Verdict.{lists, lists_here}
 use Rattle.desk_index.proofs.SelectedLines.{lists_same}
 use Rattle.desk_server.specs.Server.{server_verdict_among, server_verdict_in, server_verdict_of}
 use Rattle.desk_server.proofs.deciding.server_decide.Goals as goal

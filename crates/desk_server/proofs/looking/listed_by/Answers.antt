@@ -1,4 +1,4 @@
-use Rattle.std.proofs.Common.{◌≡◌, ◌<◌, ◌+◌, ◌++◌, ◌∷◌, ◌∙◌, [], List, None, Some, ap, arith, length, subst, sym, take}
+use Rattle.std.proofs.Common.{◌≡◌, ◌<◌, ◌++◌, ◌∷◌, ◌∙◌, [], None, Some, ap, arith, length, subst, sym, take}
 use Rattle.std.proofs.lemmas.List.{length-map}
 use Rattle.desk_policy.specs.declared.row.Row.{Row}
 use Rattle.desk_index.proofs.RowsByNumber.{item}

@@ -1,5 +1,4 @@
-use Rattle.std.proofs.Common.{◌≡◌, ◌<◌, ◌^◌, ◌++◌, ◌∷◌, ◌∙◌, [], ℕ, List, Some, None, ap, arith, nat_cmp, subst, sym, true, false}
-use Rattle.std.specs.Prelude.{slice_get}
+use Rattle.std.proofs.Common.{◌≡◌, ◌<◌, ◌^◌, ◌++◌, ◌∷◌, ◌∙◌, [], ℕ, List, Some, ap, arith, nat_cmp, subst, sym, true, false}
 use Rattle.std.specs.BTreeMap as tree
 use Rattle.std.specs.List.{All, Contains}
 use Rattle.std.specs.Option.{is_some, option_map}
