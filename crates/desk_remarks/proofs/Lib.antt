@@ -1,2 +1,3 @@
 pub mod Consistency
+pub mod Kept
 pub mod LeftOut

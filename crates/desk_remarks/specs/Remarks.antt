@@ -31,7 +31,7 @@ example_of (reason.Shadowed line address) = Some (record { line = line; address 
 example_of (reason.Repeated line address) = Some (record { line = line; address = address })
 
 abbrev pub idle_remark : Idle → LineRemark
-idle_remark idle = record { line = idle.line; remark = remark_of idle.reason; example = example_of idle.reason }
+idle_remark idle = record { line = idle.line; remark = remark_of idle.reason; example = example_of idle.reason; directory = None }
 
 -- just the lines of this file system, if there is one, that decide nothing
 abbrev pub AreIdleIn : Content → Option ℕ → List Idle → Type 0

@@ -1,7 +1,10 @@
 -- What is added so far.
-use Rattle.std.proofs.Common.{◌≡◌, ◌++◌, map, take}
+use Rattle.std.proofs.Common.{◌≡◌, ◌++◌, ◌∷◌, [], filter, take}
+use Rattle.std.specs.List.{flat_map}
+use Rattle.desk_idle.specs.declared.idle.Idle.{Idle}
+use Rattle.desk_remarks.specs.PrivateUnwarned.{is_outside}
 use Rattle.desk_remarks.specs.Remarks.{idle_remark}
 use Rattle.desk_remarks.proofs.remarks.push_each.Given as goal
 
 abbrev pub invariant-loop-one : goal.invariant-loop-one
-invariant-loop-one l = l.found ≡ l.initial.found ++ map idle_remark (take l.one-index l.idle)
+invariant-loop-one l = l.found ≡ l.initial.found ++ flat_map (λ (one : Idle). filter (is_outside l.warned) (idle_remark one ∷ [])) (take l.one-index l.idle)
