@@ -160,10 +160,7 @@ fn add_warnings(
 }
 
 /// Adds what remarks say, each at the first word of its line.
-fn add_remarks<'r>(
-    remarks: &'r [LineRemark],
-    odds: &mut Vec<Odd<'r>>,
-) -> Result<(), AllocError>
+fn add_remarks<'r>(remarks: &'r [LineRemark], odds: &mut Vec<Odd<'r>>) -> Result<(), AllocError>
     ensures { OnOk result (map odd_at odds.new.items ≡ map odd_at odds.old.items ++ map odd_of_remark remarks.now) }
 {
     for one in remarks {
@@ -208,11 +205,7 @@ fn by_line<'r>(mut odds: Vec<Odd<'r>>) -> Result<Vec<Odd<'r>>, AllocError>
 }
 
 /// Finds the place of each remark about a text, in the order of their lines.
-fn spots_of<'r>(
-    alloc: Global,
-    text: &str,
-    odds: &[Odd<'r>],
-) -> Result<Vec<Spot<'r>>, AllocError>
+fn spots_of<'r>(alloc: Global, text: &str, odds: &[Odd<'r>]) -> Result<Vec<Spot<'r>>, AllocError>
     requires { IsReadable text.now }
     ensures same { IfOk result (λ spots. map odd_of_spot spots.items ≡ map odd_at odds.now) }
     ensures places { IfOk result (λ spots. All (IsSpot text.now) spots.items) }

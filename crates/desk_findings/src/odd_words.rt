@@ -1,6 +1,6 @@
 //! The words of an exports text that mountd(8) may read otherwise, and the lines of NFSv4.
 
-ghost use Rattle.std.specs.Prelude.{◌≡◌, ◌++◌, IfOk, OnOk, map};
+ghost use Rattle.std.specs.Prelude.{◌≡◌, ◌++◌, ◌&&◌, IfOk, Ok, OnOk, map};
 ghost use Rattle.std.specs.List.{flat_map};
 ghost use Rattle.desk_text.specs.Lines.{IsReadable};
 ghost use Rattle.desk_text.specs.Views.{word_of};
@@ -8,7 +8,6 @@ ghost use Rattle.desk_findings.specs.CheckOdd.{odd_at};
 ghost use Rattle.desk_findings.specs.OddWords as spec;
 ghost use Rattle.desk_findings.specs.OddWords.{has_backslash, odd_if, odd_words, odd_words_of};
 ghost use Rattle.desk_remarks.specs.declared.remark.Remark.TheVariants.{Backslash};
-ghost use Rattle.std.specs.Prelude.{Ok};
 
 use crate::check_odd::{Among, Odd};
 use crate::finding::Matter;
@@ -63,21 +62,23 @@ fn add_words(
     ensures { OnOk result (map odd_at odds.new.items ≡ map odd_at odds.old.items ++ spec.odd_words_in opinions number (Ok (map word_of words.now))) }
 {
     add_backslashes(number, words, odds)?;
-    let is_v4 = opinions && begins_v4(alloc, words)?;
+    let is_v4 = is_v4_told(alloc, words, opinions)?;
     add_if(is_v4, number, Remark::V4Line, 0, odds)
 }
 
 /// Adds the words of the line of this number that have a backslash.
-fn add_backslashes(
-    number: u32,
-    words: &[Word],
-    odds: &mut Vec<Odd<'_>>,
-) -> Result<(), AllocError>
+fn add_backslashes(number: u32, words: &[Word], odds: &mut Vec<Odd<'_>>) -> Result<(), AllocError>
     ensures { OnOk result (map odd_at odds.new.items
         ≡ map odd_at odds.old.items ++ flat_map (λ word. odd_if (has_backslash word.raw.now) number Backslash) words.now) }
 {
     for (index, word) in words.iter().enumerate() {
-        add_if(has_backslash(word.raw), number, Remark::Backslash, index, odds)?;
+        add_if(
+            has_backslash(word.raw),
+            number,
+            Remark::Backslash,
+            index,
+            odds,
+        )?;
     }
     Ok(())
 }
@@ -109,6 +110,17 @@ fn has_backslash(raw: &str) -> bool
     ensures { result ≡ has_backslash raw.now }
 {
     raw.as_bytes().contains(&b'\\')
+}
+
+/// Tests whether opinions are asked for, and the first word stands for `V4:`.
+fn is_v4_told(alloc: Global, words: &[Word], opinions: bool) -> Result<bool, AllocError>
+    ensures { IfOk result (λ told. told ≡ (opinions && spec.begins_v4 (map word_of words.now))) }
+{
+    if opinions {
+        begins_v4(alloc, words)
+    } else {
+        Ok(false)
+    }
 }
 
 /// Tests whether the first word stands for `V4:`.

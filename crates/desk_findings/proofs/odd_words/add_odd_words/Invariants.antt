@@ -6,4 +6,4 @@ use Rattle.desk_findings.specs.OddWords.{odd_words_of}
 use Rattle.desk_findings.proofs.odd_words.add_odd_words.Given as goal
 
 abbrev pub invariant-loop-line : goal.invariant-loop-line
-invariant-loop-line l = map odd_at l.odds.items ≡ map odd_at l.initial.odds.items ++ flat_map (odd_words_of l.opinions) (take l.line-index l.lines.items)
+invariant-loop-line l = map odd_at l.odds.items ≡ map odd_at l.initial.odds.items ++ flat_map (odd_words_of l.opinions) (take l.line-index l.line-items)
