@@ -3,7 +3,7 @@ use Rattle.std.specs.Prelude.{ℕ, ◌==◌, ◌+◌, ◌-◌, ◌≤◌, Bool, 
 use Rattle.std.specs.Fmt.{decimal}
 use Rattle.std.specs.Fmt.Cut.{floor_char_boundary}
 use Rattle.std.specs.List.{flat_map}
-use Rattle.std.specs.Option.{option_map}
+use Rattle.std.specs.Option.{option_copied, option_map}
 use Rattle.std.specs.Str.{IsCharBoundary}
 use Rattle.desk_text.specs.Address as addresses
 use Rattle.desk_text.specs.Address.{addr_text}
@@ -154,7 +154,7 @@ beside_by path (Some number) (Some line) =
     shown_text path ++ codes ":" ++ decimal number ++ codes ":1: the other line\n" ++ excerpt_text line (excerpt line 0)
 
 abbrev pub beside_text : Finding → List ℕ
-beside_text finding = beside_by finding.path.now (other_of finding.matter) (option_map (λ line. line.now) finding.beside)
+beside_text finding = beside_by finding.path.now (other_of finding.matter) (option_copied finding.beside)
 
 -- the lines of a finding: the marked one, and the other one
 abbrev pub lines_text : Finding → List ℕ
