@@ -24,7 +24,7 @@ pub use laws::{
     no_run_is_no_value, ranges_tell_verdicts, runs_are_unique, runs_exist, runs_pass_tests,
     runs_tell_values, runs_with_value_are_unique, there_is_one_list, verdicts_are_discrete,
 };
-pub use range_prints::{push_range, who_text};
+pub use range_prints::{push_range, span_text, who_text};
 pub use ranges::{Range, who};
 pub use runs::{Alike, Run, longest_runs};
 pub use searching::{Search, found_runs, found_starts};
