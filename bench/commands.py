@@ -248,7 +248,7 @@ OPINIONS = (
     "correct it\n"
     "-:2:1: warning 9 WritableByAll: everybody may write to it: add -ro, or name the clients\n"
     "-:2:1: warning 10 RootForMany: root of each client acts as root: leave out -maproot or -mapall, or name the hosts\n"
-    "-:2:1: warning 14 RepeatedClient: mountd(8) takes one line for a client and a file system, and leaves this one out, since "
+    "-:2:1: warning 14 RepeatedClient: mountd(8) takes one line for a client and a file system, and may leave this one out, since "
     "line 1 has 0.0.0.0: write the directories on one line\n"
     "-:3:1: warning 5 Shadowed: the line decides nothing: heavier lines match each of its clients, beginning with line 1 for "
     "0.0.0.0\n"

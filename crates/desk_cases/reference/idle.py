@@ -76,7 +76,7 @@ class Remark:
             return wider_sentence(self)
         if self.name == "RepeatedClient":
             return (
-                "mountd(8) takes one line for a client and a file system, and leaves this one out, since line"
+                "mountd(8) takes one line for a client and a file system, and may leave this one out, since line"
                 f" {self.other} has {dotted(self.address)}: write the directories on one line"
             )
         said = SENTENCES[self.name]

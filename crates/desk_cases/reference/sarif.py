@@ -58,7 +58,7 @@ RULES = [
     ("warning", 11, "ServerGrantsMore", "mountd(8) also lets a client mount a directory by a lighter line: list the directory here as well if that is meant, else keep the client out of that line's network, or give it a file system of its own"),
     ("warning", 12, "Backslash", "mountd(8) may read this word otherwise: write the name in quotes"),
     ("warning", 13, "V4Line", "by NFSv4 a client that may mount one directory reaches the whole file system: the verdicts on directories hold for NFSv3 alone"),
-    ("warning", 14, "RepeatedClient", "mountd(8) takes one line for a client and a file system, and leaves this one out: write the directories on one line"),
+    ("warning", 14, "RepeatedClient", "mountd(8) takes one line for a client and a file system, and may leave this one out: write the directories on one line"),
 ]  # fmt: skip
 # Those whose sentence is whole without the slice: of a line, or of what mountd(8) does otherwise. Some of them are opinions.
 OF_LINES = ["Shadowed", "Repeated", "NoClient", "EveryAddress", "WritableByAll", "RootForMany"]

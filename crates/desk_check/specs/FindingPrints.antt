@@ -56,7 +56,7 @@ wider_text line address directory =
 -- this earlier line has a client, of this address
 abbrev pub repeated_text : ℕ → Addr → List ℕ
 repeated_text line address =
-    codes "mountd(8) takes one line for a client and a file system, and leaves this one out, since line " ++ decimal line ++ codes " has " ++ addr_text (addresses.number_of address)
+    codes "mountd(8) takes one line for a client and a file system, and may leave this one out, since line " ++ decimal line ++ codes " has " ++ addr_text (addresses.number_of address)
     ++ codes ": write the directories on one line"
 
 -- what is said of a line, with the line, the address and the directory that show it

@@ -196,7 +196,7 @@ fn push_remark(
         Remark::ServerGrantsMore => push_wider(line, address, directory, text),
         Remark::RepeatedClient => write!(
             text,
-            "mountd(8) takes one line for a client and a file system, and leaves this one out, since line {line} has {address}: write the directories on one line"
+            "mountd(8) takes one line for a client and a file system, and may leave this one out, since line {line} has {address}: write the directories on one line"
         ),
         _ => {
             let sentence = remark.sentence();

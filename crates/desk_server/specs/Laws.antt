@@ -1,5 +1,5 @@
 -- What the rule of the server has to do with that of this desk. (this project's own)
-use Rattle.std.specs.Prelude.{◌≡◌, ◌⊎◌, ◌↔◌, ℕ, ◌<◌, ◌^◌, Bool, true, Contains, List, [], Some, Result, Ok, Err}
+use Rattle.std.specs.Prelude.{◌≡◌, ◌⊎◌, ◌↔◌, ℕ, ◌<◌, ◌^◌, Bool, true, Contains, List, [], Some, Ok, Err}
 use Rattle.desk_tables.specs.FileSystems.{fs_of}
 use Rattle.desk_tables.specs.declared.filesystems.FsId.{FsId}
 use Rattle.desk_policy.specs.Contradiction.{AreConsistent}
@@ -7,7 +7,6 @@ use Rattle.desk_policy.specs.Policy.{AreAscending, Content, rows_of}
 use Rattle.desk_policy.specs.Verdict.{Grant, lists, verdict_of}
 use Rattle.desk_policy.specs.Weights.{weight_of}
 use Rattle.desk_policy.specs.declared.row.Row.{Row}
-use Rattle.desk_policy.specs.declared.verdict.Denial.{Denial}
 use Rattle.desk_policy.specs.declared.verdict.Denial.TheVariants.{NotListed}
 use Rattle.desk_server.specs.RepeatedClients.{AreRepeatedClients, loaded, loaded_content}
 use Rattle.desk_server.specs.Server.{is_everybody, is_named, server_verdict_of}

@@ -1,4 +1,5 @@
--- Lines that mountd(8) leaves out, since it takes one line for a client and a file system. (exports(5), mountd(8))
+-- Lines with a client of an earlier line: mountd(8) takes one line for a client and a file system. Clients of IPv4 alone are looked
+-- at. (exports(5), mountd(8))
 use Rattle.std.specs.Prelude.{◌≡◌, ◌⊎◌, ℕ, ◌<◌, ◌≤◌, ◌==◌, ◌++◌, All, Bool, true, false, Contains, List, [], ◌∷◌, map, if◌then◌else◌}
 use Rattle.std.specs.List.{AllPairs, list_any}
 use Rattle.desk_text.specs.Address.{number_of}
@@ -21,7 +22,8 @@ abbrev pub shares_client : Row → Row → Bool
 shares_client row other = has_client_of row.entry.clients row.addrs other
 
 -- The lines that mountd puts in force, of lines that come in this order, behind those that it has in force: it leaves a line out, as a
--- whole, that has a client of a line in force.
+-- whole, that has a client of a line in force. (So its list of mounts has them. Which of the clients of a line that is left out the
+-- kernel has by then, is not said here.)
 abbrev pub loaded_behind : List Row → List Row → List Row
 loaded_behind before [] = []
 loaded_behind before (row ∷ rows) =
@@ -55,7 +57,7 @@ pub record IsRepeatedClient (rows : List Row) (found : RepeatedClient) : Type 0 
   pub least : (another : Row) (theirs : LineKey) → SharesClient rows row another theirs
       → (found.other < another.entry.line) ⊎ ((found.other ≡ another.entry.line) × (number_of found.address ≤ least_of theirs))
 
--- just the lines that have a client of an earlier line, in their order
+-- just the lines that have a client of an earlier line, in their order: among them each that mountd leaves out
 pub record AreRepeatedClients (rows : List Row) (found : List RepeatedClient) : Type 0 where
   pub each : All (IsRepeatedClient rows) found
   pub all : (row other : Row) (client : LineKey) → Contains rows row → SharesClient rows row other client → list_any (λ one. one.line == row.entry.line) found ≡ true

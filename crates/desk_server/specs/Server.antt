@@ -46,10 +46,10 @@ abbrev pub granted_on : FsId → Row → List Row → Result Grant Denial
 granted_on fs first [] = Err (NotListed fs first.entry.line)
 granted_on fs first (row ∷ rows) = Ok (record { fs = fs; line = row.entry.line; terms = first.entry.terms })
 
--- the same by the selected lines and by those that grant
+-- the same by the selected lines and the granting ones; if no line is selected, none matches
 abbrev pub server_verdict_by : FsId → List Row → List Row → Result Grant Denial
-server_verdict_by fs [] grant_it = Err (NoLine fs)
-server_verdict_by fs (first ∷ others) grant_it = granted_on fs first grant_it
+server_verdict_by fs [] granting_lines = Err (NoLine fs)
+server_verdict_by fs (first ∷ others) granting_lines = granted_on fs first granting_lines
 
 -- the verdict of the server among the lines of a file system, by which of them lists the path
 abbrev pub server_verdict_among : FsId → (Row → Bool) → List Row → ℕ → Result Grant Denial

@@ -1,5 +1,5 @@
 -- The lines where the server grants more than this desk. (this project's own)
-use Rattle.std.specs.Prelude.{◌≡◌, ◌⊎◌, ℕ, ◌<◌, ◌≤◌, ◌^◌, ◌==◌, All, Bool, true, Contains, List, Option, Some, Result, Ok, Err, find, not}
+use Rattle.std.specs.Prelude.{◌≡◌, ◌⊎◌, ℕ, ◌<◌, ◌≤◌, ◌^◌, ◌==◌, All, true, Contains, List, Option, Some, Ok, Err, find, not}
 use Rattle.std.specs.List.{AllPairs, list_any}
 use Rattle.std.specs.Option.{option_copied}
 use Rattle.desk_text.specs.Address.{number_of}

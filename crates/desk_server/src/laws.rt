@@ -2,16 +2,22 @@
 
 ghost use Rattle.desk_server.specs.Laws.{GrantsAreTheServers, GrantsAreTheServersByLoadedLines, NothingRepeatedIsLoaded, NothingWiderIsEqual, ServerGrantsWhatIsListedForMountd, SilenceIsTheServersVerdict, VerdictsDifferWhereTheServerGrantsMore};
 
+use desk_who::verdicts_are_discrete;
+
 /// What is granted here the server grants, by the same line and on the same terms.
 pub fn grants_are_the_servers()
     ensures { GrantsAreTheServers }
-{}
+{
+    verdicts_are_discrete();
+}
 
 /// Where the two verdicts differ, the mount is denied here as not listed, and the server grants it on the terms of the line that is
 /// named.
 pub fn verdicts_differ_where_the_server_grants_more()
     ensures { VerdictsDifferWhereTheServerGrantsMore }
-{}
+{
+    verdicts_are_discrete();
+}
 
 /// The server grants a mount exactly if a line that names the client lists it, or none does and one for everybody lists it.
 pub fn server_grants_what_is_listed()
@@ -21,7 +27,9 @@ pub fn server_grants_what_is_listed()
 /// In a file system of which no line is told where the server grants more, the two verdicts are the same.
 pub fn nothing_wider_is_equal()
     ensures { NothingWiderIsEqual }
-{}
+{
+    verdicts_are_discrete();
+}
 
 /// Of lines of which none has a client of an earlier one mountd leaves none out.
 pub fn nothing_repeated_is_loaded()
@@ -33,4 +41,6 @@ pub fn nothing_repeated_is_loaded()
 pub fn silence_is_the_servers_verdict()
     ensures verdicts { SilenceIsTheServersVerdict }
     ensures grants { GrantsAreTheServersByLoadedLines }
-{}
+{
+    verdicts_are_discrete();
+}

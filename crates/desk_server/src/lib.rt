@@ -1,9 +1,9 @@
 //! Who may mount what by the rule of mountd(8), and where that grants more than this desk does.
 //!
-//! Its promise: [`server_decide`] decides by all lines that name a client, where the desk decides by the most specific alone. What
-//! the desk grants, the server grants on the same terms. [`wider_grants`] lists just the lines where the server grants more, and
-//! [`repeated_clients`] just those that mountd leaves out, since an earlier line has one of their clients; where neither lists a
-//! line, the desk's verdicts are the server's.
+//! Its promise: [`server_decide`] decides by all lines that name a client, where the desk decides by the most specific alone. By that
+//! rule, over all lines, what the desk grants is granted on the same terms. [`wider_grants`] lists just the lines where it grants
+//! more, and [`repeated_clients`] just those that have a client of an earlier line, among them each that mountd leaves out. In a file
+//! system of which neither lists a line, the desk's verdicts are those of the rule by the lines that mountd puts in force.
 //!
 //! ```text
 //! // with `/a/x 10.0.0.5` and `/a -network 10.0.0.0/24`:
@@ -14,6 +14,7 @@
 
 pub mod deciding;
 pub mod laws;
+mod looking;
 pub mod repeated;
 pub mod wider;
 
