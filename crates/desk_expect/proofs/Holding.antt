@@ -23,7 +23,7 @@ use Rattle.desk_expect.specs.ReportText.{BrokenValue}
 use Rattle.desk_expect.specs.declared.action.Action.{Action}
 use Rattle.desk_expect.specs.declared.expectation.Expectation.{Expectation}
 use Rattle.desk_expect.specs.declared.scope.Scope.{Scope}
-use Rattle.desk_expect.proofs.Judged.{rule_asks, rule_finds}
+use Rattle.desk_expect.proofs.Verdicts.{rule_asks, rule_finds}
 
 both_empty : {X : Type 0} (xs ys : List X) → xs ++ ys ≡ [] → (xs ≡ []) × (ys ≡ [])
 both_empty [] ys e = (refl, e)

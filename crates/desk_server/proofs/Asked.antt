@@ -19,9 +19,9 @@ all_filtered P test (x ∷ xs) all =
       | inr not ↦ rw not (all_filtered P test xs all.1)
     ]
 
-all_of_either : {X : Row → Type 0} (rows others : List Row) → AllByRecursion X rows → AllByRecursion X others → AllByRecursion X (or_others rows others)
-all_of_either [] others all all' = all'
-all_of_either (row ∷ rows) others all all' = all
+all_of_either : (X : Row → Type 0) (rows others : List Row) → AllByRecursion X rows → AllByRecursion X others → AllByRecursion X (or_others rows others)
+all_of_either X [] others all all' = all'
+all_of_either X (row ∷ rows) others all all' = all
 
 -- ---- between two addresses at which each line weighs alike
 module _ (address next : ℕ) where
@@ -39,7 +39,7 @@ module _ (address next : ℕ) where
   asked_same : (rows : List Row) → AllByRecursion (IsSame address next) rows → AllByRecursion (IsSame address next) (asked rows address)
   unfolding asked
   asked_same rows same =
-      all_of_either {X = IsSame address next} (named rows address) (for_everybody rows address)
+      all_of_either (IsSame address next) (named rows address) (for_everybody rows address)
       (all_filtered (IsSame address next) (λ row. is_named (weight_of row address)) rows same)
       (all_filtered (IsSame address next) (λ row. is_everybody (weight_of row address)) rows same)
 
@@ -58,7 +58,7 @@ module _ (listing other : Row → Bool) (address : ℕ) where
   asked_agree : (rows : List Row) → AllByRecursion (AgreeAt listing other address) rows → AllByRecursion (λ row. listing row ≡ other row) (asked rows address)
   unfolding asked
   asked_agree rows agree =
-      all_of_either {X = λ row. listing row ≡ other row} (named rows address) (for_everybody rows address)
+      all_of_either (λ row. listing row ≡ other row) (named rows address) (for_everybody rows address)
       (agree_on_matching listing other address is_named refl rows agree)
       (agree_on_matching listing other address is_everybody refl rows agree)
 

@@ -1,15 +1,17 @@
 -- What the rule of an expectation finds, where that may change, and what it asks.
 use Rattle.std.proofs.Common.{◌≡◌, ℕ, ◌+◌, List, cond, refl, sym, ap, ◌∙◌}
 use Rattle.std.specs.Prelude.{None, Option, Some}
+use Rattle.std.specs.Option.{option_map}
+use Rattle.desk_text.specs.Address.{number_of}
 use Rattle.desk_tables.specs.FileSystems.{fs_of}
 use Rattle.desk_policy.specs.Policy.{Content, rows_of}
 use Rattle.desk_policy.specs.Verdict.{lists, verdict_among, verdict_in, verdict_of}
 use Rattle.desk_policy.specs.Weights.{selected}
-use Rattle.desk_who.specs.Searching.{AreRuleStarts, AsksThoseThatMatch, found_at, found_in}
+use Rattle.desk_who.specs.Searching.{AreRuleStarts, AsksThoseThatMatch, IsRuleOf, found_at, found_in}
 use Rattle.desk_who.proofs.Asked.{own_asks, own_steady}
 use Rattle.desk_server.specs.Server.{server_verdict_among, server_verdict_in, server_verdict_of}
 use Rattle.desk_server.proofs.Asked.{server_asks, server_steady}
-use Rattle.desk_expect.specs.Judging.{judged, judged_at, judged_of, judging_rule}
+use Rattle.desk_expect.specs.Judging.{judged, judged_at, judged_of, judged_value, judging_rule}
 use Rattle.desk_expect.specs.PrivateAudience.{AreAudienceStarts}
 use Rattle.desk_expect.specs.declared.expectation.Expectation.{Expectation}
 
@@ -40,4 +42,13 @@ module _ (expectation : Expectation) where
         ap (λ own. judged_at expectation (address + 1) own (server_verdict_among fs listing rows (address + 1))) (own_steady fs listing rows address (address + 1) same)
         ∙ ap (judged_at expectation (address + 1) (verdict_among fs listing (selected rows address))) (server_steady address (address + 1) fs listing rows same)
         ∙ ap (λ about. cond about (judged expectation.forbids expectation.action (verdict_among fs listing (selected rows address)) (server_verdict_among fs listing rows address)) None) (are.steady address fits none);
+  }
+
+  -- so it says what the search for it finds
+  pub is_rule : (content : Content) (starts : List ℕ) → AreAudienceStarts expectation.audience starts
+      → IsRuleOf judged_value (λ address path value. option_map judged_value value ≡ judged_of expectation content path (number_of address)) content starts (judging_rule expectation)
+  is_rule content starts are = record {
+    finds = λ address path value is. is ∙ sym (rule_finds content path (number_of address));
+    starts = rule_starts starts are;
+    asks = rule_asks;
   }
