@@ -1,12 +1,13 @@
 -- What the rule of an expectation finds, where that may change, and what it asks.
 use Rattle.std.proofs.Common.{◌≡◌, ℕ, ◌+◌, List, cond, refl, sym, ap, ◌∙◌}
-use Rattle.std.specs.Prelude.{None, Option, Some}
+use Rattle.std.specs.Prelude.{Err, None, Option, Some}
 use Rattle.std.specs.Option.{option_map}
 use Rattle.desk_text.specs.Address.{number_of}
 use Rattle.desk_tables.specs.FileSystems.{fs_of}
 use Rattle.desk_policy.specs.Policy.{Content, rows_of}
 use Rattle.desk_policy.specs.Verdict.{lists, verdict_among, verdict_in, verdict_of}
 use Rattle.desk_policy.specs.Weights.{selected}
+use Rattle.desk_policy.specs.declared.verdict.Denial.TheVariants.{NoFileSystem}
 use Rattle.desk_who.specs.Searching.{AreRuleStarts, AsksThoseThatMatch, IsRuleOf, found_at, found_in}
 use Rattle.desk_who.proofs.Asked.{own_asks, own_steady}
 use Rattle.desk_server.specs.Server.{server_verdict_among, server_verdict_in, server_verdict_of}
@@ -36,7 +37,7 @@ module _ (expectation : Expectation) where
     nowhere = record {
         ascend = are.ascend;
         behind = are.after_first;
-        steady = λ address fits none. ap (λ about. cond about (judged expectation.forbids expectation.action _ _) None) (are.steady address fits none);
+        steady = λ address fits none. ap (λ about. cond about (judged expectation.forbids expectation.action (Err NoFileSystem) (Err NoFileSystem)) None) (are.steady address fits none);
       };
     among = λ fs listing rows address fits none same.
         ap (λ own. judged_at expectation (address + 1) own (server_verdict_among fs listing rows (address + 1))) (own_steady fs listing rows address (address + 1) same)

@@ -109,7 +109,7 @@ fn push_range(
 
 /// Returns what stands behind a verdict, if it is that of the server alone.
 fn by_text(by_server: bool) -> &'static str
-    ensures { result ≡ spec.by_text by_server }
+    ensures { result.now ≡ spec.by_text by_server }
 {
     if by_server { " by mountd(8)" } else { "" }
 }
