@@ -30,7 +30,6 @@ mod questions;
 mod ranges;
 mod reasons;
 mod reports;
-mod servers;
 pub mod site;
 pub mod sites;
 

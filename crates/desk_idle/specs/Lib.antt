@@ -1,4 +1,3 @@
 pub mod Idle
 pub mod Laws
-pub mod Listed
 pub mod PrivateMarks

@@ -1,7 +1,7 @@
 use Rattle.std.proofs.Common.{◌∙◌, rules, tests}
 use Rattle.std.proofs.lemmas.List.Sorted.{IsPartitionPoint-from_clause}
-use Rattle.desk_index.proofs.RowsByNumber.{at_place, is_before, parted}
-use Rattle.desk_index.proofs.numbered.row_numbered.Goals as goal
+use Rattle.desk_idle.proofs.Numbered.{at_place, is_before, parted}
+use Rattle.desk_idle.proofs.selecting.row_numbered.Goals as goal
 
 pub returns : goal.returns
 returns c = λ row has number.

@@ -1,9 +1,9 @@
 use Rattle.std.proofs.Common.{◌≡◌, ◌<◌, ◌≤◌, ◌++◌, ◌∷◌, ◌∙◌, [], Bor, List, None, Some, ap, arith, length, map, sym, take}
 use Rattle.std.proofs.lemmas.List.{length-map, map_push, take_all}
 use Rattle.desk_policy.specs.declared.row.Row.{Row}
-use Rattle.desk_index.proofs.RowsByNumber.{item}
-use Rattle.desk_index.proofs.numbered.rows_numbered.Goals as goal
-use Rattle.desk_index.proofs.numbered.rows_numbered.Goals.{in-Some+in_ok-push, in_default}
+use Rattle.desk_idle.proofs.Front.{item}
+use Rattle.desk_idle.proofs.selecting.rows_numbered.Goals as goal
+use Rattle.desk_idle.proofs.selecting.rows_numbered.Goals.{in-Some+in_ok-push, in_default}
 
 pub loop-line-preserved : goal.loop-line-preserved
 loop-line-preserved c = λ chosen are all.
