@@ -230,6 +230,11 @@ IPV6 = (
     f"{SITE}/exports:7:13: warning 2 Ipv6: \"3ffe:1ce1:1:fe80::/64\" has a colon, so it counts as IPv6 and matches nobody: "
     "write IPv4, and blanks between hosts\n"
 )
+WIDER = (
+    f"{SITE}/exports:8:1: warning 11 ServerGrantsMore: mountd(8) also lets 131.104.48.20 mount each directory of the file system "
+    "by line 9: write -alldirs here as well if that is meant, else keep the client out of the network of line 9, or give it a "
+    "file system of its own\n"
+)
 # Lines of which all warnings and opinions are told that are about lines.
 IDLE = "/a -maproot=0:0 -network 10.0.0.0/0\n/a -maproot=0:0 -network 10.0.0.0/0\n/a -ro\n/a gone\n"
 OPINIONS = (
@@ -243,11 +248,13 @@ OPINIONS = (
     "correct it\n"
     "-:2:1: warning 9 WritableByAll: everybody may write to it: add -ro, or name the clients\n"
     "-:2:1: warning 10 RootForMany: root of each client acts as root: leave out -maproot or -mapall, or name the hosts\n"
+    "-:2:1: warning 14 RepeatedClient: mountd(8) takes one line for a client and a file system, and may leave this one out, since "
+    "line 1 has 0.0.0.0: write the directories on one line\n"
     "-:3:1: warning 5 Shadowed: the line decides nothing: heavier lines match each of its clients, beginning with line 1 for "
     "0.0.0.0\n"
     '-:4:4: warning 3 UnknownHost: "gone" is not an address, a known host or (outside a triple) a known netgroup, and matches '
     "nobody: correct it, or give the file that has it (--hosts, --netgroup or --site)\n"
-    "0 faults, 9 warnings\n"
+    "0 faults, 10 warnings\n"
 )
 SPLIT = "== /a\n/a -ro \\\n 10.0.0.5\n== /b\n/b\n"
 WHO = (
@@ -350,7 +357,9 @@ COMMANDS = {
         tried(["check", "-", "/a", "--json"], "/a\n/a -ro\n", f"{printed_json([CLASH])}\n", 3),
         tried(["check", "-", "/a", "--sarif"], "/a\n/a -ro\n", f"{log_text([CLASH])}\n", 3),
         tried(["check", "-", "/a", "--brief", "--opinions"], IDLE, OPINIONS),
-        Command(["check", "--site", SITE, "--brief", "--strict"], f"{IPV6}0 faults, 1 warning\n", 3, title="`check --site`"),
+        Command(
+            ["check", "--site", SITE, "--brief", "--strict"], f"{IPV6}{WIDER}0 faults, 2 warnings\n", 3, title="`check --site`"
+        ),
         Command(
             ["check", "-", "/a", "--hosts", "TEXT", "--brief"],
             'text:1:1: fault 2 Number: "10.0.0" is missing or wrong here: write four numbers of 0 to 255 in hosts, one to four in '

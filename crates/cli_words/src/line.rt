@@ -95,7 +95,7 @@ fn program<'a>(alloc: Global) -> Command<'a>
     ensures { IsCommand spec.program result }
 {
     Command::new(alloc, "exportdesk")
-        .version("1.0.0")
+        .version("1.1.0")
         .about("Decides who may mount what, by the exports files of mountd(8)")
         .after_help(
             "Without words, the first line of standard input gives them, and the file - is the rest.\n\n\

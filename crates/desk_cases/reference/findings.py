@@ -46,10 +46,19 @@ def line_finding(file, place, what, sentence):
 def marked_line(place):
     line, start, end = place.part.whole, place.start, place.end
     first, last = excerpt(line, start)
-    dots, more = "..." if first > 0 else "", "..." if last < len(line) else ""
     carets = shown_line(line[start : min(end, last)], "^")
-    under = " " * len(dots) + shown_line(line[first:start], " ") + (carets if carets.strip("\t") else "^")
-    return f"{dots}{shown_line(line[first:last])}{more}\n{under}\n"
+    under = " " * len(dots(first > 0)) + shown_line(line[first:start], " ") + (carets if carets.strip("\t") else "^")
+    return f"{plain_line(line, start)}\n{under}\n"
+
+
+def plain_line(line, start=0):
+    """A line as it is shown with a slice that begins there."""
+    first, last = excerpt(line, start)
+    return f"{dots(first > 0)}{shown_line(line[first:last])}{dots(last < len(line))}"
+
+
+def dots(is_cut):
+    return "..." if is_cut else ""
 
 
 def excerpt(line, start):

@@ -55,13 +55,18 @@ RULES = [
     ("warning", 8, "EveryAddress", "the network has the prefix 0, so the line is for everybody: leave the network out, or correct it"),
     ("warning", 9, "WritableByAll", "everybody may write to it: add -ro, or name the clients"),
     ("warning", 10, "RootForMany", "root of each client acts as root: leave out -maproot or -mapall, or name the hosts"),
+    ("warning", 11, "ServerGrantsMore", "mountd(8) also lets a client mount a directory by a lighter line: list the directory here as well if that is meant, else keep the client out of that line's network, or give it a file system of its own"),
+    ("warning", 12, "Backslash", "mountd(8) may read this word otherwise: write the name in quotes"),
+    ("warning", 13, "V4Line", "by NFSv4 a client that may mount one directory reaches the whole file system: the verdicts on directories hold for NFSv3 alone"),
+    ("warning", 14, "RepeatedClient", "mountd(8) takes one line for a client and a file system, and may leave this one out: write the directories on one line"),
 ]  # fmt: skip
-# Those that are said of a line, and those of them that are opinions.
+# Those whose sentence is whole without the slice: of a line, or of what mountd(8) does otherwise. Some of them are opinions.
 OF_LINES = ["Shadowed", "Repeated", "NoClient", "EveryAddress", "WritableByAll", "RootForMany"]
-OPINIONS = OF_LINES[4:]
+OF_LINES += ["ServerGrantsMore", "Backslash", "V4Line", "RepeatedClient"]
+OPINIONS = ["WritableByAll", "RootForMany", "V4Line"]
 # What is constant, with the version that `exportdesk --version` prints.
 SCHEMA = "https://docs.oasis-open.org/sarif/sarif/v2.1.0/errata01/os/schemas/sarif-schema-2.1.0.json"
-VERSION = "1.0.0"
+VERSION = "1.1.0"
 
 
 def rule_id(number, name):

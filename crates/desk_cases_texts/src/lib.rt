@@ -30,6 +30,7 @@ mod questions;
 mod ranges;
 mod reasons;
 mod reports;
+mod servers;
 pub mod site;
 pub mod sites;
 

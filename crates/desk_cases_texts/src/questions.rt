@@ -7,7 +7,7 @@ use crate::site::Site;
 use crate::{
     addresses, credentials, custodians, expectations, exports, faults, filesystems, hosts, indexes,
     lines, listings, netgroups, nets, networks, parts, paths, policies, ranges, reasons, reports,
-    sites,
+    servers, sites,
 };
 use desk_text::is_readable;
 use std::alloc::Global;
@@ -55,6 +55,7 @@ fn of_site(alloc: Global, site: &mut Site, out: &mut String, question: &str, tex
             || indexes::answer(alloc, site, out, question, text)?
             || ranges::answer(alloc, site, out, question, text)?
             || reasons::answer(alloc, site, out, question, text)?
+            || servers::answer(alloc, site, out, question, text)?
             || reports::answer(alloc, site, out, question, text)?
             || expectations::answer(alloc, site, out, question, text)?
             || parts::answer(alloc, site, out, question, text)?

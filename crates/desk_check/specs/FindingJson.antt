@@ -9,27 +9,22 @@ use Rattle.serde_json.specs.Data.{Data, Members, member, no_members, number, obj
 use Rattle.serde_json.specs.Written.{compact_text}
 use Rattle.desk_text.specs.Address as addresses
 use Rattle.desk_text.specs.Address.{addr_text}
+use Rattle.desk_text.specs.Path.{path_text}
 use Rattle.desk_text.specs.declared.address.Addr.{Addr}
 use Rattle.desk_findings.specs.Finding.{kind_word, line_at, name_of, number_of, slice_at}
 use Rattle.desk_findings.specs.declared.finding.Finding.{Finding}
 use Rattle.desk_findings.specs.declared.finding.Matter.{Matter}
 use Rattle.desk_findings.specs.declared.finding.Matter.TheVariants as matter
-use Rattle.desk_check.specs.FindingPrints.{message}
+use Rattle.desk_check.specs.FindingPrints.{message_of, other_of}
 
--- the other line, of what has one, and the address of a contradiction or a remark
-abbrev pub other_of : Matter → Option ℕ
-other_of (matter.Fault rule other) = other
-other_of (matter.Contradiction other address) = Some other
-other_of (matter.Warning kind) = None
-other_of (matter.Remark remark example) = option_map (λ shown. shown.line) example
-
+-- the address of a contradiction or a remark
 abbrev pub address_of : Matter → Option Addr
 address_of (matter.Fault rule other) = None
 address_of (matter.Contradiction other address) = Some address
 address_of (matter.Warning kind) = None
 address_of (matter.Remark remark example) = option_map (λ shown. shown.address) example
 
--- a member for each, if there is one, before these
+-- a member for another line, for an address, and for a directory, if there is one, before these
 abbrev pub with_other : Option ℕ → Members → Members
 with_other None members = members
 with_other (Some line) members = member (codes "other") (number (unsigned line)) members
@@ -38,10 +33,15 @@ abbrev pub with_address : Option Addr → Members → Members
 with_address None members = members
 with_address (Some address) members = member (codes "address") (string (addr_text (addresses.number_of address))) members
 
+abbrev pub with_directory : Option (List (List ℕ)) → Members → Members
+with_directory None members = members
+with_directory (Some directory) members = member (codes "directory") (string (path_text directory)) members
+
 -- a finding as an object, its members in the byte order of their keys
 abbrev pub object_of : Option Addr → Option ℕ → Finding → List ℕ → Data
 object_of address other finding text = object (with_address address
     (member (codes "column") (number (unsigned finding.column))
+    (with_directory finding.directory
     (member (codes "kind") (string (kind_word finding.matter))
     (member (codes "line") (number (unsigned (line_at finding.place)))
     (member (codes "name") (string (name_of finding.matter))
@@ -49,10 +49,10 @@ object_of address other finding text = object (with_address address
     (member (codes "path") (string finding.path.now)
     (member (codes "rule") (number (unsigned (number_of finding.matter)))
     (member (codes "text") (string text)
-    (member (codes "word") (string (slice_at finding.source.now finding.place)) no_members))))))))))
+    (member (codes "word") (string (slice_at finding.source.now finding.place)) no_members)))))))))))
 
 abbrev pub value_of : Finding → Data
-value_of finding = object_of (address_of finding.matter) (other_of finding.matter) finding (message finding.source.now finding.place finding.matter)
+value_of finding = object_of (address_of finding.matter) (other_of finding.matter) finding (message_of finding)
 
 -- A character of JSON as it is shown. JSON leaves only some control characters as they are, and those in strings alone, where
 -- `\u009b` says the same.

@@ -3,14 +3,19 @@ use Rattle.std.specs.Prelude.{ℕ, ◌==◌, ◌+◌, ◌-◌, ◌≤◌, Bool, 
 use Rattle.std.specs.Fmt.{decimal}
 use Rattle.std.specs.Fmt.Cut.{floor_char_boundary}
 use Rattle.std.specs.List.{flat_map}
+use Rattle.std.specs.Option.{option_copied, option_map}
 use Rattle.std.specs.Str.{IsCharBoundary}
 use Rattle.desk_text.specs.Address as addresses
 use Rattle.desk_text.specs.Address.{addr_text}
+use Rattle.desk_text.specs.Path.{path_text}
+use Rattle.desk_text.specs.declared.address.Addr.{Addr}
 use Rattle.desk_text.specs.declared.place.Place.{Place}
 use Rattle.desk_policy.specs.SiteFault.{rule_sentence}
 use Rattle.desk_policy.specs.Warning.{kind_sentence}
 use Rattle.desk_remarks.specs.Remark.{remark_sentence}
 use Rattle.desk_remarks.specs.declared.remark.Example.{Example}
+use Rattle.desk_remarks.specs.declared.remark.Remark.{Remark}
+use Rattle.desk_remarks.specs.declared.remark.Remark.TheVariants as remark
 use Rattle.desk_findings.specs.Finding.{is_fault, kind_word, line_at, name_of, number_of, slice_at}
 use Rattle.desk_findings.specs.declared.finding.Finding.{Finding}
 use Rattle.desk_findings.specs.declared.finding.Matter.{Matter}
@@ -29,17 +34,48 @@ abbrev pub other_text : Option ℕ → List ℕ
 other_text None = []
 other_text (Some line) = codes ": line " ++ decimal line
 
--- the example of a remark, if it has one: a line, and an address at which it is the first that is selected
-abbrev pub example_text : Option Example → List ℕ
-example_text None = []
-example_text (Some shown) = codes ", beginning with line " ++ decimal shown.line ++ codes " for " ++ addr_text (addresses.number_of shown.address)
+-- what shows a remark: a line, and an address at which it is the first that is selected
+abbrev pub shown_by : ℕ → Addr → List ℕ
+shown_by line address = codes ", beginning with line " ++ decimal line ++ codes " for " ++ addr_text (addresses.number_of address)
+
+-- what the server lets a client mount, by its directory or by -alldirs alone; and what to write if that is meant
+abbrev pub granted_text : Option (List (List ℕ)) → List ℕ
+granted_text None = codes "each directory of the file system"
+granted_text (Some directory) = shown_text (path_text directory)
+
+abbrev pub remedy_text : Option (List (List ℕ)) → List ℕ
+remedy_text None = codes "write -alldirs here as well"
+remedy_text (Some directory) = codes "list the directory here as well"
+
+-- the client of this address may mount more by this line
+abbrev pub wider_text : ℕ → Addr → Option (List (List ℕ)) → List ℕ
+wider_text line address directory =
+    codes "mountd(8) also lets " ++ addr_text (addresses.number_of address) ++ codes " mount " ++ granted_text directory ++ codes " by line " ++ decimal line ++ codes ": "
+    ++ remedy_text directory ++ codes " if that is meant, else keep the client out of the network of line " ++ decimal line ++ codes ", or give it a file system of its own"
+
+-- this earlier line has a client, of this address
+abbrev pub repeated_text : ℕ → Addr → List ℕ
+repeated_text line address =
+    codes "mountd(8) takes one line for a client and a file system, and may leave this one out, since line " ++ decimal line ++ codes " has " ++ addr_text (addresses.number_of address)
+    ++ codes ": write the directories on one line"
+
+-- what is said of a line, with the line, the address and the directory that show it
+abbrev pub remark_with : Remark → ℕ → Addr → Option (List (List ℕ)) → List ℕ
+remark_with remark.ServerGrantsMore line address directory = wider_text line address directory
+remark_with remark.RepeatedClient line address directory = repeated_text line address
+remark_with said line address directory = remark_sentence said ++ shown_by line address
+
+-- what is said of a line, with what shows it, if anything does
+abbrev pub remark_text : Remark → Option Example → Option (List (List ℕ)) → List ℕ
+remark_text said None directory = remark_sentence said
+remark_text said (Some shown) directory = remark_with said shown.line shown.address directory
 
 -- the sentence, as `"-maprot" is not an option of exports(5)`
-abbrev pub sentence : List ℕ → Option Place → Matter → List ℕ
-sentence source place (matter.Fault rule other) = subject source place ++ codes " " ++ rule_sentence rule ++ other_text other
-sentence source place (matter.Contradiction other address) = codes "line " ++ decimal other ++ codes " has other terms for " ++ addr_text (addresses.number_of address)
-sentence source place (matter.Warning kind) = subject source place ++ codes " " ++ kind_sentence kind
-sentence source place (matter.Remark remark example) = remark_sentence remark ++ example_text example
+abbrev pub sentence : List ℕ → Option Place → Matter → Option (List (List ℕ)) → List ℕ
+sentence source place (matter.Fault rule other) directory = subject source place ++ codes " " ++ rule_sentence rule ++ other_text other
+sentence source place (matter.Contradiction other address) directory = codes "line " ++ decimal other ++ codes " has other terms for " ++ addr_text (addresses.number_of address)
+sentence source place (matter.Warning kind) directory = subject source place ++ codes " " ++ kind_sentence kind
+sentence source place (matter.Remark said example) directory = remark_text said example directory
 
 -- a hint, if there is one
 abbrev pub hint_text : Option (List ℕ) → List ℕ
@@ -47,8 +83,12 @@ hint_text None = []
 hint_text (Some words) = codes "; " ++ words
 
 -- the sentence with its hint
-abbrev pub message : List ℕ → Option Place → Matter → List ℕ
-message source place matter = sentence source place matter ++ hint_text (hint matter (slice_at source place))
+abbrev pub message : List ℕ → Option Place → Matter → Option (List (List ℕ)) → List ℕ
+message source place matter directory = sentence source place matter directory ++ hint_text (hint matter (slice_at source place))
+
+-- the message of a finding
+abbrev pub message_of : Finding → List ℕ
+message_of finding = message finding.source.now finding.place finding.matter finding.directory
 
 -- where a finding is, as `exports:12:6: `
 abbrev pub position_text : Finding → List ℕ
@@ -60,7 +100,7 @@ matter_text matter = kind_word matter ++ codes " " ++ decimal (number_of matter)
 
 -- the first line of a finding, as `exports:12:6: fault 5 UnknownOption: "-maprot" is not an option of exports(5)`
 abbrev pub headline : Finding → List ℕ
-headline finding = position_text finding ++ matter_text finding.matter ++ message finding.source.now finding.place finding.matter ++ codes "\n"
+headline finding = position_text finding ++ matter_text finding.matter ++ message_of finding ++ codes "\n"
 
 -- how many bytes of a line are shown before the beginning of a slice, and from it on: of a line of at most 200 all
 abbrev pub reach : List ℕ → ℕ
@@ -99,9 +139,30 @@ abbrev pub marked_line : List ℕ → Option Place → List ℕ
 marked_line source None = []
 marked_line source (Some place) = excerpt_text source (excerpt source place.start) ++ marks source place (excerpt source place.start)
 
+-- the other line, of what has one
+abbrev pub other_of : Matter → Option ℕ
+other_of (matter.Fault rule other) = other
+other_of (matter.Contradiction other address) = Some other
+other_of (matter.Warning kind) = None
+other_of (matter.Remark said example) = option_map (λ shown. shown.line) example
+
+-- the other line as it is shown below the marked one, if it is: its place, as `exports:4:1: the other line`, and the line
+abbrev pub beside_by : List ℕ → Option ℕ → Option (List ℕ) → List ℕ
+beside_by path None line = []
+beside_by path (Some number) None = []
+beside_by path (Some number) (Some line) =
+    shown_text path ++ codes ":" ++ decimal number ++ codes ":1: the other line\n" ++ excerpt_text line (excerpt line 0)
+
+abbrev pub beside_text : Finding → List ℕ
+beside_text finding = beside_by finding.path.now (other_of finding.matter) (option_copied finding.beside)
+
+-- the lines of a finding: the marked one, and the other one
+abbrev pub lines_text : Finding → List ℕ
+lines_text finding = marked_line finding.source.now finding.place ++ beside_text finding
+
 -- a finding
 abbrev pub finding_text : Bool → Finding → List ℕ
-finding_text brief finding = headline finding ++ (if brief then [] else marked_line finding.source.now finding.place)
+finding_text brief finding = headline finding ++ (if brief then [] else lines_text finding)
 
 -- so many of what this word says, as `1 fault` and `2 faults`
 abbrev pub counted : ℕ → List ℕ → List ℕ

@@ -4,6 +4,7 @@
 
 ghost use Rattle.std.specs.Prelude.{◌≡◌, ◌++◌, [], IfOk, OnOk, codes};
 ghost use Rattle.std.specs.List.{flat_map};
+ghost use Rattle.std.specs.Option.{option_copied};
 ghost use Rattle.std.specs.Str.{chars};
 ghost use Rattle.std.specs.String.{string_bytes};
 ghost use Rattle.serde_json.specs.Data.{number, object, put as put_member, string, unsigned};
@@ -11,19 +12,19 @@ ghost use Rattle.serde_json.specs.View.{members_view, view};
 ghost use Rattle.serde_json.specs.Written.{compact_text};
 ghost use Rattle.desk_findings.specs.Finding.{HasSlice, HaveSlices};
 ghost use Rattle.desk_check.specs.FindingJson as spec;
-ghost use Rattle.desk_check.specs.FindingPrints.{message};
-ghost use Rattle.desk_check.specs.PrivateFindingJson.{put_address, put_other};
+ghost use Rattle.desk_check.specs.FindingPrints.{message_of};
+ghost use Rattle.desk_check.specs.PrivateFindingJson.{put_address, put_directory, put_other};
 
-use crate::finding_prints::push_message;
+use crate::finding_prints::{other_of, push_message};
 use desk_findings::{Finding, Matter};
-use desk_text::Addr;
+use desk_text::{Addr, Path};
 use serde_json::{Map, Value, put};
 use std::alloc::{AllocError, Global};
 
 /// Prints findings in their order as one compact JSON list and a line end: `[]` if there are none. Each is an object with
 /// `column`, `kind`, `line`, `name`, `path`, `rule` (its number), `text` (its sentence) and `word` (its slice); a netgroup
 /// that is defined twice also has the earlier line as `other`, and a contradiction `other` and `address`, as a remark has that
-/// shows an example.
+/// shows an example; that the server grants more also has the `directory`, if there is one.
 pub fn findings_json(alloc: Global, findings: &[Finding]) -> Result<String, AllocError>
     requires { HaveSlices findings.now }
     ensures { IfOk result (λ text. string_bytes text ≡ spec.findings_json findings.now) }
@@ -91,6 +92,7 @@ fn add_members(
 {
     add_address(alloc, address_of(finding.matter), members)?;
     add_number(alloc, "column", finding.column, members)?;
+    add_directory(alloc, finding.directory.as_ref(), members)?;
     add_text(alloc, "kind", finding.matter.kind(), members)?;
     add_number(alloc, "line", finding.line() as usize, members)?;
     add_text(alloc, "name", finding.matter.name(), members)?;
@@ -112,18 +114,6 @@ fn address_of(matter: Matter) -> Option<Addr>
     }
 }
 
-/// Gives the other line: the earlier one of a contradiction or of a netgroup that is defined twice, or that of a remark's example.
-fn other_of(matter: Matter) -> Option<u32>
-    ensures { result ≡ spec.other_of matter }
-{
-    match matter {
-        Matter::Contradiction(other, _) => Some(other),
-        Matter::Fault(_, other) => other,
-        Matter::Remark(_, example) => example.map(|shown| shown.line),
-        Matter::Warning(_) => None,
-    }
-}
-
 /// Adds an address, if there is one.
 fn add_address(
     alloc: Global,
@@ -137,6 +127,20 @@ fn add_address(
             let address = format!(in alloc; "{address}")?;
             put(members, alloc, "address", Value::String(address))
         }
+        None => Ok(()),
+    }
+}
+
+/// Adds a directory, if there is one.
+fn add_directory(
+    alloc: Global,
+    directory: Option<&Path>,
+    members: &mut Map<String, Value>,
+) -> Result<(), AllocError>
+    ensures { OnOk result (members_view members.new.entries ≡ put_directory (option_copied directory.entry) (members_view members.old.entries)) }
+{
+    match directory {
+        Some(directory) => add_text(alloc, "directory", directory.text(), members),
         None => Ok(()),
     }
 }
@@ -163,7 +167,7 @@ fn add_message(
 ) -> Result<(), AllocError>
     requires { HasSlice finding.now }
     ensures { OnOk result (members_view members.new.entries
-        ≡ put_member (codes "text") (string (message finding.now.source.now finding.now.place finding.now.matter)) (members_view members.old.entries)) }
+        ≡ put_member (codes "text") (string (message_of finding.now)) (members_view members.old.entries)) }
 {
     let mut message = String::new(alloc);
     push_message(finding, &mut message)?;

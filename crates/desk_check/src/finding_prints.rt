@@ -2,7 +2,7 @@
 //! `exports:12:6: fault 5 UnknownOption: "-maprot" is not an option of exports(5)`.
 
 ghost use Rattle.std.specs.Prelude.{◌≡◌, ◌++◌, ◌≤◌, [], IfOk, OnOk, Some, if◌then◌else◌};
-ghost use Rattle.std.specs.Option.{option_map};
+ghost use Rattle.std.specs.Option.{option_copied, option_map};
 ghost use Rattle.std.specs.Str.{IsCharBoundary};
 ghost use Rattle.std.specs.String.{string_bytes};
 ghost use Rattle.desk_text.specs.Place.{LiesWithin};
@@ -12,9 +12,9 @@ ghost use Rattle.desk_check.specs.FindingPrints as spec;
 
 use crate::hints::hint;
 use desk_findings::{Finding, Matter};
-use desk_remarks::Example;
+use desk_remarks::{Example, Remark};
 use desk_shown::{push_blanks, push_carets, push_shown, push_shown_line};
-use desk_text::Place;
+use desk_text::{Addr, Path, Place};
 use std::alloc::{AllocError, Global};
 
 /// How many bytes a line may have that is shown whole.
@@ -63,9 +63,52 @@ fn push_finding(finding: &Finding, brief: bool, text: &mut String) -> Result<(),
     ensures { OnOk result (string_bytes text.new ≡ string_bytes text.old ++ spec.finding_text brief finding.now) }
 {
     push_headline(finding, text)?;
-    match finding.place {
-        Some(place) if !brief => push_marked_line(finding.source, place, text),
-        _ => Ok(()),
+    if brief {
+        return Ok(());
+    }
+    push_lines(finding, text)
+}
+
+/// Adds the lines of a finding: the one of its slice, if it has one, and the other one, if it is shown.
+fn push_lines(finding: &Finding, text: &mut String) -> Result<(), AllocError>
+    requires { HasSlice finding.now }
+    ensures { OnOk result (string_bytes text.new ≡ string_bytes text.old ++ spec.lines_text finding.now) }
+{
+    if let Some(place) = finding.place {
+        push_marked_line(finding.source, place, text)?;
+    }
+    push_beside(finding, text)
+}
+
+/// Adds the other line, if it is shown: its place, and the line.
+fn push_beside(finding: &Finding, text: &mut String) -> Result<(), AllocError>
+    ensures { OnOk result (string_bytes text.new ≡ string_bytes text.old ++ spec.beside_text finding.now) }
+{
+    let (Some(number), Some(line)) = (other_of(finding.matter), finding.beside) else {
+        return Ok(());
+    };
+    push_shown(finding.path, text)?;
+    write!(text, ":{number}:1: the other line\n")?;
+    push_beginning(line, text)
+}
+
+/// Adds what is shown of a line from its beginning on.
+fn push_beginning(line: &str, text: &mut String) -> Result<(), AllocError>
+    ensures { OnOk result (string_bytes text.new ≡ string_bytes text.old ++ spec.excerpt_text line.now (spec.excerpt line.now 0)) }
+{
+    let part = excerpt_of(line, 0);
+    push_excerpt(line, part, text)
+}
+
+/// Gives the other line: the earlier one of a contradiction or of a netgroup that is defined twice, or that of a remark's example.
+pub fn other_of(matter: Matter) -> Option<u32>
+    ensures { result ≡ spec.other_of matter }
+{
+    match matter {
+        Matter::Contradiction(other, _) => Some(other),
+        Matter::Fault(_, other) => other,
+        Matter::Remark(_, example) => example.map(|shown| shown.line),
+        Matter::Warning(_) => None,
     }
 }
 
@@ -104,7 +147,7 @@ fn push_matter(matter: Matter, text: &mut String) -> Result<(), AllocError>
 pub fn push_message(finding: &Finding, text: &mut String) -> Result<(), AllocError>
     requires { HasSlice finding.now }
     ensures { OnOk result (string_bytes text.new
-        ≡ string_bytes text.old ++ spec.message finding.now.source.now finding.now.place finding.now.matter) }
+        ≡ string_bytes text.old ++ spec.message_of finding.now) }
 {
     push_sentence(finding, text)?;
     push_hint(hint(finding.matter, finding.slice()), text)
@@ -114,7 +157,7 @@ pub fn push_message(finding: &Finding, text: &mut String) -> Result<(), AllocErr
 fn push_sentence(finding: &Finding, text: &mut String) -> Result<(), AllocError>
     requires { HasSlice finding.now }
     ensures { OnOk result (string_bytes text.new
-        ≡ string_bytes text.old ++ spec.sentence finding.now.source.now finding.now.place finding.now.matter) }
+        ≡ string_bytes text.old ++ spec.sentence finding.now.source.now finding.now.place finding.now.matter finding.now.directory) }
 {
     match finding.matter {
         Matter::Fault(rule, other) => {
@@ -131,24 +174,64 @@ fn push_sentence(finding: &Finding, text: &mut String) -> Result<(), AllocError>
             let sentence = kind.sentence();
             write!(text, " {sentence}")
         }
-        Matter::Remark(remark, example) => {
-            text.push_str(remark.sentence())?;
-            push_example(example, text)
+        Matter::Remark(remark, None) => text.push_str(remark.sentence()),
+        Matter::Remark(remark, Some(shown)) => {
+            push_remark(remark, shown, finding.directory.as_ref(), text)
         }
     }
 }
 
-/// Adds the example of a remark, if it has one: a line, and an address at which it is the first that is selected.
-fn push_example(example: Option<Example>, text: &mut String) -> Result<(), AllocError>
-    ensures { OnOk result (string_bytes text.new ≡ string_bytes text.old ++ spec.example_text example) }
+/// Adds what is said of a line, with the line, the address and the directory that show it.
+fn push_remark(
+    remark: Remark,
+    shown: Example,
+    directory: Option<&Path>,
+    text: &mut String,
+) -> Result<(), AllocError>
+    ensures { OnOk result (string_bytes text.new
+        ≡ string_bytes text.old ++ spec.remark_with remark shown.line shown.address (option_copied directory.entry)) }
 {
-    match example {
-        Some(Example { line, address }) => write!(
+    let Example { line, address } = shown;
+    match remark {
+        Remark::ServerGrantsMore => push_wider(line, address, directory, text),
+        Remark::RepeatedClient => write!(
             text,
-            ", beginning with line {line} for {address}"
+            "mountd(8) takes one line for a client and a file system, and may leave this one out, since line {line} has {address}: write the directories on one line"
         ),
-        None => Ok(()),
+        _ => {
+            let sentence = remark.sentence();
+            write!(
+                text,
+                "{sentence}, beginning with line {line} for {address}"
+            )
+        }
     }
+}
+
+/// Adds what the server lets a client mount by another line, and what to do about it.
+fn push_wider(
+    line: u32,
+    address: Addr,
+    directory: Option<&Path>,
+    text: &mut String,
+) -> Result<(), AllocError>
+    ensures { OnOk result (string_bytes text.new ≡ string_bytes text.old ++ spec.wider_text line address (option_copied directory.entry)) }
+{
+    write!(text, "mountd(8) also lets {address} mount ")?;
+    let remedy = match directory {
+        Some(directory) => {
+            push_shown(directory.text(), text)?;
+            "list the directory"
+        }
+        None => {
+            text.push_str("each directory of the file system")?;
+            "write -alldirs"
+        }
+    };
+    write!(
+        text,
+        " by line {line}: {remedy} here as well if that is meant, else keep the client out of the network of line {line}, or give it a file system of its own"
+    )
 }
 
 /// Adds what the sentence is about: the slice in quotes, of which an empty one reads `"" is not a name`, or the file as a

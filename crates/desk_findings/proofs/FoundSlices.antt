@@ -3,6 +3,7 @@ use Rattle.std.proofs.Common.{◌≡◌, Bool, ℕ, List, Option, Some, None, If
 use Rattle.std.proofs.lemmas.List.{get_or-map, length-map}
 use Rattle.std.proofs.lemmas.List.Elements.{All-append, All-map, All-weaker}
 use Rattle.std.specs.List.{All}
+use Rattle.std.specs.Option.{option_copied}
 use Rattle.desk_text.specs.Place.{LiesIn, LiesWithin}
 use Rattle.desk_text.specs.declared.place.Place.{Place}
 use Rattle.desk_tables.specs.Faults as tables
@@ -32,7 +33,7 @@ use Rattle.desk_findings.specs.CheckOdd.{IsOnNumbered, IsSpot, OddLine, TellInOr
 use Rattle.desk_findings.specs.CheckSite as site
 use Rattle.desk_findings.specs.CheckText.{Finds, Gathers, GathersBy, GathersExports, GathersTables, GathersWith, TellOddities, tables_of}
 use Rattle.desk_findings.specs.Finding.{HaveSlices}
-use Rattle.desk_findings.specs.Told.{Told, tell, told}
+use Rattle.desk_findings.specs.Told.{Told, tell, tell_about, told}
 use Rattle.desk_findings.specs.declared.check_faults.Source.{Source}
 use Rattle.desk_findings.specs.declared.check_site.SiteSources.{SiteSources}
 use Rattle.desk_findings.specs.declared.check_text.Gathered.{Gathered}
@@ -78,13 +79,13 @@ five_within sources all tells =
     subst (λ (ones : List Told). All Within ones) (sym tells.are)
     (All-append Within tells.hosts _ hosts (All-append Within tells.networks _ networks (All-append Within tells.passwd _ passwd (All-append Within tells.group _ group netgroup))))
 
-spot_at : (source : Source) (number : ℕ) (at : Option Place) (what : Matter) → IfSome at (IsOnNumbered source.text.now number) → Within (tell source at what)
-spot_at source number None what on = tt
-spot_at source number (Some place) what on = on.on.lies.within
+spot_at : (source : Source) (number : ℕ) (at : Option Place) (what : Matter) (directory : Option (List (List ℕ))) → IfSome at (IsOnNumbered source.text.now number) → Within (tell_about source at what directory)
+spot_at source number None what directory on = tt
+spot_at source number (Some place) what directory on = on.on.lies.within
 
 pub odds_within : (source : Source) (given : List OddLine) (all : List Told) → TellInOrder source given all → All Within all
 odds_within source given all tells =
-    tells_within odd_of_spot (IsSpot source.text.now) (tell_spot source) tells.odds all (λ spot on. spot_at source spot.line spot.place spot.matter on) tells.tell
+    tells_within odd_of_spot (IsSpot source.text.now) (tell_spot source) tells.odds all (λ spot on. spot_at source spot.line spot.place spot.matter (option_copied spot.directory) on) tells.tell
 
 oddities_within : (opinions : Bool) (sources : WholeSources) (table : List Mount) (site_tables : SiteTables) (entries : List (FsId × Entry)) (all : List Told) → TellOddities opinions sources table site_tables entries all → All Within all
 oddities_within opinions sources table site_tables entries all tells =

@@ -10,7 +10,7 @@ use Rattle.desk_tables.specs.declared.rules.TableRule.TheVariants as table_rule
 use Rattle.desk_policy.specs.Unlisted.{has_unlisted, unlisted_line}
 use Rattle.desk_policy.specs.declared.site_fault.SiteRule.TheVariants as site_rule
 use Rattle.desk_findings.specs.CheckFaults.{TellTables, Tells, tell_table}
-use Rattle.desk_findings.specs.CheckOdd.{OddLine, TellInOrder}
+use Rattle.desk_findings.specs.CheckOdd.{OddLine, TellInOrder, odd_line}
 use Rattle.desk_findings.specs.CheckText.{Finds, Gathers}
 use Rattle.desk_findings.specs.Told.{Told}
 use Rattle.desk_findings.specs.declared.check_faults.Source.{Source}
@@ -39,7 +39,7 @@ pub record TellHeads (sources : SiteSources) (all : List Told) : Type 0 where
 
 -- the line of a mount point names a custodian who is not listed
 abbrev pub odd_of_unlisted : Mount → OddLine
-odd_of_unlisted mount = record { line = mount.line; matter = matter.Fault (site_rule.Table table_rule.Custodian) None }
+odd_of_unlisted mount = odd_line mount.line (matter.Fault (site_rule.Table table_rule.Custodian) None)
 
 -- the lines of file systems that name a custodian who is not listed
 abbrev pub TellUnlisted : Source → List Custodian → List Mount → List Told → Type 0

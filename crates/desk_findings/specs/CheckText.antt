@@ -21,7 +21,8 @@ use Rattle.desk_policy.specs.declared.warning.Warning.{Warning}
 use Rattle.desk_remarks.specs.Remarks.{AreRemarks}
 use Rattle.desk_remarks.specs.declared.remark.LineRemark.{LineRemark}
 use Rattle.desk_findings.specs.CheckFaults.{TellTables, Tells, tell_line}
-use Rattle.desk_findings.specs.CheckOdd.{AreContradictionsIn, TellOdds}
+use Rattle.desk_findings.specs.CheckOdd.{AreContradictionsIn, TellInOrder, TellOdds, odds_of}
+use Rattle.desk_findings.specs.OddWords.{odd_words}
 use Rattle.desk_findings.specs.Told.{Told, told}
 use Rattle.desk_findings.specs.declared.check_faults.Source.{Source}
 use Rattle.desk_findings.specs.declared.check_text.Gathered.{Gathered}
@@ -41,14 +42,14 @@ TellLineFaults source table site_tables all =
 abbrev pub TellNetgroupWarnings : Source → SiteTables → List Told → Type 0
 TellNetgroupWarnings source site_tables all = TellOdds source [] (netgroup_warnings site_tables.netgroups site_tables.hosts) [] all
 
--- the contradictions of the lines of each file system, these warnings of an exports text, and what is said of its lines, with
--- opinions or without
+-- the contradictions of the lines of each file system, these warnings of an exports text, what is said of its lines, with opinions or
+-- without, and the words that mountd(8) may read otherwise
 pub record TellInconsistencies (opinions : Bool) (source : Source) (content : Content) (warnings : List Warning) (all : List Told) : Type 0 where
   pub clashes : List Contradiction
   pub are_clashes : AreContradictionsIn content.rows clashes
   pub remarks : List LineRemark
   pub are_remarks : AreRemarks opinions content warnings remarks
-  pub tell : TellOdds source clashes warnings remarks all
+  pub tell : TellInOrder source (odds_of clashes warnings remarks ++ odd_words opinions source.text.now) all
 
 -- the warnings of the netgroup file, and then the contradictions, the warnings and the remarks of an exports text of these entries
 pub record TellOddities (opinions : Bool) (sources : WholeSources) (table : List Mount) (site_tables : SiteTables) (entries : List (FsId × Entry)) (all : List Told) : Type 0 where

@@ -3,6 +3,7 @@ pub mod CheckOdd
 pub mod CheckSite
 pub mod CheckText
 pub mod Finding
+pub mod OddWords
 pub mod OneFault
 pub mod OneSiteFault
 pub mod PrivateCheckOdd

@@ -22,7 +22,7 @@ use Rattle.desk_policy.specs.SiteFault.{rule_number}
 use Rattle.desk_policy.specs.declared.site_fault.SiteFault.{SiteFault}
 use Rattle.desk_policy.specs.declared.site_fault.SiteRule.TheVariants as site_rule
 use Rattle.desk_findings.specs.CheckFaults.{Tells, tell_line}
-use Rattle.desk_findings.specs.CheckOdd.{OddLine, TellInOrder}
+use Rattle.desk_findings.specs.CheckOdd.{OddLine, TellInOrder, odd_line}
 use Rattle.desk_findings.specs.CheckSite.{TellFileSystems}
 use Rattle.desk_findings.specs.Told.{Told}
 use Rattle.desk_findings.specs.declared.check_faults.Source.{Source}
@@ -48,7 +48,7 @@ is_same fault one = (one.line == fault.line) && (lines.rule_number one.rule == l
 
 -- a fault by its line and what it is about
 abbrev pub odd_of_fault : LineFault Rule → OddLine
-odd_of_fault fault = record { line = fault.line; matter = matter.Fault (site_rule.Line fault.rule) None }
+odd_of_fault fault = odd_line fault.line (matter.Fault (site_rule.Line fault.rule) None)
 
 -- one fault is told at its place
 abbrev pub TellIfSame : Source → LineFault Rule → Option (LineFault Rule) → List Told → Type 0

@@ -15,7 +15,7 @@ use Rattle.desk_policy.specs.SiteFile.{exports_place}
 use Rattle.desk_policy.specs.declared.parsing.SiteTables.{SiteTables}
 use Rattle.desk_policy.specs.declared.site_fault.SiteFault.{SiteFault}
 use Rattle.desk_findings.specs.CheckFaults.{AreReadable}
-use Rattle.desk_findings.specs.CheckOdd.{OddLine}
+use Rattle.desk_findings.specs.CheckOdd.{OddLine, odd_line}
 use Rattle.desk_findings.specs.CheckText.{tables_of}
 use Rattle.desk_findings.specs.OneFault.{TellOneWith}
 use Rattle.desk_findings.specs.Told.{Told}
@@ -58,4 +58,4 @@ TellLine profile sources fault all = TellLineBy (tables_of sources.whole.tables)
 
 -- a line that contradicts an earlier one
 abbrev pub odd_of_clash : ℕ → ℕ → Addr → OddLine
-odd_of_clash line other address = record { line = line; matter = matter.Contradiction other address }
+odd_of_clash line other address = odd_line line (matter.Contradiction other address)

@@ -1,20 +1,22 @@
 //! The findings of the faults of texts: each faulty line with the first rule that it breaks, at its place.
 
-ghost use Rattle.std.specs.Prelude.{◌≡◌, ◌-◌, ◌++◌, ◌<◌, ◌^◌, [], IfOk, OnOk, map, slice_index_or, take};
+ghost use Rattle.std.specs.Prelude.{◌≡◌, ◌-◌, ◌++◌, ◌<◌, ◌^◌, [], IfOk, None, OnOk, map, slice_index_or, take};
+ghost use Rattle.std.specs.Option.{option_copied};
 ghost use Rattle.std.specs.Str.Lines.{lines};
 ghost use Rattle.desk_text.specs.Lines.{IsReadable};
 ghost use Rattle.desk_findings.specs.CheckFaults.{Adds, AreReadable, TellGroup, TellHosts, TellNetgroup, TellNetworks, TellPasswd, TellTables, tell_group, tell_line, tell_table};
 ghost use Rattle.desk_findings.specs.Finding.{character_count};
-ghost use Rattle.desk_findings.specs.Told.{IsFront, shown_line, tell_in, told};
+ghost use Rattle.desk_findings.specs.Told.{IsFront, beside_in, other_line, shown_line, shows_other, tell_in, told};
 
 use crate::finding::{Finding, Matter};
 use desk_exports as exports;
 use desk_netgroup as netgroup;
 use desk_netgroup::Netgroups;
 use desk_policy::{PerTable, SiteRule};
+use desk_remarks::Remark;
 use desk_tables as tables;
 use desk_tables::{Groups, Hosts, Networks, Users};
-use desk_text::{Place, Sequence};
+use desk_text::{Path, Place, Sequence};
 use std::alloc::{AllocError, Global};
 
 /// A text beside the path that it is told by.
@@ -177,33 +179,35 @@ pub fn lines_of(alloc: Global, text: &str) -> Result<Vec<&str>, AllocError>
     Ok(found)
 }
 
-/// Makes the finding of a matter at a place of a text of these lines.
+/// Makes the finding of a matter at a place of a text of these lines. It is about no directory.
 pub fn finding_in<'a>(
     path: &'a str,
     lines: &[&'a str],
     place: Option<Place>,
     matter: Matter,
 ) -> Finding<'a>
-    ensures { told result ≡ tell_in path.entry.now (map (λ line. line.now) lines.now) place matter }
+    ensures { told result ≡ tell_in path.entry.now (map (λ line. line.now) lines.now) place matter None }
 {
     let mut front = Front {
         line: 0,
         bytes: 0,
         characters: 0,
     };
-    finding_behind(path, lines, place, matter, &mut front)
+    finding_behind(path, lines, place, matter, None, &mut front)
 }
 
-/// Makes the same finding, and counts its column from the front that is counted already on, if that is of its line.
+/// Makes the finding of a matter, about this directory or none, and counts its column from the front that is counted already on, if
+/// that is of its line.
 pub fn finding_behind<'a>(
     path: &'a str,
     lines: &[&'a str],
     place: Option<Place>,
     matter: Matter,
+    directory: Option<Path>,
     front: &mut Front,
 ) -> Finding<'a>
     requires { IsFront (map (λ line. line.now) lines.now) front.now }
-    ensures finding { told result ≡ tell_in path.entry.now (map (λ line. line.now) lines.now) place matter }
+    ensures finding { told result ≡ tell_in path.entry.now (map (λ line. line.now) lines.now) place matter directory }
     ensures front { IsFront (map (λ line. line.now) lines.now) front.new }
 {
     let source = line_at(lines, shown_line(place));
@@ -225,6 +229,49 @@ pub fn finding_behind<'a>(
         place,
         column,
         matter,
+        beside: line_beside(lines, matter),
+        directory,
+    }
+}
+
+/// Lends the line that is shown beside that of a matter, if one is.
+fn line_beside<'a>(lines: &[&'a str], matter: Matter) -> Option<&'a str>
+    ensures { option_copied result ≡ beside_in (map (λ line. line.now) lines.now) matter }
+{
+    match other_line(matter) {
+        Some(number) => Some(line_at(lines, number)),
+        None => None,
+    }
+}
+
+/// Returns the number of the line that is shown beside that of a matter, if one is.
+fn other_line(matter: Matter) -> Option<u32>
+    ensures { result ≡ other_line matter }
+{
+    match matter {
+        Matter::Remark(remark, Some(shown)) if shows_other(remark) => Some(shown.line),
+        Matter::Fault(_, _)
+        | Matter::Contradiction(_, _)
+        | Matter::Warning(_)
+        | Matter::Remark(_, _) => None,
+    }
+}
+
+/// Tests whether the other line of a remark is shown beside its own: mountd(8) grants by it, or takes it alone.
+fn shows_other(remark: Remark) -> bool
+    ensures { result ≡ shows_other remark }
+{
+    match remark {
+        Remark::ServerGrantsMore | Remark::RepeatedClient => true,
+        Remark::Shadowed
+        | Remark::Repeated
+        | Remark::NoClient
+        | Remark::EveryAddress
+        | Remark::WritableByAll
+        | Remark::RootForMany
+        | Remark::ShadowedHere
+        | Remark::Backslash
+        | Remark::V4Line => false,
     }
 }
 

@@ -1,12 +1,13 @@
 //! What `check` finds in texts without a fault: lines that contradict an earlier one, words that are odd, and what is said of lines.
 
 ghost use Rattle.std.specs.Prelude.{◌≡◌, ℕ, ◌++◌, All, IfOk, IfSome, List, OnOk, map};
+ghost use Rattle.std.specs.Option.{option_copied};
 ghost use Rattle.std.specs.List.{IsAmong};
 ghost use Rattle.std.specs.List.Sorted.{IsNonDecreasingBy, IsPermutation};
 ghost use Rattle.desk_text.specs.Lines.{IsReadable, LogicalLine, logical_lines};
 ghost use Rattle.desk_policy.specs.Policy.{AreAscending};
 ghost use Rattle.desk_findings.specs.CheckFaults.{Adds};
-ghost use Rattle.desk_findings.specs.CheckOdd.{AreContradictionsIn, IsOn, IsSpot, TellInOrder, TellOdds, odd_at, odd_of_contradiction, odd_of_remark, odd_of_spot, odd_of_warning, tell_spot};
+ghost use Rattle.desk_findings.specs.CheckOdd.{AreContradictionsIn, IsOn, IsSpot, TellInOrder, TellOdds, odd_at, odd_of_contradiction, odd_of_remark, odd_of_spot, odd_of_warning, odds_of, tell_spot};
 ghost use Rattle.desk_findings.specs.PrivateCheckOdd.{AreWordsIn};
 ghost use Rattle.desk_findings.specs.Told.{told};
 
@@ -16,7 +17,7 @@ use desk_exports::client_places;
 use desk_netgroup::member_places;
 use desk_policy::{Contradiction, Row, Warning, contradictions};
 use desk_remarks::LineRemark;
-use desk_text::{Line, Place, ReadError, Sequence, Word, logical_lines, words};
+use desk_text::{Line, Path, Place, ReadError, Sequence, Word, logical_lines, words};
 use std::alloc::{AllocError, Global};
 
 /// What an odd word of a line is counted among.
@@ -30,21 +31,24 @@ pub enum Among {
     Members,
 }
 
-/// What is odd about the line of this number, and the word that it is told at: the one of this index, from 0.
+/// What is odd about the line of this number, the word that it is told at (the one of this index, from 0), and the directory that it
+/// is about, if it is about one.
 #[derive(Clone, Copy)]
-pub struct Odd {
+pub struct Odd<'r> {
     pub line: u32,
     pub matter: Matter,
     pub among: Among,
     pub index: usize,
+    pub directory: Option<&'r Path>,
 }
 
 /// What is odd about the line of this number, at its place.
 #[derive(Clone, Copy)]
-pub struct Spot {
+pub struct Spot<'r> {
     pub line: u32,
     pub place: Option<Place>,
     pub matter: Matter,
+    pub directory: Option<&'r Path>,
 }
 
 /// Where the words of the line of this number stand that the last odd one is among.
@@ -78,11 +82,11 @@ pub fn push_odds<'a>(
 pub fn push_in_order<'a>(
     alloc: Global,
     source: Source<'a>,
-    odds: Vec<Odd>,
+    odds: Vec<Odd<'_>>,
     found: &mut Sequence<Finding<'a>>,
 ) -> Result<(), AllocError>
     requires { IsReadable source.text.now }
-    ensures { OnOk result (Adds (TellInOrder source.entry (map odd_at odds.items)) found.old found.new) }
+    ensures { OnOk result (Adds (TellInOrder source.entry (map odd_at odds.entry.items)) found.old found.new) }
 {
     let odds = by_line(odds)?;
     let spots = spots_of(alloc, source.text, odds.as_slice())?;
@@ -120,15 +124,14 @@ fn push_contradictions(
 }
 
 /// Lists what contradictions, warnings and remarks say. The warnings count their words among these.
-fn odds_of(
+pub fn odds_of<'r>(
     alloc: Global,
     among: Among,
     contradictions: &[Contradiction],
     warnings: &[Warning],
-    remarks: &[LineRemark],
-) -> Result<Vec<Odd>, AllocError>
-    ensures { IfOk result (λ odds. map odd_at odds.items
-        ≡ map odd_of_contradiction contradictions.now ++ (map odd_of_warning warnings.now ++ map odd_of_remark remarks.now)) }
+    remarks: &'r [LineRemark],
+) -> Result<Vec<Odd<'r>>, AllocError>
+    ensures { IfOk result (λ odds. map odd_at odds.items ≡ odds_of contradictions.now warnings.now remarks.now) }
 {
     let mut odds = odds_of_contradictions(alloc, contradictions)?;
     add_warnings(among, warnings, &mut odds)?;
@@ -137,7 +140,11 @@ fn odds_of(
 }
 
 /// Adds what warnings say. They count their words among these.
-fn add_warnings(among: Among, warnings: &[Warning], odds: &mut Vec<Odd>) -> Result<(), AllocError>
+fn add_warnings(
+    among: Among,
+    warnings: &[Warning],
+    odds: &mut Vec<Odd<'_>>,
+) -> Result<(), AllocError>
     ensures { OnOk result (map odd_at odds.new.items ≡ map odd_at odds.old.items ++ map odd_of_warning warnings.now) }
 {
     for warning in warnings {
@@ -146,13 +153,14 @@ fn add_warnings(among: Among, warnings: &[Warning], odds: &mut Vec<Odd>) -> Resu
             matter: Matter::Warning(warning.kind),
             among,
             index: warning.index,
+            directory: None,
         })?;
     }
     Ok(())
 }
 
 /// Adds what remarks say, each at the first word of its line.
-fn add_remarks(remarks: &[LineRemark], odds: &mut Vec<Odd>) -> Result<(), AllocError>
+fn add_remarks<'r>(remarks: &'r [LineRemark], odds: &mut Vec<Odd<'r>>) -> Result<(), AllocError>
     ensures { OnOk result (map odd_at odds.new.items ≡ map odd_at odds.old.items ++ map odd_of_remark remarks.now) }
 {
     for one in remarks {
@@ -161,16 +169,17 @@ fn add_remarks(remarks: &[LineRemark], odds: &mut Vec<Odd>) -> Result<(), AllocE
             matter: Matter::Remark(one.remark, one.example),
             among: Among::Words,
             index: 0,
+            directory: one.directory.as_ref(),
         })?;
     }
     Ok(())
 }
 
 /// Lists what contradictions say, each at the first word of its line.
-fn odds_of_contradictions(
+fn odds_of_contradictions<'r>(
     alloc: Global,
     contradictions: &[Contradiction],
-) -> Result<Vec<Odd>, AllocError>
+) -> Result<Vec<Odd<'r>>, AllocError>
     ensures { IfOk result (λ odds. map odd_at odds.items ≡ map odd_of_contradiction contradictions.now) }
 {
     let mut odds = Vec::new(alloc);
@@ -180,14 +189,15 @@ fn odds_of_contradictions(
             matter: Matter::Contradiction(one.other, one.address),
             among: Among::Words,
             index: 0,
+            directory: None,
         })?;
     }
     Ok(odds)
 }
 
 /// Puts what is odd into the order of its lines.
-fn by_line(mut odds: Vec<Odd>) -> Result<Vec<Odd>, AllocError>
-    ensures same { IfOk result (λ sorted. IsPermutation odds.items sorted.items) }
+fn by_line<'r>(mut odds: Vec<Odd<'r>>) -> Result<Vec<Odd<'r>>, AllocError>
+    ensures same { IfOk result (λ sorted. IsPermutation odds.entry.items sorted.items) }
     ensures order { IfOk result (λ sorted. IsNonDecreasingBy (λ (odd : Odd). odd.line) sorted.items) }
 {
     odds.sort_by_key(|odd| odd.line)?;
@@ -195,7 +205,7 @@ fn by_line(mut odds: Vec<Odd>) -> Result<Vec<Odd>, AllocError>
 }
 
 /// Finds the place of each remark about a text, in the order of their lines.
-fn spots_of(alloc: Global, text: &str, odds: &[Odd]) -> Result<Vec<Spot>, AllocError>
+fn spots_of<'r>(alloc: Global, text: &str, odds: &[Odd<'r>]) -> Result<Vec<Spot<'r>>, AllocError>
     requires { IsReadable text.now }
     ensures same { IfOk result (λ spots. map odd_of_spot spots.items ≡ map odd_at odds.now) }
     ensures places { IfOk result (λ spots. All (IsSpot text.now) spots.items) }
@@ -216,14 +226,14 @@ fn spots_of(alloc: Global, text: &str, odds: &[Odd]) -> Result<Vec<Spot>, AllocE
 }
 
 /// Finds the place of what is odd in these lines.
-fn spot_of(
+fn spot_of<'r>(
     alloc: Global,
     lines: &[Line],
-    odd: Odd,
+    odd: Odd<'r>,
     last: &mut PlacedWords,
-) -> Result<Spot, AllocError>
+) -> Result<Spot<'r>, AllocError>
     requires { AreWordsIn lines.now last.old }
-    ensures same { IfOk result (λ spot. odd_of_spot spot ≡ odd_at odd) }
+    ensures same { IfOk result (λ spot. odd_of_spot spot ≡ odd_at odd.entry) }
     ensures place { IfOk result (λ spot. (text : List ℕ) → lines.now ≡ logical_lines text → IsSpot text spot) }
     ensures last { OnOk result (AreWordsIn lines.now last.new) }
 {
@@ -312,13 +322,14 @@ fn places_of(alloc: Global, line: &Line, words: &[Word]) -> Result<Vec<Place>, A
 }
 
 /// Makes the spot of what is odd at this place.
-fn spot_at(odd: Odd, place: Option<Place>) -> Spot
-    ensures { result ≡ record { line = odd.line; place = place; matter = odd.matter } }
+fn spot_at<'r>(odd: Odd<'r>, place: Option<Place>) -> Spot<'r>
+    ensures { result ≡ record { line = odd.entry.line; place = place; matter = odd.entry.matter; directory = odd.entry.directory } }
 {
     Spot {
         line: odd.line,
         place,
         matter: odd.matter,
+        directory: odd.directory,
     }
 }
 
@@ -326,7 +337,7 @@ fn spot_at(odd: Odd, place: Option<Place>) -> Spot
 fn push_spots<'a>(
     alloc: Global,
     source: Source<'a>,
-    spots: &[Spot],
+    spots: &[Spot<'_>],
     found: &mut Sequence<Finding<'a>>,
 ) -> Result<(), AllocError>
     ensures { OnOk result (map told found.new ≡ map told found.old ++ map (tell_spot source.entry) spots.now) }
@@ -338,14 +349,26 @@ fn push_spots<'a>(
         characters: 0,
     };
     for spot in spots {
+        let directory = copied(spot.directory)?;
         let finding = finding_behind(
             source.path,
             lines.as_slice(),
             spot.place,
             spot.matter,
+            directory,
             &mut front,
         );
         found.push(finding)?;
     }
     Ok(())
+}
+
+/// Copies a path, if there is one.
+fn copied(path: Option<&Path>) -> Result<Option<Path>, AllocError>
+    ensures { IfOk result (λ copy. copy ≡ option_copied path.entry) }
+{
+    match path {
+        Some(path) => Ok(Some(path.clone()?)),
+        None => Ok(None),
+    }
 }

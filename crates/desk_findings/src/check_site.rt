@@ -176,11 +176,11 @@ fn push_unlisted<'a>(
 }
 
 /// Lists the lines of file systems that name a custodian who is not listed, each with the first such name.
-fn unlisted(
+fn unlisted<'r>(
     alloc: Global,
     custodians: &Custodians,
     mounts: &[Mount],
-) -> Result<Vec<Odd>, AllocError>
+) -> Result<Vec<Odd<'r>>, AllocError>
     ensures { IfOk result (λ odds. map odd_at odds.items ≡ map odd_of_unlisted (filter (has_unlisted custodians.now) mounts.now)) }
 {
     let mut odds = Vec::new(alloc);
@@ -191,6 +191,7 @@ fn unlisted(
                 matter: Matter::Fault(SiteRule::Table(TableRule::Custodian), None),
                 among: Among::Words,
                 index: first_custodian(mount).saturating_add(place),
+                directory: None,
             })?;
         }
     }

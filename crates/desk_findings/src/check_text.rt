@@ -15,8 +15,9 @@ ghost use Rattle.desk_findings.specs.CheckText.{Gathers, GathersExports, Gathers
 ghost use Rattle.desk_findings.specs.Finding.{HaveSlices};
 
 use crate::check_faults::{Source, push_line_faults, push_tables};
-use crate::check_odd::{Among, contradictions_in, push_odds};
+use crate::check_odd::{Among, contradictions_in, odds_of, push_in_order, push_odds};
 use crate::finding::Finding;
+use crate::odd_words::add_odd_words;
 use desk_exports::{Boxed, Entry, Profile, Rule, Scope, Tables, find_faults, read_whole};
 use desk_idle::read_lines_write_directories;
 use desk_policy::{
@@ -289,7 +290,7 @@ fn push_netgroup_warnings<'a>(
     Ok(())
 }
 
-/// Adds the contradictions, the warnings and the remarks of the exports text.
+/// Adds the contradictions, the warnings and the remarks of the exports text, and the words that mountd(8) may read otherwise.
 fn push_inconsistencies<'a>(
     alloc: Global,
     source: Source<'a>,
@@ -304,14 +305,15 @@ fn push_inconsistencies<'a>(
 {
     let clashes = contradictions_in(alloc, policy.rows_by_filesystem())?;
     let remarks = find_remarks(alloc, policy, warnings, opinions)?;
-    push_odds(
+    let mut odds = odds_of(
         alloc,
-        source,
         Among::Clients,
         clashes.as_slice(),
         warnings,
         remarks.as_slice(),
-        findings,
     )?;
+    add_odd_words(alloc, source.text, opinions, &mut odds)?;
+    push_in_order(alloc, source, odds, findings)?;
+    drop(remarks);
     Ok(())
 }

@@ -6,7 +6,7 @@ ghost use Rattle.desk_findings.specs.Finding as spec;
 
 use desk_policy::{SiteRule, WarningKind};
 use desk_remarks::{Example, Remark};
-use desk_text::{Addr, Place};
+use desk_text::{Addr, Path, Place};
 
 /// What a finding is about.
 #[derive(Clone, Copy)]
@@ -22,7 +22,7 @@ pub enum Matter {
 }
 
 /// A fault or a warning of a file, as `check` tells it.
-#[derive(Clone, Copy)]
+#[derive(Drop)]
 pub struct Finding<'a> {
     /// The path of the file, as it was given.
     pub path: &'a str,
@@ -33,6 +33,11 @@ pub struct Finding<'a> {
     /// The column of the slice in its line, from 1, in characters; of a file as a whole 1.
     pub column: usize,
     pub matter: Matter,
+    /// The physical line, without its line end, of the other line of a file system by which mountd(8) grants more, or which it
+    /// takes alone; `None` for what is about no such line.
+    pub beside: Option<&'a str>,
+    /// The directory that mountd(8) grants more, if it is one.
+    pub directory: Option<Path>,
 }
 
 impl Matter {

@@ -18,6 +18,7 @@ mod check_odd;
 mod check_site;
 mod check_text;
 mod finding;
+mod odd_words;
 mod one_fault;
 mod one_site_fault;
 

@@ -160,6 +160,7 @@ fn push_on_line<'a>(
         matter: Matter::Fault(SiteRule::Line(fault.rule), None),
         among: Among::Words,
         index: 0,
+        directory: None,
     })?;
     push_in_order(alloc, source, odds, found)
 }

@@ -54,6 +54,7 @@ pub fn find_contradiction<'a>(
         matter: Matter::Contradiction(other, address),
         among: Among::Words,
         index: 0,
+        directory: None,
     })?;
     let mut found = Sequence::new(alloc);
     push_in_order(alloc, source, odds, &mut found)?;

@@ -27,7 +27,7 @@ pub record Witness (P : Path → Type 0) (p : Path → Bool) (dirs : List Path) 
   pub has : P dir
   pub among : is_directory_among dir dirs ≡ true
 
-witness : (P : Path → Type 0) (p : Path → Bool) (dirs : List Path) → AllByRecursion P dirs → list_any p dirs ≡ true → Witness P p dirs
+pub witness : (P : Path → Type 0) (p : Path → Bool) (dirs : List Path) → AllByRecursion P dirs → list_any p dirs ≡ true → Witness P p dirs
 witness P p [] all e = absurd (true≢false (sym e))
 witness P p (dir ∷ dirs) all e =
     elim (or_cases (p dir) (list_any p dirs) e) [
@@ -39,7 +39,7 @@ witness P p (dir ∷ dirs) all e =
 
 -- ---- lines
 
-selected_kept : (P : Row → Type 0) (rows : List Row) (address : ℕ) → AllByRecursion P rows → AllByRecursion P (selected rows address)
+pub selected_kept : (P : Row → Type 0) (rows : List Row) (address : ℕ) → AllByRecursion P rows → AllByRecursion P (selected rows address)
 unfolding selected
 selected_kept P rows address all = kept P (λ row. is_greatest rows address (weight_of row address)) rows all
 
@@ -91,13 +91,13 @@ Lacks path row = is_directory_among path row.entry.dirs ≡ false
 written_split : (path : Path) (row : Row) (rows : List Row) → is_directory_among path (written (row ∷ rows)) ≡ (is_directory_among path row.entry.dirs || is_directory_among path (written rows))
 written_split path row rows = list_any-append (λ dir. same_path dir path) row.entry.dirs (written rows)
 
-each_lacks : (path : Path) (rows : List Row) → is_directory_among path (written rows) ≡ false → AllByRecursion (Lacks path) rows
+pub each_lacks : (path : Path) (rows : List Row) → is_directory_among path (written rows) ≡ false → AllByRecursion (Lacks path) rows
 each_lacks path [] none = tt
 each_lacks path (row ∷ rows) none =
     let s = or_parts _ _ (sym (written_split path row rows) ∙ none) in
     (s.0, each_lacks path rows s.1)
 
-all_lack : (path : Path) (rows : List Row) → AllByRecursion (Lacks path) rows → is_directory_among path (written rows) ≡ false
+pub all_lack : (path : Path) (rows : List Row) → AllByRecursion (Lacks path) rows → is_directory_among path (written rows) ≡ false
 all_lack path [] all = refl
 all_lack path (row ∷ rows) all = written_split path row rows ∙ or_from _ _ all.0 (all_lack path rows all.1)
 
@@ -108,7 +108,7 @@ any_alldirs rows = list_any (λ (other : Row). other.entry.alldirs) rows
 
 module _ (content : Content) (fs : ℕ) where
   -- on a path of the file system the lines with -alldirs and those that write it list it
-  lists_is : (path : Path) → fs_of content.table path ≡ Some fs → (row : Row) → lists content fs path row ≡ (is_directory_among path row.entry.dirs || row.entry.alldirs)
+  pub lists_is : (path : Path) → fs_of content.table path ≡ Some fs → (row : Row) → lists content fs path row ≡ (is_directory_among path row.entry.dirs || row.entry.alldirs)
   lists_is path here row =
       ap (λ o. is_directory_among path row.entry.dirs || (row.entry.alldirs && is_in o fs)) here
       ∙ ap (λ b. is_directory_among path row.entry.dirs || (row.entry.alldirs && b)) (eq-eqb fs fs refl)
@@ -119,7 +119,7 @@ module _ (content : Content) (fs : ℕ) where
       and_true false = refl
 
   -- of lines without -alldirs none lists a path that none of them writes
-  none_lists : (path : Path) → fs_of content.table path ≡ Some fs → (rows : List Row) → any_alldirs rows ≡ false → is_directory_among path (written rows) ≡ false → list_any (lists content fs path) rows ≡ false
+  pub none_lists : (path : Path) → fs_of content.table path ≡ Some fs → (rows : List Row) → any_alldirs rows ≡ false → is_directory_among path (written rows) ≡ false → list_any (lists content fs path) rows ≡ false
   none_lists path here [] a b = refl
   none_lists path here (row ∷ rows) a b =
       let s = or_parts _ _ a in
@@ -146,7 +146,7 @@ module _ (content : Content) (fs : ℕ) where
     own : WritesDirectories content.table fs row
     own = All-contains (WritesDirectories content.table fs) (rows_of content fs) row is has
 
-    own_dirs : AllByRecursion (λ (dir : Path). fs_of content.table dir ≡ Some fs) row.entry.dirs
+    pub own_dirs : AllByRecursion (λ (dir : Path). fs_of content.table dir ≡ Some fs) row.entry.dirs
     own_dirs = recursion_from_All (λ (dir : Path). fs_of content.table dir ≡ Some fs) row.entry.dirs own.own
 
     -- the verdict for the address on a path that this line is the first to list
@@ -167,7 +167,7 @@ module _ (content : Content) (fs : ℕ) where
       pub here : fs_of content.table path ≡ Some fs
       pub unwritten : is_directory_among path (written (rows_of content fs)) ≡ false
 
-    elsewhere : Elsewhere
+    pub elsewhere : Elsewhere
     elsewhere = by_dirs row.entry.dirs own_dirs own.some
       where
         by_dirs : (dirs : List Path) → AllByRecursion (λ (dir : Path). fs_of content.table dir ≡ Some fs) dirs → 0 < length dirs → Elsewhere
@@ -197,7 +197,7 @@ module _ (content : Content) (fs : ℕ) where
         ]
 
     -- of lines of which none lists the path, but this one does
-    brings_by : (path : Path) → fs_of content.table path ≡ Some fs → (earlier : List Row) → list_any (lists content fs path) earlier ≡ false → lists content fs path row ≡ true → brings earlier row ≡ true
+    pub brings_by : (path : Path) → fs_of content.table path ≡ Some fs → (earlier : List Row) → list_any (lists content fs path) earlier ≡ false → lists content fs path row ≡ true → brings earlier row ≡ true
     brings_by path here earlier before passes =
         let none = none_of_both path here earlier before in
         and_from _ _ (not_from_false _ none.0)

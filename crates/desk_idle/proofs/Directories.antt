@@ -14,7 +14,7 @@ use Rattle.std.proofs.lemmas.Slice.Eq.{bytes_eq-Decides, slice_eq-Decides}
 use Rattle.desk_text.specs.Laws.{PrintedPathsDiffer}
 use Rattle.desk_text.specs.Path.{IsPath, path_text, same_path}
 use Rattle.desk_policy.specs.Verdict.{is_directory_among}
-use Rattle.desk_idle.specs.PrivateMarks.{HasDirs, order}
+use Rattle.desk_idle.specs.Listed.{HasDirs, order}
 
 abbrev pub Path : Type 0
 Path = List (List ℕ)

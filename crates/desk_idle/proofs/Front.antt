@@ -1,9 +1,8 @@
 -- The first of some lines, by its number.
-use Rattle.std.proofs.Common.{◌≡◌, ◌∙◌, ◌+◌, ◌++◌, ◌<◌, ℕ, List, [], ◌∷◌, Some, None, ap, arith, get_or, length, refl, sym, take}
+use Rattle.std.proofs.Common.{◌≡◌, ◌∙◌, ℕ, List, [], ◌∷◌, Some, None, ap, refl}
 use Rattle.std.specs.Prelude.{slice_get}
 use Rattle.std.specs.List.{All, Contains}
-use Rattle.std.proofs.lemmas.List.{get_or-map, take_more}
-use Rattle.std.proofs.lemmas.List.Elements.{All-get_or, All-head}
+use Rattle.std.proofs.lemmas.List.Elements.{All-head}
 use Rattle.desk_policy.specs.declared.row.Row.{Row}
 use Rattle.desk_index.specs.Keys.{listed, numbers}
 
@@ -33,22 +32,3 @@ none_listed (row ∷ rows) e = let wrong : None ≡ Some (row.entry.line ∷ num
 pub some_listed : (lines found : List ℕ) → Some found ≡ listed lines → found ≡ lines
 some_listed [] found e = let wrong : Some found ≡ None = e in cc
 some_listed (line ∷ lines) found e = cc
-
--- the line at a place of lines, by its number
-pub record Item (rows chosen : List Row) (i line : ℕ) : Type 0 where
-  pub row : Row
-  pub has : Contains rows row
-  pub number : row.entry.line ≡ line
-  pub next : take (i + 1) chosen ≡ take i chosen ++ row ∷ []
-
-pub item : (rows chosen : List Row) (lines : List ℕ) (i : ℕ) → lines ≡ numbers chosen → All (Contains rows) chosen → i < length chosen → Item rows chosen i (get_or lines i 0)
-item rows [] lines i are all within = absurd (omega arith)
-item rows (first ∷ others) lines i are all within =
-    let chosen : List Row = first ∷ others in
-    let row : Row = get_or chosen i first in
-    record {
-      row = row;
-      has = All-get_or (Contains rows) chosen i first within all;
-      number = sym (get_or-map (λ (r : Row). r.entry.line) chosen i first 0 within) ∙ ap (λ (ns : List ℕ). get_or ns i 0) (sym are);
-      next = take_more chosen i first within;
-    }

@@ -11,10 +11,10 @@ pub mod Looks
 pub mod Known
 pub mod Skipping
 pub mod Together
-pub mod Numbered
 pub mod Matching
 pub mod Idling
 pub mod Front
 pub mod Marking
+pub mod ListedLines
 pub mod WritingDirectories
 pub mod ListedBefore

@@ -1,14 +1,11 @@
 -- Marks of lines that are selected at one address, one after another.
-use Rattle.std.proofs.Common.{◌≡◌, ◌∙◌, ℕ, ◌||◌, ◌++◌, Bool, true, false, eqb, List, [], ◌∷◌, Result, Ok, Err, ap, arith, length, nat_cmp, not, refl, sym}
+use Rattle.std.proofs.Common.{◌≡◌, ◌∙◌, ℕ, ◌++◌, Bool, eqb, List, [], ◌∷◌, Result, Ok, Err, ap, arith, length, nat_cmp, not, sym}
 use Rattle.std.specs.Prelude.{OnOk}
 use Rattle.std.specs.BTreeMap.{BTreeMap, is_at}
 use Rattle.std.specs.Map.{lookup}
 use Rattle.std.specs.List.{list_any}
 use Rattle.std.proofs.lemmas.Bool.{ne_eqb}
-use Rattle.std.proofs.lemmas.Grind.{flat_map-append}
 use Rattle.std.proofs.lemmas.List.{append-nil, append_assoc}
-use Rattle.std.proofs.lemmas.List.Folds.{list_any-append}
-use Rattle.desk_policy.specs.Listings.{written}
 use Rattle.desk_policy.specs.declared.row.Row.{Row}
 use Rattle.desk_idle.specs.Laws.{brings}
 use Rattle.desk_policy.specs.Verdict.{is_directory_among}
@@ -28,18 +25,6 @@ look_more first address earlier (other ∷ done) row =
     (look_more first address (earlier ++ other ∷ []) done row
     ∙ ap (λ (ys : List Row). looks_among first address (earlier ++ other ∷ []) done ++ (let l : Look = record { line = row.entry.line; first = first; address = address; brought = brings ys row } in l) ∷ [])
     (append_assoc earlier (other ∷ []) done))
-
--- the directories of one line more
-pub written_more : (done : List Row) (row : Row) → written done ++ row.entry.dirs ≡ written (done ++ row ∷ [])
-written_more done row = ap (λ (ds : List Path). written done ++ ds) (sym (append-nil row.entry.dirs)) ∙ sym (flat_map-append (λ (r : Row). r.entry.dirs) done (row ∷ []))
-
-or_false : (b : Bool) → (b || false) ≡ b
-or_false true = refl
-or_false false = refl
-
-pub all_more : (done : List Row) (row : Row) → (list_any (λ (r : Row). r.entry.alldirs) done || row.entry.alldirs) ≡ list_any (λ (r : Row). r.entry.alldirs) (done ++ row ∷ [])
-all_more done row =
-    ap (λ b. list_any (λ (r : Row). r.entry.alldirs) done || b) (sym (or_false row.entry.alldirs)) ∙ sym (list_any-append (λ (r : Row). r.entry.alldirs) done (row ∷ []))
 
 -- a line that is the first of all brings any directory
 pub any_dir : (dirs : List Path) (empty : Bool) → empty ≡ eqb (length dirs) 0 → not empty ≡ list_any (λ (dir : Path). not (is_directory_among dir [])) dirs

@@ -86,7 +86,7 @@ some_front p (row ∷ rows) e f =
       ]
     ]
 
-all_of : {X : Type 0} (p : X → Bool) (xs : List X) (x : X) → list_all p xs ≡ true → Contains xs x → p x ≡ true
+pub all_of : {X : Type 0} (p : X → Bool) (xs : List X) (x : X) → list_all p xs ≡ true → Contains xs x → p x ≡ true
 all_of {X = X} p xs x all has = All-contains (λ y. p y ≡ true) xs x (All-from_recursion (λ y. p y ≡ true) xs (each xs all)) has
   where
     each : (ys : List X) → list_all p ys ≡ true → AllByRecursion (λ y. p y ≡ true) ys
@@ -97,7 +97,7 @@ none_some : (o : Option ℕ) → is_none o ≡ true → IsSome o → ⊥
 none_some None e some = true≢false (sym some)
 none_some (Some w) e some = true≢false (sym e)
 
-selects : (rows : List Row) (row : Row) (address : ℕ) → Contains rows row → IsSome (weight_of row address) → selected rows address ≡ [] → ⊥
+pub selects : (rows : List Row) (row : Row) (address : ℕ) → Contains rows row → IsSome (weight_of row address) → selected rows address ≡ [] → ⊥
 selects rows row address has some none =
     elim (greatest_or_not rows address) [
       | inl g ↦ some_front (weighs address g.weight) rows g.some (sym (selected-some rows address g.weight g.some g.all) ∙ none)

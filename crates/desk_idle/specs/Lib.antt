@@ -1,3 +1,4 @@
 pub mod Idle
 pub mod Laws
+pub mod Listed
 pub mod PrivateMarks

@@ -12,11 +12,9 @@ use Rattle.std.specs.Ordering.{nat_cmp}
 use Rattle.std.specs.declared.cmp.Ordering.{Ordering}
 use Rattle.desk_text.specs.Address.{number_of}
 use Rattle.desk_text.specs.AddrSet.{is_among}
-use Rattle.desk_text.specs.Path.{IsPath, path_text}
 use Rattle.desk_text.specs.declared.address.Addr.{Addr}
 use Rattle.desk_exports.specs.declared.entry.Clients.{Clients}
 use Rattle.desk_exports.specs.declared.entry.Clients.TheVariants.{Hosts, Net, Net6, World}
-use Rattle.desk_policy.specs.Verdict.{is_directory_among}
 use Rattle.desk_policy.specs.Weights.{selected, weight_of}
 use Rattle.desk_policy.specs.declared.row.Row.{Row}
 use Rattle.desk_index.specs.Keys.{numbers}
@@ -102,14 +100,6 @@ has_one_key World = true
 abbrev pub are_known : BTreeMap ℕ Mark → List Row → Bool
 are_known marks [] = false
 are_known marks (first ∷ others) = has_one_key first.entry.clients && is_some (tree.get nat_cmp marks first.entry.line)
-
--- the order of lent paths
-abbrev pub order : Bor (List (List ℕ)) → Bor (List (List ℕ)) → Ordering
-order path other = slice_cmp nat_cmp (path_text path.now) (path_text other.now)
-
--- a set has just these directories
-abbrev pub HasDirs : BTreeSet (Bor (List (List ℕ))) → List (List (List ℕ)) → Type 0
-HasDirs set dirs = (path : Bor (List (List ℕ))) → IsPath path.now → sorted.contains order set path ≡ is_directory_among path.now dirs
 
 -- whether a line decides, by what is known of it
 abbrev pub decides : Option Mark → Bool

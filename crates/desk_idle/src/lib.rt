@@ -13,7 +13,7 @@
 
 pub mod idle;
 pub mod laws;
-mod listed;
+pub mod listed;
 mod marks;
 mod selecting;
 pub mod writing;
@@ -23,4 +23,5 @@ pub use laws::{
     idle_lines_are_listed_before, idle_lines_change_nothing, lines_decide_by_what_they_bring,
     read_lines_write_directories,
 };
+pub use listed::Listed;
 pub use writing::write_directories;

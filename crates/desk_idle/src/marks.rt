@@ -4,7 +4,7 @@
 //! ascending order, finds each key that is the heaviest somewhere, and the least address at which it is. Lines that are selected
 //! together are looked at once: those of a network or of everybody are known by the first of them, and others by their numbers.
 
-ghost use Rattle.std.specs.Prelude.{◌≡◌, ◌<◌, ◌^◌, ◌++◌, ◌∷◌, ◌&&◌, ◌||◌, [], not, All, Contains, IfOk, List, ℕ, OnOk, map};
+ghost use Rattle.std.specs.Prelude.{◌≡◌, ◌<◌, ◌^◌, ◌++◌, ◌∷◌, [], All, Contains, IfOk, List, ℕ, OnOk, map};
 ghost use Rattle.desk_text.specs.Address.{number_of};
 ghost use Rattle.desk_policy.specs.Keys.{HasBlock};
 ghost use Rattle.desk_policy.specs.Policy.{AreAscending, rows_of};
@@ -15,10 +15,10 @@ ghost use Rattle.desk_idle.specs.Laws.{brings};
 ghost use Rattle.desk_idle.specs.PrivateMarks as spec;
 ghost use Rattle.desk_idle.specs.PrivateMarks.{AreAllMarks, AreMarks, HaveLooked, Look, looks_among, looks_by};
 
-use crate::listed::add_dirs;
-use crate::selecting::{add_lines, row_numbered, rows_numbered};
+use crate::listed::Listed;
+use crate::selecting::add_lines;
 use desk_exports::Clients;
-use desk_index::{Index, Probes};
+use desk_index::{Index, Probes, row_numbered, rows_numbered};
 use desk_policy::laws::lines_are_selected_by_keys;
 use desk_policy::{PolicyView, Row};
 use desk_tables::FsId;
@@ -175,22 +175,12 @@ fn mark_each(
     ensures { OnOk result ((looks : List Look) → AreMarks looks marks.old
         → AreMarks (looks ++ looks_among first (number_of address) [] (map (λ row. row.now) rows.now)) marks.new) }
 {
-    let mut seen = BTreeSet::new(alloc);
-    let mut all_listed = false;
+    let mut listed = Listed::new(alloc);
     for row in rows {
-        let is_new = add_dirs(&mut seen, row.entry.dirs.as_slice())?;
-        let brought = brings(all_listed, row, is_new);
+        let brought = listed.add(row)?;
         add_look(marks, row.entry.line, first, address, brought)?;
-        all_listed |= row.entry.alldirs;
     }
     Ok(())
-}
-
-/// Tests whether a line brings something, by whether one before it has -alldirs, and whether one of its directories is new.
-fn brings(all_listed: bool, row: &Row, is_new: bool) -> bool
-    ensures { result ≡ (not all_listed && (row.now.entry.alldirs || is_new)) }
-{
-    !all_listed && (row.entry.alldirs || is_new)
 }
 
 /// Adds a look at a line: what it brings, and where it is selected, if that is not known yet.

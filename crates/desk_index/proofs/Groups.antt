@@ -11,7 +11,8 @@ use Rattle.desk_policy.specs.Keys.{Everybody, Host, LineKey, Network, has_key, h
 use Rattle.desk_policy.specs.Policy.{AreAscending}
 use Rattle.desk_policy.specs.Verdict.{lists_here}
 use Rattle.desk_policy.specs.declared.row.Row.{Row}
-use Rattle.desk_index.specs.PrivateMarks.{AreUnderOneKey, group_by, group_of, is_one_line, lists_at, same_group}
+use Rattle.desk_index.specs.Keys.{AreUnderOneKey}
+use Rattle.desk_index.specs.PrivateMarks.{group_by, group_of, is_one_line, lists_at, same_group}
 use Rattle.desk_index.specs.PrivateNumbered.{rows_numbered}
 use Rattle.desk_index.specs.declared.marks.Group.{Group}
 use Rattle.desk_index.specs.declared.marks.Group.TheVariants as groups

@@ -14,8 +14,7 @@ use Rattle.desk_policy.specs.Verdict.{Grant, granted_by, is_directory_among, is_
 use Rattle.desk_policy.specs.Weights.{selected}
 use Rattle.desk_policy.specs.declared.row.Row.{Row}
 use Rattle.desk_policy.specs.declared.verdict.Denial.TheVariants as denials
-use Rattle.desk_index.specs.Keys.{HasNoMatch, IsHeaviest, fs_of_key, key_weight, line_key, lines_under, lines_with, listed, numbers}
-use Rattle.desk_index.specs.PrivateMarks.{AreUnderOneKey}
+use Rattle.desk_index.specs.Keys.{AreUnderOneKey, HasNoMatch, IsHeaviest, fs_of_key, key_weight, line_key, lines_under, lines_with, listed, numbers}
 use Rattle.desk_index.specs.PrivateNumbered.{rows_numbered}
 use Rattle.desk_index.specs.declared.keys.Key.{Key}
 use Rattle.desk_index.specs.declared.keys.Key.TheVariants as keys
@@ -26,20 +25,27 @@ use Rattle.desk_index.proofs.Selecting.{same_id}
 -- ---- keys of lines, as keys of a file system
 
 -- the key of a file system with this key of lines
-abbrev key_at : FsId → LineKey → Key
+abbrev pub key_at : FsId → LineKey → Key
 key_at fs (lines.Host n) = keys.Host fs (record { number = n })
 key_at fs (lines.Network net) = keys.Net fs net
 key_at fs lines.Everybody = keys.World fs
 
-line_key_at : (fs : FsId) (key : LineKey) → line_key (key_at fs key) ≡ key
+pub line_key_at : (fs : FsId) (key : LineKey) → line_key (key_at fs key) ≡ key
 line_key_at fs (lines.Host n) = refl
 line_key_at fs (lines.Network net) = refl
 line_key_at fs lines.Everybody = refl
 
-fs_key_at : (fs : FsId) (key : LineKey) → fs_of_key (key_at fs key) ≡ fs
+pub fs_key_at : (fs : FsId) (key : LineKey) → fs_of_key (key_at fs key) ≡ fs
 fs_key_at fs (lines.Host n) = refl
 fs_key_at fs (lines.Network net) = refl
 fs_key_at fs lines.Everybody = refl
+
+-- such a key weighs as the key of lines
+pub weight_at : (fs : FsId) (address : ℕ) (key : LineKey) → key_weight fs.0 address (key_at fs key) ≡ lines.key_weight address key
+weight_at fs address key =
+    ap (λ (f : FsId). cond (eqb f.0 fs.0) (lines.key_weight address (line_key (key_at fs key))) None) (fs_key_at fs key)
+    ∙ cond-true (eqb fs.0 fs.0) (lines.key_weight address (line_key (key_at fs key))) None (eq-eqb fs.0 fs.0 refl)
+    ∙ ap (lines.key_weight address) (line_key_at fs key)
 
 -- ---- lists
 
@@ -64,14 +70,14 @@ none_some o e = ap is_some e
 
 module _ (content : Content) (fs : FsId) (address : ℕ) where
   -- a key that matches is one of this file system
-  of_fs : (key : Key) (w : ℕ) → key_weight fs.0 address key ≡ Some w → (fs_of_key key ≡ fs) × (lines.key_weight address (line_key key) ≡ Some w)
+  pub of_fs : (key : Key) (w : ℕ) → key_weight fs.0 address key ≡ Some w → (fs_of_key key ≡ fs) × (lines.key_weight address (line_key key) ≡ Some w)
   of_fs key w e =
       elim (cases_Bool (eqb (fs_of_key key).0 fs.0)) [
         | inl t ↦ (same_id (fs_of_key key) fs (eqb-true _ _ t), sym (cond-true (eqb (fs_of_key key).0 fs.0) (lines.key_weight address (line_key key)) None t) ∙ e)
         | inr f ↦ absurd (let g : None ≡ Some w = sym (cond-false (eqb (fs_of_key key).0 fs.0) (lines.key_weight address (line_key key)) None f) ∙ e in cc)
       ]
 
-  here : (key : Key) → fs_of_key key ≡ fs → lines_under content key ≡ listed (lines_with (rows_of content fs.0) (line_key key))
+  pub here : (key : Key) → fs_of_key key ≡ fs → lines_under content key ≡ listed (lines_with (rows_of content fs.0) (line_key key))
   unfolding lines_under
   here key e = ap (λ (f : FsId). listed (lines_with (rows_of content f.0) (line_key key))) e
 
@@ -96,10 +102,7 @@ module _ (content : Content) (fs : FsId) (address : ℕ) (select : KeysSelect (r
   under key = ap (λ (f : FsId). listed (lines_with (rows_of content f.0) (line_key (key_at fs key)))) (fs_key_at fs key) ∙ ap (λ k. listed (lines_with (rows_of content fs.0) k)) (line_key_at fs key)
 
   weight : (key : LineKey) → key_weight fs.0 address (key_at fs key) ≡ lines.key_weight address key
-  weight key =
-      ap (λ (f : FsId). cond (eqb f.0 fs.0) (lines.key_weight address (line_key (key_at fs key))) None) (fs_key_at fs key)
-      ∙ cond-true (eqb fs.0 fs.0) (lines.key_weight address (line_key (key_at fs key))) None (eq-eqb fs.0 fs.0 refl)
-      ∙ ap (lines.key_weight address) (line_key_at fs key)
+  weight key = weight_at fs address key
 
   is_key : (key : LineKey) → IsLineKey key → IsLineKey (line_key (key_at fs key))
   is_key key ok = subst IsLineKey (sym (line_key_at fs key)) ok

@@ -1,5 +1,6 @@
 pub mod Keys
 pub mod Laws
+pub mod Lighter
 pub mod PrivateFilter
 pub mod PrivateSlot
 pub mod PrivateMarks

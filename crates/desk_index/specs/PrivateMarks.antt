@@ -4,20 +4,13 @@ use Rattle.std.specs.List.{AllPairs}
 use Rattle.desk_text.specs.Path.{path_text, same_path}
 use Rattle.desk_exports.specs.declared.entry.Clients.{Clients}
 use Rattle.desk_exports.specs.declared.entry.Clients.TheVariants as clients
-use Rattle.desk_policy.specs.Keys.{LineKey}
 use Rattle.desk_policy.specs.Verdict.{lists_here}
 use Rattle.desk_policy.specs.declared.row.Row.{Row}
-use Rattle.desk_index.specs.Keys.{lines_with}
 use Rattle.desk_index.specs.PrivateSlot.{Keeps}
 use Rattle.desk_index.specs.declared.marks.Group.{Group}
 use Rattle.desk_index.specs.declared.marks.Group.TheVariants as groups
 use Rattle.desk_index.specs.declared.marks.Marks.{Marks}
 use Rattle.desk_index.specs.declared.marks.Spot.{Spot}
-
--- these are the lines under one key
-pub record AreUnderOneKey (rows : List Row) (lines : List ℕ) : Type 0 where
-  pub key : LineKey
-  pub all : lines ≡ lines_with rows key
 
 -- Lines for one network are a group, and so are those for everybody; any other line is a group by itself.
 abbrev pub group_by : Clients → ℕ → Group

@@ -1,23 +1,24 @@
 //! A policy by keys.
 
-ghost use Rattle.std.specs.Prelude.{◌≡◌, ◌<◌, ◌≤◌, IfErr, IfOk, IfSome, List, OnOk, find, length};
+ghost use Rattle.std.specs.Prelude.{◌≡◌, ◌<◌, ◌≤◌, All, Contains, IfErr, IfOk, IfSome, List, OnOk, find, length};
 ghost use Rattle.std.specs.Option.{option_copied};
 ghost use Rattle.desk_text.specs.Address.{number_of};
 ghost use Rattle.desk_policy.specs.Contradiction.{AreConsistent};
 ghost use Rattle.desk_policy.specs.Policy.{AreAscending, rows_of};
 ghost use Rattle.desk_policy.specs.Verdict.{lists_here, verdict_among, verdict_result};
 ghost use Rattle.desk_policy.specs.Weights.{selected};
-ghost use Rattle.desk_index.specs.Keys.{AreWeights, HasNoHostBits, lines_under, listed, numbers};
+ghost use Rattle.desk_policy.specs.declared.row.Row.{Row};
+ghost use Rattle.desk_index.specs.Keys.{AreUnderOneKey, AreWeights, HasNoHostBits, lines_under, listed, numbers};
+ghost use Rattle.desk_index.specs.Lighter.{AreHeaviestBelow, weighing};
 ghost use Rattle.desk_index.specs.PrivateIndex.{Refuses};
 ghost use Rattle.desk_index.specs.PrivateKeyed.{AreKeyed};
-ghost use Rattle.desk_index.specs.PrivateMarks.{AreUnderOneKey};
-ghost use Rattle.desk_index.specs.PrivateNumbered.{rows_numbered};
 
 use crate::index_row::IndexRow;
 use crate::keyed::Keyed;
 use crate::keys::Key;
 use crate::laws::select_finds_the_selected_lines;
-use crate::selection::{Rows, select};
+use crate::lighter::Weighed;
+use crate::selection::{Rows, key_of, select};
 use desk_policy::{
     Denial, Policy, PolicyView, Row, SiteFault, Verdict, contradiction_of_rows, least_contradiction,
 };
@@ -114,6 +115,38 @@ impl Index {
         select(&mut probes, fs, address)
     }
 
+    /// Finds, of the lines of a file system that match an address with less than a weight, those of the greatest weight, in at
+    /// most 35 look-ups.
+    pub fn heaviest_below(&self, fs: FsId, address: Addr, below: u8) -> Option<Weighed<'_>>
+        ensures heaviest { AreHeaviestBelow (rows_of self.now fs.0) (number_of address) below result }
+        ensures lines { IfSome result (λ found. AreUnderOneKey (rows_of self.now fs.0) found.lines.now) }
+    {
+        let _number = address.number();
+        let _probes = Probes::new(self);
+        for weight in self.weights(fs) {
+            if *weight < below {
+                if let Some(row) = self.weighing(fs, address, *weight) {
+                    return Some(Weighed {
+                        weight: *weight,
+                        lines: row.lines(),
+                    });
+                }
+            }
+        }
+        None
+    }
+
+    /// Finds the lines of a file system that match an address with this weight, which are those under one key.
+    fn weighing(&self, fs: FsId, address: Addr, weight: u8) -> Option<&IndexRow>
+        requires { weight < 35 }
+        ensures weighing { option_copied result ≡ listed (numbers (weighing (rows_of self.now fs.0) (number_of address) weight)) }
+        ensures lines { IfSome result (λ row. AreUnderOneKey (rows_of self.now fs.0) row.now) }
+    {
+        let _number = address.number();
+        let _probes = Probes::new(self);
+        self.row(&key_of(fs, address, weight))
+    }
+
     /// Decides on a path of this file system.
     fn decide_in(&self, fs: FsId, address: Addr, path: &Path) -> Verdict<'_>
         ensures { verdict_result result ≡ verdict_among fs (lists_here path.now) (selected (rows_of self.now fs.0) (number_of address)) }
@@ -135,10 +168,10 @@ impl Index {
         }
     }
 
-    /// Finds the first of the lines under a key that lists a path of their file system.
-    fn first_listing(&self, fs: FsId, lines: &[u32], path: &Path) -> Option<&Row>
+    /// Finds the first of the lines under one key that lists a path of their file system.
+    pub fn first_listing(&self, fs: FsId, lines: &[u32], path: &Path) -> Option<&Row>
         requires { AreUnderOneKey (rows_of self.now fs.0) lines.now }
-        ensures { option_copied result ≡ find (lists_here path.now) (rows_numbered (rows_of self.now fs.0) lines.now) }
+        ensures { (chosen : List Row) → lines.now ≡ numbers chosen → All (Contains (rows_of self.now fs.0)) chosen → option_copied result ≡ find (lists_here path.now) chosen }
     {
         let place = fs.0 as usize;
         if place >= self.parts.len() {

@@ -10,8 +10,8 @@ ghost use Rattle.std.specs.Prelude.{◌≡◌, ◌<◌, ◌+◌, ◌++◌, ◌�
 ghost use Rattle.std.specs.Option.{option_copied};
 ghost use Rattle.desk_policy.specs.Policy.{AreAscending};
 ghost use Rattle.desk_policy.specs.Verdict.{lists_here};
-ghost use Rattle.desk_index.specs.Keys.{numbers};
-ghost use Rattle.desk_index.specs.PrivateMarks.{AreMarked, AreUnderOneKey, KeepsMarks, first_of, group_of, is_one_line, lists_at, mark_of, names_at, passes_at, same_group, seed_of, step};
+ghost use Rattle.desk_index.specs.Keys.{AreUnderOneKey, numbers};
+ghost use Rattle.desk_index.specs.PrivateMarks.{AreMarked, KeepsMarks, first_of, group_of, is_one_line, lists_at, mark_of, names_at, passes_at, same_group, seed_of, step};
 ghost use Rattle.desk_index.specs.PrivateNumbered.{rows_numbered};
 ghost use Rattle.desk_index.specs.PrivateSlot.{Keeps, lines_of};
 

@@ -1,2 +1,4 @@
 pub mod Consistency
+pub mod Inserted
+pub mod Kept
 pub mod LeftOut

@@ -59,7 +59,7 @@ is_root_for_many entry = are_many entry.clients && (acts_as_root entry.terms.map
 
 -- what is said of a line, if it is said
 abbrev pub remark_if : Bool → ℕ → Remark → List LineRemark
-remark_if said line remark = if said then record { line = line; remark = remark; example = None } ∷ [] else []
+remark_if said line remark = if said then record { line = line; remark = remark; example = None; directory = None } ∷ [] else []
 
 -- what is said of a line by itself, with opinions or without
 abbrev pub entry_remarks : Bool → Entry → List LineRemark

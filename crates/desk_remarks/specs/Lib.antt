@@ -4,4 +4,5 @@ pub mod PrivateRemarks
 pub mod PrivateUnwarned
 pub mod Remark
 pub mod Remarks
+pub mod Said
 pub mod Unwarned

@@ -1,11 +1,10 @@
 -- What the private contracts of remarks cite.
-use Rattle.std.specs.Prelude.{◌≡◌, ◌++◌, List, map}
-use Rattle.desk_idle.specs.declared.idle.Idle.{Idle}
-use Rattle.desk_remarks.specs.Remarks.{idle_remark}
-use Rattle.desk_remarks.specs.declared.remark.LineRemark.{LineRemark}
+use Rattle.std.specs.Prelude.{◌≡◌, ℕ, List}
+use Rattle.std.specs.BTreeSet.{BTreeSet, contains}
+use Rattle.std.specs.Ordering.{nat_cmp}
+use Rattle.desk_server.specs.declared.wider.WiderGrant.{WiderGrant}
+use Rattle.desk_remarks.specs.Remarks.{grants_more}
 
--- remarks are added that these lines decide nothing
-pub record AddsIdle (AreThose : List Idle → Type 0) (old new : List LineRemark) : Type 0 where
-  pub idle : List Idle
-  pub are : AreThose idle
-  pub added : new ≡ old ++ map idle_remark idle
+-- a set has just the lines by which the server grants this more
+abbrev pub HasOthers : List WiderGrant → BTreeSet ℕ → Type 0
+HasOthers wider others = (line : ℕ) → contains nat_cmp others line ≡ grants_more wider line

@@ -1,57 +1,68 @@
 //! What is said of a line by itself.
 
-ghost use Rattle.std.specs.Prelude.{◌≡◌, ◌++◌, OnOk};
+ghost use Rattle.std.specs.Prelude.{◌≡◌, ◌++◌, OnOk, filter};
 ghost use Rattle.desk_remarks.specs.EntryRemarks as spec;
+ghost use Rattle.desk_remarks.specs.PrivateUnwarned.{is_outside};
 
 use crate::remark::{LineRemark, Remark};
+use crate::unwarned::push_unwarned;
 use desk_exports::{BoxedMapping, Clients, Entry, Flavour, Mapping, Terms};
 use desk_text::Sequence;
 use std::alloc::AllocError;
+use std::collections::BTreeSet;
 
-/// Adds what is said of a line by itself: that its network has every address, and opinions, if they are asked for.
+/// Adds what is said of a line by itself, unless it is one of these lines: that its network has every address, and opinions, if they
+/// are asked for.
 pub(crate) fn push_entry(
     entry: &Entry,
     opinions: bool,
+    warned: &BTreeSet<u32>,
     found: &mut Sequence<LineRemark>,
 ) -> Result<(), AllocError>
-    ensures { OnOk result (found.new ≡ found.old ++ spec.entry_remarks opinions entry.now) }
+    ensures { OnOk result (found.new ≡ found.old ++ filter (is_outside warned.now) (spec.entry_remarks opinions entry.now)) }
 {
     let line = entry.line;
     push_if(
         is_every_address(&entry.clients),
         line,
         Remark::EveryAddress,
+        warned,
         found,
     )?;
     push_if(
         opinions && is_writable_by_all(entry),
         line,
         Remark::WritableByAll,
+        warned,
         found,
     )?;
     push_if(
         opinions && is_root_for_many(entry),
         line,
         Remark::RootForMany,
+        warned,
         found,
     )
 }
 
-/// Adds what is said of a line, if it is said.
+/// Adds what is said of a line, if it is said, and the line is none of these.
 fn push_if(
     said: bool,
     line: u32,
     remark: Remark,
+    warned: &BTreeSet<u32>,
     found: &mut Sequence<LineRemark>,
 ) -> Result<(), AllocError>
-    ensures { OnOk result (found.new ≡ found.old ++ spec.remark_if said line remark) }
+    ensures { OnOk result (found.new ≡ found.old ++ filter (is_outside warned.now) (spec.remark_if said line remark)) }
 {
     if said {
-        found.push(LineRemark {
+        let said_of_line = LineRemark {
             line,
             remark,
             example: None,
-        })?;
+            directory: None,
+        };
+        push_unwarned(said_of_line, warned, found)?;
     }
     Ok(())
 }

@@ -2,7 +2,8 @@
 //!
 //! Its promise: [`find_remarks`] lists of a policy that does not contradict itself just the lines that decide nothing, each with the
 //! reason, and the networks of prefix 0; and, if they are asked for, opinions: the lines that let everybody write, and those that
-//! let the root of many clients act as root. It says nothing of a line one of whose words is warned of.
+//! let the root of many clients act as root. It says nothing of that of a line one of whose words is warned of. Whatever is warned
+//! of, it lists just the lines to whose clients mountd(8) grants more, and those that it leaves out.
 //!
 //! ```text
 //! // with `/a 10.0.0.5` and `/a 10.0.0.5` once more:
@@ -12,9 +13,12 @@
 #![tactic(auto)]
 
 mod entry_remarks;
+mod idle_remarks;
 pub mod laws;
 pub mod remark;
 mod remarks;
+mod said;
+mod server_remarks;
 mod unwarned;
 
 pub use laws::lines_left_out_change_nothing;

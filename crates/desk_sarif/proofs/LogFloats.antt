@@ -7,8 +7,7 @@ use Rattle.serde_json.specs.Data.{Data}
 use Rattle.serde_json.specs.View.{items_of}
 use Rattle.serde_json.specs.Written.{compact_text, has_float, items_have_float}
 use Rattle.desk_findings.specs.declared.finding.Finding.{Finding}
-use Rattle.desk_check.specs.FindingJson.{other_of}
-use Rattle.desk_check.specs.FindingPrints.{message}
+use Rattle.desk_check.specs.FindingPrints.{message_of, other_of}
 use Rattle.desk_sarif.specs.Sarif.{log_of, result_data, result_of}
 use Rattle.desk_sarif.specs.SarifRules.{log_rules, rule_data}
 
@@ -22,7 +21,7 @@ result_of_has_none None finding text = refl
 result_of_has_none (Some line) finding text = refl
 
 result_has_none : (finding : Finding) → has_float (result_data finding) ≡ false
-result_has_none finding = result_of_has_none (other_of finding.matter) finding (message finding.source.now finding.place finding.matter)
+result_has_none finding = result_of_has_none (other_of finding.matter) finding (message_of finding)
 
 pub log_has_none : (findings : List Finding) → has_float (log_of findings) ≡ false
 log_has_none findings = rw (list_has_none result_data result_has_none findings, list_has_none rule_data (λ rule. refl) log_rules) refl

@@ -8,13 +8,12 @@ use Rattle.serde_json.specs.Data.{Data, Members, array, item, member, no_items, 
 use Rattle.serde_json.specs.View.{items_of}
 use Rattle.serde_json.specs.Written.{compact_text}
 use Rattle.desk_remarks.specs.declared.remark.Remark.{Remark}
-use Rattle.desk_remarks.specs.declared.remark.Remark.TheVariants.{EveryAddress, NoClient, Repeated, RootForMany, Shadowed, WritableByAll}
+use Rattle.desk_remarks.specs.declared.remark.Remark.TheVariants.{Backslash, EveryAddress, NoClient, Repeated, RepeatedClient, RootForMany, ServerGrantsMore, Shadowed, ShadowedHere, V4Line, WritableByAll}
 use Rattle.desk_findings.specs.Finding.{line_at, slice_at}
 use Rattle.desk_findings.specs.declared.finding.Finding.{Finding}
 use Rattle.desk_findings.specs.declared.finding.Matter.{Matter}
 use Rattle.desk_findings.specs.declared.finding.Matter.TheVariants as matter
-use Rattle.desk_check.specs.FindingJson.{other_of}
-use Rattle.desk_check.specs.FindingPrints.{message}
+use Rattle.desk_check.specs.FindingPrints.{message_of, other_of}
 use Rattle.desk_sarif.specs.SarifRules.{log_rules, only, rule_data, rule_id, text_data}
 use Rattle.desk_sarif.specs.SarifUri.{uri_of}
 
@@ -39,10 +38,15 @@ message_text text = flat_map in_message (chars text)
 abbrev pub remark_level : Remark → List ℕ
 remark_level Shadowed = codes "warning"
 remark_level Repeated = codes "warning"
+remark_level ShadowedHere = codes "warning"
 remark_level NoClient = codes "warning"
 remark_level EveryAddress = codes "warning"
 remark_level WritableByAll = codes "note"
 remark_level RootForMany = codes "note"
+remark_level ServerGrantsMore = codes "warning"
+remark_level Backslash = codes "warning"
+remark_level V4Line = codes "note"
+remark_level RepeatedClient = codes "warning"
 
 abbrev pub level_of : Matter → List ℕ
 level_of (matter.Fault rule other) = codes "error"
@@ -100,14 +104,14 @@ result_of other finding text = object
     (member (codes "ruleId") (string (rule_id finding.matter)) no_members)))))
 
 abbrev pub result_data : Finding → Data
-result_data finding = result_of (other_of finding.matter) finding (message finding.source.now finding.place finding.matter)
+result_data finding = result_of (other_of finding.matter) finding (message_of finding)
 
 -- the program with its rules
 abbrev pub driver : Data
 driver = object
     (member (codes "name") (string (codes "exportdesk"))
     (member (codes "rules") (list (map rule_data log_rules))
-    (member (codes "version") (string (codes "1.0.0")) no_members)))
+    (member (codes "version") (string (codes "1.1.0")) no_members)))
 
 -- the run that has these results; its columns count characters, and not the halves that UTF-16 makes of some
 abbrev pub run_of : List Finding → Data

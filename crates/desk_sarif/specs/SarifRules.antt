@@ -12,9 +12,9 @@ use Rattle.desk_policy.specs.declared.site_fault.SiteRule.{SiteRule}
 use Rattle.desk_policy.specs.declared.site_fault.SiteRule.TheVariants as rule
 use Rattle.desk_policy.specs.declared.warning.WarningKind.{WarningKind}
 use Rattle.desk_policy.specs.declared.warning.WarningKind.TheVariants.{ClassMask, Ipv6, UnknownHost, UnknownMember}
-use Rattle.desk_remarks.specs.Remark.{remark_sentence}
+use Rattle.desk_remarks.specs.Remark.{remark_sentence, rule_of}
 use Rattle.desk_remarks.specs.declared.remark.Remark.{Remark}
-use Rattle.desk_remarks.specs.declared.remark.Remark.TheVariants.{EveryAddress, NoClient, Repeated, RootForMany, Shadowed, WritableByAll}
+use Rattle.desk_remarks.specs.declared.remark.Remark.TheVariants.{Backslash, EveryAddress, NoClient, Repeated, RepeatedClient, RootForMany, ServerGrantsMore, Shadowed, V4Line, WritableByAll}
 use Rattle.desk_findings.specs.Finding.{name_of, number_of}
 use Rattle.desk_findings.specs.declared.finding.Matter.{Matter}
 use Rattle.desk_findings.specs.declared.finding.Matter.TheVariants as matter
@@ -42,7 +42,7 @@ abbrev pub sentence_of : Matter → List ℕ
 sentence_of (matter.Fault rule other) = rule_sentence rule
 sentence_of (matter.Contradiction other address) = rule_sentence rule.Contradiction
 sentence_of (matter.Warning kind) = kind_sentence kind
-sentence_of (matter.Remark remark example) = remark_sentence remark
+sentence_of (matter.Remark remark example) = remark_sentence (rule_of remark)
 
 -- what a help has before it: what is said of a line names the line itself
 abbrev pub subject_of : Matter → List ℕ
@@ -63,7 +63,7 @@ abbrev pub warning_kinds : List WarningKind
 warning_kinds = ClassMask ∷ Ipv6 ∷ UnknownHost ∷ UnknownMember ∷ []
 
 abbrev pub remarks : List Remark
-remarks = Shadowed ∷ Repeated ∷ NoClient ∷ EveryAddress ∷ WritableByAll ∷ RootForMany ∷ []
+remarks = Shadowed ∷ Repeated ∷ NoClient ∷ EveryAddress ∷ WritableByAll ∷ RootForMany ∷ ServerGrantsMore ∷ Backslash ∷ V4Line ∷ RepeatedClient ∷ []
 
 -- each of them
 abbrev pub log_rules : List Matter

@@ -9,8 +9,7 @@ ghost use Rattle.serde_json.specs.Data.{object, put as put_member, string};
 ghost use Rattle.serde_json.specs.View.{members_view, view};
 ghost use Rattle.serde_json.specs.Written.{compact_text};
 ghost use Rattle.desk_findings.specs.Finding.{HasSlice, HaveSlices};
-ghost use Rattle.desk_check.specs.FindingJson.{other_of};
-ghost use Rattle.desk_check.specs.FindingPrints.{message};
+ghost use Rattle.desk_check.specs.FindingPrints.{message_of, other_of};
 ghost use Rattle.desk_sarif.specs.PrivateSarif.{put_other};
 ghost use Rattle.desk_sarif.specs.Sarif as spec;
 ghost use Rattle.desk_sarif.specs.SarifRules.{rule_id as id_of, text_data};
@@ -28,7 +27,7 @@ const SCHEMA: &str =
     "https://docs.oasis-open.org/sarif/sarif/v2.1.0/errata01/os/schemas/sarif-schema-2.1.0.json";
 
 /// The version of this program, as `exportdesk --version` prints it.
-const VERSION: &str = "1.0.0";
+const VERSION: &str = "1.1.0";
 
 /// Prints findings in their order as the results of one log, in compact JSON and a line end. A result has `level` (`error`,
 /// `warning` or, for an opinion, `note`), one of `locations` (the file and the region of its slice), `message`, for what names
@@ -138,8 +137,15 @@ fn remark_level(remark: Remark) -> &'static str
     ensures { result.now ≡ spec.remark_level remark }
 {
     match remark {
-        Remark::Shadowed | Remark::Repeated | Remark::NoClient | Remark::EveryAddress => "warning",
-        Remark::WritableByAll | Remark::RootForMany => "note",
+        Remark::WritableByAll | Remark::RootForMany | Remark::V4Line => "note",
+        Remark::Shadowed
+        | Remark::Repeated
+        | Remark::ShadowedHere
+        | Remark::NoClient
+        | Remark::EveryAddress
+        | Remark::ServerGrantsMore
+        | Remark::Backslash
+        | Remark::RepeatedClient => "warning",
     }
 }
 
@@ -214,7 +220,7 @@ fn add_message(
     requires { HasSlice finding.now }
     ensures { OnOk result (members_view members.new.entries
         ≡ put_member (codes "message")
-        (text_data (spec.message_text (message finding.now.source.now finding.now.place finding.now.matter)))
+        (text_data (spec.message_text (message_of finding.now)))
         (members_view members.old.entries)) }
 {
     let message = message_value(alloc, finding)?;
@@ -225,7 +231,7 @@ fn add_message(
 fn message_value(alloc: Global, finding: &Finding) -> Result<Value, AllocError>
     requires { HasSlice finding.now }
     ensures { IfOk result (λ value. view value
-        ≡ text_data (spec.message_text (message finding.now.source.now finding.now.place finding.now.matter))) }
+        ≡ text_data (spec.message_text (message_of finding.now))) }
 {
     let text = message_text(alloc, finding)?;
     json!(in alloc; {"text": text})
@@ -235,7 +241,7 @@ fn message_value(alloc: Global, finding: &Finding) -> Result<Value, AllocError>
 fn message_text(alloc: Global, finding: &Finding) -> Result<String, AllocError>
     requires { HasSlice finding.now }
     ensures { IfOk result (λ text. string_bytes text
-        ≡ spec.message_text (message finding.now.source.now finding.now.place finding.now.matter)) }
+        ≡ spec.message_text (message_of finding.now)) }
 {
     let mut message = String::new(alloc);
     push_message(finding, &mut message)?;

@@ -17,7 +17,7 @@ use std::alloc::{AllocError, Global};
 
 /// All that a finding may be about: the rules of the lines of exports files, of tables and of netgroup files, each in the
 /// order in which they are checked, and the kinds of warnings. (Another line counts for nothing here.)
-const RULES: [Matter; 50] = [
+const RULES: [Matter; 54] = [
     Matter::Fault(SiteRule::Line(Rule::OpenQuote), None),
     Matter::Fault(SiteRule::Line(Rule::StrayComment), None),
     Matter::Fault(SiteRule::Line(Rule::NotAbsolute), None),
@@ -68,6 +68,10 @@ const RULES: [Matter; 50] = [
     Matter::Remark(Remark::EveryAddress, None),
     Matter::Remark(Remark::WritableByAll, None),
     Matter::Remark(Remark::RootForMany, None),
+    Matter::Remark(Remark::ServerGrantsMore, None),
+    Matter::Remark(Remark::Backslash, None),
+    Matter::Remark(Remark::V4Line, None),
+    Matter::Remark(Remark::RepeatedClient, None),
 ];
 
 /// Makes the objects of all rules.
@@ -146,7 +150,7 @@ fn sentence_of(about: Matter) -> &'static str
         Matter::Fault(rule, _) => rule.sentence(),
         Matter::Contradiction(..) => SiteRule::Contradiction.sentence(),
         Matter::Warning(kind) => kind.sentence(),
-        Matter::Remark(remark, _) => remark.sentence(),
+        Matter::Remark(remark, _) => remark.rule().sentence(),
     }
 }
 

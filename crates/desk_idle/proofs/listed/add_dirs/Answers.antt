@@ -1,7 +1,7 @@
 use Rattle.std.proofs.Common.{◌≡◌, ◌+◌, ◌++◌, ◌∷◌, ◌∙◌, ◌||◌, [], ap, subst, sym, take}
 use Rattle.std.specs.List.{list_any}
 use Rattle.std.proofs.lemmas.List.{append_assoc, take_all, take_more}
-use Rattle.desk_idle.specs.PrivateMarks.{HasDirs}
+use Rattle.desk_idle.specs.Listed.{HasDirs}
 use Rattle.desk_idle.proofs.Directories.{Path, is_new, one_more_new}
 use Rattle.desk_idle.proofs.listed.add_dirs.Goals as goal
 

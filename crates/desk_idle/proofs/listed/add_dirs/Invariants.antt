@@ -2,7 +2,7 @@
 use Rattle.std.proofs.Common.{◌≡◌, ◌++◌, ℕ, List, not, take}
 use Rattle.std.specs.List.{list_any}
 use Rattle.desk_policy.specs.Verdict.{is_directory_among}
-use Rattle.desk_idle.specs.PrivateMarks.{HasDirs}
+use Rattle.desk_idle.specs.Listed.{HasDirs}
 use Rattle.desk_idle.proofs.listed.add_dirs.Given as goal
 
 abbrev pub invariant-loop-dir : goal.invariant-loop-dir

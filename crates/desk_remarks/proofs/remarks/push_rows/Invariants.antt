@@ -1,9 +1,10 @@
 -- What is added so far.
-use Rattle.std.proofs.Common.{◌≡◌, ◌++◌, take}
+use Rattle.std.proofs.Common.{◌≡◌, ◌++◌, filter, take}
 use Rattle.std.specs.List.{flat_map}
 use Rattle.desk_policy.specs.declared.row.Row.{Row}
 use Rattle.desk_remarks.specs.EntryRemarks.{entry_remarks}
+use Rattle.desk_remarks.specs.PrivateUnwarned.{is_outside}
 use Rattle.desk_remarks.proofs.remarks.push_rows.Given as goal
 
 abbrev pub invariant-loop-row : goal.invariant-loop-row
-invariant-loop-row l = l.found ≡ l.initial.found ++ flat_map (λ (row : Row). entry_remarks l.opinions row.entry) (take l.row-index l.rows)
+invariant-loop-row l = l.found ≡ l.initial.found ++ flat_map (λ (row : Row). filter (is_outside l.warned) (entry_remarks l.opinions row.entry)) (take l.row-index l.rows)

@@ -1,21 +1,11 @@
 -- One more line is gathered.
-use Rattle.std.proofs.Common.{◌≡◌, ◌∙◌, ◌||◌, ℕ, Bool, true, false, ap, arith, cond, eqb, nat_cmp, refl, sym, take}
+use Rattle.std.proofs.Common.{◌≡◌, ◌∙◌, ◌||◌, ap, cond, eqb, nat_cmp, sym, take, true}
 use Rattle.std.specs.BTreeSet.{contains}
-use Rattle.std.specs.Ordering.{is_eq}
-use Rattle.std.proofs.lemmas.Bool.Decides.{nat_tests}
 use Rattle.std.proofs.lemmas.List.Folds.{list_any_more}
 use Rattle.desk_policy.specs.declared.warning.Warning.{Warning}
 use Rattle.desk_remarks.specs.Unwarned.{is_warned}
+use Rattle.desk_remarks.proofs.Inserted.{either, same_key}
 use Rattle.desk_remarks.proofs.unwarned.warned_lines.Goals as goal
-
-same_key : (key other : ℕ) → is_eq (nat_cmp key other) ≡ eqb key other
-same_key key other = grind (arith, nat_tests)
-
-either : (a b : Bool) → cond a true b ≡ (b || a)
-either true true = refl
-either true false = refl
-either false true = refl
-either false false = refl
 
 pub loop-warning-preserved : goal.loop-warning-preserved
 loop-warning-preserved c = λ line.

@@ -85,6 +85,11 @@ remark_has_one remark.NoClient example = (46, (lit< tt, refl))
 remark_has_one remark.EveryAddress example = (47, (lit< tt, refl))
 remark_has_one remark.WritableByAll example = (48, (lit< tt, refl))
 remark_has_one remark.RootForMany example = (49, (lit< tt, refl))
+remark_has_one remark.ServerGrantsMore example = (50, (lit< tt, refl))
+remark_has_one remark.Backslash example = (51, (lit< tt, refl))
+remark_has_one remark.V4Line example = (52, (lit< tt, refl))
+remark_has_one remark.RepeatedClient example = (53, (lit< tt, refl))
+remark_has_one remark.ShadowedHere example = (44, (lit< tt, refl))
 
 fault_has_one : (broken : SiteRule) (other : Option ℕ) → HasRule (matter.Fault broken other)
 unfolding HasRule

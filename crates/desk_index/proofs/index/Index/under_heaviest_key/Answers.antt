@@ -2,8 +2,7 @@ use Rattle.std.proofs.Common.{IfSome, ap, arith, subst, ◌∙◌}
 use Rattle.desk_text.specs.Address.{number_of}
 use Rattle.desk_policy.specs.Policy.{Content, rows_of}
 use Rattle.desk_policy.specs.Weights.{selected}
-use Rattle.desk_index.specs.Keys.{listed, numbers}
-use Rattle.desk_index.specs.PrivateMarks.{AreUnderOneKey}
+use Rattle.desk_index.specs.Keys.{AreUnderOneKey, listed, numbers}
 use Rattle.desk_index.proofs.SelectedLines.{all_under_one_key}
 use Rattle.desk_index.proofs.index.Index.under_heaviest_key.Goals as goal
 

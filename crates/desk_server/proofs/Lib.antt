@@ -1,0 +1,15 @@
+pub mod Lists
+pub mod Asking
+pub mod Terms
+pub mod Granting
+pub mod Agreeing
+pub mod Loading
+pub mod Sharing
+pub mod Repeating
+pub mod Widening
+pub mod Between
+pub mod Nesting
+pub mod Telling
+pub mod Finding
+pub mod Lighter
+pub mod ByGroups

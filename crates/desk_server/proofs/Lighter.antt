@@ -1,0 +1,150 @@
+-- The first of the heaviest lines that widen what is selected, group by group of lighter lines.
+use Rattle.std.proofs.Common.{◌≡◌, ◌∙◌, ℕ, suc, ◌+◌, ◌<◌, ◌≤◌, ◌++◌, Bool, true, List, [], ◌∷◌, Option, Some, None, ap, arith, drop, get_or, inl, inr, length, subst, sym, take}
+use Rattle.std.specs.Prelude.{find}
+use Rattle.std.specs.List.{All, Contains, list_any}
+use Rattle.std.proofs.lemmas.Bool.{and_parts, cases_Bool, cases_lt, cond-true, cond-false, eq-eqb, eqb-true, not-true, true≢false}
+use Rattle.std.proofs.lemmas.List.{append_assoc, get_or_default, take-append-drop}
+use Rattle.std.proofs.lemmas.List.Elements.{All-contains, All-contains_itself, All-filter}
+use Rattle.std.proofs.lemmas.List.Folds.{list_any_at}
+use Rattle.std.proofs.lemmas.List.Kept.{AllPairs-filter}
+use Rattle.std.proofs.lemmas.Option.{cond_some}
+use Rattle.desk_text.specs.AddrSet.{is_among}
+use Rattle.desk_text.specs.Network.{covers}
+use Rattle.desk_exports.specs.declared.entry.Clients.{Clients}
+use Rattle.desk_exports.specs.declared.entry.Clients.TheVariants as clients
+use Rattle.desk_policy.specs.Keys.{HasBlock}
+use Rattle.desk_policy.specs.Policy.{AreAscending}
+use Rattle.desk_policy.specs.Weights.{name_weight, selected, weight_by, weight_of}
+use Rattle.desk_policy.specs.declared.row.Row.{Row}
+use Rattle.desk_index.specs.Lighter.{AreHeaviestBelow, IsHeaviestBelow, is_weight, weighing}
+use Rattle.desk_index.specs.declared.lighter.Weighed.{Weighed}
+use Rattle.desk_idle.specs.Laws.{brings}
+use Rattle.desk_idle.proofs.Lists.{in_middle}
+use Rattle.desk_idle.proofs.Looks.{first_or, none_passes}
+use Rattle.desk_server.specs.PrivateWider.{Widened}
+use Rattle.desk_server.specs.WiderGrants.{Widens, WidensFirst}
+use Rattle.desk_server.proofs.Widening.{filter_from, filter_has}
+
+-- ---- weights
+
+some_same : (a b : ℕ) → Some a ≡ Some b → a ≡ b
+some_same a b e = cc
+
+pub few_by : (who : Clients) (addresses : List ℕ) (address own : ℕ) → HasBlock who → weight_by who addresses address ≡ Some own → own < 35
+few_by (clients.Hosts names) addresses address own block e = let s = cond_some (is_among address addresses) name_weight own e in let same : 34 ≡ own = s.1 in omega arith
+few_by (clients.Net net noted) addresses address own block e = let s = cond_some (covers net address) (net.prefix + 1) own e in let same = s.1 in let few = block.prefix in omega arith
+few_by (clients.Net6 value) addresses address own block e = let wrong : None ≡ Some own = e in cc
+few_by clients.World addresses address own block e = let same : 0 ≡ own = some_same 0 own e in omega arith
+
+pub weight_is : (o : Option ℕ) (weight : ℕ) → is_weight weight o ≡ true → o ≡ Some weight
+weight_is None weight e = absurd (true≢false (sym e))
+weight_is (Some own) weight e = ap (λ (n : ℕ). Some n) (eqb-true own weight e)
+
+-- ---- the first that passes
+
+-- of lines that ascend it has the least number
+first_least : (p : Row → Bool) (xs : List Row) (row other : Row) → AreAscending xs → find p xs ≡ Some row → Contains xs other → p other ≡ true → row.entry.line ≤ other.entry.line
+first_least p [] row other up e has passes = let wrong : None ≡ Some row = e in cc
+first_least p (x ∷ xs) row other up e has passes =
+    elim (cases_Bool (p x)) [
+      | inl here ↦
+          let same : x ≡ row = (let f : Some x ≡ Some row = sym (cond-true (p x) (Some x) (find p xs) here) ∙ e in cc) in
+          let line = ap (λ (r : Row). r.entry.line) same in
+          elim (first_or x xs other has) [
+            | inl own ↦ (let l = ap (λ (r : Row). r.entry.line) own in omega arith)
+            | inr later ↦
+                let k = later.0 in
+                let within : k < length xs = later.1 in
+                let less : x.entry.line < (get_or xs k x).entry.line = up 0 (suc k) x (omega arith) (omega arith) in
+                let l = ap (λ (r : Row). r.entry.line) (get_or_default xs k x other within ∙ later.2) in
+                omega arith
+          ]
+      | inr later_on ↦ elim (first_or x xs other has) [
+        | inl here ↦ absurd (true≢false (sym (ap p here ∙ passes) ∙ later_on))
+        | inr later ↦ first_least p xs row other (λ i j d lt inside. up (suc i) (suc j) d (omega arith) (omega arith)) (sym (cond-false (p x) (Some x) (find p xs) later_on) ∙ e) later passes
+      ]
+    ]
+
+pub found_has : (p : Row → Bool) (xs : List Row) (row : Row) → find p xs ≡ Some row → Contains xs row × (p row ≡ true)
+found_has p [] row e = let wrong : None ≡ Some row = e in cc
+found_has p (x ∷ xs) row e =
+    elim (cases_Bool (p x)) [
+      | inl here ↦
+          let same : x ≡ row = (let f : Some x ≡ Some row = sym (cond-true (p x) (Some x) (find p xs) here) ∙ e in cc) in
+          ((0, omega arith, same), sym (ap p same) ∙ here)
+      | inr later_on ↦
+          let rest = found_has p xs row (sym (cond-false (p x) (Some x) (find p xs) later_on) ∙ e) in
+          ((suc rest.0.0, (let b = rest.0.1 in omega arith), rest.0.2), rest.1)
+    ]
+
+-- ---- group by group
+
+module _ (rows : List Row) (address : ℕ) where
+  -- all that widen are lighter than this
+  abbrev pub WidenBelow : ℕ → Type 0
+  WidenBelow below = (row : Row) (own : ℕ) → Widens rows address row own → own < below
+
+  abbrev brings_more : Row → Bool
+  brings_more row = brings (selected rows address) row
+
+  pub all_below : All (λ (row : Row). HasBlock row.entry.clients) rows → WidenBelow 35
+  all_below blocks row own w = few_by row.entry.clients row.addrs address own (All-contains (λ (r : Row). HasBlock r.entry.clients) rows row blocks w.has) w.matches
+
+  -- to lines of which one has -alldirs nothing can be brought
+  pub all_listed : list_any (λ (row : Row). row.entry.alldirs) (selected rows address) ≡ true → Widened rows address → ⊥
+  all_listed all wide =
+      let s = and_parts _ _ wide.widens.brought in
+      true≢false (sym all ∙ not-true (list_any (λ (row : Row). row.entry.alldirs) (selected rows address)) s.0)
+
+  pub none_left : (below : ℕ) → WidenBelow below → AreHeaviestBelow rows address below None → Widened rows address → ⊥
+  none_left below all none wide = none wide.row wide.weight wide.widens.has wide.widens.matches (all wide.row wide.weight wide.widens)
+
+  module _ (below : ℕ) (all : WidenBelow below) (group : Weighed) (is : IsHeaviestBelow rows address below group) where
+    at_most : (row : Row) (own : ℕ) → Widens rows address row own → own ≤ group.weight
+    at_most row own w = is.most row own w.has w.matches (all row own w)
+
+    pub none_names : group.weight ≡ 0 → Widened rows address → ⊥
+    none_names weightless wide = (let le = at_most wide.row wide.weight wide.widens in let names = wide.widens.names in absurd (omega arith))
+
+    -- a line of this weight is of the group
+    own_group : (row : Row) (own : ℕ) → Widens rows address row own → own ≡ group.weight → Contains (weighing rows address group.weight) row
+    own_group row own w same = filter_has (λ (r : Row). is_weight group.weight (weight_of r address)) rows row w.has (ap (is_weight group.weight) w.matches ∙ eq-eqb own group.weight same)
+
+    pub lighter : find brings_more (weighing rows address group.weight) ≡ None → WidenBelow group.weight
+    lighter none row own w =
+        elim (cases_lt own group.weight) [
+          | inl lt ↦ lt
+          | inr le ↦
+              let most = at_most row own w in
+              let has = own_group row own w (omega arith) in
+              absurd (none_passes brings_more (weighing rows address group.weight) none (list_any_at brings_more (weighing rows address group.weight) has.0 row has.1 (ap brings_more has.2 ∙ w.brought)))
+        ]
+
+    pub widest_is : AreAscending rows → 0 < group.weight → (row : Row) → find brings_more (weighing rows address group.weight) ≡ Some row → WidensFirst rows address row
+    widest_is ascending names row found =
+        let chosen = weighing rows address group.weight in
+        let f = found_has brings_more chosen row found in
+        let g = filter_from (λ (r : Row). is_weight group.weight (weight_of r address)) rows row f.0 in
+        let up : AreAscending chosen = AllPairs-filter (λ (r : Row) (later : Row). r.entry.line < later.entry.line) (λ (r : Row). is_weight group.weight (weight_of r address)) rows ascending in
+        record {
+          weight = group.weight;
+          widens = record { has = g.0; matches = weight_is (weight_of row address) group.weight g.1; names = names; brought = f.1 };
+          least = λ other own w. elim (cases_lt own group.weight) [
+            | inl lt ↦ inl lt
+            | inr le ↦
+                let most = at_most other own w in
+                let same : own ≡ group.weight = omega arith in
+                inr (same, first_least brings_more chosen row other up found (own_group other own w same) w.brought)
+          ];
+        }
+
+-- the lines of one weight are lines of the file system
+pub weighing_has : (rows : List Row) (address weight : ℕ) → All (Contains rows) (weighing rows address weight)
+weighing_has rows address weight = All-filter (λ (r : Row). is_weight weight (weight_of r address)) (Contains rows) rows (All-contains_itself rows)
+
+-- the next line is one of them
+pub next_has : (xs : List Row) (i : ℕ) (row : Row) → take (i + 1) xs ≡ take i xs ++ row ∷ [] → Contains xs row
+next_has xs i row next =
+    subst (λ (ys : List Row). Contains ys row)
+    (sym (sym (take-append-drop (i + 1) xs) ∙ ap (λ (ys : List Row). ys ++ drop (i + 1) xs) next ∙ append_assoc (take i xs) (row ∷ []) (drop (i + 1) xs)))
+    (in_middle (take i xs) row (drop (i + 1) xs))

@@ -1,0 +1,198 @@
+-- What is known of lines from looks at addresses, one after another.
+use Rattle.std.proofs.Common.{◌≡◌, ◌⊎◌, ◌∙◌, ℕ, suc, ◌<◌, ◌^◌, ◌&&◌, ◌++◌, Bool, true, false, cond, eqb, List, [], ◌∷◌, Option, Some, None, ap, arith, get_or, inl, inr, length, nat_cmp, refl, subst, sym, take}
+use Rattle.std.specs.Prelude.{slice_get}
+use Rattle.std.specs.BTreeMap.{BTreeMap, is_at}
+use Rattle.std.specs.BTreeMap as tree
+use Rattle.std.specs.List.{All, Contains}
+use Rattle.std.specs.List.Sorted.{IsStrictlyIncreasing}
+use Rattle.std.specs.Map.{lookup}
+use Rattle.std.specs.Option.{is_some}
+use Rattle.std.proofs.lemmas.Bool.{and_right, cases_Bool, cases_eq, cond-true, cond-false, eq-eqb, eqb-true, ne_eqb, or_cases, or_left, or_right, true≢false}
+use Rattle.std.proofs.lemmas.List.{get_or-take, length-take}
+use Rattle.std.proofs.lemmas.List.Folds.{list_any-append}
+use Rattle.std.proofs.lemmas.List.Kept.{AllPairs-from_increasing}
+use Rattle.desk_text.specs.Address.{number_of}
+use Rattle.desk_text.specs.AddrSet.{is_among}
+use Rattle.desk_policy.specs.Keys.{HasBlock, LinesAreSelectedByKeys}
+use Rattle.desk_policy.specs.Policy.{AreAscending}
+use Rattle.desk_policy.specs.Weights.{selected}
+use Rattle.desk_policy.specs.declared.row.Row.{Row}
+use Rattle.desk_idle.specs.Idle.{first_selected}
+use Rattle.desk_idle.specs.PrivateMarks.{has_one_key}
+use Rattle.desk_idle.proofs.Bringing.{one_line, selected_has}
+use Rattle.desk_idle.proofs.Lists.{in_middle}
+use Rattle.desk_server.specs.PrivateWider.{AreTold, AreUpTo, IsFoundAmong, IsFoundAt, IsLook, IsSeen, IsTold, IsWide, Widened, is_kept}
+use Rattle.desk_server.specs.declared.wider.WiderGrant.{WiderGrant}
+use Rattle.desk_server.proofs.Nesting.{same_wide}
+use Rattle.desk_server.proofs.Widening.{selected_line}
+
+-- ---- one address more
+
+among_cases : (before : List ℕ) (address other : ℕ) → is_among other (before ++ address ∷ []) ≡ true → (is_among other before ≡ true) ⊎ (other ≡ address)
+among_cases before address other e =
+    elim (or_cases _ _ (sym (list_any-append (λ n. eqb n other) before (address ∷ [])) ∙ e)) [
+      | inl earlier ↦ inl earlier
+      | inr last ↦ elim (or_cases (eqb address other) false last) [
+        | inl here ↦ inr (sym (eqb-true address other here))
+        | inr wrong ↦ absurd (true≢false (sym wrong))
+      ]
+    ]
+
+among_more : (before : List ℕ) (address other : ℕ) → is_among other before ≡ true → is_among other (before ++ address ∷ []) ≡ true
+among_more before address other e = list_any-append (λ n. eqb n other) before (address ∷ []) ∙ or_left _ _ e
+
+among_last : (before : List ℕ) (address : ℕ) → is_among address (before ++ address ∷ []) ≡ true
+among_last before address = list_any-append (λ n. eqb n address) before (address ∷ []) ∙ or_right _ _ (or_left _ _ (eq-eqb address address refl))
+
+module _ (rows : List Row) (before : List ℕ) (address : ℕ) where
+  abbrev more : List ℕ
+  more = before ++ address ∷ []
+
+  -- where this is not a look at the line, or finds nothing
+  stays : (line : ℕ) (o : Option (Option WiderGrant)) → (IsWide rows line address → ⊥) → IsTold rows before line o → IsTold rows more line o
+  stays line None not told = λ other among wide. elim (among_cases before address other among) [
+    | inl earlier ↦ told other earlier wide
+    | inr last ↦ not (subst (IsWide rows line) last wide)
+  ]
+  stays line (Some None) not told = told
+  stays line (Some (Some found)) not told = record {
+    number = told.number;
+    is_address = told.is_address;
+    first = told.first;
+    at = told.at;
+    among = among_more before address (number_of found.address) told.among;
+    least = λ other among wide. elim (among_cases before address other among) [
+      | inl earlier ↦ told.least other earlier wide
+      | inr last ↦ absurd (not (subst (IsWide rows line) last wide))
+    ];
+  }
+
+  -- what is known stays
+  known_stays : (line : ℕ) (look : Option WiderGrant) → AreUpTo before address → IsTold rows before line (Some look) → IsTold rows more line (Some look)
+  known_stays line None up told = told
+  known_stays line (Some found) up told = record {
+    number = told.number;
+    is_address = told.is_address;
+    first = told.first;
+    at = told.at;
+    among = among_more before address (number_of found.address) told.among;
+    least = λ other among wide. elim (among_cases before address other among) [
+      | inl earlier ↦ told.least other earlier wide
+      | inr last ↦ (let le = up (number_of found.address) told.among in omega arith)
+    ];
+  }
+
+  other_first : (first line : ℕ) → first_selected rows address ≡ Some first → (line ≡ first → ⊥) → IsWide rows line address → ⊥
+  other_first first line is apart wide = let e : Some line ≡ Some first = sym wide.first ∙ is in apart cc
+
+  -- ---- the looks
+
+  pub told_nothing : (known : BTreeMap ℕ (Option WiderGrant)) → first_selected rows address ≡ None → AreTold rows before known → AreTold rows more known
+  told_nothing known none are = λ line. stays line (tree.get nat_cmp known line) (λ wide. let wrong : Some line ≡ None = sym wide.first ∙ none in cc) (are line)
+
+  told_by : (line : ℕ) (o : Option (Option WiderGrant)) → AreUpTo before address → is_some o ≡ true → IsTold rows before line o → IsTold rows more line o
+  told_by line None up some told = absurd (true≢false (sym some))
+  told_by line (Some look) up some told = known_stays line look up told
+
+  pub told_known : (known : BTreeMap ℕ (Option WiderGrant)) (first : ℕ) → first_selected rows address ≡ Some first → is_some (tree.get nat_cmp known first) ≡ true → AreUpTo before address
+      → AreTold rows before known → AreTold rows more known
+  told_known known first is some up are = λ line. elim (cases_eq line first) [
+    | inl same ↦ told_by line (tree.get nat_cmp known line) up (ap (λ n. is_some (tree.get nat_cmp known n)) same ∙ some) (are line)
+    | inr apart ↦ stays line (tree.get nat_cmp known line) (other_first first line is apart) (are line)
+  ]
+
+  module _ (law : LinesAreSelectedByKeys) (ascending : AreAscending rows) (blocks : All (λ (row : Row). HasBlock row.entry.clients) rows) (below : address < 2 ^ 32)
+      (first : Row) (has : Contains (selected rows address) first) (is : first_selected rows address ≡ Some first.entry.line) where
+    -- where this line has one key, it is the same wherever it is the first
+    nowhere : has_one_key first.entry.clients ≡ true → (Widened rows address → ⊥) → (other : ℕ) → other < 2 ^ 32 → IsWide rows first.entry.line other → ⊥
+    nowhere one not other small wide =
+        let here = selected_has rows address first has in
+        let f = selected_line (selected rows other) first.entry.line wide.first in
+        let same : f.row ≡ first = one_line rows f.row first ascending (selected_has rows other f.row f.has) here f.number in
+        not (same_wide law rows blocks first here one other address small below (subst (Contains (selected rows other)) same f.has) has wide.widened)
+
+    seen : (found : WiderGrant) → IsSeen rows first.entry.line address found → IsTold rows before first.entry.line None → IsFoundAmong rows more first.entry.line found
+    seen found look told = record {
+      number = look.number;
+      is_address = subst (λ (n : ℕ). n < 2 ^ 32) (sym look.place) below;
+      first = ap (first_selected rows) look.place ∙ is;
+      at = subst (λ (n : ℕ). IsFoundAt rows n found) (sym look.place) look.at;
+      among = ap (λ n. is_among n more) look.place ∙ among_last before address;
+      least = λ other among wide. elim (among_cases before address other among) [
+        | inl earlier ↦ absurd (told other earlier wide)
+        | inr last ↦ (let place = look.place in omega arith)
+      ];
+    }
+
+    -- what is known of the line then
+    own_look : (look : Option WiderGrant) → IsLook rows first.entry.line address look → IsTold rows before first.entry.line None
+        → IsTold rows more first.entry.line (cond (is_kept look first) (Some look) None)
+    own_look (Some found) look told = seen found look told
+    own_look None look told =
+        elim (cases_Bool (has_one_key first.entry.clients)) [
+          | inl one ↦ subst (IsTold rows more first.entry.line) (sym (cond-true (has_one_key first.entry.clients) (Some None) None one)) (nowhere one look)
+          | inr many ↦ subst (IsTold rows more first.entry.line) (sym (cond-false (has_one_key first.entry.clients) (Some None) None many)) (stays first.entry.line None (λ wide. look wide.widened) told)
+        ]
+
+    pub told_look : (old new : BTreeMap ℕ (Option WiderGrant)) (look : Option WiderGrant) → is_some (tree.get nat_cmp old first.entry.line) ≡ false → IsLook rows first.entry.line address look
+        → ((line : ℕ) → tree.get nat_cmp new line ≡ cond (is_kept look first && eqb first.entry.line line) (Some look) (tree.get nat_cmp old line))
+        → AreTold rows before old → AreTold rows more new
+    told_look old new look unknown is_look updates are = λ line. elim (cases_eq line first.entry.line) [
+      | inl same ↦
+          let none = is_none (tree.get nat_cmp old first.entry.line) unknown in
+          let here : eqb first.entry.line line ≡ true = eq-eqb first.entry.line line (sym same) in
+          let told = subst (IsTold rows before first.entry.line) none (are first.entry.line) in
+          subst (λ n. IsTold rows more n (tree.get nat_cmp new line)) (sym same)
+          (subst (IsTold rows more first.entry.line) (sym (updates line ∙ ap (λ b. cond (is_kept look first && b) (Some look) (tree.get nat_cmp old line)) here ∙ ap (λ b. cond b (Some look) (tree.get nat_cmp old line)) (and_true (is_kept look first))
+          ∙ ap (λ o. cond (is_kept look first) (Some look) o) (ap (tree.get nat_cmp old) same ∙ none)))
+          (own_look look is_look told))
+      | inr apart ↦
+          let there : eqb first.entry.line line ≡ false = ne_eqb first.entry.line line (λ e. apart (sym e)) in
+          subst (IsTold rows more line) (sym (updates line ∙ cond-false (is_kept look first && eqb first.entry.line line) (Some look) (tree.get nat_cmp old line) (and_right (is_kept look first) (eqb first.entry.line line) there)))
+          (stays line (tree.get nat_cmp old line) (other_first first.entry.line line is apart) (are line))
+    ]
+      where
+        is_none : (o : Option (Option WiderGrant)) → is_some o ≡ false → o ≡ None
+        is_none None e = refl
+        is_none (Some k) e = absurd (true≢false e)
+
+        and_true : (b : Bool) → (b && true) ≡ b
+        and_true true = refl
+        and_true false = refl
+
+-- ---- the first look, and the first line
+
+pub first_has : (chosen : List Row) (row : Row) → Some row ≡ slice_get chosen 0 → Contains chosen row
+first_has [] row e = let wrong : Some row ≡ None = e in cc
+first_has (first ∷ others) row e = let same : first ≡ row = (let f : Some row ≡ Some first = e in cc) in subst (Contains (first ∷ others)) same (in_middle [] first others)
+
+-- without any look nothing is known
+pub none_told : (rows : List Row) (known : BTreeMap ℕ (Option WiderGrant)) → known.entries ≡ [] → AreTold rows [] known
+none_told rows known empty = λ line. subst (IsTold rows [] line) (sym (ap (λ (es : List (ℕ × Option WiderGrant)). lookup (is_at (nat_cmp line)) es) empty)) (λ address among wide. absurd (true≢false (sym among)))
+
+pub none_up_to : (address : ℕ) → AreUpTo [] address
+none_up_to address = λ other among. absurd (true≢false (sym among))
+
+among_place : (xs : List ℕ) (other : ℕ) → is_among other xs ≡ true → (k : ℕ) × (k < length xs) × (get_or xs k 0 ≡ other)
+among_place [] other e = absurd (true≢false (sym e))
+among_place (x ∷ xs) other e =
+    elim (or_cases (eqb x other) (is_among other xs) e) [
+      | inl here ↦ (0, omega arith, eqb-true x other here)
+      | inr later ↦ let rest = among_place xs other later in (suc rest.0, (let b = rest.1 in omega arith), rest.2)
+    ]
+
+-- numbers that rise are up to the next of them
+pub rise_up_to : (numbers : List ℕ) (i : ℕ) → IsStrictlyIncreasing numbers → i < length numbers → AreUpTo (0 ∷ take i numbers) (get_or numbers i 0)
+rise_up_to numbers i rise within other among =
+    elim (or_cases (eqb 0 other) (is_among other (take i numbers)) among) [
+      | inl here ↦ (let same = eqb-true 0 other here in omega arith)
+      | inr later ↦
+          let p = among_place (take i numbers) other later in
+          let k = p.0 in
+          let few = length-take i numbers in
+          let b = p.1 in
+          let small : k < i = omega arith in
+          let less = AllPairs-from_increasing numbers rise k i 0 small within in
+          let is : get_or numbers k 0 ≡ other = sym (get_or-take i numbers k 0 small) ∙ p.2 in
+          omega arith
+    ]

@@ -1,0 +1,48 @@
+use Rattle.std.proofs.Common.{◌≡◌, ◌∙◌, ℕ, List, ap, refl, subst, sym}
+use Rattle.std.specs.List.{All, Contains}
+use Rattle.desk_text.specs.Address.{number_of}
+use Rattle.desk_exports.specs.declared.entry.Entry.{Entry}
+use Rattle.desk_policy.specs.Policy.{Content, rows_of}
+use Rattle.desk_policy.specs.Weights.{selected}
+use Rattle.desk_policy.specs.declared.row.Row.{Row}
+use Rattle.desk_index.proofs.RowsByNumber.{selected_among}
+use Rattle.desk_server.proofs.Lighter.{all_listed}
+use Rattle.desk_server.proofs.looking.look_at.Goals as goal
+
+all_among : (rows items : List Row) (address : ℕ) → items ≡ rows → All (Contains items) (selected rows address)
+all_among rows items address same = subst (λ (rs : List Row). All (Contains rs) (selected rows address)) (sym same) (selected_among rows address)
+
+pub returns-then-have_alldirs : goal.returns-then-have_alldirs
+returns-then-have_alldirs c =
+    let fs = c.args.fs.0 in
+    let rows = rows_of c.args.index.now fs in
+    let address = number_of c.args.address in
+    let chosen = selected rows address in
+    let same : c.rows-rows.result.now ≡ rows = c.rows-rows.ensures ∙ ap (λ (content : Content). rows_of content fs) c.policy.ensures in
+    all_listed rows address (sym (c.have_alldirs.ensures chosen c.selected_lines-lines.ensures (all_among rows c.rows-rows.result.now address same)) ∙ c.if-have_alldirs.true)
+
+pub widest-requires-clause-listed : goal.widest-requires-clause-listed
+widest-requires-clause-listed c =
+    let fs = c.args.fs.0 in
+    let rows = rows_of c.args.index.now fs in
+    let address = number_of c.args.address in
+    let same : c.rows-rows.result.now ≡ rows = c.rows-rows.ensures ∙ ap (λ (content : Content). rows_of content fs) c.policy.ensures in
+    c.in_ok-listed.ensures (selected rows address) c.selected_lines-lines.ensures (all_among rows c.rows-rows.result.now address same)
+
+pub returns-in-Some : goal.returns-in-Some
+returns-in-Some c =
+    let fs = c.args.fs.0 in
+    let rows = rows_of c.args.index.now fs in
+    let address = number_of c.args.address in
+    let same : c.rows-rows.result.now ≡ rows = c.rows-rows.ensures ∙ ap (λ (content : Content). rows_of content fs) c.policy.ensures in
+    let listed = c.in_ok-listed.ensures (selected rows address) c.selected_lines-lines.ensures (all_among rows c.rows-rows.result.now address same) in
+    record {
+      number = refl;
+      place = refl;
+      at = record {
+        row = c.in-Some.row.now;
+        by = c.in-Some.ensures;
+        other = sym (ap (λ (entry : Entry). entry.line) c.deref.ensures);
+        directory = c.first_new.ensures (selected rows address) listed;
+      };
+    }
