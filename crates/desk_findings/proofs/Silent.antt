@@ -27,8 +27,9 @@ use Rattle.desk_server.specs.RepeatedClients.{AreRepeatedClients}
 use Rattle.desk_server.specs.WiderGrants.{AreWiderGrants}
 use Rattle.desk_server.specs.declared.repeated.RepeatedClient.{RepeatedClient}
 use Rattle.desk_server.specs.declared.wider.WiderGrant.{WiderGrant}
-use Rattle.desk_remarks.specs.Remarks.{AreRemarksOf, repeated_remark, server_remarks, wider_remark}
+use Rattle.desk_remarks.specs.Remarks.{AreRemarksOf, idle_remarks, remarks_by_line, repeated_remark, server_remarks, wider_remark}
 use Rattle.desk_remarks.specs.Said.{IsSaidIn}
+use Rattle.desk_remarks.specs.Unwarned.{is_unwarned}
 use Rattle.desk_remarks.specs.declared.remark.LineRemark.{LineRemark}
 use Rattle.desk_remarks.specs.declared.said.Said.{Said}
 use Rattle.desk_findings.specs.CheckOdd.{IsSpot, OddLine, TellInOrder, odd_of_contradiction, odd_of_remark, odd_of_spot, odd_of_warning, odds_of, tell_spot}
@@ -131,7 +132,7 @@ module _ (opinions : Bool) (source : Source) (content : Content) (warnings : Lis
   quiet consistent fs path home =
       let said : AreRemarksOf opinions content warnings tells.remarks = tells.are_remarks.consistent consistent in
       let server : list_any loud_remark (flat_map server_remarks said.saids) ≡ false =
-      (none_of_both loud_remark _ (flat_map server_remarks said.saids) (ap (list_any loud_remark) (sym said.are) ∙ remarks_silent)).1 in
+      (none_of_both loud_remark (filter (is_unwarned warnings) (flat_map idle_remarks said.saids ++ remarks_by_line opinions content.rows)) (flat_map server_remarks said.saids) (ap (list_any loud_remark) (sym said.are) ∙ remarks_silent)).1 in
       quiet_among content fs content.table said.saids said.are_said server (has_mount content.table path fs (record { path = path; custodians = []; guarded = false; line = 0 }) home)
 
 -- what is told of the texts is silent, so what is told of the exports text is

@@ -7,4 +7,5 @@ pub mod OddWords
 pub mod OneFault
 pub mod OneSiteFault
 pub mod PrivateCheckOdd
+pub mod Silence
 pub mod Told

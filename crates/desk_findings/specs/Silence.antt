@@ -52,7 +52,7 @@ pub record Write (sources : WholeSources) (table : List Mount) (content : Conten
 abbrev pub SilentFindingsAreQuiet : Type 0
 SilentFindingsAreQuiet =
     (opinions : Bool) (sources : WholeSources) (table : List Mount) (gathered : Gathered) (content : Content) → Gathers opinions sources table gathered → IsSilent gathered.findings
-    → Write sources table content → (fs : ℕ) (path : List (List ℕ)) → fs_of table path ≡ Some fs → IsQuiet content fs
+    → Write sources table content → (fs : ℕ) (path : List (List ℕ)) → fs_of content.table path ≡ Some fs → IsQuiet content fs
 
 -- Then each verdict of the policy is that of mountd's rule by the lines that it puts in force.
 abbrev pub SilentFindingsAreTheServers : Type 0
