@@ -1,19 +1,16 @@
 -- How what breaks expectations is printed as JSON. (RFC 8259; the members are this project's own)
-use Rattle.std.specs.Prelude.{ℕ, Bool, true, false, List, [], ◌∷◌, ◌++◌, Result, codes, map}
+use Rattle.std.specs.Prelude.{ℕ, Bool, true, false, List, [], ◌∷◌, ◌++◌, codes, map}
 use Rattle.std.specs.List.{flat_map}
 use Rattle.std.specs.Str.{chars}
-use Rattle.serde_json.specs.Data.{Data, boolean, member, no_members, number, object, string, unsigned}
+use Rattle.serde_json.specs.Data.{Data, Members, boolean, member, no_members, number, object, string, unsigned}
 use Rattle.serde_json.specs.Written.{compact_text}
 use Rattle.desk_text.specs.Address.{addr_text}
 use Rattle.desk_text.specs.Path.{path_text}
 use Rattle.desk_policy.specs.Policy.{Content}
 use Rattle.desk_policy.specs.Prints.{verdict_line}
-use Rattle.desk_policy.specs.Verdict.{Grant}
-use Rattle.desk_policy.specs.declared.verdict.Denial.{Denial}
-use Rattle.desk_who.specs.Runs.{Run}
-use Rattle.desk_who.specs.Who.{range_value}
+use Rattle.desk_who.specs.Runs.{Run, run_value}
 use Rattle.desk_impact.specs.Places.{Directory, Others, Place, place_of}
-use Rattle.desk_impact.specs.Sections.{PlaceBreaches}
+use Rattle.desk_expect.specs.Judging.{JudgedValue, PlaceJudged, judged_value}
 use Rattle.desk_expect.specs.ReportText.{BrokenValue}
 use Rattle.desk_expect.specs.declared.expectation.Expectation.{Expectation}
 use Rattle.desk_check.specs.FindingJson.{shown_in_json}
@@ -23,14 +20,14 @@ use Rattle.cli_expectations.specs.declared.breaches_json.Breach.{Breach}
 pub record BreachValue : Type 0 where
   pub expectation : Expectation
   pub place : Place
-  pub range : Run (Result Grant Denial)
+  pub range : Run JudgedValue
 
 -- the same by value
 abbrev pub breach_value : Breach → BreachValue
-breach_value breach = record { expectation = breach.expectation.now; place = place_of breach.place; range = range_value breach.range }
+breach_value breach = record { expectation = breach.expectation.now; place = place_of breach.place; range = run_value judged_value breach.range }
 
 -- the ranges of a section
-abbrev pub breaches_at : Expectation → PlaceBreaches → List BreachValue
+abbrev pub breaches_at : Expectation → PlaceJudged → List BreachValue
 breaches_at expectation section = map (λ range. record { expectation = expectation; place = section.place; range = range }) section.ranges
 
 -- those of an expectation, section by section, and of all that are broken
@@ -49,9 +46,15 @@ abbrev pub is_others : Place → Bool
 is_others (Directory path) = false
 is_others (Others root) = true
 
+-- who gives the verdict, if it is that of the server alone: the member before the others
+abbrev pub with_by : Bool → Members → Members
+with_by true members = member (codes "by") (string (codes "mountd")) members
+with_by false members = members
+
 -- a range as an object, its members in the byte order of their keys
 abbrev pub value_of : Content → List ℕ → BreachValue → Data
 value_of content file breach = object
+    (with_by breach.range.value.by_server
     (member (codes "dir") (string (path_text (dir_of breach.place)))
     (member (codes "expectation") (string breach.expectation.text)
     (member (codes "first") (string (addr_text breach.range.first))
@@ -60,7 +63,7 @@ value_of content file breach = object
     (member (codes "line") (number (unsigned breach.expectation.line))
     (member (codes "others") (boolean (is_others breach.place))
     (member (codes "path") (string file)
-    (member (codes "verdict") (string (verdict_line content breach.range.value)) no_members)))))))))
+    (member (codes "verdict") (string (verdict_line content breach.range.value.verdict)) no_members))))))))))
 
 -- the object as it is written, with each control character by its code
 abbrev pub object_text : Content → List ℕ → BreachValue → List ℕ

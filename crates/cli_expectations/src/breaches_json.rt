@@ -3,25 +3,25 @@
 ghost use Rattle.std.specs.Prelude.{◌≡◌, ◌++◌, [], IfOk, OnOk, codes, map};
 ghost use Rattle.std.specs.List.{flat_map};
 ghost use Rattle.std.specs.String.{string_bytes};
-ghost use Rattle.serde_json.specs.Data.{boolean, object, put as put_member, string};
+ghost use Rattle.serde_json.specs.Data.{boolean, no_members, object, put as put_member, string};
 ghost use Rattle.serde_json.specs.View.{members_view, view};
 ghost use Rattle.serde_json.specs.Written.{compact_text};
 ghost use Rattle.desk_text.specs.Address.{addr_text, number_of};
 ghost use Rattle.desk_policy.specs.Prints.{verdict_line};
 ghost use Rattle.desk_policy.specs.Verdict.{verdict_result};
 ghost use Rattle.desk_impact.specs.Places.{place_of};
-ghost use Rattle.desk_impact.specs.Sections.{section_value};
+ghost use Rattle.desk_expect.specs.Judging.{judged_section};
 ghost use Rattle.desk_expect.specs.Report.{broken_value};
 ghost use Rattle.cli_expectations.specs.BreachesJson as spec;
 ghost use Rattle.cli_expectations.specs.BreachesJson.{breach_value};
 ghost use Rattle.cli_expectations.specs.PrivateBreachesJson as private;
 
 use desk_check::{add_number, add_text, push_json};
-use desk_expect::{Broken, Expectation};
+use desk_expect::{Broken, Expectation, Judged};
 use desk_impact::{Place, Section};
 use desk_policy::{Policy, Verdict, verdict_text};
 use desk_text::{Addr, Path};
-use desk_who::Range;
+use desk_who::Run;
 use serde_json::{Map, Value, put};
 use std::alloc::{AllocError, Global};
 
@@ -30,11 +30,11 @@ use std::alloc::{AllocError, Global};
 pub struct Breach<'a> {
     pub expectation: &'a Expectation,
     pub place: Place<'a>,
-    pub range: Range<'a>,
+    pub range: Run<Judged<'a>>,
 }
 
 /// Prints what breaks the expectations of a file as one compact JSON list and a line end, an object for each range: `[]` if nothing
-/// does. An object has `dir`, `expectation` (the words of its line), `first`, `kind` (`broken`), `last`, `line`, `others` (whether it
+/// does. An object has `by` (`mountd`, if the verdict is that of the server alone), `dir`, `expectation` (the words of its line), `first`, `kind` (`broken`), `last`, `line`, `others` (whether it
 /// is about the other directories of `dir`), `path` and `verdict`.
 pub fn breaches_json(
     alloc: Global,
@@ -72,11 +72,11 @@ fn push_broken<'a>(broken: &Broken<'a>, found: &mut Vec<Breach<'a>>) -> Result<(
 /// Adds those of a section.
 fn push_section<'a>(
     expectation: &'a Expectation,
-    section: &Section<'a>,
+    section: &Section<'a, Judged<'a>>,
     found: &mut Vec<Breach<'a>>,
 ) -> Result<(), AllocError>
     ensures { OnOk result (map breach_value found.new.items
-        ≡ map breach_value found.old.items ++ spec.breaches_at expectation.now (section_value section.now)) }
+        ≡ map breach_value found.old.items ++ spec.breaches_at expectation.now (judged_section section.now)) }
 {
     for range in section.ranges.as_slice() {
         found.push(Breach {
@@ -193,6 +193,7 @@ fn add_members(
     requires { members.old.entries ≡ [] }
     ensures { OnOk result (object (members_view members.new.entries) ≡ spec.value_of policy.now file.now (breach_value breach.entry)) }
 {
+    add_by(alloc, breach.range.value.by_server, members)?;
     add_text(alloc, "dir", dir_of(breach.place).text(), members)?;
     add_text(
         alloc,
@@ -206,7 +207,22 @@ fn add_members(
     add_number(alloc, "line", breach.expectation.line as usize, members)?;
     add_flag(alloc, "others", is_others(breach.place), members)?;
     add_text(alloc, "path", file, members)?;
-    add_verdict(alloc, policy, &breach.range.value, members)
+    add_verdict(alloc, policy, &breach.range.value.verdict, members)
+}
+
+/// Adds who gives the verdict, if it is that of the server alone, to an object that has no members.
+fn add_by(
+    alloc: Global,
+    by_server: bool,
+    members: &mut Map<String, Value>,
+) -> Result<(), AllocError>
+    requires { members.old.entries ≡ [] }
+    ensures { OnOk result (members_view members.new.entries ≡ spec.with_by by_server no_members) }
+{
+    if by_server {
+        add_text(alloc, "by", "mountd", members)?;
+    }
+    Ok(())
 }
 
 /// Returns the directory of a place.

@@ -13,22 +13,23 @@ use desk_expect::{
     Expectation, TestReport, find_broken, find_outside, outside_text, read_expectations,
     test_report,
 };
+use desk_index::Index;
 use desk_policy::{Policy, PolicyView, SiteTables};
 use desk_text::ReadError;
 use std::alloc::{AllocError, Global};
 
 /// Prints which expectations of a text a policy breaks, as text or as JSON: the status is 0 if it breaks none, and else 1. Names are
 /// looked up in these tables. A fault of the text is printed with the status 3.
-pub fn print_tested<V: PolicyView>(
+pub fn print_tested(
     alloc: Global,
     tables: &SiteTables,
-    view: &V,
+    index: &Index,
     file: ExpectationsFile<'_>,
 ) -> Result<Printed, AllocError>
-    ensures { IfOk result (PrintsTested tables.now (V.in_force view.now) (expected_of file.entry)) }
+    ensures { IfOk result (PrintsTested tables.now index.now (expected_of file.entry)) }
 {
     match read_expectations(alloc, file.text, &tables.netgroups, &tables.hosts) {
-        Ok(expectations) => print_kept(alloc, view, file.path, file.json, expectations.as_slice()),
+        Ok(expectations) => print_kept(alloc, index, file.path, file.json, expectations.as_slice()),
         Err(ReadError::Fault(placed)) => print_fault(alloc, file.path, file.text, placed),
         Err(ReadError::Memory) => Err(AllocError),
     }
@@ -36,17 +37,17 @@ pub fn print_tested<V: PolicyView>(
 
 /// Prints which of these expectations of a file a policy breaks. Standard error names the directories that no file system has anything
 /// of.
-fn print_kept<V: PolicyView>(
+fn print_kept(
     alloc: Global,
-    view: &V,
+    index: &Index,
     file: &str,
     json: bool,
     expectations: &[Expectation],
 ) -> Result<Printed, AllocError>
-    ensures { IfOk result (PrintsKept (V.in_force view.now) file.now json expectations.now) }
+    ensures { IfOk result (PrintsKept index.now file.now json expectations.now) }
 {
-    let note = outside_note(alloc, view.policy(), file, expectations)?;
-    let report = shown_report(alloc, view, file, json, expectations)?;
+    let note = outside_note(alloc, index.policy(), file, expectations)?;
+    let report = shown_report(alloc, index, file, json, expectations)?;
     Ok(Printed {
         status: if report.broken == 0 { 0 } else { 1 },
         text: report.text,
@@ -68,33 +69,33 @@ fn outside_note(
 }
 
 /// Reports which of these expectations a policy breaks, as text or as JSON.
-fn shown_report<V: PolicyView>(
+fn shown_report(
     alloc: Global,
-    view: &V,
+    index: &Index,
     file: &str,
     json: bool,
     expectations: &[Expectation],
 ) -> Result<TestReport, AllocError>
-    ensures { IfOk result (IsShownReport (V.in_force view.now) file.now json expectations.now) }
+    ensures { IfOk result (IsShownReport index.now file.now json expectations.now) }
 {
     if json {
-        json_report(alloc, view, file, expectations)
+        json_report(alloc, index, file, expectations)
     } else {
-        test_report(alloc, view, file, expectations)
+        test_report(alloc, index, file, expectations)
     }
 }
 
 /// Reports the same as JSON.
-fn json_report<V: PolicyView>(
+fn json_report(
     alloc: Global,
-    view: &V,
+    index: &Index,
     file: &str,
     expectations: &[Expectation],
 ) -> Result<TestReport, AllocError>
-    ensures { IfOk result (IsShownReport (V.in_force view.now) file.now true expectations.now) }
+    ensures { IfOk result (IsShownReport index.now file.now true expectations.now) }
 {
-    let broken = find_broken(alloc, view, expectations)?;
-    let text = breaches_json(alloc, view.policy(), file, broken.as_slice())?;
+    let broken = find_broken(alloc, index, expectations)?;
+    let text = breaches_json(alloc, index.policy(), file, broken.as_slice())?;
     let count = broken.len();
     drop(broken);
     Ok(TestReport {

@@ -1,9 +1,8 @@
-//! Questions on expectations of the policy in force. They are asked of both views.
+//! Questions on expectations of the policy in force. They are asked of the index.
 
 ghost use Rattle.desk_text.specs.Lines.{IsReadable};
 
 use crate::answers::Asked;
-use crate::indexes::add_by_keys;
 use crate::listings::say_lines;
 use crate::site::{InForce, Site};
 use desk_expect::{
@@ -40,22 +39,10 @@ pub fn answer(alloc: Global, site: &Site, out: &mut String, question: &str, text
 /// `expect TEXT`: what is reported of the expectations of a text, which are read with the hosts and the netgroups that were read
 /// last, with `|` for each line feed; or its fault, with its line and where it begins and ends there in bytes.
 fn say_all(alloc: Global, site: &Site, out: &mut String, expectations: &[Expectation]) -> Asked {
-    let (Some(InForce::View(plain)), Some(index)) = (&site.policy, &site.index) else {
+    let Some(index) = &site.index else {
         return Ok(false);
     };
-    say_report(alloc, plain, out, expectations)?;
-    let mut by_keys = String::new(alloc);
-    say_report(alloc, index, &mut by_keys, expectations)?;
-    add_by_keys(out, by_keys.as_str())
-}
-
-fn say_report<V: PolicyView>(
-    alloc: Global,
-    view: &V,
-    out: &mut String,
-    expectations: &[Expectation],
-) -> Asked {
-    let report = test_report(alloc, view, "expectations", expectations)?;
+    let report = test_report(alloc, index, "expectations", expectations)?;
     say_lines(out, report.text.as_str())
 }
 

@@ -11,8 +11,7 @@ use Rattle.desk_policy.specs.declared.verdict.Verdict.{Verdict}
 use Rattle.desk_who.specs.Runs.{Run as Value}
 use Rattle.desk_who.specs.Who.{range_value}
 use Rattle.desk_who.specs.declared.runs.Run.{Run}
-use Rattle.desk_impact.specs.Sections.{section_value}
-use Rattle.desk_impact.specs.declared.sections.Section.{Section}
+use Rattle.desk_impact.specs.Sections.{Section, section_value}
 use Rattle.desk_who.proofs.Slices.{first_pass, last_pass}
 use Rattle.desk_impact.proofs.Telling.{map-filter}
 use Rattle.desk_report.proofs.OfLine.{filter_both}

@@ -4,6 +4,7 @@ pub mod Gathered
 pub mod Held
 pub mod Holding
 pub mod Joined
+pub mod Verdicts
 pub mod Lines
 pub mod Meant
 pub mod Nobody

@@ -5,9 +5,9 @@ use Rattle.std.specs.List.{flat_map}
 use Rattle.std.proofs.lemmas.List.{append_assoc, append-nil, map-append, take_all, take_more}
 use Rattle.std.proofs.lemmas.List.Elements.{All-nil, All-push, filter-append}
 use Rattle.desk_policy.specs.Policy.{Content}
-use Rattle.desk_impact.specs.Sections.{AreBreachesIn, PlaceBreaches}
+use Rattle.desk_impact.specs.Sections.{AreFoundIn}
 use Rattle.desk_expect.specs.PrivateReport.{AddsTested}
-use Rattle.desk_expect.specs.Expectation.{is_broken_at}
+use Rattle.desk_expect.specs.Judging.{PlaceJudged, judging_rule}
 use Rattle.desk_expect.specs.Report.{AreBroken, IsTestOf, IsTestedIn, is_broken}
 use Rattle.desk_expect.specs.ReportText.{BrokenValue}
 use Rattle.desk_expect.specs.declared.expectation.Expectation.{Expectation}
@@ -16,26 +16,26 @@ use Rattle.desk_expect.proofs.Lines.{zip_push}
 
 -- ---- the scopes of an expectation
 module _ (content : Content) (expectation : Expectation) where
-  pub no_scope : (sections : List PlaceBreaches) → sections ≡ [] → IsTestedIn content expectation [] sections
+  pub no_scope : (sections : List PlaceJudged) → sections ≡ [] → IsTestedIn content expectation [] sections
   no_scope sections empty = record { by_scope = []; each = tt; are = empty }
 
-  flat_more : (by_scope : List (List PlaceBreaches)) (sections : List PlaceBreaches) → flat_map (λ some. some) (by_scope ++ sections ∷ []) ≡ flat_map (λ some. some) by_scope ++ sections
+  flat_more : (by_scope : List (List PlaceJudged)) (sections : List PlaceJudged) → flat_map (λ some. some) (by_scope ++ sections ∷ []) ≡ flat_map (λ some. some) by_scope ++ sections
   flat_more [] sections = append-nil sections
   flat_more (some ∷ by_scope) sections =
-      ap (λ (rest : List PlaceBreaches). some ++ rest) (flat_more by_scope sections) ∙ sym (append_assoc some (flat_map (λ (s : List PlaceBreaches). s) by_scope) sections)
+      ap (λ (rest : List PlaceJudged). some ++ rest) (flat_more by_scope sections) ∙ sym (append_assoc some (flat_map (λ (s : List PlaceJudged). s) by_scope) sections)
 
-  pub one_scope : (items : List Scope) (i : ℕ) (scope : Scope) → i < length items → scope ≡ get_or items i scope → (old new sections : List PlaceBreaches)
-      → IsTestedIn content expectation (take i items) old → AreBreachesIn (is_broken_at expectation) content scope.path scope.below sections → new ≡ old ++ sections
+  pub one_scope : (items : List Scope) (i : ℕ) (scope : Scope) → i < length items → scope ≡ get_or items i scope → (old new sections : List PlaceJudged)
+      → IsTestedIn content expectation (take i items) old → AreFoundIn (judging_rule expectation) content scope.path scope.below sections → new ≡ old ++ sections
       → IsTestedIn content expectation (take (i + 1) items) new
   one_scope items i scope below is old new sections so_far one added =
       let more : take (i + 1) items ≡ take i items ++ scope ∷ [] = take_more items i scope below ∙ ap (λ (s : Scope). take i items ++ s ∷ []) (sym is) in
       subst (λ scopes. IsTestedIn content expectation scopes new) (sym more) (record {
         by_scope = so_far.by_scope ++ sections ∷ [];
-        each = zip_push (λ (s : Scope) (some : List PlaceBreaches). AreBreachesIn (is_broken_at expectation) content s.path s.below some) (take i items) so_far.by_scope scope sections so_far.each one;
-        are = added ∙ ap (λ (some : List PlaceBreaches). some ++ sections) so_far.are ∙ sym (flat_more so_far.by_scope sections);
+        each = zip_push (λ (s : Scope) (some : List PlaceJudged). AreFoundIn (judging_rule expectation) content s.path s.below some) (take i items) so_far.by_scope scope sections so_far.each one;
+        are = added ∙ ap (λ (some : List PlaceJudged). some ++ sections) so_far.are ∙ sym (flat_more so_far.by_scope sections);
       })
 
-  pub all_scopes : (items : List Scope) (i : ℕ) (sections : List PlaceBreaches) → length items ≤ i → IsTestedIn content expectation (take i items) sections → IsTestedIn content expectation items sections
+  pub all_scopes : (items : List Scope) (i : ℕ) (sections : List PlaceJudged) → length items ≤ i → IsTestedIn content expectation (take i items) sections → IsTestedIn content expectation items sections
   all_scopes items i sections over so_far = subst (λ scopes. IsTestedIn content expectation scopes sections) (take_all i items over) so_far
 
 -- ---- the expectations

@@ -1,5 +1,5 @@
 -- What a line expects, and when that holds. (this project's own)
-use Rattle.std.specs.Prelude.{◌≡◌, ℕ, ◌<◌, ◌^◌, ◌&&◌, not, Bool, true, List, Result, if◌then◌else◌}
+use Rattle.std.specs.Prelude.{◌≡◌, ℕ, ◌<◌, ◌^◌, ◌||◌, not, Bool, true, List, Result, if◌then◌else◌}
 use Rattle.std.specs.List.{list_any}
 use Rattle.desk_tables.specs.declared.hosts.HostRow.{HostRow}
 use Rattle.desk_netgroup.specs.declared.group_line.GroupLine.{GroupLine}
@@ -7,6 +7,7 @@ use Rattle.desk_policy.specs.Policy.{Content}
 use Rattle.desk_policy.specs.Verdict.{Grant, verdict_of}
 use Rattle.desk_policy.specs.declared.verdict.Denial.{Denial}
 use Rattle.desk_impact.specs.Sections.{is_in_scope}
+use Rattle.desk_server.specs.Server.{server_verdict_of}
 use Rattle.desk_expect.specs.Action.{is_allowed_by}
 use Rattle.desk_expect.specs.Audience.{contains}
 use Rattle.desk_expect.specs.Meaning.{Subject, is_meant}
@@ -32,14 +33,6 @@ pub record IsExpectationOf (netgroups : List GroupLine) (hosts : List HostRow) (
   pub action : expectation.action ≡ promise.action
   pub scopes : expectation.scopes ≡ promise.scopes
 
--- a verdict allows what is forbidden, or does not allow what is expected
-abbrev pub is_against : Bool → Action → Result Grant Denial → Bool
-is_against forbids action verdict = if forbids then is_allowed_by action verdict else not (is_allowed_by action verdict)
-
--- an address that the line is about has a verdict against it
-abbrev pub is_broken_at : Expectation → ℕ → Result Grant Denial → Bool
-is_broken_at expectation address verdict = contains expectation.audience address && is_against expectation.forbids expectation.action verdict
-
 -- a scope has a path: that of its directory, or, if all below are meant, one below it too
 abbrev pub is_in : List (List ℕ) → Scope → Bool
 is_in path scope = is_in_scope scope.path scope.below path
@@ -48,9 +41,14 @@ is_in path scope = is_in_scope scope.path scope.below path
 abbrev pub is_in_some : List Scope → List (List ℕ) → Bool
 is_in_some scopes path = list_any (is_in path) scopes
 
--- A line holds: at each address that it is about, and for each path of its directories, the verdict allows the action; or, if it
--- says `may not`, does not.
+-- Verdicts of this desk and of the server keep what a line says of an action: if it says `may not`, neither allows it; else that of
+-- this desk does. (What this desk allows the server allows, too.)
+abbrev pub keep : Bool → Action → Result Grant Denial → Result Grant Denial → Bool
+keep forbids action own server = if forbids then not (is_allowed_by action own || is_allowed_by action server) else is_allowed_by action own
+
+-- A line holds: at each address that it is about, and for each path of its directories, the verdicts of this desk and of the server
+-- keep what it says.
 abbrev pub Holds : List GroupLine → List HostRow → Content → Promise → Type 0
 Holds netgroups hosts content promise =
     (address : ℕ) (path : List (List ℕ)) → address < 2 ^ 32 → is_meant netgroups hosts promise.subject address ≡ true → is_in_some promise.scopes path ≡ true
-    → is_allowed_by promise.action (verdict_of content address path) ≡ not promise.forbids
+    → keep promise.forbids promise.action (verdict_of content address path) (server_verdict_of content address path) ≡ true

@@ -3,8 +3,8 @@ use Rattle.std.specs.Prelude.{◌≡◌, ◌↔◌, ℕ, All, List, [], Ok}
 use Rattle.desk_tables.specs.declared.hosts.HostRow.{HostRow}
 use Rattle.desk_netgroup.specs.declared.group_line.GroupLine.{GroupLine}
 use Rattle.desk_policy.specs.Policy.{Content}
-use Rattle.desk_impact.specs.Sections.{PlaceBreaches}
 use Rattle.desk_expect.specs.Expectation.{Holds, IsExpectationOf, Promise}
+use Rattle.desk_expect.specs.Judging.{PlaceJudged}
 use Rattle.desk_expect.specs.Reading.{AreExpectationsOf, read_promises}
 use Rattle.desk_expect.specs.Report.{AreBroken, IsTestReport, IsTested}
 use Rattle.desk_expect.specs.ReportText.{BrokenValue}
@@ -14,7 +14,7 @@ use Rattle.desk_expect.specs.declared.report.TestReport.{TestReport}
 -- A line of which nothing is reported holds; and nothing is reported of a line that holds.
 abbrev pub UnreportedLinesHold : Type 0
 UnreportedLinesHold =
-    (netgroups : List GroupLine) (hosts : List HostRow) (content : Content) (promise : Promise) (expectation : Expectation) (sections : List PlaceBreaches)
+    (netgroups : List GroupLine) (hosts : List HostRow) (content : Content) (promise : Promise) (expectation : Expectation) (sections : List PlaceJudged)
     → IsExpectationOf netgroups hosts promise expectation → IsTested content expectation sections
     → (sections ≡ []) ↔ Holds netgroups hosts content promise
 

@@ -2,6 +2,7 @@ pub mod Action
 pub mod Audience
 pub mod Expectation
 pub mod Form
+pub mod Judging
 pub mod Laws
 pub mod Meaning
 pub mod Names

@@ -3,8 +3,8 @@ use Rattle.std.specs.Prelude.{◌≡◌, ℕ, ◌==◌, not, All, Bool, List, fi
 use Rattle.std.specs.List.{AllZip, flat_map}
 use Rattle.std.specs.String.{string_bytes}
 use Rattle.desk_policy.specs.Policy.{Content}
-use Rattle.desk_impact.specs.Sections.{AreBreachesIn, PlaceBreaches, section_value}
-use Rattle.desk_expect.specs.Expectation.{is_broken_at}
+use Rattle.desk_impact.specs.Sections.{AreFoundIn}
+use Rattle.desk_expect.specs.Judging.{PlaceJudged, judged_section, judging_rule}
 use Rattle.desk_expect.specs.ReportText.{BrokenValue, report_text}
 use Rattle.desk_expect.specs.declared.expectation.Expectation.{Expectation}
 use Rattle.desk_expect.specs.declared.report.Broken.{Broken}
@@ -13,16 +13,16 @@ use Rattle.desk_expect.specs.declared.scope.Scope.{Scope}
 
 -- an expectation that is broken, by value
 abbrev pub broken_value : Broken → BrokenValue
-broken_value broken = record { expectation = broken.expectation.now; sections = map section_value broken.sections }
+broken_value broken = record { expectation = broken.expectation.now; sections = map judged_section broken.sections }
 
 -- These are all sections at which an expectation is broken in these scopes, scope by scope.
-pub record IsTestedIn (content : Content) (expectation : Expectation) (scopes : List Scope) (sections : List PlaceBreaches) : Type 0 where
-  pub by_scope : List (List PlaceBreaches)
-  pub each : AllZip (λ scope some. AreBreachesIn (is_broken_at expectation) content scope.path scope.below some) scopes by_scope
+pub record IsTestedIn (content : Content) (expectation : Expectation) (scopes : List Scope) (sections : List PlaceJudged) : Type 0 where
+  pub by_scope : List (List PlaceJudged)
+  pub each : AllZip (λ scope some. AreFoundIn (judging_rule expectation) content scope.path scope.below some) scopes by_scope
   pub are : sections ≡ flat_map (λ some. some) by_scope
 
 -- These are all sections at which an expectation is broken.
-abbrev pub IsTested : Content → Expectation → List PlaceBreaches → Type 0
+abbrev pub IsTested : Content → Expectation → List PlaceJudged → Type 0
 IsTested content expectation sections = IsTestedIn content expectation expectation.scopes sections
 
 -- what is found of an expectation

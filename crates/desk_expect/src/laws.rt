@@ -3,13 +3,14 @@
 ghost use Rattle.desk_expect.specs.Laws.{NoBrokenIsAllHold, NoneBrokenIsAllHold, UnreportedLinesHold};
 ghost use Rattle.desk_expect.specs.Outside.{OutsideIsDenied};
 
-use desk_impact::no_section_is_all_kept;
+use crate::judging::Judged;
+use desk_impact::no_section_is_nothing_found;
 
 /// Nothing is reported of a line exactly if it holds: at each address that its names mean, and for each path of its directories.
 pub fn unreported_lines_hold()
     ensures { UnreportedLinesHold }
 {
-    no_section_is_all_kept();
+    no_section_is_nothing_found::<Judged<'_>>();
 }
 
 /// None of the expectations of a text is broken exactly if each of its lines holds.

@@ -3,13 +3,14 @@
 //! Its promise: [`read_expectations`] reads what the lines of a text expect, each with just the addresses that its names mean, or
 //! reports the first faulty line and the first rule that it breaks. [`find_broken`] finds the expectations that a policy breaks,
 //! each with where and for whom: at each place of its directories the longest ranges of addresses, with the verdict that breaks
-//! it. [`test_report`] prints them, and counts them. Its laws say that nothing is reported of a line exactly if the line holds: at
+//! it. What is forbidden is broken by this desk's verdict or by that of the server (mountd), what is expected by this desk's alone.
+//! [`test_report`] prints them, and counts them. Its laws say that nothing is reported of a line exactly if the line holds: at
 //! each address that it is about, and for each path of its directories. [`find_outside`] finds the directories that no file system
 //! has anything of: a line that forbids something there holds whatever the policy says.
 //!
 //! ```text
 //! let expectations = read_expectations(alloc, "everybody may not write /usr/...\n", &netgroups, &hosts)?;
-//! test_report(alloc, &view, "promises", expectations.as_slice())?.text
+//! test_report(alloc, &index, "promises", expectations.as_slice())?.text
 //! // "promises:1: broken: everybody may not write /usr/...\n== /usr\n0.0.0.0-.. granted line 2 rw ..\n1 expectation, 1 broken\n"
 //! ```
 #![tactic(auto)]
@@ -19,6 +20,7 @@ pub mod audience;
 pub mod expectation;
 mod faults;
 pub mod form;
+pub mod judging;
 pub mod laws;
 pub mod meaning;
 pub mod names;
@@ -34,6 +36,7 @@ pub mod spans;
 pub use action::Action;
 pub use audience::Audience;
 pub use expectation::Expectation;
+pub use judging::Judged;
 pub use laws::{
     no_broken_is_all_hold, none_broken_is_all_hold, outside_is_denied, unreported_lines_hold,
 };

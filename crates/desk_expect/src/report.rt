@@ -1,13 +1,15 @@
 //! Which expectations a policy breaks, where, and for whom.
 
 ghost use Rattle.std.specs.Prelude.{◌≡◌, ◌++◌, ◌∷◌, [], IfOk, OnOk, filter, map};
-ghost use Rattle.desk_impact.specs.Sections.{section_value};
+ghost use Rattle.desk_expect.specs.Judging.{judged_section};
 ghost use Rattle.desk_expect.specs.Report.{AreBroken, IsTested, IsTestReport, broken_value, is_broken};
 ghost use Rattle.desk_expect.specs.PrivateReport.{AddsTested};
 
 use crate::expectation::Expectation;
+use crate::judging::{Judged, Judging};
 use crate::report_text::report_text;
-use desk_impact::{Section, breaches_in};
+use desk_impact::{Section, found_in};
+use desk_index::Index;
 use desk_policy::PolicyView;
 use desk_text::Sequence;
 use std::alloc::{AllocError, Global};
@@ -16,7 +18,7 @@ use std::alloc::{AllocError, Global};
 #[derive(Drop)]
 pub struct Broken<'a> {
     pub expectation: &'a Expectation,
-    pub sections: Sequence<Section<'a>>,
+    pub sections: Sequence<Section<'a, Judged<'a>>>,
 }
 
 /// What is reported of expectations: the printed text, and how many are broken.
@@ -27,18 +29,18 @@ pub struct TestReport {
 }
 
 /// Reports which expectations of a file a policy breaks: each with where and for whom, and in a last line how many there are.
-pub fn test_report<V: PolicyView>(
+pub fn test_report(
     alloc: Global,
-    view: &V,
+    index: &Index,
     file: &str,
     expectations: &[Expectation],
 ) -> Result<TestReport, AllocError>
-    ensures { IfOk result (IsTestReport (V.in_force view.now) file.now expectations.now) }
+    ensures { IfOk result (IsTestReport index.now file.now expectations.now) }
 {
-    let broken = find_broken(alloc, view, expectations)?;
+    let broken = find_broken(alloc, index, expectations)?;
     let text = report_text(
         alloc,
-        view.policy(),
+        index.policy(),
         file,
         expectations.len(),
         broken.as_slice(),
@@ -52,30 +54,30 @@ pub fn test_report<V: PolicyView>(
 }
 
 /// Finds the expectations that a policy breaks, in their order.
-pub fn find_broken<'a, V: PolicyView>(
+pub fn find_broken<'a>(
     alloc: Global,
-    view: &'a V,
+    index: &'a Index,
     expectations: &'a [Expectation],
 ) -> Result<Vec<Broken<'a>>, AllocError>
-    ensures { IfOk result (λ broken. AreBroken (V.in_force view.now) expectations.now (map broken_value broken.items)) }
+    ensures { IfOk result (λ broken. AreBroken index.now expectations.now (map broken_value broken.items)) }
 {
     let mut broken = Vec::new(alloc);
     for expectation in expectations {
-        push_if_broken(alloc, view, expectation, &mut broken)?;
+        push_if_broken(alloc, index, expectation, &mut broken)?;
     }
     Ok(broken)
 }
 
 /// Adds an expectation, if it is broken.
-fn push_if_broken<'a, V: PolicyView>(
+fn push_if_broken<'a>(
     alloc: Global,
-    view: &'a V,
+    index: &'a Index,
     expectation: &'a Expectation,
     broken: &mut Vec<Broken<'a>>,
 ) -> Result<(), AllocError>
-    ensures { OnOk result (AddsTested (V.in_force view.now) expectation.now (map broken_value broken.old.items) (map broken_value broken.new.items)) }
+    ensures { OnOk result (AddsTested index.now expectation.now (map broken_value broken.old.items) (map broken_value broken.new.items)) }
 {
-    let sections = sections_of(alloc, view, expectation)?;
+    let sections = sections_of(alloc, index, expectation)?;
     push_if_some(expectation, sections, broken)?;
     Ok(())
 }
@@ -83,11 +85,11 @@ fn push_if_broken<'a, V: PolicyView>(
 /// Adds an expectation with its sections, if there are some.
 fn push_if_some<'a>(
     expectation: &'a Expectation,
-    sections: Vec<Section<'a>>,
+    sections: Vec<Section<'a, Judged<'a>>>,
     broken: &mut Vec<Broken<'a>>,
 ) -> Result<(), AllocError>
     ensures { OnOk result (map broken_value broken.new.items
-        ≡ map broken_value broken.old.items ++ filter is_broken (record { expectation = expectation.now; sections = map section_value sections.entry.items } ∷ [])) }
+        ≡ map broken_value broken.old.items ++ filter is_broken (record { expectation = expectation.now; sections = map judged_section sections.entry.items } ∷ [])) }
 {
     if sections.is_empty() {
         drop(sections);
@@ -101,16 +103,27 @@ fn push_if_some<'a>(
 }
 
 /// Lists where and for whom an expectation is broken, directory by directory as they are written.
-fn sections_of<'a, V: PolicyView>(
+fn sections_of<'a>(
     alloc: Global,
-    view: &'a V,
+    index: &'a Index,
     expectation: &'a Expectation,
-) -> Result<Vec<Section<'a>>, AllocError>
-    ensures { IfOk result (λ sections. IsTested (V.in_force view.now) expectation.now (map section_value sections.items)) }
+) -> Result<Vec<Section<'a, Judged<'a>>>, AllocError>
+    ensures { IfOk result (λ sections. IsTested index.now expectation.now (map judged_section sections.items)) }
 {
+    let judging = Judging {
+        index,
+        expectation,
+        starts: expectation.audience.starts(),
+    };
     let mut sections = Vec::new(alloc);
     for scope in expectation.scopes.as_slice() {
-        let mut found = breaches_in(alloc, view, &scope.path, scope.below, expectation)?;
+        let mut found = found_in(
+            alloc,
+            index.policy(),
+            &judging,
+            &scope.path,
+            scope.below,
+        )?;
         sections.append(&mut found)?;
     }
     Ok(sections)

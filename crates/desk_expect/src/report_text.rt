@@ -1,15 +1,18 @@
 //! Which expectations a policy breaks, as it is printed.
 
 ghost use Rattle.std.specs.Prelude.{◌≡◌, ◌++◌, IfOk, OnOk, map};
+ghost use Rattle.std.specs.List.{flat_map};
 ghost use Rattle.std.specs.String.{string_bytes};
-ghost use Rattle.desk_impact.specs.Sections.{section_value};
+ghost use Rattle.desk_who.specs.Runs.{run_value};
+ghost use Rattle.desk_expect.specs.Judging.{judged_section, judged_value};
 ghost use Rattle.desk_expect.specs.Report.{broken_value};
 ghost use Rattle.desk_expect.specs.ReportText as spec;
 
+use crate::judging::Judged;
 use crate::report::Broken;
 use desk_impact::{Section, push_heading};
-use desk_policy::Policy;
-use desk_who::who_text;
+use desk_policy::{Policy, verdict_text};
+use desk_who::{Run, span_text};
 use std::alloc::{AllocError, Global};
 
 /// Writes the expectations of a file that are broken, and in a last line how many there are of all.
@@ -60,14 +63,55 @@ fn push_headline(file: &str, broken: &Broken<'_>, text: &mut String) -> Result<(
 fn push_section(
     alloc: Global,
     policy: &Policy,
-    section: &Section<'_>,
+    section: &Section<'_, Judged<'_>>,
     text: &mut String,
 ) -> Result<(), AllocError>
-    ensures { OnOk result (string_bytes text.new ≡ string_bytes text.old ++ spec.section_text policy.now (section_value section.now)) }
+    ensures { OnOk result (string_bytes text.new ≡ string_bytes text.old ++ spec.section_text policy.now (judged_section section.now)) }
 {
     push_heading(section.place, text)?;
-    let ranges = who_text(alloc, policy, section.ranges.as_slice())?;
-    text.push_str(ranges.as_str())
+    push_ranges(alloc, policy, section.ranges.as_slice(), text)
+}
+
+/// Writes a line for each range.
+fn push_ranges(
+    alloc: Global,
+    policy: &Policy,
+    ranges: &[Run<Judged<'_>>],
+    text: &mut String,
+) -> Result<(), AllocError>
+    ensures { OnOk result (string_bytes text.new
+        ≡ string_bytes text.old ++ flat_map (spec.judged_line policy.now) (map (run_value judged_value) ranges.now)) }
+{
+    for range in ranges {
+        push_range(alloc, policy, range, text)?;
+    }
+    Ok(())
+}
+
+/// Writes a range: its addresses, the verdict that breaks the expectation, and whether that is of the server alone.
+fn push_range(
+    alloc: Global,
+    policy: &Policy,
+    range: &Run<Judged<'_>>,
+    text: &mut String,
+) -> Result<(), AllocError>
+    ensures { OnOk result (string_bytes text.new ≡ string_bytes text.old ++ spec.judged_line policy.now (run_value judged_value range.now)) }
+{
+    let span = span_text(alloc, range.first, range.last)?;
+    let verdict = verdict_text(alloc, policy, &range.value.verdict, &None)?;
+    text.push_str(span.as_str())?;
+    text.push_str(" ")?;
+    text.push_str(verdict.as_str())?;
+    text.push_str(by_text(range.value.by_server))?;
+    text.push_str("\n")?;
+    Ok(())
+}
+
+/// Returns what stands behind a verdict, if it is that of the server alone.
+fn by_text(by_server: bool) -> &'static str
+    ensures { result.now ≡ spec.by_text by_server }
+{
+    if by_server { " by mountd(8)" } else { "" }
 }
 
 /// Writes how many expectations there are, and how many are broken.

@@ -54,11 +54,11 @@ same_tests path mount table (one ∷ some) all each = (
   same_tests path mount table some all each.1,
 )
 
-same_fs : (path mount : Path) (table : List Mount) → AllByRecursion (SameAbove path mount) table → fs_of table path ≡ fs_of table mount
+pub same_fs : (path mount : Path) (table : List Mount) → AllByRecursion (SameAbove path mount) table → fs_of table path ≡ fs_of table mount
 same_fs path mount table all =
     ap (λ n. cond (nat_lt n (length table)) (Some n) None) (same_prefix (is_file_system table path) (is_file_system table mount) table (same_tests path mount table table all all))
 
-same_above : (path mount : Path) → is_under path mount ≡ true → (table : List Mount) → list_all (is_above path mount) (mount_points table) ≡ true → AllByRecursion (SameAbove path mount) table
+pub same_above : (path mount : Path) → is_under path mount ≡ true → (table : List Mount) → list_all (is_above path mount) (mount_points table) ≡ true → AllByRecursion (SameAbove path mount) table
 same_above path mount here [] all = tt
 same_above path mount here (one ∷ table) all =
     let p = and_parts (is_above path mount one.path) (list_all (is_above path mount) (mount_points table)) all in (
@@ -76,14 +76,14 @@ same_above path mount here (one ∷ table) all =
 unfoldable pub LacksPath : Path → Row → Type 0
 LacksPath path row = is_directory_among path row.entry.dirs ≡ false
 
-lack : (path : Path) (rows : List Row) → is_directory_among path (written rows) ≡ false → AllByRecursion (LacksPath path) rows
+pub lack : (path : Path) (rows : List Row) → is_directory_among path (written rows) ≡ false → AllByRecursion (LacksPath path) rows
 unfolding LacksPath
 lack path [] none = tt
 lack path (row ∷ rows) none =
     let p = or_parts (is_directory_among path row.entry.dirs) (is_directory_among path (written rows)) (sym (list_any-append (λ dir. same_path dir path) row.entry.dirs (written rows)) ∙ none) in
     (p.0, lack path rows p.1)
 
-lacks_rows : (path : Path) (rows : List (List Row)) (fs : ℕ) → is_directory_among path (flat_map written rows) ≡ false → is_directory_among path (written (slice_index_or rows fs [])) ≡ false
+pub lacks_rows : (path : Path) (rows : List (List Row)) (fs : ℕ) → is_directory_among path (flat_map written rows) ≡ false → is_directory_among path (written (slice_index_or rows fs [])) ≡ false
 lacks_rows path [] fs none = refl
 lacks_rows path (first ∷ rows) zero none =
     (or_parts (is_directory_among path (written first)) (is_directory_among path (flat_map written rows))
@@ -106,7 +106,7 @@ and_true true = refl
 and_true false = refl
 
 module _ (content : Content) (fs : ℕ) (path : Path) (home : fs_of content.table path ≡ Some fs) where
-  by_alldirs : (row : Row) → LacksPath path row → lists content fs path row ≡ row.entry.alldirs
+  pub by_alldirs : (row : Row) → LacksPath path row → lists content fs path row ≡ row.entry.alldirs
   unfolding LacksPath
   by_alldirs row none =
       ap (λ b. b || (row.entry.alldirs && is_in (fs_of content.table path) fs)) none

@@ -1,24 +1,25 @@
 -- What is known of file systems.
-use Rattle.std.proofs.Common.{◌≡◌, ℕ, Bool, List, [], ◌∷◌, ◌++◌, get_or, length, length-append, map, refl, sym, ap, ◌∙◌, subst, arith}
-use Rattle.std.specs.Prelude.{Option, Some, None, Result}
+use Rattle.std.proofs.Common.{◌≡◌, ℕ, false, List, [], ◌∷◌, ◌++◌, get_or, length, length-append, map, refl, sym, ap, ◌∙◌, subst, arith}
+use Rattle.std.specs.Prelude.{Option, Some, None}
 use Rattle.std.specs.List.{All, Contains}
 use Rattle.std.specs.Option.{option_map}
 use Rattle.std.proofs.lemmas.List.Elements.{All-get_or, All-push}
+use Rattle.desk_text.specs.AddrSet.{is_among}
+use Rattle.desk_text.specs.declared.address.Addr.{Addr}
 use Rattle.desk_tables.specs.FileSystems.{fs_of}
 use Rattle.desk_policy.specs.Policy.{Content}
-use Rattle.desk_policy.specs.Verdict.{Grant, verdict_of}
-use Rattle.desk_policy.specs.declared.verdict.Denial.{Denial}
-use Rattle.desk_policy.specs.declared.verdict.Verdict.{Verdict}
-use Rattle.desk_who.specs.Breaking.{AreBreaches, AreBrokenStarts}
+use Rattle.desk_who.specs.Runs.{AreRunsWithValue, run_value}
+use Rattle.desk_who.specs.Searching.{AreFoundStarts, ByRule, Rule, found_at}
+use Rattle.desk_who.proofs.Kept.{same_runs}
 use Rattle.desk_impact.specs.Impact.{AreStartsOfBoth, IsImpact, change_value, verdicts_at}
-use Rattle.desk_who.specs.Who.{range_value}
 use Rattle.desk_impact.specs.declared.changes.TwoVerdicts.{TwoVerdicts as KeptVerdicts}
 use Rattle.desk_impact.specs.Known.{IsKnownChange, fs_number}
-use Rattle.desk_impact.specs.Places.{Others, place_verdict, place_verdicts, taken_by, verdict_elsewhere}
-use Rattle.desk_impact.specs.PrivateKnown.{AreKnownBreaches, HasLearnedBreaches, HasLearnedChange, IsKnownAt}
+use Rattle.desk_impact.specs.Places.{Others, place_verdicts, taken_by, verdict_elsewhere}
+use Rattle.desk_impact.specs.PrivateKnown.{AreFoundOfOthers, AreKnownFindings, HasLearnedChange, HasLearnedFindings, IsKnownAt}
 use Rattle.desk_impact.specs.PrivatePlaces.{IsFree}
+use Rattle.desk_impact.specs.Sections.{found_elsewhere, found_of}
 use Rattle.desk_impact.specs.declared.known.Known.{Known}
-use Rattle.desk_impact.proofs.Breached.{breaches_of_others, same_breaches}
+use Rattle.desk_impact.proofs.Found.{found_of_others}
 use Rattle.desk_impact.proofs.Reporting.{changes_of_others, same_impact}
 use Rattle.desk_impact.proofs.Same.{Path}
 use Rattle.desk_impact.proofs.Searched.{free_of_given}
@@ -37,11 +38,10 @@ known_others old new one path known is is' =
     ap (λ fs. record { before = verdict_elsewhere old address fs; after = verdict_elsewhere new address (fs_of new.table known.path) }) (sym known.old_is ∙ is)
     ∙ ap (λ fs. record { before = verdict_elsewhere old address (fs_of old.table path); after = verdict_elsewhere new address fs }) (sym known.new_is ∙ is')) known.changes
 
-pub known_breaches : (breaks : ℕ → Result Grant Denial → Bool) (content : Content) (one : Known Verdict) (path : Path) → AreKnownBreaches breaks content one → fs_number one.old ≡ fs_of content.table path
-    → AreBreaches breaks (λ address. place_verdict content (Others path) address) (map range_value one.found)
-known_breaches breaks content one path known is =
-    same_breaches breaks (λ address. place_verdict content (Others known.path) address) (λ address. place_verdict content (Others path) address) (map range_value one.found)
-    (λ address. ap (verdict_elsewhere content address) (sym known.old_is ∙ is)) known.ranges
+pub known_findings : {T A : Type 0} (meaning : T → A) (rule : Rule (Option A)) (content : Content) (one : Known T) (home path : Path) → AreFoundOfOthers meaning rule content home one
+    → fs_of content.table home ≡ fs_of content.table path → AreRunsWithValue (found_of rule content (Others path)) (map (run_value meaning) one.found)
+known_findings meaning rule content one home path known is =
+    same_runs (found_of rule content (Others home)) (found_of rule content (Others path)) (map (run_value meaning) one.found) (λ address. ap (λ fs. found_elsewhere rule content fs address) is) known.runs
 
 -- ---- what is known is one more
 module _ {T : Type 0} (P : Known T → Type 0) (known : List (Known T)) (old new : Option ℕ) (place : ℕ) (at : IsKnownAt known old new place) where
@@ -81,16 +81,21 @@ module _ (path other : Path) (taken : List Path) (free : IsFree path taken other
     own = subst (IsKnownAt (known ++ one ∷ []) (fs_of old.table path) (fs_of new.table path)) (sym last) (known_last known one (fs_of old.table path) (fs_of new.table path) is is');
   }
 
-  pub learned_breaches : (breaks : ℕ → Result Grant Denial → Bool) (content : Content) (known : List (Known Verdict)) (one : Known Verdict) (place : ℕ) → All (Contains taken) (taken_by content content) → place ≡ length known
-      → fs_number one.old ≡ fs_of content.table path → fs_number one.new ≡ fs_of content.table path → AreBrokenStarts breaks content path one.starts
-      → AreBreaches breaks (λ address. verdict_of content address other) (map range_value one.found) → All (AreKnownBreaches breaks content) known → HasLearnedBreaches breaks content path (known ++ one ∷ []) place
-  learned_breaches breaks content known one place listed last is is' starts ranges so_far = record {
-    all = All-push (AreKnownBreaches breaks content) known one so_far
+  pub learned_findings : {T A : Type 0} (meaning : T → A) (found : Addr → Path → Option T → Type 0) (content : Content) (turns : List ℕ) (known : List (Known T)) (one : Known T) (place : ℕ)
+      → All (Contains taken) (taken_by content content) → place ≡ length known → fs_number one.old ≡ fs_of content.table path → fs_number one.new ≡ fs_of content.table path → is_among 0 one.starts ≡ false
+      → ByRule meaning found content turns (λ rule. AreFoundStarts rule content path one.starts)
+      → ByRule meaning found content turns (λ rule. AreRunsWithValue (found_at rule content other) (map (run_value meaning) one.found))
+      → All (AreKnownFindings meaning found content turns) known → HasLearnedFindings meaning found content turns path (known ++ one ∷ []) place
+  learned_findings meaning found content turns known one place listed last is is' behind starts runs so_far = record {
+    all = All-push (AreKnownFindings meaning found content turns) known one so_far
         (record {
           path = path;
           old_is = is;
-          starts = starts;
-          ranges = breaches_of_others breaks content path other (map range_value one.found) (free_of_given (taken_by content content) taken path other listed free) ranges;
+          behind = behind;
+          by_rule = λ rule of. record {
+            starts = starts rule of;
+            runs = found_of_others rule of.asks content path other (map (run_value meaning) one.found) (free_of_given (taken_by content content) taken path other listed free) (runs rule of);
+          };
         });
     own = subst (IsKnownAt (known ++ one ∷ []) (fs_of content.table path) (fs_of content.table path)) (sym last) (known_last known one (fs_of content.table path) (fs_of content.table path) is is');
   }

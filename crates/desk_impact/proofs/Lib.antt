@@ -12,7 +12,8 @@ pub mod Covering
 pub mod Reporting
 pub mod OtherLines
 pub mod HavingOthers
-pub mod Breached
+pub mod FoundElsewhere
+pub mod Found
 pub mod Scoped
 pub mod Together
 pub mod WrittenLines

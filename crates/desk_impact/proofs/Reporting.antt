@@ -57,14 +57,20 @@ free_above mount name (other ∷ mounts) free =
     (free_above mount name mounts p.1)
 
 -- a free path is decided on as all others are
-pub free_decided : (before after : Content) (mount path : Path) → IsFree mount (taken_by before after) path → (address : ℕ) → verdicts_at before after path address ≡ place_verdicts before after (Others mount) address
-free_decided before after mount path free address =
+pub free_is_home : (before after : Content) (mount path : Path) → IsFree mount (taken_by before after) path
+    → (is_home (mounts_of_both before after) path mount ≡ true) × (is_directory_among path (dirs_of_both before after) ≡ false)
+free_is_home before after mount path free =
     let child = mount ++ free.name ∷ [] in
     let p = or_parts (is_directory_among child (mounts_of_both before after)) (is_directory_among child (dirs_of_both before after))
     (sym (list_any-append (λ dir. same_path dir child) (mounts_of_both before after) (dirs_of_both before after)) ∙ ap (λ q. is_directory_among q (taken_by before after)) (sym free.below) ∙ free.free) in
     let home : is_home (mounts_of_both before after) child mount ≡ true =
     and_from (is_under child mount) (list_all (is_above child mount) (mounts_of_both before after)) (child_under mount free.name) (free_above mount free.name (mounts_of_both before after) p.0) in
-    ap (λ (q : Path). verdicts_at before after q address) free.below ∙ decided_as_others before after mount child home p.1 address
+    (ap (λ (q : Path). is_home (mounts_of_both before after) q mount) free.below ∙ home, ap (λ (q : Path). is_directory_among q (dirs_of_both before after)) free.below ∙ p.1)
+
+pub free_decided : (before after : Content) (mount path : Path) → IsFree mount (taken_by before after) path → (address : ℕ) → verdicts_at before after path address ≡ place_verdicts before after (Others mount) address
+free_decided before after mount path free address =
+    let own = free_is_home before after mount path free in
+    decided_as_others before after mount path own.0 own.1 address
 
 pub changes_of_others : (before after : Content) (mount path : Path) (changes : List (Run TwoVerdicts)) → IsFree mount (taken_by before after) path → IsImpact before after (verdicts_at before after path) changes
     → IsImpact before after (place_verdicts before after (Others mount)) changes

@@ -1,6 +1,6 @@
 -- On a written directory the verdicts are those on the directories that no line writes, but where a line that writes it matches.
-use Rattle.std.proofs.Common.{◌≡◌, ℕ, ◌+◌, ◌<◌, ◌^◌, Bool, true, false, cond, List, [], ◌∷◌, length, map, refl, sym, ap, ◌∙◌, arith, inl, inr}
-use Rattle.std.specs.Prelude.{Contains, Option, Some, None, Result, filter, get_or}
+use Rattle.std.proofs.Common.{◌≡◌, ℕ, ◌+◌, ◌<◌, ◌^◌, Bool, true, false, List, [], ◌∷◌, length, map, refl, sym, ap, ◌∙◌, arith, inl, inr}
+use Rattle.std.specs.Prelude.{Contains, Option, Some, None, filter, get_or}
 use Rattle.std.specs.List.{AllByRecursion, flat_map}
 use Rattle.std.proofs.lemmas.Bool.{cases_Bool, cases_lt, false_from_ne_true, true≢false}
 use Rattle.std.proofs.lemmas.List.{get_or_default, get_or_past}
@@ -8,28 +8,25 @@ use Rattle.std.proofs.lemmas.List.Elements.{All-contains, All-from_recursion, Co
 use Rattle.desk_text.specs.AddrSet.{is_among}
 use Rattle.desk_tables.specs.FileSystems.{fs_of}
 use Rattle.desk_policy.specs.Policy.{Content, rows_of}
-use Rattle.desk_policy.specs.Verdict.{Grant, is_directory_among, verdict_in, verdict_of}
+use Rattle.desk_policy.specs.Verdict.{is_directory_among, verdict_in, verdict_of}
 use Rattle.desk_policy.specs.Weights.{is_greatest, selected, weight_of}
 use Rattle.desk_policy.specs.declared.row.Row.{Row}
-use Rattle.desk_policy.specs.declared.verdict.Denial.{Denial}
 use Rattle.desk_who.specs.Beside.{AreStartsWithin, GoTogether}
-use Rattle.desk_who.specs.Breaking.{AreBrokenStarts, broken_at}
-use Rattle.desk_impact.specs.Impact.{AreStartsOfBoth, TwoVerdicts, verdicts_at}
+use Rattle.desk_who.specs.Searching.{AreFoundStarts, AsksThoseThatMatch, Rule, found_at}
 use Rattle.desk_who.specs.Starts.{IsSteadyLine}
+use Rattle.desk_impact.specs.Impact.{AreStartsOfBoth, verdicts_at}
 use Rattle.desk_impact.specs.Places.{Others, dirs_of_both, mounts_of_both, place_verdict, place_verdicts, verdict_elsewhere}
+use Rattle.desk_impact.specs.Sections.{found_elsewhere, found_of}
 use Rattle.desk_impact.specs.Writings.{AreWritings, Written, writing_value, written_by, written_by_all, written_by_both}
 use Rattle.desk_impact.specs.PrivateWritings.{HasWriters}
 use Rattle.desk_impact.specs.declared.writings.Writing.{Writing}
 use Rattle.desk_impact.proofs.Covering.{flat_at}
 use Rattle.desk_impact.proofs.Elsewhere.{LacksPath, among, decided_as_others, home_fs}
+use Rattle.desk_impact.proofs.FoundElsewhere.{IsSilent, as_others, outside as found_outside}
 use Rattle.desk_impact.proofs.HavingOthers.{mounts_have_others}
 use Rattle.desk_impact.proofs.Same.{Path, contained, contains_map}
 
 -- ---- where no line that writes a path matches
--- a line that writes the path does not match
-abbrev IsSilent : Path → ℕ → Row → Type 0
-IsSilent path address row = is_directory_among path row.entry.dirs ≡ true → weight_of row address ≡ None
-
 selected_lack : (path : Path) (address : ℕ) (all rows : List Row) → AllByRecursion (IsSilent path address) rows
     → AllByRecursion (LacksPath path) (filter (λ row. is_greatest all address (weight_of row address)) rows)
 unfolding LacksPath
@@ -127,25 +124,25 @@ module _ (before after : Content) (home path : Path) (same : fs_of before.table 
             })
       ]
 
-  -- and so whether they break what is expected
-  pub breaches_go : (breaks : ℕ → Result Grant Denial → Bool) (starts decided : List ℕ) → AreBrokenStarts breaks before home starts → AreStartsWithin starts rows decided
-      → GoTogether (broken_at breaks (λ address. verdict_of before address path)) (broken_at breaks (λ address. place_verdict before (Others home) address)) decided
-  breaches_go breaks starts decided steady within address fits away =
-      let broken : ℕ → Result Grant Denial → Option (Result Grant Denial) = λ a verdict. cond (breaks a verdict) (Some verdict) None in
+-- and so does what is found
+module _ {A : Type 0} (rule : Rule A) (asks : AsksThoseThatMatch rule) (content : Content) (home path : Path) (same : fs_of content.table path ≡ fs_of content.table home)
+    (writings : List Writing) (are : AreWritings content content writings) (rows : List Row) (have : HasWriters writings path rows) where
+  found_alike : (address : ℕ) → AllByRecursion (λ row. weight_of row address ≡ None) rows → found_at rule content path address ≡ found_of rule content (Others home) address
+  found_alike address none =
+      found_outside rule asks content path address (silent_before content content writings are path rows have address none) ∙ ap (λ fs. found_elsewhere rule content fs address) same
+
+  pub found_go : (starts decided : List ℕ) → AreFoundStarts rule content home starts → AreStartsWithin starts rows decided → GoTogether (found_at rule content path) (found_of rule content (Others home)) decided
+  found_go starts decided steady within address fits away =
       elim (cases_Bool (is_among (address + 1) starts)) [
         | inl there ↦
             let none = within.apart (address + 1) fits there away in
-            inl (record {
-              here = ap (broken address) (alike_before address (none_before address decided rows fits away within.steady none));
-              next = ap (broken (address + 1)) (alike_before (address + 1) none);
-            })
+            inl (record { here = found_alike address (none_before address decided rows fits away within.steady none); next = found_alike (address + 1) none })
         | inr not ↦
-            let other = mounts_have_others (mounts_of_both before after) (dirs_of_both before after) home in
-            let fs = home_fs before after home other.path other.home in
-            let as_others : (a : ℕ) → verdict_of before a other.path ≡ place_verdict before (Others home) a =
-            λ a. ap (λ (v : TwoVerdicts). v.before) (decided_as_others before after home other.path other.home other.unwritten a) in
+            let other = mounts_have_others (mounts_of_both content content) (dirs_of_both content content) home in
+            let fs = home_fs content content home other.path other.home in
+            let others : (a : ℕ) → found_at rule content other.path a ≡ found_of rule content (Others home) a = λ a. as_others rule asks content other.path a home other.home other.unwritten in
             inr (record {
               own = (steady path same).steady address fits not;
-              other = sym (ap (broken (address + 1)) (as_others (address + 1))) ∙ (steady other.path fs.0).steady address fits not ∙ ap (broken address) (as_others address);
+              other = sym (others (address + 1)) ∙ (steady other.path fs.0).steady address fits not ∙ others address;
             })
       ]

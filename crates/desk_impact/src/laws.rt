@@ -2,11 +2,11 @@
 
 ghost use Rattle.desk_impact.specs.Impact.{ImpactsAreUnique, ImpactsTellChanges, ImpactsTellEffects, SameSayingsAreNoChange};
 ghost use Rattle.desk_impact.specs.Places.{MountsHaveOthers, OtherPathsHaveNone, PathsHaveHomes, PlacesTellAll};
-ghost use Rattle.desk_impact.specs.Sections.{NoSectionIsAllKept, PlacesTellScope};
+ghost use Rattle.desk_impact.specs.Sections.{NoSectionIsNothingFound, PlacesTellScope};
 
 use crate::changes::TwoVerdicts;
 use desk_who::{
-    no_breach_is_all_kept, runs_are_unique, runs_exist, runs_pass_tests, runs_tell_values,
+    Alike, no_run_is_no_value, runs_are_unique, runs_exist, runs_pass_tests, runs_tell_values,
     verdicts_are_discrete,
 };
 
@@ -69,9 +69,9 @@ pub fn places_tell_scope()
     ensures { PlacesTellScope }
 {}
 
-/// There is a section exactly if something is not kept.
-pub fn no_section_is_all_kept()
-    ensures { NoSectionIsAllKept }
+/// There is a section exactly if something is found.
+pub fn no_section_is_nothing_found<T: Alike>()
+    ensures { NoSectionIsNothingFound T.Meaning }
 {
-    no_breach_is_all_kept();
+    no_run_is_no_value::<T>();
 }

@@ -1,12 +1,12 @@
-//! What another policy would change, for the clients of one directory and of every directory; and what is not as expected of a
-//! directory and of all below it.
+//! What another policy would change, for the clients of one directory and of every directory; and what is found at a directory and
+//! at all below it.
 //!
 //! Its promise: [`impact`] lists just the addresses of which two policies say something else, [`those_that_matter`] those at which
 //! a mount is granted by one of them alone, or on other terms. [`impact_report`] tells these, place by place, and how many ranges
 //! of them matter to a client. Its laws say that no path is left out: one under a mount point is decided on as one of the places
 //! is, and any other is in no file system. [`lines_report`] gives the same report of policies that differ in the lines of one file
 //! system, and asks for verdicts there alone. [`changes_at`] lists the changes of one place, for who tells them in another form.
-//! [`breaches_in`] lists, place by place, the addresses whose verdicts break what is expected: none exactly if all is kept.
+//! [`found_in`] lists, place by place, the addresses at which a search finds something: none exactly if there is nothing to find.
 //!
 //! ```text
 //! let changes = impact(alloc, &old, &new, &path)?;    // none, if both policies say the same of every client
@@ -21,8 +21,8 @@ pub mod change_prints;
 pub mod changes;
 pub mod known;
 pub mod laws;
-mod place_breaches;
 pub mod place_changes;
+mod place_findings;
 pub mod places;
 pub mod report;
 mod sayings;
@@ -38,11 +38,11 @@ pub use changes::{
 pub use known::Known;
 pub use laws::{
     impacts_are_unique, impacts_tell_changes, impacts_tell_effects, mounts_have_others,
-    no_section_is_all_kept, other_paths_have_none, paths_have_homes, places_tell_all,
+    no_section_is_nothing_found, other_paths_have_none, paths_have_homes, places_tell_all,
     places_tell_scope, same_sayings_are_no_change,
 };
 pub use place_changes::changes_at;
 pub use places::{Place, in_order, places_of_both, taken_paths};
 pub use report::{Report, impact_report, lines_report, push_heading};
-pub use sections::{Section, breaches_in, places_below};
+pub use sections::{Section, found_in, places_below};
 pub use writings::{Writing, writings_of_both};

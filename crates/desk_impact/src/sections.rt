@@ -1,90 +1,90 @@
-//! Where, and for whom, the verdicts on a directory and on all below it are not as expected.
+//! Where something is found, at a directory and at all below it, and for whom.
 
 ghost use Rattle.std.specs.Prelude.{◌≡◌, ◌++◌, ◌∷◌, [], IfOk, OnOk, false, filter, map, true};
 ghost use Rattle.desk_text.specs.Path.{is_under};
 ghost use Rattle.desk_tables.specs.FileSystems.{mount_points};
-ghost use Rattle.desk_who.specs.Who.{range_value};
+ghost use Rattle.desk_who.specs.Runs.{run_value};
+ghost use Rattle.desk_who.specs.Searching.{ByRule};
 ghost use Rattle.desk_impact.specs.Places.{all_written, paths_in, place_of};
-ghost use Rattle.desk_impact.specs.Sections.{AreBreachesIn, ArePlacesBelow, has_breach, roots_below, section_value};
+ghost use Rattle.desk_impact.specs.Sections.{AreFoundIn, ArePlacesBelow, has_some, place_found, roots_below};
 
-use crate::place_breaches::breaches_at;
+use crate::place_findings::findings_at;
 use crate::places::{Place, in_order, places_among, push_all_written, taken_paths};
 use crate::writings::writings_of_both;
-use desk_policy::{Policy, PolicyView};
+use desk_policy::{Policy, Verdict};
 use desk_tables::Mount;
 use desk_text::{Path, Sequence};
-use desk_who::{Expected, Range, breaches};
+use desk_who::{Alike, Run, Search, found_runs};
 use std::alloc::{AllocError, Global};
 
-/// A place at which verdicts break what is expected, and for whom: the longest ranges of addresses, ascending.
+/// A place at which something is found, such as a verdict, and for whom: the longest runs of addresses, ascending.
 #[derive(Drop)]
-pub struct Section<'a> {
+pub struct Section<'a, T = Verdict<'a>> {
     pub place: Place<'a>,
-    pub ranges: Sequence<Range<'a>>,
+    pub ranges: Sequence<Run<T>>,
 }
 
-/// Lists where, and for whom, the verdicts on a directory, and if asked on all below it, break what is expected: by place, in
-/// the order of `places_below`. A place without a breach is left out.
-pub fn breaches_in<'a, V: PolicyView, E: Expected>(
+/// Lists where something is found, at a directory, and if asked at all below it, and for whom: by place, in the order of
+/// `places_below`. A place at which nothing is found is left out. The policy is that of the search.
+pub fn found_in<'a, T: Alike, S: Search<T>>(
     alloc: Global,
-    view: &'a V,
+    policy: &'a Policy,
+    search: &S,
     dir: &'a Path,
     below: bool,
-    expected: &E,
-) -> Result<Vec<Section<'a>>, AllocError>
-    ensures { IfOk result (λ sections.
-        AreBreachesIn (E.breaks expected.now) (V.in_force view.now) dir.now below (map section_value sections.items)) }
+) -> Result<Vec<Section<'a, T>>, AllocError>
+    requires { policy.now ≡ S.in_force search.now }
+    ensures { IfOk result (λ sections. ByRule T.meaning (S.found search.now) (S.in_force search.now) (S.turns search.now) (λ rule.
+        AreFoundIn rule (S.in_force search.now) dir.now below (map (place_found T.meaning) sections.items))) }
 {
     if below {
-        breaches_below(alloc, view, dir, expected)
+        found_below(alloc, policy, search, dir)
     } else {
-        breaches_of(alloc, view, dir, expected)
+        found_alone(alloc, search, dir)
     }
 }
 
-/// Lists for whom the verdicts on a directory break what is expected, as the one section, if there is one.
-fn breaches_of<'a, V: PolicyView, E: Expected>(
+/// Lists for whom something is found at a directory, as the one section, if there is one.
+fn found_alone<'a, T: Alike, S: Search<T>>(
     alloc: Global,
-    view: &'a V,
+    search: &S,
     dir: &'a Path,
-    expected: &E,
-) -> Result<Vec<Section<'a>>, AllocError>
-    ensures { IfOk result (λ sections.
-        AreBreachesIn (E.breaks expected.now) (V.in_force view.now) dir.now false (map section_value sections.items)) }
+) -> Result<Vec<Section<'a, T>>, AllocError>
+    ensures { IfOk result (λ sections. ByRule T.meaning (S.found search.now) (S.in_force search.now) (S.turns search.now) (λ rule.
+        AreFoundIn rule (S.in_force search.now) dir.now false (map (place_found T.meaning) sections.items))) }
 {
-    let ranges = breaches(alloc, view, dir, expected)?;
+    let runs = found_runs(alloc, search, dir)?;
     let mut sections = Vec::new(alloc);
-    push_if_some(Place::Directory(dir), ranges, &mut sections)?;
+    push_if_some(Place::Directory(dir), runs, &mut sections)?;
     Ok(sections)
 }
 
-/// Lists where, and for whom, the verdicts on a directory and on all below it break what is expected.
-fn breaches_below<'a, V: PolicyView, E: Expected>(
+/// Lists where something is found, at a directory and at all below it, and for whom.
+fn found_below<'a, T: Alike, S: Search<T>>(
     alloc: Global,
-    view: &'a V,
+    policy: &'a Policy,
+    search: &S,
     dir: &'a Path,
-    expected: &E,
-) -> Result<Vec<Section<'a>>, AllocError>
-    ensures { IfOk result (λ sections.
-        AreBreachesIn (E.breaks expected.now) (V.in_force view.now) dir.now true (map section_value sections.items)) }
+) -> Result<Vec<Section<'a, T>>, AllocError>
+    requires { policy.now ≡ S.in_force search.now }
+    ensures { IfOk result (λ sections. ByRule T.meaning (S.found search.now) (S.in_force search.now) (S.turns search.now) (λ rule.
+        AreFoundIn rule (S.in_force search.now) dir.now true (map (place_found T.meaning) sections.items))) }
 {
-    let policy = view.policy();
     let places = places_below(alloc, policy, dir)?;
     let taken = taken_paths(alloc, policy, policy)?;
     let writings = writings_of_both(alloc, policy, policy)?;
     let mut known = Vec::new(alloc);
     let mut sections = Vec::new(alloc);
     for place in places.as_slice() {
-        let ranges = breaches_at(
+        let runs = findings_at(
             alloc,
-            view,
+            search,
             taken.as_slice(),
             writings.as_slice(),
             *place,
-            expected,
             &mut known,
         )?;
-        push_if_some(*place, ranges, &mut sections)?;
+        push_if_some(*place, runs, &mut sections)?;
     }
     Ok(sections)
 }
@@ -143,22 +143,23 @@ fn all_written<'a>(alloc: Global, policy: &'a Policy) -> Result<Vec<&'a Path>, A
     Ok(dirs)
 }
 
-/// Adds a place with its breaches, if there are some.
-fn push_if_some<'a>(
+/// Adds a place with what is found there, if there is something.
+fn push_if_some<'a, T: Alike>(
     place: Place<'a>,
-    ranges: Vec<Range<'a>>,
-    sections: &mut Vec<Section<'a>>,
+    runs: Vec<Run<T>>,
+    sections: &mut Vec<Section<'a, T>>,
 ) -> Result<(), AllocError>
-    ensures { OnOk result (map section_value sections.new.items
-        ≡ map section_value sections.old.items ++ filter has_breach (record { place = place_of place.entry; ranges = map range_value ranges.entry.items } ∷ [])) }
+    ensures { OnOk result (map (place_found T.meaning) sections.new.items
+        ≡ map (place_found T.meaning) sections.old.items
+        ++ filter has_some (record { place = place_of place.entry; ranges = map (run_value T.meaning) runs.items } ∷ [])) }
 {
-    if ranges.is_empty() {
-        drop(ranges);
+    if runs.is_empty() {
+        drop(runs);
         return Ok(());
     }
     sections.push(Section {
         place,
-        ranges: Sequence::from_vec(ranges),
+        ranges: Sequence::from_vec(runs),
     })?;
     Ok(())
 }

@@ -7,8 +7,7 @@ use Rattle.std.proofs.lemmas.List.{append-nil, append_assoc, get_or-map, get_or_
 use Rattle.std.proofs.lemmas.List.FromFn.{get_or-map-range_with_len, length-map-range_with_len}
 use Rattle.std.proofs.Math.Seq.{get_or-append_seam}
 use Rattle.desk_policy.specs.Policy.{Content}
-use Rattle.desk_impact.specs.Sections.{PlaceBreaches, section_value}
-use Rattle.desk_impact.specs.declared.sections.Section.{Section}
+use Rattle.desk_impact.specs.Sections.{PlaceBreaches, Section, section_value}
 use Rattle.desk_report.specs.Laws.{IsSoundSite}
 use Rattle.desk_report.specs.PrivateSystems.{IsOwnOf}
 use Rattle.desk_report.specs.Sections.{AreSections, is_section_in}

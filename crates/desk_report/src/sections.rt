@@ -1,37 +1,50 @@
 //! The verdicts at each place of a site.
 
-ghost use Rattle.std.specs.Prelude.{◌≡◌, [], true, IfOk, OnOk, filter, length, map, replicate};
+ghost use Rattle.std.specs.Prelude.{◌≡◌, [], IfOk, OnOk, Some, filter, length, map, replicate};
 ghost use Rattle.std.specs.List.{range_with_len};
+ghost use Rattle.std.specs.Option.{option_map};
+ghost use Rattle.desk_text.specs.Address.{number_of};
+ghost use Rattle.desk_policy.specs.Verdict.{verdict_of, verdict_result};
 ghost use Rattle.desk_impact.specs.Places.{place_of};
 ghost use Rattle.desk_impact.specs.Sections.{section_value};
 ghost use Rattle.desk_report.specs.PrivateSections.{with_section};
 ghost use Rattle.desk_report.specs.Sections.{AreSections, is_section_in, path_at};
 
-use desk_impact::{Place, Section, breaches_in};
-use desk_policy::{PolicyView, Verdict};
+use desk_impact::{Place, Section, found_in};
+use desk_policy::{Policy, PolicyView, Verdict};
 use desk_tables::FileSystems;
 use desk_text::{Addr, AddrSet, Path, Sequence};
 use desk_who::{
-    Expected, runs_exist, runs_pass_tests, runs_with_value_are_unique, verdicts_are_discrete,
+    Search, runs_exist, runs_pass_tests, runs_with_value_are_unique, verdicts_are_discrete,
 };
 use std::alloc::{AllocError, Global};
 
-/// Every verdict is told: as if each broke what is expected.
+/// The search for every verdict.
 #[derive(Drop)]
-struct Everything {
+struct Everything<'a, V> {
+    view: &'a V,
     starts: AddrSet,
     ghost none: { starts ≡ [] },
 }
 
-impl Expected for Everything {
-    ghost breaks = { λ everything address verdict. true };
+impl<'a, V: PolicyView> Search<Verdict<'a>> for Everything<'a, V> {
+    ghost in_force = { λ everything. V.in_force everything.view.now };
+
+    ghost turns = { λ everything. everything.starts };
+
+    ghost found = { λ everything address path value.
+        option_map verdict_result value ≡ Some (verdict_of (V.in_force everything.view.now) (number_of address) path) };
+
+    fn policy(&self) -> &Policy {
+        self.view.policy()
+    }
 
     fn starts(&self) -> &AddrSet {
         &self.starts
     }
 
-    fn is_broken(&self, _address: Addr, _verdict: &Verdict<'_>) -> bool {
-        true
+    fn find(&self, address: Addr, path: &Path) -> Option<Verdict<'a>> {
+        Some(self.view.decide(address, path))
     }
 }
 
@@ -50,9 +63,10 @@ pub fn sections_of_site<'a, V: PolicyView>(
     runs_with_value_are_unique::<Verdict<'a>>();
     verdicts_are_discrete();
     let everything = Everything {
+        view,
         starts: AddrSet::new(alloc),
     };
-    breaches_in(alloc, view, root, true, &everything)
+    found_in(alloc, view.policy(), &everything, root, true)
 }
 
 /// Puts sections by the file systems of their places, in the order of the table; those of no file system are left out.

@@ -13,3 +13,4 @@ pub mod Telling
 pub mod Finding
 pub mod Lighter
 pub mod ByGroups
+pub mod Asked

@@ -1,13 +1,10 @@
--- What runs with a value tell: of runs that have a value or none, those that have one; and so what lists of breaches tell.
-use Rattle.std.proofs.Common.{◌≡◌, ℕ, ◌<◌, ◌^◌, ◌||◌, Bool, true, false, cond, List, [], ◌∷◌, sym, ◌∙◌, ap, subst, refl, inl, inr, arith}
-use Rattle.std.specs.Prelude.{Option, Some, None, Result, find}
+-- What runs with a value tell: of runs that have a value or none, those that have one.
+use Rattle.std.proofs.Common.{◌≡◌, ℕ, ◌<◌, ◌^◌, ◌||◌, true, false, cond, List, [], ◌∷◌, sym, ◌∙◌, ap, subst, refl, inl, inr, arith}
+use Rattle.std.specs.Prelude.{Option, Some, None, find}
 use Rattle.std.specs.List.{AllByRecursion, list_any}
 use Rattle.std.specs.Option.{option_map}
 use Rattle.std.proofs.lemmas.Bool.{and_parts, cases_Bool, leb-true, true≢false}
-use Rattle.desk_policy.specs.Verdict.{Grant}
-use Rattle.desk_policy.specs.declared.verdict.Denial.{Denial}
-use Rattle.desk_who.specs.Breaking.{BreachesAreUnique, BreachesTellAddresses, NoBreachIsAllKept, broken_at}
-use Rattle.desk_who.specs.Runs.{Ascend, HasValue, Run, RunsTellValues, RunsWithValueAreUnique, holds, those_with_value}
+use Rattle.desk_who.specs.Runs.{AreRunsWithValue, Ascend, HasValue, NoRunIsNoValue, Run, RunsTellValues, RunsWithValueAreUnique, holds, those_with_value}
 use Rattle.desk_who.proofs.Chain.{unique_runs}
 
 -- ---- runs with a value or none, by whether the first has one
@@ -98,28 +95,28 @@ module _ {A : Type 0} where
   runs_with_value_are_unique value_at runs other are are' =
       are'.are ∙ ap those_with_value (unique_runs value_at are.whole are'.whole are.runs are'.runs) ∙ sym are.are
 
-abbrev Verdict : Type 0
-Verdict = Result Grant Denial
+  pub no_run_is_no_value : NoRunIsNoValue A
+  no_run_is_no_value value_at runs are = (
+    λ empty address fits. sym ((runs_tell_values value_at runs are).1 address fits) ∙ ap (λ rs. option_map (λ (run : Run A). run.value) (find (holds address) rs)) empty,
+    λ none. are.are ∙ none_has value_at none are.whole are.runs.values,
+  )
 
-kept_has_none : (breaks : ℕ → Verdict → Bool) (verdict_at : ℕ → Verdict) (address : ℕ) → breaks address (verdict_at address) ≡ false → broken_at breaks verdict_at address ≡ None
-kept_has_none breaks verdict_at address kept = ap (λ b. cond b (Some (verdict_at address)) None) kept
+  -- ---- functions of addresses with the same values
+  values_too : (value_at other_at : ℕ → Option A) → ((address : ℕ) → value_at address ≡ other_at address) → (runs : List (Run (Option A))) → AllByRecursion (HasValue value_at) runs
+      → AllByRecursion (HasValue other_at) runs
+  values_too value_at other_at same [] values = tt
+  values_too value_at other_at same (run ∷ runs) values = (
+    record {
+      proper = values.0.proper;
+      addresses = values.0.addresses;
+      values = λ address low high. sym (same address) ∙ values.0.values address low high;
+    },
+    values_too value_at other_at same runs values.1,
+  )
 
-none_is_kept : (breaks : ℕ → Verdict → Bool) (verdict_at : ℕ → Verdict) (address : ℕ) → broken_at breaks verdict_at address ≡ None → breaks address (verdict_at address) ≡ false
-none_is_kept breaks verdict_at address none = from (breaks address (verdict_at address)) (verdict_at address) none
-  where
-    from : (b : Bool) (verdict : Verdict) → cond b (Some verdict) None ≡ None → b ≡ false
-    from true verdict none = cc
-    from false verdict none = refl
-
-pub breaches_tell_addresses : BreachesTellAddresses
-breaches_tell_addresses breaks verdict_at ranges are = runs_tell_values (broken_at breaks verdict_at) ranges are
-
-pub breaches_are_unique : BreachesAreUnique
-breaches_are_unique breaks verdict_at ranges other are are' = runs_with_value_are_unique (broken_at breaks verdict_at) ranges other are are'
-
-pub no_breach_is_all_kept : NoBreachIsAllKept
-no_breach_is_all_kept breaks verdict_at ranges are = (
-  λ empty address fits. none_is_kept breaks verdict_at address
-      (sym ((breaches_tell_addresses breaks verdict_at ranges are).1 address fits) ∙ ap (λ rs. option_map (λ (range : Run Verdict). range.value) (find (holds address) rs)) empty),
-  λ kept. are.are ∙ none_has (broken_at breaks verdict_at) (λ address fits. kept_has_none breaks verdict_at address (kept address fits)) are.whole are.runs.values,
-)
+  pub same_runs : (value_at other_at : ℕ → Option A) (runs : List (Run A)) → ((address : ℕ) → value_at address ≡ other_at address) → AreRunsWithValue value_at runs → AreRunsWithValue other_at runs
+  same_runs value_at other_at runs same are = record {
+    whole = are.whole;
+    runs = record { values = values_too value_at other_at same are.whole are.runs.values; complete = are.runs.complete; ascend = are.runs.ascend; apart = are.runs.apart };
+    are = are.are;
+  }

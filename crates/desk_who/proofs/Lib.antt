@@ -10,3 +10,4 @@ pub mod Partial
 pub mod Within
 pub mod Slices
 pub mod Held
+pub mod Asked

@@ -2,12 +2,14 @@
 use Rattle.std.proofs.Common.{◌≡◌, ◌≢◌, ℕ, ◌+◌, ◌<◌, ◌^◌, ◌||◌, ◌&&◌, true, false, cond, List, [], ◌∷◌, ◌++◌, sym, ◌∙◌, ap, subst, refl, inl, inr, arith}
 use Rattle.std.specs.Prelude.{Option, Some, None, filter}
 use Rattle.std.specs.List.{AllByRecursion, flat_map, list_all}
+use Rattle.std.specs.Option.{option_map}
 use Rattle.std.proofs.lemmas.Bool.{and_from, and_parts, cases_Bool, eq-eqb, ne_eqb, lt-ltb, ltb-true, or_left, or_right, true≢false, false_from_ne_true}
 use Rattle.std.proofs.lemmas.List.Folds.{list_any-append}
 use Rattle.desk_text.specs.AddrSet.{is_among, sorted_set}
 use Rattle.desk_text.specs.Laws.{CoversBetweenFirstAndLast, IsSetOf, SortedSetsAreUnique}
 use Rattle.desk_text.specs.Network.{Block, IsBlock, covers, last_of}
 use Rattle.desk_tables.specs.FileSystems.{fs_of}
+use Rattle.desk_tables.specs.declared.filesystems.FsId.{FsId}
 use Rattle.desk_exports.specs.declared.entry.Clients.{Clients}
 use Rattle.desk_exports.specs.declared.entry.Clients.TheVariants.{Hosts, Net, Net6, World}
 use Rattle.desk_policy.specs.Policy.{Content, rows_of}
@@ -17,7 +19,8 @@ use Rattle.desk_policy.specs.declared.row.Row.{Row}
 use Rattle.desk_policy.specs.Keys.{HasBlock}
 use Rattle.desk_who.specs.PrivateStarts.{around, has_one_before, kept, starts_by, starts_of}
 use Rattle.desk_who.specs.Runs.{AreStartsOf}
-use Rattle.desk_who.specs.Starts.{AreStarts, IsSteadyLine}
+use Rattle.desk_who.specs.Searching.{AreRuleStarts, Rule, found_at, found_in}
+use Rattle.desk_who.specs.Starts.{AreJoined, AreStarts, IsSteadyLine}
 
 -- ---- numbers that are not among others
 pub not_here : (n x : ℕ) (xs : List ℕ) → is_among n (x ∷ xs) ≡ false → x ≢ n
@@ -134,11 +137,10 @@ are_starts covering sets rows numbers set blocks are is =
 
 -- ---- the verdict
 module _ (address next : ℕ) where
-  IsSame : Row → Type 0
+  abbrev pub IsSame : Row → Type 0
   IsSame row = weight_of row next ≡ weight_of row address
 
   all_at_most : (weight : ℕ) (rows : List Row) → AllByRecursion IsSame rows → list_all (λ other. is_at_most (weight_of other next) weight) rows ≡ list_all (λ other. is_at_most (weight_of other address) weight) rows
-  unfolding IsSame
   all_at_most weight [] same = refl
   all_at_most weight (row ∷ rows) same =
       ap (λ w. is_at_most w weight && list_all (λ other. is_at_most (weight_of other next) weight) rows) same.0
@@ -150,14 +152,13 @@ module _ (address next : ℕ) where
 
   filter_alike : (all rows : List Row) → AllByRecursion IsSame all → AllByRecursion IsSame rows
       → filter (λ row. is_greatest all next (weight_of row next)) rows ≡ filter (λ row. is_greatest all address (weight_of row address)) rows
-  unfolding IsSame
   filter_alike all [] every same = refl
   filter_alike all (row ∷ rows) every same =
       ap (λ b. cond b (row ∷ filter (λ row. is_greatest all next (weight_of row next)) rows) (filter (λ row. is_greatest all next (weight_of row next)) rows))
       (ap (is_greatest all next) same.0 ∙ greatest_alike all every (weight_of row address))
       ∙ ap (λ chosen. cond (is_greatest all address (weight_of row address)) (row ∷ chosen) chosen) (filter_alike all rows every same.1)
 
-  selected_alike : (rows : List Row) → AllByRecursion IsSame rows → selected rows next ≡ selected rows address
+  pub selected_alike : (rows : List Row) → AllByRecursion IsSame rows → selected rows next ≡ selected rows address
   unfolding selected
   selected_alike rows same = filter_alike rows rows same same
 
@@ -166,8 +167,7 @@ module _ (address next : ℕ) where
   verdict_alike content path None same = refl
   verdict_alike content path (Some place) same = ap (verdict_among (record { 0 = place }) (lists content place path)) (selected_alike (rows_of content place) (same place refl))
 
-  all_same : (starts : List ℕ) (rows : List Row) → next ≡ address + 1 → next < 2 ^ 32 → is_among next starts ≡ false → AllByRecursion (IsSteadyLine starts) rows → AllByRecursion IsSame rows
-  unfolding IsSame
+  pub all_same : (starts : List ℕ) (rows : List Row) → next ≡ address + 1 → next < 2 ^ 32 → is_among next starts ≡ false → AllByRecursion (IsSteadyLine starts) rows → AllByRecursion IsSame rows
   all_same starts [] e fits none steady = tt
   all_same starts (row ∷ rows) e fits none steady =
       (ap (weight_of row) e ∙ steady.0 address (subst (λ n. n < 2 ^ 32) e fits) (sym (ap (λ n. is_among n starts) e) ∙ none), all_same starts rows e fits none steady.1)
@@ -193,3 +193,36 @@ verdict_nowhere content path home = record {
   behind = refl;
   steady = λ address fits none. ap (verdict_in content (address + 1) path) home ∙ sym (ap (verdict_in content address path) home);
 }
+
+-- ---- what is found for a path
+-- the file system of a path by its number
+pub number_found : (o : Option ℕ) (fs : FsId) → Some fs ≡ option_map (λ i. record { 0 = i }) o → o ≡ Some fs.0
+number_found None fs e = cc
+number_found (Some i) fs e = let s : fs ≡ record { 0 = i } = cc in sym (ap (λ (f : FsId). Some f.0) s)
+
+abbrev no_file_system : Option FsId
+no_file_system = None
+
+pub none_found : (o : Option ℕ) → no_file_system ≡ option_map (λ i. record { 0 = i }) o → o ≡ None
+none_found None e = cc
+none_found (Some i) e = cc
+
+module _ {A : Type 0} (rule : Rule A) (content : Content) (own others all : List ℕ) (joined : AreJoined own others all) (are : AreRuleStarts rule others) where
+  pub found_steady : (path : List (List ℕ)) (fs : ℕ) → fs_of content.table path ≡ Some fs → AreStarts (rows_of content fs) own → AreStartsOf (found_at rule content path) all
+  found_steady path fs home lines = record {
+    ascend = joined.ascend;
+    behind = joined.behind lines.behind are.nowhere.behind;
+    steady = λ address fits none.
+        ap (λ one. found_in rule content path one (address + 1)) home
+        ∙ are.among (record { 0 = fs }) (lists content fs path) (rows_of content fs) address fits (joined.other (address + 1) none)
+        (all_same address (address + 1) own (rows_of content fs) refl fits (joined.own (address + 1) none) lines.steady)
+        ∙ sym (ap (λ one. found_in rule content path one address) home);
+  }
+
+  pub found_nowhere : (path : List (List ℕ)) → fs_of content.table path ≡ None → own ≡ [] → AreStartsOf (found_at rule content path) all
+  found_nowhere path home none = record {
+    ascend = joined.ascend;
+    behind = joined.behind (ap (is_among 0) none) are.nowhere.behind;
+    steady = λ address fits away.
+        ap (λ one. found_in rule content path one (address + 1)) home ∙ are.nowhere.steady address fits (joined.other (address + 1) away) ∙ sym (ap (λ one. found_in rule content path one address) home);
+  }

@@ -1,14 +1,11 @@
 -- What is found for a path, from what is found where the verdicts are mostly the same. (this project's own)
-use Rattle.std.specs.Prelude.{◌≡◌, ◌⊎◌, ℕ, ◌+◌, ◌<◌, ◌^◌, Bool, true, false, List, None, Option, Result}
+use Rattle.std.specs.Prelude.{◌≡◌, ◌⊎◌, ℕ, ◌+◌, ◌<◌, ◌^◌, true, false, List, None, Option}
 use Rattle.std.specs.List.{AllByRecursion}
 use Rattle.std.specs.Option.{option_map}
 use Rattle.desk_text.specs.AddrSet.{is_among}
 use Rattle.desk_text.specs.declared.address.Addr.{Addr}
-use Rattle.desk_policy.specs.Verdict.{Grant}
 use Rattle.desk_policy.specs.Weights.{weight_of}
 use Rattle.desk_policy.specs.declared.row.Row.{Row}
-use Rattle.desk_policy.specs.declared.verdict.Denial.{Denial}
-use Rattle.desk_who.specs.Breaking.{AreBreaches, broken_at}
 use Rattle.desk_who.specs.Runs.{AreRunsWithValue, Finds, Run}
 use Rattle.desk_who.specs.Starts.{IsSteadyLine}
 
@@ -35,12 +32,11 @@ AreRunsBeside {T} {A} meaning found others decided runs =
     (value_at other_at : ℕ → Option A) → Finds (option_map meaning) found decided value_at → AreRunsWithValue other_at others → GoTogether value_at other_at decided
     → AreRunsWithValue value_at runs
 
--- Given the breaches of other verdicts, which break what is expected together with these except at the decided addresses, these
--- are the breaches.
-abbrev pub AreBreachesBeside : (ℕ → Result Grant Denial → Bool) → (ℕ → Result Grant Denial) → List (Run (Result Grant Denial)) → List ℕ → List (Run (Result Grant Denial)) → Type 0
-AreBreachesBeside breaks verdict_at others decided ranges =
-    (other_at : ℕ → Result Grant Denial) → AreBreaches breaks other_at others → GoTogether (broken_at breaks verdict_at) (broken_at breaks other_at) decided
-    → AreBreaches breaks verdict_at ranges
+-- Given the runs at which another function of addresses has a value, which goes together with this one except at the decided
+-- addresses, these are the runs at which this one has a value.
+abbrev pub AreFoundBeside : {A : Type 0} → (ℕ → Option A) → List (Run A) → List ℕ → List (Run A) → Type 0
+AreFoundBeside {A} value_at others decided runs =
+    (other_at : ℕ → Option A) → AreRunsWithValue other_at others → GoTogether value_at other_at decided → AreRunsWithValue value_at runs
 
 -- The addresses at which one of these lines begins or ceases to match, and those of the starts at which one of them matches.
 pub record AreStartsWithin (starts : List ℕ) (rows : List Row) (decided : List ℕ) : Type 0 where

@@ -3,6 +3,6 @@ pub mod Starts
 pub mod PrivateStarts
 pub mod Who
 pub mod WhoPrints
-pub mod Breaking
+pub mod Searching
 pub mod Beside
 pub mod PrivateBeside

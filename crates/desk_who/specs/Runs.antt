@@ -1,6 +1,6 @@
 -- A function of addresses as the list of its runs: the longest ranges of addresses at which it has one value. (this
 -- project's own)
-use Rattle.std.specs.Prelude.{◌≡◌, ◌≢◌, ◌⊎◌, ℕ, ◌+◌, ◌<◌, ◌≤◌, ◌^◌, ◌&&◌, ◌||◌, ◌==◌, nat_le, Bool, true, false, List, [], ◌∷◌, Option, None, Some, filter, find, if◌then◌else◌, map}
+use Rattle.std.specs.Prelude.{◌≡◌, ◌≢◌, ◌⊎◌, ◌↔◌, ℕ, ◌+◌, ◌<◌, ◌≤◌, ◌^◌, ◌&&◌, ◌||◌, ◌==◌, nat_le, Bool, true, false, List, [], ◌∷◌, Option, None, Some, filter, find, if◌then◌else◌, map}
 use Rattle.std.specs.List.{AllByRecursion, filter_map, list_any}
 use Rattle.std.specs.List.Sorted.{IsStrictlyIncreasing}
 use Rattle.std.specs.Option.{option_map}
@@ -115,3 +115,7 @@ RunsTellValues A =
 -- There is at most one list of runs with a value.
 abbrev pub RunsWithValueAreUnique : Type 0 → Type 0
 RunsWithValueAreUnique A = (value_at : ℕ → Option A) (runs other : List (Run A)) → AreRunsWithValue value_at runs → AreRunsWithValue value_at other → other ≡ runs
+
+-- There is no run with a value exactly if no address has one.
+abbrev pub NoRunIsNoValue : Type 0 → Type 0
+NoRunIsNoValue A = (value_at : ℕ → Option A) (runs : List (Run A)) → AreRunsWithValue value_at runs → (runs ≡ []) ↔ ((address : ℕ) → address < 2 ^ 32 → value_at address ≡ None)

@@ -5,39 +5,32 @@ ghost use Rattle.std.specs.List.{flat_map};
 ghost use Rattle.std.specs.Option.{option_map};
 ghost use Rattle.desk_text.specs.Address.{number_of};
 ghost use Rattle.desk_text.specs.AddrSet.{is_among, sorted_set};
-ghost use Rattle.desk_policy.specs.Verdict.{verdict_of};
-ghost use Rattle.desk_who.specs.Beside.{AreBreachesBeside, AreRunsBeside};
+ghost use Rattle.desk_who.specs.Beside.{AreFoundBeside, AreRunsBeside};
 ghost use Rattle.desk_who.specs.PrivateBeside.{AreRanges, bounds_of, held_value};
 ghost use Rattle.desk_who.specs.Runs.{is_asked, run_value};
-ghost use Rattle.desk_who.specs.Who.{range_value};
+ghost use Rattle.desk_who.specs.Searching.{ByRule, found_at};
 
-use crate::breaking::{Expected, broken_at};
-use crate::ranges::Range;
 use crate::runs::{Alike, Run, longest_runs, those_with_value};
+use crate::searching::Search;
 use crate::starts::push_both;
-use desk_policy::PolicyView;
 use desk_text::laws::sorted_sets_are_unique;
 use desk_text::{Addr, AddrSet, Path};
 use std::alloc::{AllocError, Global};
 
-/// Lists what `breaches` lists of a path, given the breaches of other verdicts, which break what is expected together with those
-/// on the path except at the decided addresses. The path is asked at these and at the first of all.
-pub fn breaches_beside<'a, V: PolicyView, E: Expected>(
+/// Lists what `found_runs` lists of a path, given the runs of what is found elsewhere, which goes together with what is found for the
+/// path except at the decided addresses. The path is asked at these and at the first of all.
+pub fn found_beside<T: Alike, S: Search<T>>(
     alloc: Global,
-    view: &'a V,
+    search: &S,
     path: &Path,
-    expected: &E,
-    others: &[Range<'a>],
+    others: &[Run<T>],
     decided: &AddrSet,
-) -> Result<Vec<Range<'a>>, AllocError>
+) -> Result<Vec<Run<T>>, AllocError>
     requires { is_among 0 decided.now ≡ false }
-    ensures { IfOk result (λ ranges.
-        AreBreachesBeside (E.breaks expected.now) (λ address. verdict_of (V.in_force view.now) address path.now) (map range_value others.now) decided.now
-        (map range_value ranges.items)) }
+    ensures { IfOk result (λ runs. ByRule T.meaning (S.found search.now) (S.in_force search.now) (S.turns search.now) (λ rule.
+        AreFoundBeside (found_at rule (S.in_force search.now) path.now) (map (run_value T.meaning) others.now) decided.now (map (run_value T.meaning) runs.items))) }
 {
-    runs_beside(alloc, others, decided, |address| {
-        broken_at(view, path, expected, address)
-    })
+    runs_beside(alloc, others, decided, |address| search.find(address, path))
 }
 
 /// Lists the runs with a value, given those of another function of addresses, which goes together with what is found except at the

@@ -1,7 +1,6 @@
 //! What the definitions of this crate keep, each as a function that does nothing.
 
-ghost use Rattle.desk_who.specs.Breaking.{BreachesAreUnique, BreachesTellAddresses, NoBreachIsAllKept};
-ghost use Rattle.desk_who.specs.Runs.{RunsAreUnique, RunsExist, RunsPassTests, RunsTellValues, RunsWithValueAreUnique};
+ghost use Rattle.desk_who.specs.Runs.{NoRunIsNoValue, RunsAreUnique, RunsExist, RunsPassTests, RunsTellValues, RunsWithValueAreUnique};
 ghost use Rattle.desk_who.specs.Who.{RangesTellVerdicts, ThereIsOneList, VerdictsAreDiscrete};
 
 use crate::runs::Alike;
@@ -31,6 +30,11 @@ pub fn runs_with_value_are_unique<T: Alike>()
     ensures { RunsWithValueAreUnique T.Meaning }
 {}
 
+/// There is no run with a value exactly if no address has one.
+pub fn no_run_is_no_value<T: Alike>()
+    ensures { NoRunIsNoValue T.Meaning }
+{}
+
 /// Any two verdicts are the same or not.
 pub fn verdicts_are_discrete()
     ensures { VerdictsAreDiscrete }
@@ -44,19 +48,4 @@ pub fn there_is_one_list()
 /// The range that holds an address gives the address's own verdict.
 pub fn ranges_tell_verdicts()
     ensures { RangesTellVerdicts }
-{}
-
-/// A list of breaches holds just the addresses whose verdict breaks what is expected, and none of them twice.
-pub fn breaches_tell_addresses()
-    ensures { BreachesTellAddresses }
-{}
-
-/// What is expected and the verdicts on a path have one list of breaches.
-pub fn breaches_are_unique()
-    ensures { BreachesAreUnique }
-{}
-
-/// A list of breaches is empty exactly if each address keeps what is expected.
-pub fn no_breach_is_all_kept()
-    ensures { NoBreachIsAllKept }
 {}

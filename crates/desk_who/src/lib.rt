@@ -1,9 +1,9 @@
-//! Who may mount a directory: the verdict of every address, by ranges; and for whom it is not as expected.
+//! Who may mount a directory: the verdict of every address, by ranges; and at which addresses something is found.
 //!
 //! Its promise: [`longest_runs`] lists the runs of whatever values are found for addresses: they ascend, leave out no address and
 //! hold none twice; each address has the value of its run, and neighbouring runs have different ones. There is just one such
-//! list. [`who`] is that of the verdicts on a path, over whichever view. [`breaches`] lists just the addresses whose verdict breaks
-//! what is [`Expected`]. Between the addresses that [`starts_among`] gathers, no line begins or ceases to match.
+//! list. [`who`] is that of the verdicts on a path, over whichever view. [`found_runs`] lists just the addresses at which a
+//! [`Search`] finds something, each with what it finds. Between the addresses that [`starts_among`] gathers, no line begins or ceases to match.
 //!
 //! ```text
 //! let ranges = who(alloc, &view, &path)?;
@@ -12,21 +12,20 @@
 #![tactic(auto)]
 
 pub mod beside;
-pub mod breaking;
 pub mod laws;
 pub mod range_prints;
 pub mod ranges;
 pub mod runs;
+pub mod searching;
 pub mod starts;
 
-pub use beside::{breaches_beside, runs_beside};
-pub use breaking::{Expected, breaches, broken_starts};
+pub use beside::{found_beside, runs_beside};
 pub use laws::{
-    breaches_are_unique, breaches_tell_addresses, no_breach_is_all_kept, ranges_tell_verdicts,
-    runs_are_unique, runs_exist, runs_pass_tests, runs_tell_values, runs_with_value_are_unique,
-    there_is_one_list, verdicts_are_discrete,
+    no_run_is_no_value, ranges_tell_verdicts, runs_are_unique, runs_exist, runs_pass_tests,
+    runs_tell_values, runs_with_value_are_unique, there_is_one_list, verdicts_are_discrete,
 };
-pub use range_prints::{push_range, who_text};
+pub use range_prints::{push_range, span_text, who_text};
 pub use ranges::{Range, who};
 pub use runs::{Alike, Run, longest_runs};
+pub use searching::{Search, found_runs, found_starts};
 pub use starts::{joined, starts_among, starts_under, starts_within};

@@ -40,7 +40,8 @@ pub fn push_range(
     Ok(())
 }
 
-fn span_text(alloc: Global, first: Addr, last: Addr) -> Result<String, AllocError>
+/// Writes the addresses of a range: its first, and its last.
+pub fn span_text(alloc: Global, first: Addr, last: Addr) -> Result<String, AllocError>
     ensures { IfOk result (λ text. string_bytes text ≡ addr_text (number_of first) ++ 45 ∷ addr_text (number_of last)) }
 {
     format!(in alloc; "{first}-{last}")

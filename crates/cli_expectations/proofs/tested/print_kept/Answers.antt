@@ -4,7 +4,7 @@ use Rattle.desk_expect.specs.Outside.{outside_in, outside_text}
 use Rattle.cli_expectations.proofs.tested.print_kept.Goals as goal
 
 pub returns : goal.returns
-returns g c = record {
+returns c = record {
   report = c.in_ok-report.report;
   is = c.in_ok-report.ensures;
   prints = record { status_is = search rules; text_is = refl };

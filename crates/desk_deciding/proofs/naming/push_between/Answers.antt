@@ -6,8 +6,7 @@ use Rattle.desk_text.specs.Address.{number_of}
 use Rattle.desk_policy.specs.declared.verdict.Verdict.{Verdict}
 use Rattle.desk_who.specs.Who.{range_value}
 use Rattle.desk_who.specs.declared.runs.Run.{Run}
-use Rattle.desk_impact.specs.Sections.{PlaceBreaches, section_value}
-use Rattle.desk_impact.specs.declared.sections.Section.{Section}
+use Rattle.desk_impact.specs.Sections.{PlaceBreaches, Section, section_value}
 use Rattle.desk_deciding.specs.PrivateDeciding.{AreInOrder, lines_at}
 use Rattle.desk_report.proofs.Gathered.{writes}
 use Rattle.desk_deciding.proofs.Searched.{in_order}

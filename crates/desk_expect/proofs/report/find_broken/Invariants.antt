@@ -4,4 +4,4 @@ use Rattle.desk_expect.specs.Report.{AreBroken, broken_value}
 use Rattle.desk_expect.proofs.report.find_broken.Given as goal
 
 abbrev pub invariant-loop-expectation : goal.invariant-loop-expectation
-invariant-loop-expectation g l = AreBroken (g.V.PolicyView.in_force l.view) (take l.expectation-index l.expectations) (map broken_value l.broken.items)
+invariant-loop-expectation l = AreBroken l.index (take l.expectation-index l.expectations) (map broken_value l.broken.items)

@@ -2,8 +2,9 @@ use Rattle.std.proofs.Common.{◌∙◌, ◌++◌, ap, map, sym}
 use Rattle.std.specs.List.{flat_map}
 use Rattle.std.specs.String.{string_bytes}
 use Rattle.std.proofs.lemmas.List.{append-nil, append_assoc, take_all}
-use Rattle.desk_impact.specs.Sections.{section_value}
+use Rattle.desk_expect.specs.Judging.{judged_section}
 use Rattle.desk_impact.specs.declared.sections.Section.{Section}
+use Rattle.desk_expect.specs.declared.judging.Judged.{Judged}
 use Rattle.desk_expect.specs.ReportText.{headline, section_text}
 use Rattle.desk_expect.proofs.Written.{by_values, writes_next}
 use Rattle.desk_expect.proofs.report_text.push_broken.Goals as goal
@@ -13,7 +14,7 @@ loop-section-init c = c.in_ok-push_headline.ensures ∙ sym (append-nil (string_
 
 pub loop-section-preserved : goal.loop-section-preserved
 loop-section-preserved c =
-    writes_next (λ (section : Section). section_text c.args.policy.now (section_value section)) c.as_slice-section-items.result.now c.loop-section.section-index c.section-item.result c.loop-section-test.true c.section-item.is
+    writes_next (λ (section : Section Judged). section_text c.args.policy.now (judged_section section)) c.as_slice-section-items.result.now c.loop-section.section-index c.section-item.result c.loop-section-test.true c.section-item.is
     (string_bytes c.args.text.now ++ headline c.args.file.now c.args.broken.now.expectation.now) (string_bytes c.loop-section.text) (string_bytes c.push_section.new.text)
     c.loop-section.invariant c.in_ok-push_section.ensures
 
@@ -24,6 +25,6 @@ returns c =
     let write = section_text c.args.policy.now in
     let items = c.as_slice-section-items.result.now in
     c.loop-section.invariant
-    ∙ ap (λ sections. (start ++ head) ++ flat_map (λ (section : Section). write (section_value section)) sections) (take_all c.loop-section.section-index items c.loop-section-test.false ∙ c.as_slice-section-items.ensures)
-    ∙ ap (λ t. (start ++ head) ++ t) (by_values section_value write c.args.broken.now.sections)
-    ∙ append_assoc start head (flat_map write (map section_value c.args.broken.now.sections))
+    ∙ ap (λ sections. (start ++ head) ++ flat_map (λ (section : Section Judged). write (judged_section section)) sections) (take_all c.loop-section.section-index items c.loop-section-test.false ∙ c.as_slice-section-items.ensures)
+    ∙ ap (λ t. (start ++ head) ++ t) (by_values judged_section write c.args.broken.now.sections)
+    ∙ append_assoc start head (flat_map write (map judged_section c.args.broken.now.sections))

@@ -3,8 +3,7 @@ use Rattle.std.specs.Prelude.{false, fold}
 use Rattle.std.proofs.lemmas.List.{map_more, take_all}
 use Rattle.std.proofs.lemmas.List.Sums.{fold_push}
 use Rattle.desk_impact.specs.Places.{place_of}
-use Rattle.desk_impact.specs.Sections.{section_value}
-use Rattle.desk_impact.specs.declared.sections.Section.{Section}
+use Rattle.desk_impact.specs.Sections.{Section, section_value}
 use Rattle.desk_page_places.specs.Names.{MembersValue, members_of, members_value, with_place}
 use Rattle.desk_page_places.proofs.Sized.{in_two_steps}
 use Rattle.desk_page_places.proofs.names.members_of.Goals as goal

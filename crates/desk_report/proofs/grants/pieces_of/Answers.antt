@@ -3,8 +3,7 @@ use Rattle.std.specs.List.{flat_map}
 use Rattle.std.proofs.lemmas.List.{take_all}
 use Rattle.std.proofs.lemmas.List.Folds.{flat_map-map}
 use Rattle.desk_who.specs.Who.{range_value}
-use Rattle.desk_impact.specs.Sections.{PlaceBreaches, section_value}
-use Rattle.desk_impact.specs.declared.sections.Section.{Section}
+use Rattle.desk_impact.specs.Sections.{PlaceBreaches, Section, section_value}
 use Rattle.desk_report.specs.PrivateGrants.{piece_value, pieces_in}
 use Rattle.desk_report.proofs.Gathered.{writes}
 use Rattle.desk_report.proofs.grants.pieces_of.Goals as goal

@@ -1,7 +1,6 @@
 use Rattle.std.proofs.Common.{◌≡◌, ◌++◌, ◌∙◌, List, [], ◌∷◌, ap, map, subst, sym}
 use Rattle.std.proofs.lemmas.List.{append-nil, append_assoc, map-append, nil_from_length}
-use Rattle.desk_impact.specs.Sections.{PlaceBreaches, section_value}
-use Rattle.desk_impact.specs.declared.sections.Section.{Section}
+use Rattle.desk_impact.specs.Sections.{PlaceBreaches, Section, section_value}
 use Rattle.desk_report.specs.Groups.{AreGrouped, group_value}
 use Rattle.desk_report.proofs.Grouped.{grouped_more}
 use Rattle.desk_report.proofs.Keyed.{key_along, key_back, key_itself, same_added, same_key, section_groups}

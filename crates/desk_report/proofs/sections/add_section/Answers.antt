@@ -5,8 +5,7 @@ use Rattle.std.proofs.lemmas.List.{get_or-map, length-map, map-append, map-set}
 use Rattle.desk_tables.specs.FileSystems.{fs_of}
 use Rattle.desk_tables.specs.declared.filesystems.FsId.{FsId}
 use Rattle.desk_tables.specs.declared.filesystems.Mount.{Mount}
-use Rattle.desk_impact.specs.Sections.{section_value}
-use Rattle.desk_impact.specs.declared.sections.Section.{Section}
+use Rattle.desk_impact.specs.Sections.{Section, section_value}
 use Rattle.desk_report.specs.PrivateSections.{with_section, with_section_at}
 use Rattle.desk_report.specs.Sections.{path_at}
 use Rattle.desk_report.proofs.sections.add_section.Goals as goal

@@ -1,8 +1,7 @@
 use Rattle.std.proofs.Common.{◌≡◌, ◌+◌, ℕ, List, [], ◌∷◌, ◌++◌, ◌∙◌, ap, map}
 use Rattle.std.specs.Prelude.{replicate}
 use Rattle.std.proofs.lemmas.List.{map-append, replicate_more}
-use Rattle.desk_impact.specs.Sections.{section_value}
-use Rattle.desk_impact.specs.declared.sections.Section.{Section}
+use Rattle.desk_impact.specs.Sections.{Section, section_value}
 use Rattle.desk_report.proofs.sections.empty_lists.Goals as goal
 
 one_more : (n : ℕ) (lists more : List (List Section)) (list : List Section) → more ≡ lists ++ list ∷ [] → map (map section_value) lists ≡ replicate n [] → list ≡ []

@@ -1,7 +1,6 @@
 use Rattle.std.proofs.Common.{◌∙◌, List, ap, map, subst, sym}
 use Rattle.desk_policy.specs.declared.row.Row.{Row}
-use Rattle.desk_impact.specs.Sections.{section_value}
-use Rattle.desk_impact.specs.declared.sections.Section.{Section}
+use Rattle.desk_impact.specs.Sections.{Section, section_value}
 use Rattle.desk_report.specs.Classes.{AreClassesIn, class_run}
 use Rattle.desk_report.specs.Grants.{AreGrants}
 use Rattle.desk_report.specs.PrivateGrants.{counts_of, pieces_of}
