@@ -43,21 +43,28 @@ abbrev pub granted_text : Option (List (List ℕ)) → List ℕ
 granted_text None = codes "each directory of the file system"
 granted_text (Some directory) = shown_text (path_text directory)
 
-abbrev pub remedy_text : Option (List (List ℕ)) → List ℕ
-remedy_text None = codes "write -alldirs here as well"
-remedy_text (Some directory) = codes "list the directory here as well"
+abbrev pub remedy_of : Option (List (List ℕ)) → List ℕ
+remedy_of None = codes "write -alldirs"
+remedy_of (Some directory) = codes "list the directory"
+
+-- by which line that is, and what to do about it
+abbrev pub remedy_text : ℕ → List ℕ → List ℕ
+remedy_text line remedy =
+    codes " by line " ++ decimal line ++ codes ": " ++ remedy ++ codes " here as well if that is meant, else keep the client out of the network of line " ++ decimal line
+    ++ codes ", or give it a file system of its own"
 
 -- the client of this address may mount more by this line
 abbrev pub wider_text : ℕ → Addr → Option (List (List ℕ)) → List ℕ
 wider_text line address directory =
-    codes "mountd(8) also lets " ++ addr_text (addresses.number_of address) ++ codes " mount " ++ granted_text directory ++ codes " by line " ++ decimal line ++ codes ": "
-    ++ remedy_text directory ++ codes " if that is meant, else keep the client out of the network of line " ++ decimal line ++ codes ", or give it a file system of its own"
+    codes "mountd(8) also lets " ++ addr_text (addresses.number_of address) ++ codes " mount " ++ granted_text directory ++ remedy_text line (remedy_of directory)
 
--- this earlier line has a client, of this address
+-- mountd(8) may leave a line out because of this earlier one
+abbrev pub taken_text : ℕ → List ℕ
+taken_text line = codes "mountd(8) takes one line for a client and a file system, and may leave this one out, since line " ++ decimal line ++ codes " has "
+
+-- it has a client of this address
 abbrev pub repeated_text : ℕ → Addr → List ℕ
-repeated_text line address =
-    codes "mountd(8) takes one line for a client and a file system, and may leave this one out, since line " ++ decimal line ++ codes " has " ++ addr_text (addresses.number_of address)
-    ++ codes ": write the directories on one line"
+repeated_text line address = taken_text line ++ addr_text (addresses.number_of address) ++ codes ": write the directories on one line"
 
 -- what is said of a line, with the line, the address and the directory that show it
 abbrev pub remark_with : Remark → ℕ → Addr → Option (List (List ℕ)) → List ℕ
@@ -146,12 +153,15 @@ other_of (matter.Contradiction other address) = Some other
 other_of (matter.Warning kind) = None
 other_of (matter.Remark said example) = option_map (λ shown. shown.line) example
 
--- the other line as it is shown below the marked one, if it is: its place, as `exports:4:1: the other line`, and the line
+-- a line that is shown below the marked one: its place, as `exports:4:1: the other line`, and the line
+abbrev pub other_line_text : List ℕ → ℕ → List ℕ → List ℕ
+other_line_text path number line = shown_text path ++ codes ":" ++ decimal number ++ codes ":1: the other line\n" ++ excerpt_text line (excerpt line 0)
+
+-- the other line, if it is shown
 abbrev pub beside_by : List ℕ → Option ℕ → Option (List ℕ) → List ℕ
 beside_by path None line = []
 beside_by path (Some number) None = []
-beside_by path (Some number) (Some line) =
-    shown_text path ++ codes ":" ++ decimal number ++ codes ":1: the other line\n" ++ excerpt_text line (excerpt line 0)
+beside_by path (Some number) (Some line) = other_line_text path number line
 
 abbrev pub beside_text : Finding → List ℕ
 beside_text finding = beside_by finding.path.now (other_of finding.matter) (option_copied finding.beside)

@@ -5,6 +5,7 @@ ghost use Rattle.std.specs.Prelude.{◌≡◌, ◌++◌, ◌≤◌, [], IfOk, On
 ghost use Rattle.std.specs.Option.{option_copied, option_map};
 ghost use Rattle.std.specs.Str.{IsCharBoundary};
 ghost use Rattle.std.specs.String.{string_bytes};
+ghost use Rattle.desk_text.specs.Address.{addr_text, number_of};
 ghost use Rattle.desk_text.specs.Place.{LiesWithin};
 ghost use Rattle.desk_findings.specs.Finding.{HasSlice, HaveSlices};
 ghost use Rattle.desk_check.specs.FindingPrints.{IsAround};
@@ -80,14 +81,21 @@ fn push_lines(finding: &Finding, text: &mut String) -> Result<(), AllocError>
     push_beside(finding, text)
 }
 
-/// Adds the other line, if it is shown: its place, and the line.
+/// Adds the other line, if it is shown.
 fn push_beside(finding: &Finding, text: &mut String) -> Result<(), AllocError>
     ensures { OnOk result (string_bytes text.new ≡ string_bytes text.old ++ spec.beside_text finding.now) }
 {
-    let (Some(number), Some(line)) = (other_of(finding.matter), finding.beside) else {
-        return Ok(());
-    };
-    push_shown(finding.path, text)?;
+    match (other_of(finding.matter), finding.beside) {
+        (Some(number), Some(line)) => push_other_line(finding.path, number, line, text),
+        _ => Ok(()),
+    }
+}
+
+/// Adds a line that is shown below the marked one: its place, and the line.
+fn push_other_line(path: &str, number: u32, line: &str, text: &mut String) -> Result<(), AllocError>
+    ensures { OnOk result (string_bytes text.new ≡ string_bytes text.old ++ spec.other_line_text path.now number line.now) }
+{
+    push_shown(path, text)?;
     write!(text, ":{number}:1: the other line\n")?;
     push_beginning(line, text)
 }
@@ -194,18 +202,45 @@ fn push_remark(
     let Example { line, address } = shown;
     match remark {
         Remark::ServerGrantsMore => push_wider(line, address, directory, text),
-        Remark::RepeatedClient => write!(
-            text,
-            "mountd(8) takes one line for a client and a file system, and may leave this one out, since line {line} has {address}: write the directories on one line"
-        ),
+        Remark::RepeatedClient => push_repeated(line, address, text),
         _ => {
-            let sentence = remark.sentence();
-            write!(
-                text,
-                "{sentence}, beginning with line {line} for {address}"
-            )
+            text.push_str(remark.sentence())?;
+            push_example(line, address, text)
         }
     }
+}
+
+/// Adds what shows a remark: a line, and an address.
+fn push_example(line: u32, address: Addr, text: &mut String) -> Result<(), AllocError>
+    ensures { OnOk result (string_bytes text.new ≡ string_bytes text.old ++ spec.shown_by line address) }
+{
+    write!(text, ", beginning with line {line} for {address}")
+}
+
+/// Adds that an earlier line has a client.
+fn push_repeated(line: u32, address: Addr, text: &mut String) -> Result<(), AllocError>
+    ensures { OnOk result (string_bytes text.new ≡ string_bytes text.old ++ spec.repeated_text line address) }
+{
+    push_taken(line, text)?;
+    push_address(address, text)?;
+    text.push_str(": write the directories on one line")
+}
+
+/// Adds that mountd(8) may leave the line out because of an earlier one.
+fn push_taken(line: u32, text: &mut String) -> Result<(), AllocError>
+    ensures { OnOk result (string_bytes text.new ≡ string_bytes text.old ++ spec.taken_text line) }
+{
+    write!(
+        text,
+        "mountd(8) takes one line for a client and a file system, and may leave this one out, since line {line} has "
+    )
+}
+
+/// Adds an address.
+fn push_address(address: Addr, text: &mut String) -> Result<(), AllocError>
+    ensures { OnOk result (string_bytes text.new ≡ string_bytes text.old ++ addr_text (number_of address)) }
+{
+    write!(text, "{address}")
 }
 
 /// Adds what the server lets a client mount by another line, and what to do about it.
@@ -217,17 +252,37 @@ fn push_wider(
 ) -> Result<(), AllocError>
     ensures { OnOk result (string_bytes text.new ≡ string_bytes text.old ++ spec.wider_text line address (option_copied directory.entry)) }
 {
-    write!(text, "mountd(8) also lets {address} mount ")?;
-    let remedy = match directory {
-        Some(directory) => {
-            push_shown(directory.text(), text)?;
-            "list the directory"
-        }
-        None => {
-            text.push_str("each directory of the file system")?;
-            "write -alldirs"
-        }
-    };
+    text.push_str("mountd(8) also lets ")?;
+    push_address(address, text)?;
+    text.push_str(" mount ")?;
+    push_granted(directory, text)?;
+    push_remedy(line, remedy_of(directory), text)
+}
+
+/// Adds what the server lets a client mount.
+fn push_granted(directory: Option<&Path>, text: &mut String) -> Result<(), AllocError>
+    ensures { OnOk result (string_bytes text.new ≡ string_bytes text.old ++ spec.granted_text (option_copied directory.entry)) }
+{
+    match directory {
+        Some(directory) => push_shown(directory.text(), text),
+        None => text.push_str("each directory of the file system"),
+    }
+}
+
+/// Gives what to write if that is meant.
+fn remedy_of(directory: Option<&Path>) -> &'static str
+    ensures { result.now ≡ spec.remedy_of (option_copied directory.entry) }
+{
+    match directory {
+        Some(_) => "list the directory",
+        None => "write -alldirs",
+    }
+}
+
+/// Adds by which line that is, and what to do about it.
+fn push_remedy(line: u32, remedy: &str, text: &mut String) -> Result<(), AllocError>
+    ensures { OnOk result (string_bytes text.new ≡ string_bytes text.old ++ spec.remedy_text line remedy.now) }
+{
     write!(
         text,
         " by line {line}: {remedy} here as well if that is meant, else keep the client out of the network of line {line}, or give it a file system of its own"
