@@ -4,8 +4,8 @@ use Rattle.std.specs.Prelude.{Err, None, Option, Some}
 use Rattle.std.specs.Option.{option_map}
 use Rattle.desk_text.specs.Address.{number_of}
 use Rattle.desk_tables.specs.FileSystems.{fs_of}
-use Rattle.desk_policy.specs.Policy.{Content, rows_of}
-use Rattle.desk_policy.specs.Verdict.{lists, verdict_among, verdict_in, verdict_of}
+use Rattle.desk_policy.specs.Policy.{Content}
+use Rattle.desk_policy.specs.Verdict.{verdict_among, verdict_in, verdict_of}
 use Rattle.desk_policy.specs.Weights.{selected}
 use Rattle.desk_policy.specs.declared.verdict.Denial.TheVariants.{NoFileSystem}
 use Rattle.desk_who.specs.Searching.{AreRuleStarts, AsksThoseThatMatch, IsRuleOf, found_at, found_in}
