@@ -89,7 +89,7 @@ pub fn by_filesystem<'a>(
 fn empty_lists<'a>(alloc: Global, count: usize) -> Result<Vec<Sequence<Section<'a>>>, AllocError>
     ensures { IfOk result (λ lists. map (map section_value) lists.items ≡ replicate count []) }
 {
-    let mut lists = Vec::new(alloc);
+    let mut lists: Vec<Sequence<Section<'a>>> = Vec::new(alloc);
     for _ in 0..count {
         lists.push(Sequence::new(alloc))?;
     }

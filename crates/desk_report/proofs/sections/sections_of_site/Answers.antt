@@ -1,4 +1,4 @@
-use Rattle.std.proofs.Common.{true, map, refl, subst}
+use Rattle.std.proofs.Common.{true, map, subst}
 use Rattle.std.proofs.lemmas.Result.{IfOk-weaker}
 use Rattle.desk_impact.specs.Sections.{AreFoundIn, section_value}
 use Rattle.desk_report.specs.Sections.{AreSections}
