@@ -407,16 +407,6 @@ def allows(action, found):
     return action in flavours.partition("=")[2].split(":")
 
 
-def breaches(site, expected, path):
-    """The longest ranges of addresses that are meant and whose one verdict is not as expected."""
-
-    def broken(address):
-        found = verdict(site, address, path)
-        return found if is_meant(expected, address) and allows(expected.action, found) == expected.forbids else None
-
-    return [run for run in runs(broken, [site], path, names_of(expected)) if run[2] is not None]
-
-
 def scope_places(site, path, below):
     """The directory; and if all below it are meant, for it and each mount point under it its heading and a path for each place:
     itself, the directories at home there that a line writes, and its other directories."""

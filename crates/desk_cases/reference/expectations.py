@@ -3,10 +3,11 @@ output, as text or as JSON, and on standard error.
 """
 
 from reference.definitions import (
-    RULES, Expectation, breaches, dotted, expectation, is_under, printed, scope_places,
+    RULES, Expectation, allows, dotted, expectation, is_meant, is_under, names_of, printed, runs, scope_places, verdict,
 )  # fmt: skip
 from reference.findings import finding_text, printed_json
 from reference.lines import logical_lines, open_quote, words_of
+from reference.server import server_verdict
 
 SENTENCES = {
     "OpenQuote": "begins with a quote that is not closed on its physical line: close it, or write a backslash before a quote in a"
@@ -61,6 +62,26 @@ def read_line(line, site):
 # ---- what is reported
 
 
+def judged(site, expected, address, path):
+    """What breaks an expectation at an address, and whether that is mountd's verdict: that of the desk, if it is not as expected; of
+    what is forbidden that of mountd too, if it allows it. None if nothing does."""
+    if not is_meant(expected, address):
+        return None
+    found = verdict(site, address, path)
+    if allows(expected.action, found) == expected.forbids:
+        return found, False
+    if not expected.forbids:
+        return None
+    found = server_verdict(site, address, path)
+    return (found, True) if allows(expected.action, found) else None
+
+
+def breaches(site, expected, path):
+    """The longest ranges of addresses at which one verdict breaks an expectation."""
+    found = runs(lambda address: judged(site, expected, address, path), [site], path, names_of(expected))
+    return [(first, last, *by) for first, last, by in found if by is not None]
+
+
 def broken(site, expectations):
     """Of the expectations those that the site breaks, each with where, and for whom: the heading of each place at which there are
     addresses whose verdict is not as expected, and the longest ranges of these with one verdict."""
@@ -79,8 +100,12 @@ def report_text(file, found, count):
         text += f"{file}:{expected.number}: broken: {' '.join(expected.words)}\n"
         for heading, ranges in sections:
             text += f"== {heading}\n"
-            text += "".join(f"{dotted(first)}-{dotted(last)} {verdict}\n" for first, last, verdict in ranges)
+            text += "".join(f"{range_text(*found_range)}\n" for found_range in ranges)
     return text + f"{count} expectation{'' if count == 1 else 's'}, {len(found)} broken\n"
+
+
+def range_text(first, last, found, by_server):
+    return f"{dotted(first)}-{dotted(last)} {found}{' by mountd(8)' if by_server else ''}"
 
 
 def report_json(file, found):
@@ -95,8 +120,9 @@ def report_json(file, found):
 
 
 def object_of(file, expected, heading, found_range):
-    first, last, verdict = found_range
+    first, last, found, by_server = found_range
     return {
+        **({"by": "mountd"} if by_server else {}),
         "dir": heading.removeprefix("other directories of "),
         "expectation": " ".join(expected.words),
         "first": dotted(first),
@@ -105,7 +131,7 @@ def object_of(file, expected, heading, found_range):
         "line": expected.number,
         "others": not heading.startswith("/"),
         "path": file,
-        "verdict": verdict,
+        "verdict": found,
     }
 
 

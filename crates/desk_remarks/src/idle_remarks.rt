@@ -28,7 +28,13 @@ pub(crate) fn push_idle(
     ensures { OnOk result (found.new ≡ found.old ++ flat_map (λ said. filter (is_outside warned.now) (idle_remarks said)) saids.now) }
 {
     for said in saids {
-        push_idle_of(alloc, said.idle.as_slice(), said.wider.as_slice(), warned, found)?;
+        push_idle_of(
+            alloc,
+            said.idle.as_slice(),
+            said.wider.as_slice(),
+            warned,
+            found,
+        )?;
     }
     Ok(())
 }

@@ -34,10 +34,7 @@ fn push_of_one(said: &Said<'_>, found: &mut Sequence<LineRemark>) -> Result<(), 
 }
 
 /// Adds where the server grants more.
-fn push_wider(
-    wider: &[WiderGrant<'_>],
-    found: &mut Sequence<LineRemark>,
-) -> Result<(), AllocError>
+fn push_wider(wider: &[WiderGrant<'_>], found: &mut Sequence<LineRemark>) -> Result<(), AllocError>
     ensures { OnOk result (found.new ≡ found.old ++ map spec.wider_remark wider.now) }
 {
     for one in wider {

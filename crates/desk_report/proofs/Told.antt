@@ -69,13 +69,13 @@ pub is_rule : (content : Content) (starts : List ℕ) → starts ≡ []
 is_rule content starts none = record {
   finds = λ address path value is. is ∙ sym (rule_finds content path (number_of address));
   starts = record {
-      nowhere = record {
-          ascend = subst IsStrictlyIncreasing (sym none) (λ k lt. absurd (omega arith));
-          behind = ap (is_among 0) none;
-          steady = λ address fits away. refl;
-        };
-      among = λ fs listing rows address fits away same. ap Some (own_steady fs listing rows address (address + 1) same);
+    nowhere = record {
+      ascend = subst IsStrictlyIncreasing (sym none) (λ k lt. absurd (omega arith));
+      behind = ap (is_among 0) none;
+      steady = λ address fits away. refl;
     };
+    among = λ fs listing rows address fits away same. ap Some (own_steady fs listing rows address (address + 1) same);
+  };
   asks = λ fs listing other rows address agree. ap Some (own_asks listing other address fs rows agree);
 }
 
