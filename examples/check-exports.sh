@@ -9,7 +9,8 @@
 # TABLES='--hosts hosts --netgroup netgroup'.
 #
 # It ends with the status of exportdesk: 0 if all is well, also if something changes; 1 if an expectation is broken; 2 if a word is
-# wrong or a file cannot be read; 3 if a text has a fault.
+# wrong or a file cannot be read; 3 if a text has a fault, or one of the warnings 1 to 8, 11, 12 and 14: a word or a line that does
+# not do what it seems to, or by which mountd(8) does something else. With STRICT= (empty) these do not count.
 
 set -eu
 
@@ -18,11 +19,12 @@ if [ $# -lt 4 ]; then
     exit 2
 fi
 old=$1 new=$2 expectations=$3
+strict=${STRICT-yes}
 shift 3
 
 # shellcheck disable=SC2086 # (TABLES are several words)
 {
-    exportdesk check "$new" "$@" ${TABLES-}
+    exportdesk check "$new" "$@" ${TABLES-} ${strict:+--strict}
     exportdesk test "$new" "$expectations" "$@" ${TABLES-}
     status=0
     exportdesk compare "$old" "$new" "$@" ${TABLES-} || status=$?
