@@ -34,8 +34,8 @@ pub struct Breach<'a> {
 }
 
 /// Prints what breaks the expectations of a file as one compact JSON list and a line end, an object for each range: `[]` if nothing
-/// does. An object has `by` (`mountd`, if the verdict is that of the server alone), `dir`, `expectation` (the words of its line), `first`, `kind` (`broken`), `last`, `line`, `others` (whether it
-/// is about the other directories of `dir`), `path` and `verdict`.
+/// does. An object has `by` (`mountd`, if the verdict is that of the server alone), `dir`, `expectation` (the words of its line),
+/// `first`, `kind` (`broken`), `last`, `line`, `others` (whether it is about the other directories of `dir`), `path` and `verdict`.
 pub fn breaches_json(
     alloc: Global,
     policy: &Policy,
