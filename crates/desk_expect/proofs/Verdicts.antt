@@ -35,10 +35,10 @@ module _ (expectation : Expectation) where
   pub rule_starts : (starts : List ℕ) → AreAudienceStarts expectation.audience starts → AreRuleStarts (judging_rule expectation) starts
   rule_starts starts are = record {
     nowhere = record {
-        ascend = are.ascend;
-        behind = are.after_first;
-        steady = λ address fits none. ap (λ about. cond about (judged expectation.forbids expectation.action (Err NoFileSystem) (Err NoFileSystem)) None) (are.steady address fits none);
-      };
+      ascend = are.ascend;
+      behind = are.after_first;
+      steady = λ address fits none. ap (λ about. cond about (judged expectation.forbids expectation.action (Err NoFileSystem) (Err NoFileSystem)) None) (are.steady address fits none);
+    };
     among = λ fs listing rows address fits none same.
         ap (λ own. judged_at expectation (address + 1) own (server_verdict_among fs listing rows (address + 1))) (own_steady fs listing rows address (address + 1) same)
         ∙ ap (judged_at expectation (address + 1) (verdict_among fs listing (selected rows address))) (server_steady address (address + 1) fs listing rows same)

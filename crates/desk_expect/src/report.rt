@@ -117,13 +117,7 @@ fn sections_of<'a>(
     };
     let mut sections = Vec::new(alloc);
     for scope in expectation.scopes.as_slice() {
-        let mut found = found_in(
-            alloc,
-            index.policy(),
-            &judging,
-            &scope.path,
-            scope.below,
-        )?;
+        let mut found = found_in(alloc, index.policy(), &judging, &scope.path, scope.below)?;
         sections.append(&mut found)?;
     }
     Ok(sections)
