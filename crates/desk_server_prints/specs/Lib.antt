@@ -1,0 +1,4 @@
+pub mod LeftOutNote
+pub mod PrivateLeftOut
+pub mod ServerWho
+pub mod WiderNote
