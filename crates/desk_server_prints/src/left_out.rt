@@ -34,7 +34,7 @@ fn push_files(
 {
     for mount in mounts {
         let found = repeated_at(alloc, index, &mount.path)?;
-        push_first(found.as_slice(), note)?;
+        push_first(&mount.path, found.as_slice(), note)?;
         drop(found);
     }
     Ok(())
@@ -50,38 +50,43 @@ fn repeated_at(alloc: Global, index: &Index, mount: &Path) -> Result<Vec<Repeate
     }
 }
 
-/// Adds the first of these lines, if there is one.
-fn push_first(found: &[RepeatedClient], note: &mut String) -> Result<(), AllocError>
-    ensures { OnOk result (string_bytes note.new ≡ string_bytes note.old ++ spec.first_note found.now) }
+/// Adds the first of these lines of the file system of a mount point, if there is one.
+fn push_first(
+    mount: &Path,
+    found: &[RepeatedClient],
+    note: &mut String,
+) -> Result<(), AllocError>
+    ensures { OnOk result (string_bytes note.new ≡ string_bytes note.old ++ spec.first_note mount.now found.now) }
 {
     match found.first() {
-        Some(one) => push_line(*one, note),
+        Some(one) => push_line(mount, *one, note),
         None => Ok(()),
     }
 }
 
-/// Adds a line that mountd(8) may leave out.
-fn push_line(one: RepeatedClient, note: &mut String) -> Result<(), AllocError>
-    ensures { OnOk result (string_bytes note.new ≡ string_bytes note.old ++ spec.line_note one) }
+/// Adds a line of the file system of a mount point that mountd(8) may leave out.
+fn push_line(mount: &Path, one: RepeatedClient, note: &mut String) -> Result<(), AllocError>
+    ensures { OnOk result (string_bytes note.new ≡ string_bytes note.old ++ spec.line_note mount.now one) }
 {
-    push_reason(one.line, one.other, one.address, note)?;
-    note.push('\n')
+    push_left_out(mount, one.line, note)?;
+    push_client(one.other, one.address, note)
 }
 
-/// Adds that mountd(8) may leave out a line, since another one has a client.
-fn push_reason(line: u32, other: u32, address: Addr, note: &mut String) -> Result<(), AllocError>
-    ensures { OnOk result (string_bytes note.new ≡ string_bytes note.old ++ spec.reason_text line other address) }
+/// Adds that mountd(8) may leave out a line of the file system of a mount point.
+fn push_left_out(mount: &Path, line: u32, note: &mut String) -> Result<(), AllocError>
+    ensures { OnOk result (string_bytes note.new ≡ string_bytes note.old ++ spec.left_out_text mount.now line) }
 {
     write!(
         note,
-        "exportdesk: mountd(8) may answer otherwise, since it may leave out line {line}"
+        "exportdesk: mountd(8) may answer otherwise, since it may leave out line {line} of "
     )?;
-    push_client(other, address, note)
+    note.push_str(mount.text())
 }
 
-/// Adds that a line has a client.
+/// Adds that a line has a client, and ends the line.
 fn push_client(line: u32, address: Addr, note: &mut String) -> Result<(), AllocError>
     ensures { OnOk result (string_bytes note.new ≡ string_bytes note.old ++ spec.client_text line address) }
 {
-    write!(note, ": line {line} has {address}")
+    write!(note, ": line {line} has {address}")?;
+    note.push('\n')
 }
