@@ -19,7 +19,12 @@ pub fn left_out_note(alloc: Global, index: &Index) -> Result<String, AllocError>
     ensures { IfOk result (λ note. TellsLeftOut index.now (string_bytes note)) }
 {
     let mut note = String::new(alloc);
-    push_files(alloc, index, index.policy().filesystems().as_slice(), &mut note)?;
+    push_files(
+        alloc,
+        index,
+        index.policy().filesystems().as_slice(),
+        &mut note,
+    )?;
     Ok(note)
 }
 
@@ -41,7 +46,11 @@ fn push_files(
 }
 
 /// Finds the lines of the file system of a mount point that have a client of an earlier one.
-fn repeated_at(alloc: Global, index: &Index, mount: &Path) -> Result<Vec<RepeatedClient>, AllocError>
+fn repeated_at(
+    alloc: Global,
+    index: &Index,
+    mount: &Path,
+) -> Result<Vec<RepeatedClient>, AllocError>
     ensures { IfOk result (λ found. AreRepeatedIn index.now (fs_of index.now.table mount.now) found.items) }
 {
     match index.policy().filesystems().of(mount) {
@@ -51,11 +60,7 @@ fn repeated_at(alloc: Global, index: &Index, mount: &Path) -> Result<Vec<Repeate
 }
 
 /// Adds the first of these lines of the file system of a mount point, if there is one.
-fn push_first(
-    mount: &Path,
-    found: &[RepeatedClient],
-    note: &mut String,
-) -> Result<(), AllocError>
+fn push_first(mount: &Path, found: &[RepeatedClient], note: &mut String) -> Result<(), AllocError>
     ensures { OnOk result (string_bytes note.new ≡ string_bytes note.old ++ spec.first_note mount.now found.now) }
 {
     match found.first() {

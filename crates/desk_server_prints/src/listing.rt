@@ -21,7 +21,11 @@ pub fn server_who<'a>(
     ensures { IfOk result (λ ranges. IsServerWho index.now path.now (map range_value ranges.items)) }
 {
     let starts = server_starts(alloc, index, path)?;
-    longest_runs(alloc, &starts, |address| server_decide(index, address, path))
+    longest_runs(
+        alloc,
+        &starts,
+        |address| server_decide(index, address, path),
+    )
 }
 
 /// Gathers the addresses at which the server's verdict on a path may change.

@@ -35,7 +35,9 @@ fn granted_note(alloc: Global, verdict: &Verdict<'_>) -> Result<String, AllocErr
 {
     match verdict {
         Verdict::Granted { line, .. } => {
-            format!(in alloc; "exportdesk: mountd(8) grants this by line {line}, which is not asked here: --mountd decides by its rule\n")
+            format!(in alloc;
+                "exportdesk: mountd(8) grants this by line {line}, which is not asked here: --mountd decides by its rule\n"
+            )
         }
         Verdict::Denied(_) => Ok(String::new(alloc)),
     }
