@@ -1,4 +1,2 @@
 pub mod LeftOutNote
 pub mod PrivateLeftOut
-pub mod ServerWho
-pub mod WiderNote
