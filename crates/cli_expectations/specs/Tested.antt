@@ -1,5 +1,5 @@
 -- What is printed of the expectations of a text, by a policy and the tables of its site. (this project's own)
-use Rattle.std.specs.Prelude.{◌≡◌, ◌⊎◌, ℕ, ◌==◌, Bool, true, false, List, length, if◌then◌else◌}
+use Rattle.std.specs.Prelude.{◌≡◌, ◌⊎◌, ℕ, ◌++◌, ◌==◌, Bool, true, false, List, length, if◌then◌else◌}
 use Rattle.std.specs.String.{string_bytes}
 use Rattle.desk_policy.specs.Policy.{Content}
 use Rattle.desk_policy.specs.declared.parsing.SiteTables.{SiteTables}
@@ -10,6 +10,7 @@ use Rattle.desk_expect.specs.ReportText.{BrokenValue, report_text}
 use Rattle.desk_expect.specs.declared.expectation.Expectation.{Expectation}
 use Rattle.desk_expect.specs.declared.report.TestReport.{TestReport}
 use Rattle.desk_expect.specs.declared.rules.PlacedFault.{PlacedFault}
+use Rattle.desk_server_prints.specs.LeftOutNote.{TellsLeftOut}
 use Rattle.cli_output.specs.Printed.{Prints}
 use Rattle.cli_output.specs.declared.printed.Printed.{Printed}
 use Rattle.cli_expectations.specs.BreachesJson.{breaches_json}
@@ -38,13 +39,19 @@ pub record IsShownReport (content : Content) (file : List ℕ) (json : Bool) (ex
   pub text : string_bytes report.text ≡ shown_broken json content file (length expectations) broken
   pub count : report.broken ≡ length broken
 
+-- the directories of these expectations are named that no file system has anything of, and then the lines that mountd(8) may leave out
+pub record SaysBeside (content : Content) (file : List ℕ) (expectations : List Expectation) (note : List ℕ) : Type 0 where
+  pub left_out : List ℕ
+  pub tells : TellsLeftOut content left_out
+  pub says : note ≡ outside_text file (outside_in content.table expectations) ++ left_out
+
 -- The report is printed: the status is 0 if no expectation is broken, and else 1. Standard error names the directories of the lines that
--- no file system has anything of.
+-- no file system has anything of, and the lines that mountd(8) may leave out.
 pub record PrintsKept (content : Content) (file : List ℕ) (json : Bool) (expectations : List Expectation) (printed : Printed) : Type 0 where
   pub report : TestReport
   pub is : IsShownReport content file json expectations report
   pub prints : Prints (if report.broken == 0 then 0 else 1) (string_bytes report.text) printed
-  pub says : string_bytes printed.note ≡ outside_text file (outside_in content.table expectations)
+  pub beside : SaysBeside content file expectations (string_bytes printed.note)
 
 -- the text has expectations, with these tables, and which of them are broken is printed
 pub record PrintsRead (tables : SiteTables) (content : Content) (expected : Expected) (printed : Printed) : Type 0 where

@@ -3,7 +3,7 @@
 ghost use Rattle.std.specs.Prelude.{◌≡◌, IfOk, true};
 ghost use Rattle.std.specs.String.{string_bytes};
 ghost use Rattle.desk_expect.specs.Outside.{outside_in, outside_text};
-ghost use Rattle.cli_expectations.specs.Tested.{IsShownReport, PrintsKept, PrintsTested, expected_of};
+ghost use Rattle.cli_expectations.specs.Tested.{IsShownReport, PrintsKept, PrintsTested, SaysBeside, expected_of};
 
 use crate::breaches_json::breaches_json;
 use crate::expectations_file::ExpectationsFile;
@@ -15,6 +15,7 @@ use desk_expect::{
 };
 use desk_index::Index;
 use desk_policy::{Policy, PolicyView, SiteTables};
+use desk_server_prints::left_out_note;
 use desk_text::ReadError;
 use std::alloc::{AllocError, Global};
 
@@ -36,7 +37,7 @@ pub fn print_tested(
 }
 
 /// Prints which of these expectations of a file a policy breaks. Standard error names the directories that no file system has anything
-/// of.
+/// of, and the lines that mountd(8) may leave out.
 fn print_kept(
     alloc: Global,
     index: &Index,
@@ -46,13 +47,29 @@ fn print_kept(
 ) -> Result<Printed, AllocError>
     ensures { IfOk result (PrintsKept index.now file.now json expectations.now) }
 {
-    let note = outside_note(alloc, index.policy(), file, expectations)?;
+    let note = beside_note(alloc, index, file, expectations)?;
     let report = shown_report(alloc, index, file, json, expectations)?;
     Ok(Printed {
         status: if report.broken == 0 { 0 } else { 1 },
         text: report.text,
         note,
     })
+}
+
+/// Names the directories of these expectations that no file system of a policy has anything of, and then the lines that mountd(8) may
+/// leave out.
+fn beside_note(
+    alloc: Global,
+    index: &Index,
+    file: &str,
+    expectations: &[Expectation],
+) -> Result<String, AllocError>
+    ensures { IfOk result (λ note. SaysBeside index.now file.now expectations.now (string_bytes note)) }
+{
+    let left_out = left_out_note(alloc, index)?;
+    let mut note = outside_note(alloc, index.policy(), file, expectations)?;
+    note.push_str(left_out.as_str())?;
+    Ok(note)
 }
 
 /// Names the directories of these expectations that no file system of a policy has anything of.

@@ -3,11 +3,12 @@ output, as text or as JSON, and on standard error.
 """
 
 from reference.definitions import (
-    RULES, Expectation, allows, dotted, expectation, is_meant, is_under, names_of, printed, runs, scope_places, verdict,
+    RULES, Expectation, allows, dotted, expectation, in_order, is_meant, is_under, names_of, printed, runs, scope_places,
+    verdict,
 )  # fmt: skip
 from reference.findings import finding_text, printed_json
 from reference.lines import logical_lines, open_quote, words_of
-from reference.server import server_verdict
+from reference.server import repeated_clients, server_verdict
 
 SENTENCES = {
     "OpenQuote": "begins with a quote that is not closed on its physical line: close it, or write a backslash before a quote in a"
@@ -146,6 +147,17 @@ def outside_text(site, file, expectations):
     )
 
 
+def left_out_text(site):
+    """A line for each file system in which a line has a client of an earlier one, which names the first such line: mountd may leave it
+    out, and then answer otherwise."""
+    text = ""
+    for mount in in_order(site.mounts):
+        for number, other, address in repeated_clients(site, mount)[:1]:
+            text += f"exportdesk: mountd(8) may answer otherwise, since it may leave out line {number} of {printed(mount)}:"
+            text += f" line {other} has {dotted(address)}\n"
+    return text
+
+
 # ---- the commands
 
 
@@ -163,7 +175,7 @@ def answer(site, file, text, is_json=False):
         return *fault_texts(file, expectations), 3
     found = list(broken(site, expectations))
     text = report_json(file, found) if is_json else report_text(file, found, len(expectations))
-    return text, outside_text(site, file, expectations), 1 if found else 0
+    return text, outside_text(site, file, expectations) + left_out_text(site), 1 if found else 0
 
 
 def case_answer(question, site, text, names):

@@ -1,0 +1,2 @@
+pub mod LeftOutNote
+pub mod PrivateLeftOut

@@ -1,0 +1,15 @@
+//! What is said of mountd(8) beside an answer by this desk's rule.
+//!
+//! Its promise: [`left_out_note`] names of each file system the first line that has a client of an earlier one, so that mountd may leave
+//! it out; nothing if there is none, and then mountd puts all lines in force (law `nothing_repeated_is_loaded` of desk_server).
+//!
+//! ```text
+//! // with `/a/x 10.0.0.5` and `/a/y 10.0.0.5`:
+//! left_out_note(alloc, &index)?
+//! // "exportdesk: mountd(8) may answer otherwise, since it may leave out line 2 of /a: line 1 has 10.0.0.5\n"
+//! ```
+#![tactic(auto)]
+
+pub mod left_out;
+
+pub use left_out::left_out_note;
