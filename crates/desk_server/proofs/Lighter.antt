@@ -1,8 +1,8 @@
 -- The first of the heaviest lines that widen what is selected, group by group of lighter lines.
-use Rattle.std.proofs.Common.{◌≡◌, ◌∙◌, ℕ, suc, ◌+◌, ◌<◌, ◌≤◌, ◌++◌, Bool, true, List, [], ◌∷◌, Option, Some, None, ap, arith, drop, get_or, inl, inr, length, subst, sym, take}
+use Rattle.std.proofs.Common.{◌≡◌, ◌∙◌, ℕ, suc, ◌+◌, ◌<◌, ◌≤◌, ◌++◌, ◌||◌, Bool, true, List, [], ◌∷◌, Option, Some, None, ap, arith, drop, get_or, inl, inr, length, not, refl, subst, sym, take}
 use Rattle.std.specs.Prelude.{find}
-use Rattle.std.specs.List.{All, Contains, list_any}
-use Rattle.std.proofs.lemmas.Bool.{and_parts, cases_Bool, cases_lt, cond-true, cond-false, eq-eqb, eqb-true, not-true, true≢false}
+use Rattle.std.specs.List.{All, AllByRecursion, Contains, list_all, list_any}
+use Rattle.std.proofs.lemmas.Bool.{and_from, and_parts, cases_Bool, cases_lt, cond-true, cond-false, eq-eqb, eqb-true, le-leb, not-true, or_cases, true≢false}
 use Rattle.std.proofs.lemmas.List.{append_assoc, get_or_default, take-append-drop}
 use Rattle.std.proofs.lemmas.List.Elements.{All-contains, All-contains_itself, All-filter}
 use Rattle.std.proofs.lemmas.List.Folds.{list_any_at}
@@ -14,14 +14,18 @@ use Rattle.desk_exports.specs.declared.entry.Clients.{Clients}
 use Rattle.desk_exports.specs.declared.entry.Clients.TheVariants as clients
 use Rattle.desk_policy.specs.Keys.{HasBlock}
 use Rattle.desk_policy.specs.Policy.{AreAscending}
-use Rattle.desk_policy.specs.Weights.{name_weight, selected, weight_by, weight_of}
+use Rattle.desk_policy.specs.Listings.{written}
+use Rattle.desk_policy.specs.Verdict.{is_directory_among}
+use Rattle.desk_policy.specs.Weights.{is_at_most, is_greatest, name_weight, selected, weight_by, weight_of}
 use Rattle.desk_policy.specs.declared.row.Row.{Row}
 use Rattle.desk_index.specs.Lighter.{AreHeaviestBelow, IsHeaviestBelow, is_weight, weighing}
 use Rattle.desk_index.specs.declared.lighter.Weighed.{Weighed}
 use Rattle.desk_idle.specs.Laws.{brings}
+use Rattle.desk_idle.proofs.Bringing.{Lacks, each_lacks, witness}
+use Rattle.desk_idle.proofs.Directories.{Path}
 use Rattle.desk_idle.proofs.Lists.{in_middle}
 use Rattle.desk_idle.proofs.Looks.{first_or, none_passes}
-use Rattle.desk_server.specs.PrivateWider.{Widened}
+use Rattle.desk_server.specs.PrivateWider.{WidenBelow, Widened}
 use Rattle.desk_server.specs.WiderGrants.{Widens, WidensFirst}
 use Rattle.desk_server.proofs.Widening.{filter_from, filter_has}
 
@@ -80,14 +84,10 @@ found_has p (x ∷ xs) row e =
 -- ---- group by group
 
 module _ (rows : List Row) (address : ℕ) where
-  -- all that widen are lighter than this
-  abbrev pub WidenBelow : ℕ → Type 0
-  WidenBelow below = (row : Row) (own : ℕ) → Widens rows address row own → own < below
-
   abbrev brings_more : Row → Bool
   brings_more row = brings (selected rows address) row
 
-  pub all_below : All (λ (row : Row). HasBlock row.entry.clients) rows → WidenBelow 35
+  pub all_below : All (λ (row : Row). HasBlock row.entry.clients) rows → WidenBelow rows address 35
   all_below blocks row own w = few_by row.entry.clients row.addrs address own (All-contains (λ (r : Row). HasBlock r.entry.clients) rows row blocks w.has) w.matches
 
   -- to lines of which one has -alldirs nothing can be brought
@@ -96,10 +96,10 @@ module _ (rows : List Row) (address : ℕ) where
       let s = and_parts _ _ wide.widens.brought in
       true≢false (sym all ∙ not-true (list_any (λ (row : Row). row.entry.alldirs) (selected rows address)) s.0)
 
-  pub none_left : (below : ℕ) → WidenBelow below → AreHeaviestBelow rows address below None → Widened rows address → ⊥
+  pub none_left : (below : ℕ) → WidenBelow rows address below → AreHeaviestBelow rows address below None → Widened rows address → ⊥
   none_left below all none wide = none wide.row wide.weight wide.widens.has wide.widens.matches (all wide.row wide.weight wide.widens)
 
-  module _ (below : ℕ) (all : WidenBelow below) (group : Weighed) (is : IsHeaviestBelow rows address below group) where
+  module _ (below : ℕ) (all : WidenBelow rows address below) (group : Weighed) (is : IsHeaviestBelow rows address below group) where
     at_most : (row : Row) (own : ℕ) → Widens rows address row own → own ≤ group.weight
     at_most row own w = is.most row own w.has w.matches (all row own w)
 
@@ -110,7 +110,7 @@ module _ (rows : List Row) (address : ℕ) where
     own_group : (row : Row) (own : ℕ) → Widens rows address row own → own ≡ group.weight → Contains (weighing rows address group.weight) row
     own_group row own w same = filter_has (λ (r : Row). is_weight group.weight (weight_of r address)) rows row w.has (ap (is_weight group.weight) w.matches ∙ eq-eqb own group.weight same)
 
-    pub lighter : find brings_more (weighing rows address group.weight) ≡ None → WidenBelow group.weight
+    pub lighter : find brings_more (weighing rows address group.weight) ≡ None → WidenBelow rows address group.weight
     lighter none row own w =
         elim (cases_lt own group.weight) [
           | inl lt ↦ lt
@@ -137,6 +137,67 @@ module _ (rows : List Row) (address : ℕ) where
                 inr (same, first_least brings_more chosen row other up found (own_group other own w same) w.brought)
           ];
         }
+
+-- ---- the selected lines
+
+-- a line brings nothing to lines that it is one of
+brings_nothing : (chosen : List Row) (row : Row) → Contains chosen row → brings chosen row ≡ true → ⊥
+brings_nothing chosen row has brought =
+    let parts = and_parts _ _ brought in
+    elim (or_cases row.entry.alldirs (list_any (λ (dir : Path). not (is_directory_among dir (written chosen))) row.entry.dirs) parts.1) [
+      | inl all ↦
+          let one : list_any (λ (other : Row). other.entry.alldirs) chosen ≡ true =
+          list_any_at (λ (other : Row). other.entry.alldirs) chosen has.0 row has.1 (ap (λ (other : Row). other.entry.alldirs) has.2 ∙ all) in
+          true≢false (sym one ∙ not-true (list_any (λ (other : Row). other.entry.alldirs) chosen) parts.0)
+      | inr some ↦
+          let new = witness (λ (dir : Path). Unit {0}) (λ (dir : Path). not (is_directory_among dir (written chosen))) row.entry.dirs (all_units row.entry.dirs) some in
+          let lacks : AllByRecursion (Lacks new.dir) chosen = each_lacks new.dir chosen (not-true (is_directory_among new.dir (written chosen)) new.passes) in
+          true≢false (sym new.among ∙ lacks_at new.dir chosen row lacks has)
+    ]
+  where
+    all_units : (dirs : List Path) → AllByRecursion (λ (dir : Path). Unit {0}) dirs
+    all_units [] = tt
+    all_units (dir ∷ dirs) = (tt, all_units dirs)
+
+    lacks_at : (dir : Path) (rs : List Row) (one : Row) → AllByRecursion (Lacks dir) rs → Contains rs one → Lacks dir one
+    lacks_at dir [] one all here = absurd (let b = here.1 in omega arith)
+    lacks_at dir (r ∷ rs) one all here = elim (first_or r rs one here) [
+      | inl own ↦ subst (Lacks dir) own all.0
+      | inr later ↦ lacks_at dir rs one all.1 later
+    ]
+
+module _ (rows : List Row) (address : ℕ) (greatest : ℕ) (most : (row : Row) (own : ℕ) → Contains rows row → weight_of row address ≡ Some own → own ≤ greatest) where
+  at_most_all : (rs before : List Row) → before ++ rs ≡ rows → list_all (λ (other : Row). is_at_most (weight_of other address) greatest) rs ≡ true
+  at_most_all [] before e = refl
+  at_most_all (r ∷ rs) before e =
+      let has : Contains rows r = subst (λ (xs : List Row). Contains xs r) e (in_middle before r rs) in
+      and_from _ _ (at_most_by (weight_of r address) (λ own is. most r own has is)) (at_most_all rs (before ++ r ∷ []) (append_assoc before (r ∷ []) rs ∙ e))
+    where
+      at_most_by : (o : Option ℕ) → ((own : ℕ) → o ≡ Some own → own ≤ greatest) → is_at_most o greatest ≡ true
+      at_most_by None few = refl
+      at_most_by (Some own) few = le-leb own greatest (few own refl)
+
+  -- lines of the greatest weight are selected, and bring nothing more
+  pub greatest_bring_nothing : (row : Row) → Contains rows row → weight_of row address ≡ Some greatest → brings (selected rows address) row ≡ true → ⊥
+  unfolding selected
+  greatest_bring_nothing row has weighs =
+      brings_nothing (selected rows address) row
+      (filter_has (λ (other : Row). is_greatest rows address (weight_of other address)) rows row has (ap (is_greatest rows address) weighs ∙ at_most_all rows [] refl))
+
+pub below_selected : (rows : List Row) (address : ℕ) → All (λ (row : Row). HasBlock row.entry.clients) rows → (group : Weighed) → IsHeaviestBelow rows address 35 group → WidenBelow rows address group.weight
+below_selected rows address blocks group is row own w =
+    let most : (other : Row) (weight : ℕ) → Contains rows other → weight_of other address ≡ Some weight → weight ≤ group.weight =
+    λ other weight has weighs. is.most other weight has weighs (few_by other.entry.clients other.addrs address weight (All-contains (λ (r : Row). HasBlock r.entry.clients) rows other blocks has) weighs) in
+    elim (cases_lt own group.weight) [
+      | inl lt ↦ lt
+      | inr le ↦
+          let up = most row own w.has w.matches in
+          let same : own ≡ group.weight = omega arith in
+          absurd (greatest_bring_nothing rows address group.weight most row w.has (w.matches ∙ ap (λ (n : ℕ). Some n) same) w.brought)
+    ]
+
+pub none_below : (rows : List Row) (address : ℕ) → All (λ (row : Row). HasBlock row.entry.clients) rows → AreHeaviestBelow rows address 35 None → WidenBelow rows address 0
+none_below rows address blocks none row own w = absurd (none row own w.has w.matches (all_below rows address blocks row own w))
 
 -- the lines of one weight are lines of the file system
 pub weighing_has : (rows : List Row) (address weight : ℕ) → All (Contains rows) (weighing rows address weight)

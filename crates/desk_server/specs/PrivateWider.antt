@@ -22,6 +22,10 @@ pub record Widened (rows : List Row) (address : ℕ) : Type 0 where
   pub weight : ℕ
   pub widens : Widens rows address row weight
 
+-- all lines that widen it are lighter than this
+abbrev pub WidenBelow : List Row → ℕ → ℕ → Type 0
+WidenBelow rows address below = (row : Row) (own : ℕ) → Widens rows address row own → own < below
+
 -- so it is at an address where this line is the first that is selected
 pub record IsWide (rows : List Row) (line address : ℕ) : Type 0 where
   pub first : first_selected rows address ≡ Some line

@@ -1,6 +1,6 @@
 //! What there is to see at an address: by which line the server grants more there, and what.
 
-ghost use Rattle.std.specs.Prelude.{◌≡◌, All, Contains, IfOk, List, find, slice_get};
+ghost use Rattle.std.specs.Prelude.{◌≡◌, false, All, Contains, IfOk, List, find, slice_get};
 ghost use Rattle.std.specs.List.{list_any};
 ghost use Rattle.std.specs.Option.{option_copied};
 ghost use Rattle.desk_text.specs.Address.{number_of};
@@ -10,7 +10,7 @@ ghost use Rattle.desk_policy.specs.declared.row.Row.{Row};
 ghost use Rattle.desk_index.specs.Keys.{numbers};
 ghost use Rattle.desk_idle.specs.Laws.{brings};
 ghost use Rattle.desk_idle.specs.Listed.{IsListedBy};
-ghost use Rattle.desk_server.specs.PrivateWider.{IsLook, IsWidest};
+ghost use Rattle.desk_server.specs.PrivateWider.{IsLook, IsWidest, WidenBelow, Widened};
 
 use crate::wider::WiderGrant;
 use desk_idle::Listed;
@@ -53,13 +53,17 @@ pub(crate) fn look_at<'a>(
     requires { AreAscending (rows_of index.now fs.0) }
     ensures { IfOk result (IsLook (rows_of index.now fs.0) line (number_of address)) }
 {
+    let below = selected_weight(index, fs, address);
+    if !is_named_below(index, fs, address, below) {
+        return Ok(None);
+    }
     let rows = index.policy().rows(fs);
     let lines = selected_lines(index, fs, address);
     if have_alldirs(rows, lines) {
         return Ok(None);
     }
     let listed = listed_by(alloc, rows, lines)?;
-    match widest(index, fs, address, &listed) {
+    match widest(index, fs, address, below, &listed) {
         Some(row) => Ok(Some(WiderGrant {
             line,
             address,
@@ -67,6 +71,30 @@ pub(crate) fn look_at<'a>(
             directory: listed.first_new(row),
         })),
         None => Ok(None),
+    }
+}
+
+/// Gives the weight of the lines that are selected for an address, or 0 if there are none. What widens them is lighter.
+fn selected_weight(index: &Index, fs: FsId, address: Addr) -> u8
+    ensures { WidenBelow (rows_of index.now fs.0) (number_of address) result }
+{
+    let _lists = index.policy().rows_by_filesystem();
+    let _probes = Probes::new(index);
+    match index.heaviest_below(fs, address, 35) {
+        Some(group) => group.weight,
+        None => 0,
+    }
+}
+
+/// Tests whether a line names the client of an address with less than this weight.
+fn is_named_below(index: &Index, fs: FsId, address: Addr, below: u8) -> bool
+    requires { WidenBelow (rows_of index.now fs.0) (number_of address) below }
+    ensures { result ≡ false → Widened (rows_of index.now fs.0) (number_of address) → ⊥ }
+{
+    let _probes = Probes::new(index);
+    match index.heaviest_below(fs, address, below) {
+        Some(group) => 0 < group.weight,
+        None => false,
     }
 }
 
@@ -110,15 +138,22 @@ fn listed_by<'a>(alloc: Global, rows: &'a [Row], lines: &[u32]) -> Result<Listed
     Ok(listed)
 }
 
-/// Finds the first of the heaviest lines that name the client and list what the selected ones do not.
-fn widest<'a>(index: &'a Index, fs: FsId, address: Addr, listed: &Listed<'a>) -> Option<&'a Row>
+/// Finds the first of the heaviest lines that name the client and list what the selected ones do not. All such lines are lighter than
+/// this.
+fn widest<'a>(
+    index: &'a Index,
+    fs: FsId,
+    address: Addr,
+    mut below: u8,
+    listed: &Listed<'a>,
+) -> Option<&'a Row>
     requires ascending { AreAscending (rows_of index.now fs.0) }
+    requires below { WidenBelow (rows_of index.now fs.0) (number_of address) below }
     requires listed { IsListedBy listed.now (selected (rows_of index.now fs.0) (number_of address)) }
     ensures { IsWidest (rows_of index.now fs.0) (number_of address) (option_copied result) }
 {
     let _probes = Probes::new(index);
     let rows = index.policy().rows(fs);
-    let mut below = 35;
     while let Some(group) = index.heaviest_below(fs, address, below) {
         if group.weight == 0 {
             return None;
