@@ -1,2 +1,4 @@
 pub mod LeftOutNote
 pub mod PrivateLeftOut
+pub mod PrivateWider
+pub mod Wider

@@ -11,5 +11,7 @@
 #![tactic(auto)]
 
 pub mod left_out;
+pub mod wider;
 
 pub use left_out::left_out_note;
+pub use wider::wider_note;
