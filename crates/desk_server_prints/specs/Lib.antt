@@ -1,4 +1,6 @@
 pub mod LeftOutNote
+pub mod Listing
 pub mod PrivateLeftOut
+pub mod PrivateListing
 pub mod PrivateWider
 pub mod Wider

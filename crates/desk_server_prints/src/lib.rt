@@ -11,7 +11,9 @@
 #![tactic(auto)]
 
 pub mod left_out;
+pub mod listing;
 pub mod wider;
 
 pub use left_out::left_out_note;
+pub use listing::{first_wider_note, server_who};
 pub use wider::wider_note;
