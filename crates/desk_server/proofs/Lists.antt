@@ -9,6 +9,10 @@ use Rattle.desk_idle.proofs.Looks.{first_or}
 pub no_element : {X : Type 0} (x : X) → Contains [] x → ⊥
 no_element x has = (let lt = has.1 in omega arith)
 
+pub none_has : {X : Type 0} (xs : List X) → ((x : X) → Contains xs x → ⊥) → xs ≡ []
+none_has [] h = refl
+none_has (x ∷ xs) h = absurd (h x (0, omega arith, refl))
+
 -- what passes is kept
 pub kept_has : {X : Type 0} (p : X → Bool) (xs : List X) (x : X) → Contains xs x → p x ≡ true → Contains (filter p xs) x
 kept_has p [] x has e = absurd (no_element x has)

@@ -2,15 +2,34 @@ use Rattle.std.proofs.Common.{◌≡◌, ◌∙◌, ℕ, List, ap, refl, subst, 
 use Rattle.std.specs.List.{All, Contains}
 use Rattle.desk_text.specs.Address.{number_of}
 use Rattle.desk_exports.specs.declared.entry.Entry.{Entry}
+use Rattle.desk_policy.specs.Keys.{HasBlock}
 use Rattle.desk_policy.specs.Policy.{Content, rows_of}
 use Rattle.desk_policy.specs.Weights.{selected}
 use Rattle.desk_policy.specs.declared.row.Row.{Row}
+use Rattle.desk_index.specs.Keys.{HasNoHostBits, numbers}
+use Rattle.desk_index.specs.Lighter.{IsHeaviestBelow}
+use Rattle.desk_index.specs.declared.lighter.Weighed.{Weighed}
 use Rattle.desk_index.proofs.RowsByNumber.{selected_among}
-use Rattle.desk_server.proofs.Lighter.{all_listed}
+use Rattle.desk_server.specs.PrivateWider.{WidenBelow}
+use Rattle.desk_server.proofs.Lighter.{all_listed, are_numbers, below_selected}
 use Rattle.desk_server.proofs.looking.look_at.Goals as goal
 
 all_among : (rows items : List Row) (address : ℕ) → items ≡ rows → All (Contains items) (selected rows address)
 all_among rows items address same = subst (λ (rs : List Row). All (Contains rs) (selected rows address)) (sym same) (selected_among rows address)
+
+-- what widens is lighter than the selected lines
+below : (content own : Content) (fs address : ℕ) (group : Weighed) → content ≡ own → HasNoHostBits content → IsHeaviestBelow (rows_of own fs) address 35 group → WidenBelow (rows_of own fs) address group.weight
+below content own fs address group same blocks is = below_selected (rows_of own fs) address (subst (λ (c : Content). All (λ (row : Row). HasBlock row.entry.clients) (rows_of c fs)) same (blocks fs)) group is
+
+-- the group has the numbers of the selected lines
+lines : (content own : Content) (fs address : ℕ) (group : Weighed) → content ≡ own → HasNoHostBits content → IsHeaviestBelow (rows_of own fs) address 35 group → group.lines.now ≡ numbers (selected (rows_of own fs) address)
+lines content own fs address group same blocks is = are_numbers (rows_of own fs) address (subst (λ (c : Content). All (λ (row : Row). HasBlock row.entry.clients) (rows_of c fs)) same (blocks fs)) group is
+
+pub is_named_below-requires : goal.is_named_below-requires
+is_named_below-requires c = below c.new-probes.result.index.now c.args.index.now c.args.fs.0 (number_of c.args.address) c.args.group c.new-probes.ensures.index c.new-probes.ensures.networks c.requires.group
+
+pub widest-requires-clause-below : goal.widest-requires-clause-below
+widest-requires-clause-below c = below c.new-probes.result.index.now c.args.index.now c.args.fs.0 (number_of c.args.address) c.args.group c.new-probes.ensures.index c.new-probes.ensures.networks c.requires.group
 
 pub returns-then-have_alldirs : goal.returns-then-have_alldirs
 returns-then-have_alldirs c =
@@ -19,7 +38,8 @@ returns-then-have_alldirs c =
     let address = number_of c.args.address in
     let chosen = selected rows address in
     let same : c.rows-rows.result.now ≡ rows = c.rows-rows.ensures ∙ ap (λ (content : Content). rows_of content fs) c.policy.ensures in
-    all_listed rows address (sym (c.have_alldirs.ensures chosen c.selected_lines-lines.ensures (all_among rows c.rows-rows.result.now address same)) ∙ c.if-have_alldirs.true)
+    let are = lines c.new-probes.result.index.now c.args.index.now fs address c.args.group c.new-probes.ensures.index c.new-probes.ensures.networks c.requires.group in
+    all_listed rows address (sym (c.have_alldirs.ensures chosen are (all_among rows c.rows-rows.result.now address same)) ∙ c.if-have_alldirs.true)
 
 pub widest-requires-clause-listed : goal.widest-requires-clause-listed
 widest-requires-clause-listed c =
@@ -27,7 +47,8 @@ widest-requires-clause-listed c =
     let rows = rows_of c.args.index.now fs in
     let address = number_of c.args.address in
     let same : c.rows-rows.result.now ≡ rows = c.rows-rows.ensures ∙ ap (λ (content : Content). rows_of content fs) c.policy.ensures in
-    c.in_ok-listed.ensures (selected rows address) c.selected_lines-lines.ensures (all_among rows c.rows-rows.result.now address same)
+    let are = lines c.new-probes.result.index.now c.args.index.now fs address c.args.group c.new-probes.ensures.index c.new-probes.ensures.networks c.requires.group in
+    c.in_ok-listed.ensures (selected rows address) are (all_among rows c.rows-rows.result.now address same)
 
 pub returns-in-Some : goal.returns-in-Some
 returns-in-Some c =
@@ -35,7 +56,8 @@ returns-in-Some c =
     let rows = rows_of c.args.index.now fs in
     let address = number_of c.args.address in
     let same : c.rows-rows.result.now ≡ rows = c.rows-rows.ensures ∙ ap (λ (content : Content). rows_of content fs) c.policy.ensures in
-    let listed = c.in_ok-listed.ensures (selected rows address) c.selected_lines-lines.ensures (all_among rows c.rows-rows.result.now address same) in
+    let are = lines c.new-probes.result.index.now c.args.index.now fs address c.args.group c.new-probes.ensures.index c.new-probes.ensures.networks c.requires.group in
+    let listed = c.in_ok-listed.ensures (selected rows address) are (all_among rows c.rows-rows.result.now address same) in
     record {
       number = refl;
       place = refl;
