@@ -9,6 +9,8 @@ use Rattle.desk_text.specs.Address.{number_of}
 use Rattle.desk_text.specs.AddrSet.{is_among}
 use Rattle.desk_policy.specs.Weights.{name_weight, selected}
 use Rattle.desk_policy.specs.declared.row.Row.{Row}
+use Rattle.desk_index.specs.Lighter.{IsHeaviestBelow}
+use Rattle.desk_index.specs.declared.lighter.Weighed.{Weighed}
 use Rattle.desk_who.specs.Starts.{AreStarts}
 use Rattle.desk_policy.specs.Policy.{Content}
 use Rattle.desk_idle.specs.Idle.{first_selected}
@@ -29,6 +31,12 @@ pub record IsWide (rows : List Row) (line address : ℕ) : Type 0 where
 -- all lines that widen what is selected at an address are lighter than this
 abbrev pub WidenBelow : List Row → ℕ → ℕ → Type 0
 WidenBelow rows address below = (row : Row) (own : ℕ) → Widens rows address row own → own < below
+
+-- the heaviest lines below some weight, of which all are lighter that widen what is selected at an address
+pub record AreNext (rows : List Row) (address : ℕ) (group : Weighed) : Type 0 where
+  pub below : ℕ
+  pub all : WidenBelow rows address below
+  pub are : IsHeaviestBelow rows address below group
 
 -- the first of the heaviest lines that widen what is selected at an address, if there is one
 abbrev pub IsWidest : List Row → ℕ → Option Row → Type 0
