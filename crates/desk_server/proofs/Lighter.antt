@@ -145,7 +145,7 @@ module _ (rows : List Row) (address : ℕ) where
 -- ---- the selected lines
 
 -- a line brings nothing to lines that it is one of
-brings_nothing : (chosen : List Row) (row : Row) → Contains chosen row → brings chosen row ≡ true → ⊥
+pub brings_nothing : (chosen : List Row) (row : Row) → Contains chosen row → brings chosen row ≡ true → ⊥
 brings_nothing chosen row has brought =
     let parts = and_parts _ _ brought in
     elim (or_cases row.entry.alldirs (list_any (λ (dir : Path). not (is_directory_among dir (written chosen))) row.entry.dirs) parts.1) [

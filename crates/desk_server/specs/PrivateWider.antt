@@ -1,5 +1,5 @@
 -- What the private contracts of wider grants cite.
-use Rattle.std.specs.Prelude.{◌≡◌, ℕ, ◌<◌, ◌≤◌, ◌^◌, ◌==◌, ◌||◌, All, Bool, true, Contains, List, ◌∷◌, Option, Some, None, nat_lt}
+use Rattle.std.specs.Prelude.{◌≡◌, ℕ, ◌<◌, ◌≤◌, ◌^◌, ◌==◌, ◌||◌, All, Bool, true, false, Contains, List, [], ◌∷◌, Option, Some, None, nat_lt}
 use Rattle.std.specs.List.{AllPairs, list_any}
 use Rattle.std.specs.BTreeMap.{BTreeMap}
 use Rattle.std.specs.BTreeMap as tree
@@ -112,3 +112,13 @@ pub record AreWiderAmong (content : Content) (fs : ℕ) (lines : List Row) (foun
   pub own : All (HasLine lines) found
   pub all : (row : Row) (address : ℕ) → Contains lines row → IsWiderAt content fs row.entry.line address → list_any (λ one. one.line == row.entry.line) found ≡ true
   pub ascending : AllPairs (λ one later. one.line < later.line) found
+
+-- a line writes this directory alone, and has not -alldirs
+pub record ListsOnly (dir : List (List ℕ)) (row : Row) : Type 0 where
+  pub alldirs : row.entry.alldirs ≡ false
+  pub dirs : row.entry.dirs ≡ dir ∷ []
+
+-- all these lines write one directory alone, the same, and none has -alldirs
+pub record ListAlike (rows : List Row) : Type 0 where
+  pub dir : List (List ℕ)
+  pub only : All (ListsOnly dir) rows

@@ -13,6 +13,7 @@ ghost use Rattle.desk_idle.specs.Laws.{WriteDirectories};
 ghost use Rattle.desk_server.specs.PrivateWider.{AreAllTold, AreTold, AreUpTo, IsFinding, is_kept};
 ghost use Rattle.desk_server.specs.WiderGrants.{AreWiderGrants};
 
+use crate::alike::list_alike;
 use crate::looking::look_at;
 use desk_index::{Index, Probes};
 use desk_policy::laws::lines_are_selected_by_keys;
@@ -50,6 +51,10 @@ pub fn wider_grants<'a>(
     ensures { IfOk result (λ found. AreWiderGrants index.now fs.0 found.items) }
 {
     let _lists = index.policy().rows_by_filesystem();
+    // Where all lines list the same, none lists more than the selected ones.
+    if list_alike(index.policy().rows(fs)) {
+        return Ok(Vec::new(alloc));
+    }
     let known = known_of(alloc, index, fs)?;
     findings(alloc, index, fs, &known)
 }
