@@ -1,5 +1,5 @@
 -- The line that grants by mountd's rule, group by group of lighter lines.
-use Rattle.std.proofs.Common.{◌≡◌, ◌∙◌, ℕ, suc, ◌<◌, ◌≤◌, ◌&&◌, Bool, true, false, cond, eqb, List, [], ◌∷◌, Option, Some, None, Ok, Err, ap, arith, inl, inr, length, refl, subst, sym}
+use Rattle.std.proofs.Common.{◌≡◌, ◌∙◌, ℕ, suc, ◌<◌, ◌≤◌, ◌&&◌, Bool, true, false, cond, eqb, List, [], ◌∷◌, Option, Some, None, Ok, Err, ap, arith, inl, inr, refl, subst, sym}
 use Rattle.std.specs.Prelude.{filter, find, nat_lt, slice_get}
 use Rattle.std.specs.List.{All, Contains, list_all, list_any}
 use Rattle.std.proofs.lemmas.Bool.{and_from, cases_Bool, cases_lt, cond-true, cond-false, eq-eqb, eqb-true, le-leb, lt-ltb}
@@ -11,7 +11,6 @@ use Rattle.desk_policy.specs.Verdict.{Grant}
 use Rattle.desk_policy.specs.declared.verdict.Denial.TheVariants.{NoLine, NotListed}
 use Rattle.desk_policy.specs.Weights.{is_at_most, weight_of}
 use Rattle.desk_policy.specs.declared.row.Row.{Row}
-use Rattle.desk_index.specs.Keys.{numbers}
 use Rattle.desk_index.specs.Lighter.{AreHeaviestBelow, IsHeaviestBelow, is_weight, weighing}
 use Rattle.desk_index.specs.declared.lighter.Weighed.{Weighed}
 use Rattle.desk_idle.proofs.Looks.{none_passes}

@@ -1,5 +1,5 @@
 -- The first of the heaviest lines that widen what is selected, group by group of lighter lines.
-use Rattle.std.proofs.Common.{◌≡◌, ◌∙◌, ℕ, suc, ◌+◌, ◌<◌, ◌≤◌, ◌++◌, ◌||◌, Bool, true, List, [], ◌∷◌, Option, Some, None, ap, arith, drop, get_or, inl, inr, length, not, refl, subst, sym, take}
+use Rattle.std.proofs.Common.{◌≡◌, ◌∙◌, ℕ, suc, ◌+◌, ◌<◌, ◌≤◌, ◌++◌, Bool, true, List, [], ◌∷◌, Option, Some, None, ap, arith, drop, get_or, inl, inr, length, not, refl, subst, sym, take}
 use Rattle.std.specs.Prelude.{find, slice_get}
 use Rattle.std.specs.List.{All, AllByRecursion, Contains, list_all, list_any}
 use Rattle.std.specs.Option.{option_map}

@@ -5,7 +5,7 @@ use Rattle.std.proofs.lemmas.List.Elements.{All-contains}
 use Rattle.desk_policy.specs.Listings.{written}
 use Rattle.desk_policy.specs.Policy.{Content, rows_of}
 use Rattle.desk_policy.specs.Verdict.{is_directory_among}
-use Rattle.desk_policy.specs.Weights.{selected, weight_of}
+use Rattle.desk_policy.specs.Weights.{selected}
 use Rattle.desk_policy.specs.declared.row.Row.{Row}
 use Rattle.desk_idle.specs.Laws.{WriteDirectories, brings}
 use Rattle.desk_idle.proofs.Bringing.{selected_has}

@@ -46,7 +46,7 @@ among_more before address other e = list_any-append (λ n. eqb n other) before (
 among_last : (before : List ℕ) (address : ℕ) → is_among address (before ++ address ∷ []) ≡ true
 among_last before address = list_any-append (λ n. eqb n address) before (address ∷ []) ∙ or_right _ _ (or_left _ _ (eq-eqb address address refl))
 
--- clients that an address has with less weight than by a name have one key
+-- clients that match an address with less weight than by a name have one key
 one_key_by : (who : Clients) (addresses : List ℕ) (address weight : ℕ) → weight < name_weight → weight_by who addresses address ≡ Some weight → has_one_key who ≡ true
 one_key_by (clients.Hosts names) addresses address weight few e = let s = cond_some (is_among address addresses) name_weight weight e in let same : 34 ≡ weight = s.1 in absurd (omega arith)
 one_key_by (clients.Net net noted) addresses address weight few e = refl

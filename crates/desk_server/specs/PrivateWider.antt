@@ -32,7 +32,7 @@ pub record IsWide (rows : List Row) (line address : ℕ) : Type 0 where
 abbrev pub WidenBelow : List Row → ℕ → ℕ → Type 0
 WidenBelow rows address below = (row : Row) (own : ℕ) → Widens rows address row own → own < below
 
--- the heaviest lines below some weight, of which all are lighter that widen what is selected at an address
+-- the heaviest lines below some weight; all lines that widen what is selected at an address are below it, too
 pub record AreNext (rows : List Row) (address : ℕ) (group : Weighed) : Type 0 where
   pub below : ℕ
   pub all : WidenBelow rows address below
@@ -90,7 +90,7 @@ pub record AreAllTold (rows : List Row) (known : BTreeMap ℕ (Option WiderGrant
   pub are : AreStarts rows starts
   pub tell : AreTold rows (0 ∷ starts) known
 
--- What a look finds is kept, and that it finds nothing, where the selected lines are of less weight than by a name: they are for a
+-- What a look finds is kept. That it finds nothing is kept, too, if the selected lines weigh less than by a name: they are for a
 -- network or for everybody, and it finds nothing wherever the first of them is selected.
 abbrev pub is_kept : Option WiderGrant → ℕ → Bool
 is_kept look weight = is_some look || nat_lt weight name_weight
@@ -113,7 +113,7 @@ pub record AreWiderAmong (content : Content) (fs : ℕ) (lines : List Row) (foun
   pub all : (row : Row) (address : ℕ) → Contains lines row → IsWiderAt content fs row.entry.line address → list_any (λ one. one.line == row.entry.line) found ≡ true
   pub ascending : AllPairs (λ one later. one.line < later.line) found
 
--- a line writes this directory alone, and has not -alldirs
+-- a line writes this directory alone, and does not have -alldirs
 pub record ListsOnly (dir : List (List ℕ)) (row : Row) : Type 0 where
   pub alldirs : row.entry.alldirs ≡ false
   pub dirs : row.entry.dirs ≡ dir ∷ []

@@ -31,7 +31,7 @@ fn all_list_only(rows: &[Row], dir: &Path) -> bool
     true
 }
 
-/// Tests whether a line writes this directory alone, and has not -alldirs.
+/// Tests whether a line writes this directory alone, and does not have -alldirs.
 fn lists_only(row: &Row, dir: &Path) -> bool
     ensures { result ≡ true → ListsOnly dir.now row.now }
 {

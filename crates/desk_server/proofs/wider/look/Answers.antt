@@ -1,4 +1,4 @@
-use Rattle.std.proofs.Common.{◌≡◌, ◌<◌, ◌^◌, ◌++◌, ◌∷◌, ◌∙◌, [], ℕ, List, Some, ap, arith, nat_cmp, subst, sym, true, false}
+use Rattle.std.proofs.Common.{◌≡◌, ◌<◌, ◌^◌, ◌++◌, ◌∷◌, ◌∙◌, [], ℕ, List, Some, arith, nat_cmp, subst, sym, true, false}
 use Rattle.std.specs.BTreeMap as tree
 use Rattle.std.specs.List.{All}
 use Rattle.std.specs.Option.{is_some}
@@ -51,5 +51,5 @@ returns c =
     on_ok _
     ((before : List ℕ) → AreUpTo before address → AreTold rows before old → AreTold rows (before ++ address ∷ []) new)
     (λ updates before up told.
-        told_look rows before address c.lines_are_selected_by_keys.ensures c.requires blocks small group.weight (all_weigh rows address blocks group c.in-Some.ensures.heaviest) line is old new c.in_ok-seen.seen unknown c.in_ok-seen.ensures updates told)
+    told_look rows before address c.lines_are_selected_by_keys.ensures c.requires blocks small group.weight (all_weigh rows address blocks group c.in-Some.ensures.heaviest) line is old new c.in_ok-seen.seen unknown c.in_ok-seen.ensures updates told)
     c.keep.result c.keep.ensures
