@@ -30,6 +30,8 @@ pub enum Failure {
     BesideSite(&'static str),
     /// FILE is given beside `--proposal`.
     BesideProposal,
+    /// `--mountd` is given beside `--why`.
+    BesideWhy,
     /// This form of findings cannot be given with `--sarif`.
     BesideSarif(&'static str),
     /// An argument cannot be parsed.
@@ -180,6 +182,7 @@ impl fmt::Display for Failure {
             Failure::Missing(name) => write!(f, "{name}: it is missing"),
             Failure::BesideSite(name) => write!(f, "{name}: it cannot be given with --site"),
             Failure::BesideProposal => f.write_str("FILE: it cannot be given with --proposal"),
+            Failure::BesideWhy => f.write_str("--mountd: it cannot be given with --why"),
             Failure::BesideSarif(name) => write!(f, "{name}: it cannot be given with --sarif"),
             Failure::Argument(bad) => bad.fmt(f),
             Failure::TooManyMounts => f.write_str("MOUNT: over 256 different mount points"),

@@ -13,21 +13,28 @@ use Rattle.desk_policy.specs.View.{IsFaultOf}
 use Rattle.desk_policy.specs.declared.parsing.SiteTables.{SiteTables}
 use Rattle.desk_policy.specs.declared.site_fault.SiteFault.{SiteFault}
 use Rattle.desk_policy.specs.declared.verdict.Denial.{Denial}
+use Rattle.desk_server.specs.Server.{server_verdict_of}
+use Rattle.desk_server_prints.specs.LeftOutNote.{TellsLeftOut}
+use Rattle.desk_server_prints.specs.Wider.{wider_line, wider_note}
 use Rattle.desk_why.specs.WhyPrints.{why_text}
+use Rattle.cli_output.specs.Printed.{Prints}
+use Rattle.cli_output.specs.declared.printed.Printed.{Printed}
+use Rattle.cli_verdict.specs.declared.asking.Asking.{Asking}
+use Rattle.cli_verdict.specs.declared.asking.Asking.TheVariants.{Reasons, Server, Verdict}
 use Rattle.cli_verdict.specs.declared.try_text.MountQuestion.{MountQuestion as LentQuestion}
 use Rattle.cli_verdict.specs.declared.try_text.Tried.{Tried}
 
--- A question of a client: whether the client with this address, and with this credential, if it is given, may mount this path; and
--- whether it is told why, too.
+-- A question of a client: whether the client with this address, and with this credential, if it is given, may mount this path; by
+-- which rule this is asked, and whether with reasons.
 pub record MountQuestion : Type 0 where
   pub address : ℕ
   pub path : List (List ℕ)
   pub own : Option Cred
-  pub why : Bool
+  pub asking : Asking
 
 -- the same by value
 abbrev pub mount_question_of : LentQuestion → MountQuestion
-mount_question_of question = record { address = number_of question.address; path = question.path.now; own = question.own.now; why = question.why }
+mount_question_of question = record { address = number_of question.address; path = question.path.now; own = question.own.now; asking = question.asking }
 
 -- whether the mount is granted, and what is printed, in whole lines
 pub record Answer : Type 0 where
@@ -49,22 +56,59 @@ abbrev pub answer_on : Content → Option Cred → Result Grant Denial → Answe
 answer_on content own verdict = answer_above [] content own verdict
 
 -- the reasons of the verdict by a policy, if they are asked, with the names that these tables know; and else nothing
-abbrev pub reasons_text : SiteTables → Content → MountQuestion → List ℕ
-reasons_text tables content question = if question.why then why_text tables.netgroups tables.hosts content question.address question.path else []
+abbrev pub reasons_if : Asking → SiteTables → Content → ℕ → List (List ℕ) → List ℕ
+reasons_if Verdict tables content address path = []
+reasons_if Reasons tables content address path = why_text tables.netgroups tables.hosts content address path
+reasons_if Server tables content address path = []
 
--- the answer to a question by a policy, and the tables that it was read with
-abbrev pub policy_answer : SiteTables → Content → MountQuestion → Answer
-policy_answer tables content question =
-    answer_above (reasons_text tables content question) content question.own (verdict_of content question.address question.path)
+abbrev pub reasons_text : SiteTables → Content → MountQuestion → List ℕ
+reasons_text tables content question = reasons_if question.asking tables content question.address question.path
+
+-- The answer to a question by the rule of this desk, by a policy and the tables that it was read with; and beside it by which line the
+-- server grants what is denied.
+pub record AnswersHere (tables : SiteTables) (content : Content) (question : MountQuestion) (tried : Tried) : Type 0 where
+  pub answer : answer_of tried ≡ answer_above (reasons_text tables content question) content question.own (verdict_of content question.address question.path)
+  pub beside : string_bytes tried.note
+      ≡ wider_note (wider_line (verdict_of content question.address question.path) (server_verdict_of content question.address question.path))
+
+-- the answer by the rule of mountd(8), and beside it the lines that it may leave out
+pub record AnswersThere (content : Content) (question : MountQuestion) (tried : Tried) : Type 0 where
+  pub answer : answer_of tried ≡ answer_on content question.own (server_verdict_of content question.address question.path)
+  pub beside : TellsLeftOut content (string_bytes tried.note)
+
+-- the answer by the rule that is asked
+abbrev pub AnswersBy : Asking → SiteTables → Content → MountQuestion → Tried → Type 0
+AnswersBy Verdict tables content question tried = AnswersHere tables content question tried
+AnswersBy Reasons tables content question tried = AnswersHere tables content question tried
+AnswersBy Server tables content question tried = AnswersThere content question tried
+
+abbrev pub Answers : SiteTables → Content → MountQuestion → Tried → Type 0
+Answers tables content question tried = AnswersBy question.asking tables content question tried
 
 -- the answer is that by the policy that a text writes, which has no contradiction
-abbrev pub IsAnswerBy : SiteTables → Result Content SiteFault → MountQuestion → Answer → Type 0
-IsAnswerBy tables (Ok policy) question answer = HasNoContradiction policy × (answer ≡ policy_answer tables policy question)
-IsAnswerBy tables (Err fault) question answer = ⊥
+abbrev pub IsAnswerBy : SiteTables → Result Content SiteFault → MountQuestion → Tried → Type 0
+IsAnswerBy tables (Ok policy) question tried = HasNoContradiction policy × Answers tables policy question tried
+IsAnswerBy tables (Err fault) question tried = ⊥
 
 -- What `try` answers to a question by what a text is read as, with these tables: the verdict, or the text's fault, which is that of its
 -- first faulty line or else its least contradiction. Out of memory says nothing.
 abbrev pub Tries : SiteTables → Result Content SiteFault → MountQuestion → Result Tried (ReadError SiteFault) → Type 0
-Tries tables read question (Ok tried) = IsAnswerBy tables read question (answer_of tried)
+Tries tables read question (Ok tried) = IsAnswerBy tables read question tried
 Tries tables read question (Err (Fault fault)) = IsFaultOf read fault
 Tries tables read question (Err Memory) = Unit {0}
+
+-- the same by the rule of this desk, and by that of mountd(8), of what a text is read as
+abbrev pub TriesHere : SiteTables → Content → MountQuestion → Result Tried (ReadError SiteFault) → Type 0
+TriesHere tables policy question (Ok tried) = HasNoContradiction policy × AnswersHere tables policy question tried
+TriesHere tables policy question (Err (Fault fault)) = IsFaultOf (Ok policy) fault
+TriesHere tables policy question (Err Memory) = Unit {0}
+
+abbrev pub TriesThere : Content → MountQuestion → Result Tried (ReadError SiteFault) → Type 0
+TriesThere policy question (Ok tried) = HasNoContradiction policy × AnswersThere policy question tried
+TriesThere policy question (Err (Fault fault)) = IsFaultOf (Ok policy) fault
+TriesThere policy question (Err Memory) = Unit {0}
+
+-- the answer is printed: status 0 if it grants the mount, else 1; and what is said beside it
+pub record PrintsTried (tried : Tried) (printed : Printed) : Type 0 where
+  pub prints : Prints (if tried.granted then 0 else 1) (string_bytes tried.text) printed
+  pub beside : string_bytes printed.note ≡ string_bytes tried.note

@@ -2,7 +2,8 @@
 //!
 //! Its promise: [`try_text`] decides by an exports text as the definition does, or returns the text's first fault, and [`tried_by`]
 //! decides so by a policy in force. Both print the verdict, as whom the client acts if its credential is given, and why if that is
-//! asked. [`printed_verdict`] prints a verdict that is known.
+//! asked, and say by which line mountd(8) grants what is denied; or they decide by mountd's rule, and name the lines that it may leave
+//! out. [`printed_verdict`] prints a verdict that is known. [`read_asking`] reads which of these is asked.
 //!
 //! ```text
 //! try_text(alloc, "/usr 10.0.0.5\n", &tables, filesystems, question)?.text
@@ -10,6 +11,8 @@
 //! ```
 #![tactic(auto)]
 
+pub mod asking;
 pub mod try_text;
 
-pub use try_text::{MountQuestion, Tried, printed_verdict, tried_by};
+pub use asking::{Asking, read_asking};
+pub use try_text::{MountQuestion, Tried, print_tried, printed_verdict, tried_by};

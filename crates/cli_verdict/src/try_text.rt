@@ -1,18 +1,24 @@
 //! The verdict on one mount over an exports text, and why.
 
-ghost use Rattle.std.specs.Prelude.{◌≡◌, IfOk, Ok};
+ghost use Rattle.std.specs.Prelude.{◌≡◌, ◌++◌, ◌∷◌, [], IfOk, Ok, is_ok};
 ghost use Rattle.std.specs.String.{string_bytes};
 ghost use Rattle.desk_text.specs.Lines.{IsReadable};
 ghost use Rattle.desk_exports.specs.declared.profile.Profile.TheVariants.{Two};
 ghost use Rattle.desk_policy.specs.Parsing.{read_whole_with};
+ghost use Rattle.desk_policy.specs.Prints.{acting_text, verdict_line};
 ghost use Rattle.desk_policy.specs.Verdict.{verdict_result};
-ghost use Rattle.cli_verdict.specs.TryText.{Tries, answer_of, answer_on, mount_question_of, policy_answer, reasons_text};
+ghost use Rattle.cli_verdict.specs.TryText.{Answers, AnswersHere, AnswersThere, PrintsTried, Tries, TriesHere, TriesThere, answer_of, answer_on, mount_question_of, reasons_text};
 
+use crate::asking::Asking;
+use cli_output::printed::Printed;
 use desk_exports::Profile;
+use desk_index::Index;
 use desk_policy::{
     Plain, Policy, PolicyView, SiteFault, SiteTables, Verdict, parse_whole_without_warnings,
     verdict_text, warnings_change_no_answer,
 };
+use desk_server::server_decide;
+use desk_server_prints::{left_out_note, wider_note};
 use desk_tables::{Cred, FileSystems};
 use desk_text::{Addr, Path, ReadError};
 use desk_why::{Asked, why_text};
@@ -27,8 +33,8 @@ pub struct MountQuestion<'a> {
     pub path: &'a Path,
     /// The client's credential, if it is given: a granted line says as whom it acts.
     pub own: &'a Option<Cred>,
-    /// Whether it is told why, too.
-    pub why: bool,
+    /// By which rule it is asked, and whether with reasons.
+    pub asking: Asking,
 }
 
 /// The answer to a client's question by a policy that is consistent.
@@ -38,6 +44,8 @@ pub struct Tried {
     pub granted: bool,
     /// What is printed, in whole lines: the verdict, and below it why, if that is asked.
     pub text: String,
+    /// What standard error says of mountd(8) beside it, in whole lines, or nothing.
+    pub note: String,
 }
 
 /// Decides whether a client may mount a directory, by a whole exports text, read by profile 2 with these tables and these file
@@ -67,25 +75,97 @@ fn answer_by(
 ) -> Result<Tried, ReadError<SiteFault>>
     ensures { Tries site_tables.now (Ok policy) (mount_question_of question.entry) result }
 {
+    match question.asking {
+        Asking::Verdict | Asking::Reasons => answer_here(alloc, policy, site_tables, question),
+        Asking::Server => answer_there(alloc, policy, question),
+    }
+}
+
+/// Decides by the rule of this desk, or returns the policy's least contradiction. One question takes no index.
+fn answer_here(
+    alloc: Global,
+    policy: Policy,
+    site_tables: &SiteTables,
+    question: MountQuestion<'_>,
+) -> Result<Tried, ReadError<SiteFault>>
+    ensures { TriesHere site_tables.now policy (mount_question_of question.entry) result }
+{
     let view = Plain::build(alloc, policy)?;
-    let tried = tried_by(alloc, &view, site_tables, question)?;
+    let tried = tried_here(alloc, &view, site_tables, question)?;
+    Ok(tried)
+}
+
+/// Decides by the rule of mountd(8), or returns the policy's least contradiction.
+fn answer_there(
+    alloc: Global,
+    policy: Policy,
+    question: MountQuestion<'_>,
+) -> Result<Tried, ReadError<SiteFault>>
+    ensures { TriesThere policy (mount_question_of question.entry) result }
+{
+    let index = Index::build(alloc, policy)?;
+    let tried = tried_there(alloc, &index, question)?;
     Ok(tried)
 }
 
 /// Decides by the policy in force whether a client may mount a directory. The tables are those that the policy was read with.
-pub fn tried_by<V: PolicyView>(
+pub fn tried_by(
+    alloc: Global,
+    index: &Index,
+    site_tables: &SiteTables,
+    question: MountQuestion<'_>,
+) -> Result<Tried, AllocError>
+    ensures { IfOk result (Answers site_tables.now index.now (mount_question_of question.entry)) }
+{
+    match question.asking {
+        Asking::Verdict | Asking::Reasons => tried_here(alloc, index, site_tables, question),
+        Asking::Server => tried_there(alloc, index, question),
+    }
+}
+
+/// Decides by the rule of this desk. Standard error says by which line mountd(8) grants what is denied.
+fn tried_here<V: PolicyView>(
     alloc: Global,
     view: &V,
     site_tables: &SiteTables,
     question: MountQuestion<'_>,
 ) -> Result<Tried, AllocError>
-    ensures { IfOk result (λ tried. answer_of tried ≡ policy_answer site_tables.now (V.in_force view.now) (mount_question_of question.entry)) }
+    ensures { IfOk result (AnswersHere site_tables.now (V.in_force view.now) (mount_question_of question.entry)) }
 {
     let reasons = reasons_text(alloc, view, site_tables, question)?;
     let verdict = view.decide(question.address, question.path);
-    let mut tried = printed_verdict(alloc, view.policy(), &verdict, question.own)?;
-    tried.text.push_str(reasons.as_str())?;
-    Ok(tried)
+    let note = wider_note(
+        alloc,
+        view.policy(),
+        question.address,
+        question.path,
+        &verdict,
+    )?;
+    let mut text = verdict_lines(alloc, view.policy(), &verdict, question.own)?;
+    text.push_str(reasons.as_str())?;
+    Ok(Tried {
+        granted: is_granted(&verdict),
+        text,
+        note,
+    })
+}
+
+/// Decides by the rule of mountd(8). Standard error names the lines that mountd(8) may leave out.
+fn tried_there(
+    alloc: Global,
+    index: &Index,
+    question: MountQuestion<'_>,
+) -> Result<Tried, AllocError>
+    ensures { IfOk result (AnswersThere index.now (mount_question_of question.entry)) }
+{
+    let note = left_out_note(alloc, index)?;
+    let verdict = server_decide(index, question.address, question.path);
+    let text = verdict_lines(alloc, index.policy(), &verdict, question.own)?;
+    Ok(Tried {
+        granted: is_granted(&verdict),
+        text,
+        note,
+    })
 }
 
 /// Writes why, if that is asked, and else nothing.
@@ -97,16 +177,17 @@ fn reasons_text<V: PolicyView>(
 ) -> Result<String, AllocError>
     ensures { IfOk result (λ text. string_bytes text ≡ reasons_text site_tables.now (V.in_force view.now) (mount_question_of question.entry)) }
 {
-    if question.why {
-        let asked = Asked {
-            netgroups: &site_tables.netgroups,
-            hosts: &site_tables.hosts,
-            address: question.address,
-            path: question.path,
-        };
-        why_text(alloc, view, asked)
-    } else {
-        Ok(String::new(alloc))
+    match question.asking {
+        Asking::Reasons => {
+            let asked = Asked {
+                netgroups: &site_tables.netgroups,
+                hosts: &site_tables.hosts,
+                address: question.address,
+                path: question.path,
+            };
+            why_text(alloc, view, asked)
+        }
+        Asking::Verdict | Asking::Server => Ok(String::new(alloc)),
     }
 }
 
@@ -120,8 +201,43 @@ pub fn printed_verdict(
 ) -> Result<Tried, AllocError>
     ensures { IfOk result (λ tried. answer_of tried ≡ answer_on policy.now own.now (verdict_result verdict.now)) }
 {
-    let granted = matches!(verdict, Verdict::Granted { .. });
+    let text = verdict_lines(alloc, policy, verdict, own)?;
+    Ok(Tried {
+        granted: is_granted(verdict),
+        text,
+        note: String::new(alloc),
+    })
+}
+
+/// Writes a verdict in a line.
+fn verdict_lines(
+    alloc: Global,
+    policy: &Policy,
+    verdict: &Verdict<'_>,
+    own: &Option<Cred>,
+) -> Result<String, AllocError>
+    ensures { IfOk result (λ text. string_bytes text
+        ≡ verdict_line policy.now (verdict_result verdict.now) ++ acting_text (verdict_result verdict.now) own.now ++ 10 ∷ []) }
+{
     let mut text = verdict_text(alloc, policy, verdict, own)?;
     text.push('\n')?;
-    Ok(Tried { granted, text })
+    Ok(text)
+}
+
+/// Tests whether a verdict grants the mount.
+fn is_granted(verdict: &Verdict<'_>) -> bool
+    ensures { result ≡ is_ok (verdict_result verdict.now) }
+{
+    matches!(verdict, Verdict::Granted { .. })
+}
+
+/// Prints the answer to a client's question: the status is 0 if it grants the mount, else 1.
+pub fn print_tried(tried: Tried) -> Printed
+    ensures { PrintsTried tried result }
+{
+    Printed {
+        status: if tried.granted { 0 } else { 1 },
+        text: tried.text,
+        note: tried.note,
+    }
 }

@@ -58,17 +58,17 @@ table_options = option (codes "hosts") ∷ option (codes "networks") ∷ option 
 -- the commands, in the order of the help
 abbrev pub commands : List CommandRow
 commands =
-    row Try (codes "try") (word (codes "FILE") ∷ word (codes "HOST") ∷ word (codes "DIR") ∷ words (codes "MOUNT") ∷ []) true (option (codes "as") ∷ flag (codes "why") ∷ [])
+    row Try (codes "try") (word (codes "FILE") ∷ word (codes "HOST") ∷ word (codes "DIR") ∷ words (codes "MOUNT") ∷ []) true (option (codes "as") ∷ flag (codes "why") ∷ flag (codes "mountd") ∷ [])
     ∷ row Split (codes "split") (word (codes "FILE") ∷ word (codes "FILESYSTEMS") ∷ []) false []
     ∷ row Check (codes "check") (optional_word (codes "FILE") ∷ optional_words (codes "MOUNT") ∷ []) true (option (codes "site") ∷ flag (codes "brief") ∷ flag (codes "strict") ∷ flag (codes "json") ∷ flag (codes "sarif") ∷ flag (codes "opinions") ∷ [])
-    ∷ row Clients (codes "clients") (word (codes "FILE") ∷ word (codes "DIR") ∷ words (codes "MOUNT") ∷ []) true []
+    ∷ row Clients (codes "clients") (word (codes "FILE") ∷ word (codes "DIR") ∷ words (codes "MOUNT") ∷ []) true (flag (codes "mountd") ∷ [])
     ∷ row Compare (codes "compare") (word (codes "OLD") ∷ word (codes "NEW") ∷ words (codes "MOUNT") ∷ []) true (flag (codes "all") ∷ [])
     ∷ row Test (codes "test") (word (codes "FILE") ∷ word (codes "EXPECTATIONS") ∷ words (codes "MOUNT") ∷ []) true (flag (codes "json") ∷ [])
     ∷ row Init (codes "init") (word (codes "DB") ∷ word (codes "DIR") ∷ []) false []
-    ∷ row Ask (codes "ask") (word (codes "DB") ∷ word (codes "HOST") ∷ word (codes "DIR") ∷ []) false (option (codes "as") ∷ flag (codes "why") ∷ [])
+    ∷ row Ask (codes "ask") (word (codes "DB") ∷ word (codes "HOST") ∷ word (codes "DIR") ∷ []) false (option (codes "as") ∷ flag (codes "why") ∷ flag (codes "mountd") ∷ [])
     ∷ row Show (codes "show") (word (codes "DB") ∷ word (codes "HOST") ∷ []) false []
     ∷ row Exports (codes "exports") (word (codes "DB") ∷ []) false []
-    ∷ row Who (codes "who") (word (codes "DB") ∷ word (codes "DIR") ∷ []) false []
+    ∷ row Who (codes "who") (word (codes "DB") ∷ word (codes "DIR") ∷ []) false (flag (codes "mountd") ∷ [])
     ∷ row Put (codes "put") (word (codes "DB") ∷ word (codes "NAME") ∷ word (codes "FILE") ∷ []) false (required_option (codes "base") ∷ required_option (codes "caller") ∷ option (codes "key") ∷ option (codes "key-file") ∷ [])
     ∷ row Impact (codes "impact") (word (codes "DB") ∷ word (codes "NAME") ∷ optional_word (codes "FILE") ∷ []) false (flag (codes "all") ∷ flag (codes "proposal") ∷ [])
     ∷ row Audit (codes "audit") (word (codes "DB") ∷ word (codes "EXPECTATIONS") ∷ optional_word (codes "NAME") ∷ optional_word (codes "FILE") ∷ []) false (flag (codes "proposal") ∷ flag (codes "json") ∷ [])

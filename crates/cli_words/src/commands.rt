@@ -90,6 +90,12 @@ const WHY: Argument = Argument {
     help: "Prints below the verdict each line that matches the client, heaviest first, and which of them decides",
 };
 
+const MOUNTD: Argument = Argument {
+    name: "mountd",
+    kind: Kind::Flag,
+    help: "Decides by the rule of mountd(8), which asks lighter lines, too",
+};
+
 const EXPECTATIONS: Argument = Argument {
     name: "EXPECTATIONS",
     kind: Kind::Word,
@@ -157,6 +163,7 @@ pub static COMMANDS: [CommandRow; 21] = [
                 help: "The client's credential, as USER or USER:GROUP:...; a granted line says as whom it acts",
             },
             WHY,
+            MOUNTD,
         ],
     },
     CommandRow {
@@ -227,7 +234,7 @@ pub static COMMANDS: [CommandRow; 21] = [
         name: "clients",
         words: &[FILE, CLIENTS_DIR, MOUNTS],
         tables: true,
-        options: &[],
+        options: &[MOUNTD],
     },
     CommandRow {
         command: Subcommand::Compare,
@@ -281,6 +288,7 @@ pub static COMMANDS: [CommandRow; 21] = [
                 help: "The client's credential in numbers, as 1001:100:5; a granted line says as whom it acts",
             },
             WHY,
+            MOUNTD,
         ],
     },
     CommandRow {
@@ -302,7 +310,7 @@ pub static COMMANDS: [CommandRow; 21] = [
         name: "who",
         words: &[DB, CLIENTS_DIR],
         tables: false,
-        options: &[],
+        options: &[MOUNTD],
     },
     CommandRow {
         command: Subcommand::Put,

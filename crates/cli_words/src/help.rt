@@ -26,7 +26,8 @@ pub(crate) fn help_of(command: Subcommand) -> Help {
              written in numbers with a colon (0:0), and names of networks are unknown. One file may be -,\n\
              standard input. --why prints by what each line matches, and whether it lists DIR: a line for a\n\
              name outweighs one for a network, a longer prefix a shorter one, and any network a line for\n\
-             everybody.",
+             everybody. Standard error says by which line mountd(8) grants what is denied; --mountd, which\n\
+             cannot be given with --why, decides by its rule.",
             ),
         },
         Subcommand::Split => Help {
@@ -55,7 +56,9 @@ pub(crate) fn help_of(command: Subcommand) -> Help {
             usage: None,
             end: Some(
                 "Each line is `FIRST-LAST` and the verdict on every client of that range, as try prints it; together\n\
-             they have every address once. A table that is not given is empty. One file may be -, standard input.",
+             they have every address once. A table that is not given is empty. One file may be -, standard input.\n\
+             Standard error says to which client mountd(8) grants DIR that is denied to it here; --mountd lists\n\
+             by its rule.",
             ),
         },
         Subcommand::Compare => Help {
@@ -95,7 +98,9 @@ pub(crate) fn help_of(command: Subcommand) -> Help {
             usage: None,
             end: Some(
                 "--why prints by what each line matches, and whether it lists DIR: a line for a name outweighs one\n\
-             for a network, a longer prefix a shorter one, and any network a line for everybody.",
+             for a network, a longer prefix a shorter one, and any network a line for everybody. Standard\n\
+             error says by which line mountd(8) grants what is denied; --mountd, which cannot be given with\n\
+             --why, decides by its rule.",
             ),
         },
         Subcommand::Show => Help {
@@ -113,7 +118,8 @@ pub(crate) fn help_of(command: Subcommand) -> Help {
             usage: None,
             end: Some(
                 "Each line is `FIRST-LAST` and the verdict on every client of that range, as ask prints it; together\n\
-             they have every address once.",
+             they have every address once. Standard error says to which client mountd(8) grants DIR that is\n\
+             denied to it here; --mountd lists by its rule.",
             ),
         },
         Subcommand::Put => Help {

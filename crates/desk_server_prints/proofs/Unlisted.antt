@@ -41,9 +41,9 @@ all_of p (x ∷ xs) all = and_from (p x) (list_all p xs) (all x (0, omega arith,
 at_most_nothing : (o : Option ℕ) → (is_named o ≡ true → ⊥) → is_at_most o 0 ≡ true
 at_most_nothing None none = refl
 at_most_nothing (Some own) none = elim (cases_lt 0 own) [
-    | inl above ↦ absurd (none (lt-ltb 0 own above))
-    | inr zero ↦ le-leb own 0 zero
-  ]
+  | inl above ↦ absurd (none (lt-ltb 0 own above))
+  | inr zero ↦ le-leb own 0 zero
+]
 
 everybody_is : (o : Option ℕ) → is_everybody o ≡ true → o ≡ Some 0
 everybody_is None e = absurd (true≢false (sym e))
@@ -72,9 +72,9 @@ module _ (rows : List Row) (address : ℕ) where
               let none : (row : Row) → Contains rows row → names row ≡ true → ⊥ = λ row has so. true≢false (sym (list_any_at names rows has.0 row has.1 (ap names has.2 ∙ so)) ∙ nobody) in
               let unlisted : (row : Row) → Contains (for_everybody rows address) row → listing row ≡ true → ⊥ =
               λ row has lists_it.
-                  let own = has_kept (λ (other : Row). is_everybody (weight_of other address)) rows row has in
-                  let chosen = everybody_selected none row own.0 own.1 in
-                  none_passes listing (selected rows address) none_listed (list_any_at listing (selected rows address) chosen.0 row chosen.1 (ap listing chosen.2 ∙ lists_it)) in
+              let own = has_kept (λ (other : Row). is_everybody (weight_of other address)) rows row has in
+              let chosen = everybody_selected none row own.0 own.1 in
+              none_passes listing (selected rows address) none_listed (list_any_at listing (selected rows address) chosen.0 row chosen.1 (ap listing chosen.2 ∙ lists_it)) in
               ap (filter listing) (asked_everybody rows address (nothing_kept names rows none))
               ∙ nothing_kept listing (for_everybody rows address) unlisted
               ∙ sym (sym (filter-filter listing names rows) ∙ ap (filter listing) (nothing_kept names rows none))

@@ -35,7 +35,11 @@ pub fn server_who<'a>(
     ensures { IfOk result (λ ranges. IsServerWho index.now path.now (map range_value ranges.items)) }
 {
     let starts = verdict_starts(alloc, index, path)?;
-    longest_runs(alloc, &starts, |address| server_decide(index, address, path))
+    longest_runs(
+        alloc,
+        &starts,
+        |address| server_decide(index, address, path),
+    )
 }
 
 /// Says to which client mountd(8) grants a path that is denied to it here, and by which line: to the one with the least address. It
@@ -80,11 +84,7 @@ fn push_line(line: u32, note: &mut String) -> Result<(), AllocError>
 }
 
 /// Finds the client with the least address to whom mountd(8) grants a path that is denied to it here.
-fn first_wider(
-    alloc: Global,
-    index: &Index,
-    path: &Path,
-) -> Result<Option<WiderClient>, AllocError>
+fn first_wider(alloc: Global, index: &Index, path: &Path) -> Result<Option<WiderClient>, AllocError>
     ensures { IfOk result (IsFirstOrNone (wider_at index.now path.now)) }
 {
     let starts = verdict_starts(alloc, index, path)?;

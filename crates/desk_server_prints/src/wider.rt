@@ -36,19 +36,16 @@ fn line_note(alloc: Global, line: Option<u32>) -> Result<String, AllocError>
 {
     match line {
         Some(line) => {
-            format!(in alloc; "exportdesk: mountd(8) grants this by line {line}, which is not selected here: --mountd decides by its rule\n")
+            format!(in alloc;
+                "exportdesk: mountd(8) grants this by line {line}, which is not selected here: --mountd decides by its rule\n"
+            )
         }
         None => Ok(String::new(alloc)),
     }
 }
 
 /// Finds the line by which mountd(8) grants a client a path that this verdict denies it.
-fn wider_line(
-    policy: &Policy,
-    address: Addr,
-    path: &Path,
-    verdict: &Verdict<'_>,
-) -> Option<u32>
+fn wider_line(policy: &Policy, address: Addr, path: &Path, verdict: &Verdict<'_>) -> Option<u32>
     requires { verdict_result verdict.now ≡ verdict_of policy.now (number_of address) path.now }
     ensures { result ≡ spec.wider_line (verdict_of policy.now (number_of address) path.now) (server_verdict_of policy.now (number_of address) path.now) }
 {
