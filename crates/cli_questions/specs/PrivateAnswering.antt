@@ -9,7 +9,7 @@ use Rattle.desk_service.specs.declared.refused.Refused.TheVariants as refused
 use Rattle.cli_output.specs.declared.failure.Failure.{Failure}
 use Rattle.cli_output.specs.declared.failure.Failure.TheVariants.{Memory}
 use Rattle.cli_output.specs.declared.printed.Printed.{Printed}
-use Rattle.cli_verdict.specs.TryText.{Answer as Tried}
+use Rattle.cli_verdict.specs.TryText.{Answer as Told}
 use Rattle.cli_desk.specs.RefusalLines.{Says}
 use Rattle.cli_questions.specs.Questions.{Asked, PrintsAnswer, PrintsByHistory, PrintsVerdict}
 
@@ -24,7 +24,7 @@ TriesToPrint asked answer (Ok printed) = PrintsAnswer asked answer printed
 TriesToPrint asked answer (Err failure) = failure ≡ Memory
 
 -- a verdict is printed, or memory ran out
-abbrev pub TriesToPrintVerdict : Tried → Result Printed Failure → Type 0
+abbrev pub TriesToPrintVerdict : Told → Result Printed Failure → Type 0
 TriesToPrintVerdict tried (Ok printed) = PrintsVerdict tried printed
 TriesToPrintVerdict tried (Err failure) = failure ≡ Memory
 

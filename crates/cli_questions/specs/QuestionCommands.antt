@@ -7,7 +7,7 @@ use Rattle.desk_text.specs.declared.address.Addr.{Addr}
 use Rattle.desk_tables.specs.Groups.{read_groups}
 use Rattle.desk_tables.specs.Users.{read_users}
 use Rattle.desk_tables.specs.declared.credentials.Cred.{Cred}
-use Rattle.desk_service.specs.Questions.{Exports, Files, Foresee, ForeseeProposal, Listing, Mount, Proposal, Question, Revisions, Site, Text, Who}
+use Rattle.desk_service.specs.Questions.{Exports, Files, Foresee, ForeseeProposal, Listing, Proposal, Question, Revisions, Site, Text}
 use Rattle.cli_output.specs.declared.bad_argument.ArgumentFault.TheVariants as fault
 use Rattle.cli_output.specs.declared.failure.Failure.{Failure}
 use Rattle.cli_output.specs.declared.failure.Failure.TheVariants.{BesideProposal}
@@ -16,7 +16,9 @@ use Rattle.cli_output.specs.Failure.{IsMissing}
 use Rattle.cli_words.specs.Values.{AnswersArgument, AnswersOwn, IsBadNumber, own_answer, revision_number}
 use Rattle.cli_words.specs.Words.{After, ByWord, is_set}
 use Rattle.cli_files.specs.Files.{HasText, LacksText}
-use Rattle.cli_questions.specs.Questions.{AnswersQuestion, Asked, Reasons, nothing_wanted}
+use Rattle.cli_verdict.specs.Asking.{asking_in}
+use Rattle.cli_verdict.specs.declared.asking.Asking.{Asking}
+use Rattle.cli_questions.specs.Questions.{AnswersQuestion, Asked, Mounts, Ranges, Wanted, nothing_wanted}
 
 -- HOST is parsed as an address, or refused
 abbrev pub ParsesHost : List ℕ → Result Addr Failure → Type 0
@@ -49,17 +51,25 @@ asking question own = record { question = question; own = own; all = false; want
 abbrev pub foreseeing : Question → Bool → Asked
 foreseeing question all = record { question = question; own = None; all = all; wanted = nothing_wanted }
 
--- the question of `ask`: the verdict alone is asked, or the whole site, of which the verdict is printed and why
-abbrev pub asking_mount : Bool → ℕ → List (List ℕ) → Option Cred → Asked
-asking_mount false address path own = asking (Mount address path) own
-asking_mount true address path own = record { question = Site; own = own; all = false; wanted = Reasons address path }
+-- a question on the whole site, of which this is wanted
+abbrev pub wanting : Wanted → Asked
+wanting wanted = record { question = Site; own = None; all = false; wanted = wanted }
 
--- `ask DB HOST DIR [--as CRED] [--why]`: the words are parsed from left to right
-abbrev pub AnswersAsk : List Row → Result Printed Failure → Type 0
-AnswersAsk rows =
+-- `ask DB HOST DIR [--as CRED]`, by the rule that is asked: the words are parsed from left to right
+abbrev pub AnswersAskAs : Asking → List Row → Result Printed Failure → Type 0
+AnswersAskAs asking rows =
     ByWord (codes "DB") rows (λ db. ByWord (codes "HOST") rows (λ host. ByWord (codes "DIR") rows (λ dir.
     After (ParsesHost host) (λ address. After (ParsesDir dir) (λ path. After (ParsesOwn (first_of (codes "as") rows)) (λ own.
-    AnswersQuestion db (asking_mount (is_set (codes "why") rows) (number_of address) path own)))))))
+    AnswersQuestion db (wanting (Mounts (record { address = number_of address; path = path; own = own; asking = asking }))))))))
+
+-- the same, or why nothing is asked
+abbrev pub AnswersAskIf : Result Asking Failure → List Row → Result Printed Failure → Type 0
+AnswersAskIf (Ok asking) rows result = AnswersAskAs asking rows result
+AnswersAskIf (Err failure) rows result = result ≡ Err failure
+
+-- `ask DB HOST DIR [--as CRED]`, and `--why` or `--mountd`
+abbrev pub AnswersAsk : List Row → Result Printed Failure → Type 0
+AnswersAsk rows result = AnswersAskIf (asking_in rows) rows result
 
 -- `show DB HOST`
 abbrev pub AnswersShow : List Row → Result Printed Failure → Type 0
@@ -71,11 +81,11 @@ AnswersShow rows =
 abbrev pub AnswersExports : List Row → Result Printed Failure → Type 0
 AnswersExports rows = ByWord (codes "DB") rows (λ db. AnswersQuestion db (asking Exports None))
 
--- `who DB DIR`
+-- `who DB DIR [--mountd]`
 abbrev pub AnswersWho : List Row → Result Printed Failure → Type 0
 AnswersWho rows =
     ByWord (codes "DB") rows (λ db. ByWord (codes "DIR") rows (λ dir.
-    After (ParsesDir dir) (λ path. AnswersQuestion db (asking (Who path) None))))
+    After (ParsesDir dir) (λ path. AnswersQuestion db (wanting (Ranges path (is_set (codes "mountd") rows))))))
 
 -- `log DB NAME`
 abbrev pub AnswersLog : List Row → Result Printed Failure → Type 0

@@ -2,7 +2,6 @@
 use Rattle.std.specs.Prelude.{◌⊎◌, ℕ, ◌==◌, Bool, true, false, List, [], Option, Result, Ok, Err, codes, if◌then◌else◌}
 use Rattle.std.specs.String.{string_bytes}
 use Rattle.sqlite.specs.Effect.{Database}
-use Rattle.desk_text.specs.Address.{number_of}
 use Rattle.desk_tables.specs.declared.credentials.Cred.{Cred}
 use Rattle.desk_policy.specs.ListingPrints.{all_exports, listing_text}
 use Rattle.desk_who.specs.WhoPrints.{who_text}
@@ -11,15 +10,16 @@ use Rattle.desk_impact.specs.declared.report.Report.{Report}
 use Rattle.desk_store.specs.Desk.{History}
 use Rattle.desk_store.specs.Open.{IsOurs, IsProject}
 use Rattle.desk_service.specs.Foreseeing.{Foreseen, content_after}
-use Rattle.desk_service.specs.Questions.{Answer, AnswersByHistory, ExportsAre, FilesAre, ForeseenIs, ListingIs, NoRevision, ProposalIs, Question, RangesAre, RefusedBy, RevisionsAre, SiteIs, Text, TextIs, VerdictIs, Proposal, Revisions, question_of}
+use Rattle.desk_service.specs.Questions.{Answer as Given, AnswersByHistory, ExportsAre, FilesAre, ForeseenIs, ListingIs, NoRevision, ProposalIs, Question, RangesAre, RefusedBy, RevisionsAre, SiteIs, Text, TextIs, VerdictIs, Proposal, Revisions, question_of}
 use Rattle.desk_service.specs.Sites.{WholeSite}
 use Rattle.desk_service.specs.declared.refused.Refused.TheVariants as refused
 use Rattle.cli_output.specs.Failure.{IsUnread}
 use Rattle.cli_output.specs.Printed.{Prints}
 use Rattle.cli_output.specs.declared.failure.Failure.{Failure}
 use Rattle.cli_output.specs.declared.printed.Printed.{Printed}
-use Rattle.cli_verdict.specs.TryText.{answer_on, policy_answer}
-use Rattle.cli_verdict.specs.TryText.{Answer as Tried}
+use Rattle.cli_verdict.specs.Ranges.{PrintsRanges}
+use Rattle.cli_verdict.specs.TryText.{Answer, Answers, MountQuestion, PrintsTried, answer_on, mount_question_of}
+use Rattle.cli_verdict.specs.declared.try_text.Tried.{Tried}
 use Rattle.cli_desk.specs.RefusalLines.{Says}
 use Rattle.cli_expectations.specs.Tested.{Expected, PrintsTested, expected_of}
 use Rattle.cli_questions.specs.FileLines.{files_text}
@@ -28,15 +28,18 @@ use Rattle.cli_questions.specs.declared.answering.Asked.{Asked as LentAsked}
 use Rattle.cli_questions.specs.declared.answering.Wanted.{Wanted as LentWanted}
 use Rattle.cli_questions.specs.declared.answering.Wanted.TheVariants as lent
 
--- what is wanted of a site: which of these expectations it breaks; or whether an address may mount a path, and why
+-- what is wanted of a site: which of these expectations it breaks; whether a client may mount a path; or who may, by the rule of
+-- mountd(8) if that is asked
 pub data Wanted : Type 0 where
   Breaches : Expected → Wanted
-  Reasons : ℕ → List (List ℕ) → Wanted
+  Mounts : MountQuestion → Wanted
+  Ranges : List (List ℕ) → Bool → Wanted
 
 -- the same by value
 abbrev pub wanted_of : LentWanted → Wanted
 wanted_of (lent.Breaches file) = Breaches (expected_of file)
-wanted_of (lent.Reasons address path) = Reasons (number_of address) path.now
+wanted_of (lent.Mount question) = Mounts (mount_question_of question)
+wanted_of (lent.Ranges path mountd) = Ranges path.now mountd
 
 -- a question with how its answer is printed: a verdict with as whom the client acts, if its credential is given; what would change
 -- with the changes that matter to no client, too; and of a site what is wanted of it
@@ -62,15 +65,15 @@ file_in (Proposal file) = file
 file_in question = []
 
 -- the answer to whether a client may mount a path is printed: status 0 if it grants the mount, else 1
-abbrev pub PrintsVerdict : Tried → Printed → Type 0
+abbrev pub PrintsVerdict : Answer → Printed → Type 0
 PrintsVerdict tried printed = Prints (if tried.granted then 0 else 1) tried.text printed
 
--- what is wanted of a site is printed: which expectations it breaks; or the verdict by its policy, and why, with as whom the client acts
--- if its credential is given. Names are looked up in its own tables.
-abbrev pub PrintsSite : WholeSite → Option Cred → Wanted → Printed → Type 0
-PrintsSite site own (Breaches expected) printed = PrintsTested site.tables site.content expected printed
-PrintsSite site own (Reasons address path) printed =
-    PrintsVerdict (policy_answer site.tables site.content (record { address = address; path = path; own = own; why = true })) printed
+-- what is wanted of a site is printed: which expectations it breaks; the verdict by its policy; or the ranges of its verdicts. Names are
+-- looked up in its own tables.
+abbrev pub PrintsSite : WholeSite → Wanted → Printed → Type 0
+PrintsSite site (Breaches expected) printed = PrintsTested site.tables site.content expected printed
+PrintsSite site (Mounts question) printed = (tried : Tried) × Answers site.tables site.content question tried × PrintsTried tried printed
+PrintsSite site (Ranges path mountd) printed = PrintsRanges mountd site.content path printed
 
 -- a report of what would change is printed: status 0 if nothing changes for a client, else 1
 pub record PrintsChanges (asked : Asked) (foreseen : Foreseen) (printed : Printed) : Type 0 where
@@ -80,7 +83,7 @@ pub record PrintsChanges (asked : Asked) (foreseen : Foreseen) (printed : Printe
 
 -- An answer is printed: a verdict as `try` does; a text as it is, of a revision or of a proposal; lists of revisions, of ranges and of
 -- files in lines; what would change as a report; what is wanted of a site; and a refusal as its line.
-abbrev pub PrintsAnswer : Asked → Answer → Printed → Type 0
+abbrev pub PrintsAnswer : Asked → Given → Printed → Type 0
 PrintsAnswer asked (VerdictIs content verdict) printed = PrintsVerdict (answer_on content asked.own verdict) printed
 PrintsAnswer asked (ListingIs content listing) printed = Prints 0 (listing_text content listing) printed
 PrintsAnswer asked (ExportsAre content) printed = Prints 0 (all_exports content) printed
@@ -91,12 +94,12 @@ PrintsAnswer asked (ProposalIs proposal) printed = Prints 0 proposal.body printe
 PrintsAnswer asked NoRevision printed = Says refused.NoRevision printed
 PrintsAnswer asked (FilesAre listed) printed = Prints 0 (files_text listed) printed
 PrintsAnswer asked (ForeseenIs foreseen) printed = PrintsChanges asked foreseen printed
-PrintsAnswer asked (SiteIs site) printed = PrintsSite site asked.own asked.wanted printed
+PrintsAnswer asked (SiteIs site) printed = PrintsSite site asked.wanted printed
 PrintsAnswer asked (RefusedBy refusal) printed = Says (refused.Edit refusal) printed
 
 -- what is printed of a question by a history: its answer
 abbrev pub PrintsByHistory : History → Asked → Printed → Type 0
-PrintsByHistory history asked printed = (answer : Answer) × AnswersByHistory history asked.question answer × PrintsAnswer asked answer printed
+PrintsByHistory history asked printed = (answer : Given) × AnswersByHistory history asked.question answer × PrintsAnswer asked answer printed
 
 -- what is printed of a question on a database: that it is not one of this project, or the answer by each history that it holds
 abbrev pub PrintsByDatabase : Database → Asked → Printed → Type 0

@@ -11,9 +11,10 @@ use cli_desk::refusal_notes::refused_by_copy;
 use cli_expectations::expectations_file::ExpectationsFile;
 use cli_output::failure::Failure;
 use cli_output::printed::Printed;
+use cli_verdict::MountQuestion;
 use desk_service::{Looked, Question, answer, look_up};
 use desk_tables::Cred;
-use desk_text::{Addr, Path};
+use desk_text::Path;
 use std::alloc::Global;
 
 /// What is wanted of a site.
@@ -21,8 +22,10 @@ use std::alloc::Global;
 pub enum Wanted<'a> {
     /// Which of these expectations it breaks.
     Breaches(ExpectationsFile<'a>),
-    /// Whether a client may mount a directory, and why.
-    Reasons(Addr, &'a Path),
+    /// Whether a client may mount a directory.
+    Mount(MountQuestion<'a>),
+    /// Who may mount a directory, by the rule of mountd(8) if that is asked.
+    Ranges(&'a Path, bool),
 }
 
 /// A question, and how its answer is printed.

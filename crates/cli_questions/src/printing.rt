@@ -22,7 +22,7 @@ use cli_desk::refusal_lines::refused;
 use cli_expectations::tested::print_tested;
 use cli_output::failure::Failure;
 use cli_output::printed::Printed;
-use cli_verdict::{MountQuestion, Tried, printed_verdict, tried_by};
+use cli_verdict::{print_ranges, print_tried, printed_verdict, tried_by};
 use desk_core::Foresight;
 use desk_impact::{Report, impact_report, lines_report};
 use desk_policy::{Policy, Verdict, all_exports, listing_text};
@@ -104,18 +104,7 @@ fn print_verdict(
     ensures { TriesToPrintVerdict (told.answer_on policy.now own.now (verdict_result verdict.now)) result }
 {
     let tried = printed_verdict(alloc, policy, verdict, own)?;
-    Ok(print_tried(alloc, tried))
-}
-
-/// Prints the answer to a client's question: the status is 0 if it grants the mount, else 1.
-fn print_tried(alloc: Global, tried: Tried) -> Printed
-    ensures { PrintsVerdict (told.answer_of tried) result }
-{
-    Printed {
-        status: if tried.granted { 0 } else { 1 },
-        text: tried.text,
-        note: String::new(alloc),
-    }
+    Ok(print_tried(tried))
 }
 
 /// Prints the text of a revision. Standard error says who approved it, or that it is read by profile 1.
@@ -173,7 +162,7 @@ fn report_of(alloc: Global, foreseen: &Foreseen<'_, View>, all: bool) -> Result<
     }
 }
 
-/// Prints what is wanted of a site: which expectations it breaks, or whether a client may mount a directory, and why.
+/// Prints what is wanted of a site: which expectations it breaks, whether a client may mount a directory, or who may.
 fn print_site(
     alloc: Global,
     asked: Asked<'_>,
@@ -185,15 +174,10 @@ fn print_site(
         Wanted::Breaches(expected) => {
             Ok(print_tested(alloc, site.tables(), site.view(), expected)?)
         }
-        Wanted::Reasons(address, path) => {
-            let question = MountQuestion {
-                address,
-                path,
-                own: asked.own,
-                why: true,
-            };
+        Wanted::Mount(question) => {
             let tried = tried_by(alloc, site.view(), site.tables(), question)?;
-            Ok(print_tried(alloc, tried))
+            Ok(print_tried(tried))
         }
+        Wanted::Ranges(path, mountd) => Ok(print_ranges(alloc, site.view(), path, mountd)?),
     }
 }

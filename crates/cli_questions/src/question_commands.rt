@@ -15,6 +15,7 @@ use cli_expectations::expectations_file::ExpectationsFile;
 use cli_files::files::read_if_given;
 use cli_output::failure::Failure;
 use cli_output::printed::Printed;
+use cli_verdict::{Asking, MountQuestion, read_asking};
 use cli_words::values::{read_credential, read_host, read_number, read_path};
 use cli_words::words::{given, is_set, required};
 use desk_service::Question;
@@ -23,9 +24,20 @@ use desk_text::{Addr, Path};
 use std::alloc::Global;
 use std::io::BufRead;
 
-/// Answers `ask DB HOST DIR [--as CRED] [--why]`. The arguments are parsed from left to right, CRED without users and groups.
+/// Answers `ask DB HOST DIR [--as CRED]`, and `--why` or `--mountd`. The arguments are parsed from left to right, CRED without users and
+/// groups.
 pub fn run_ask(rt: &HostRuntime, words: &ArgMatches<'_>) -> Result<Printed, Failure>
     ensures { spec.AnswersAsk (rows_in words.now) result }
+{
+    match read_asking(words) {
+        Ok(asking) => ask_as(rt, words, asking),
+        Err(failure) => Err(failure),
+    }
+}
+
+/// Answers what is asked.
+fn ask_as(rt: &HostRuntime, words: &ArgMatches<'_>, asking: Asking) -> Result<Printed, Failure>
+    ensures { spec.AnswersAskAs asking (rows_in words.now) result }
 {
     let alloc = rt.alloc();
     let db = required(words, "DB")?;
@@ -34,24 +46,25 @@ pub fn run_ask(rt: &HostRuntime, words: &ArgMatches<'_>) -> Result<Printed, Fail
     let address = read_host(alloc, host)?;
     let path = read_path(alloc, "DIR", dir)?;
     let own = read_credential(alloc, given(words, "as"), "", "")?;
-    let asked = asking_mount(is_set(words, "why"), address, &path, &own);
-    answer_question(rt, db, asked)
+    let question = MountQuestion {
+        address,
+        path: &path,
+        own: &own,
+        asking,
+    };
+    answer_question(rt, db, wanting(Wanted::Mount(question)))
 }
 
-/// Returns the question of `ask`: the verdict alone is asked, or the whole site, of which the verdict is printed and why.
-fn asking_mount<'a>(why: bool, address: Addr, path: &'a Path, own: &'a Option<Cred>) -> Asked<'a>
-    ensures { asked_of result ≡ spec.asking_mount why (number_of address) path.now own.now }
+/// Returns a question on the whole site, of which this is wanted.
+fn wanting(wanted: Wanted<'_>) -> Asked<'_>
+    ensures { asked_of result ≡ spec.wanting (wanted_of wanted.entry) }
 {
-    if why {
-        Asked {
-            question: Question::Site,
-            own,
-            all: false,
-            file: "",
-            wanted: Wanted::Reasons(address, path),
-        }
-    } else {
-        asking(Question::Mount(address, path), own)
+    Asked {
+        question: Question::Site,
+        own: &None,
+        all: false,
+        file: "",
+        wanted,
     }
 }
 
@@ -73,14 +86,15 @@ pub fn run_exports(rt: &HostRuntime, words: &ArgMatches<'_>) -> Result<Printed, 
     answer_question(rt, db, asking(Question::Exports, &None))
 }
 
-/// Answers `who DB DIR`.
+/// Answers `who DB DIR [--mountd]`.
 pub fn run_who(rt: &HostRuntime, words: &ArgMatches<'_>) -> Result<Printed, Failure>
     ensures { spec.AnswersWho (rows_in words.now) result }
 {
     let db = required(words, "DB")?;
     let dir = required(words, "DIR")?;
     let path = read_path(rt.alloc(), "DIR", dir)?;
-    answer_question(rt, db, asking(Question::Who(&path), &None))
+    let mountd = is_set(words, "mountd");
+    answer_question(rt, db, wanting(Wanted::Ranges(&path, mountd)))
 }
 
 /// Answers `log DB NAME`.

@@ -1,39 +1,32 @@
 -- What `clients` prints, by its words and files. (this project's own)
-use Rattle.std.specs.Prelude.{ℕ, List, Option, Result, codes}
+use Rattle.std.specs.Prelude.{ℕ, Bool, List, Option, Result, codes}
 use Rattle.clap.specs.Words.{Row}
 use Rattle.desk_text.specs.Path.{read_path}
 use Rattle.desk_tables.specs.declared.filesystems.Mount.{Mount}
 use Rattle.desk_policy.specs.Policy.{Content}
-use Rattle.desk_policy.specs.Verdict.{Grant}
 use Rattle.desk_policy.specs.declared.site_fault.SiteFault.{SiteFault}
-use Rattle.desk_policy.specs.declared.verdict.Denial.{Denial}
-use Rattle.desk_who.specs.Runs.{Run}
-use Rattle.desk_who.specs.Who.{IsWho}
-use Rattle.desk_who.specs.WhoPrints.{who_text}
 use Rattle.desk_findings.specs.declared.check_text.WholeSources.{WholeSources}
 use Rattle.cli_output.specs.declared.bad_argument.ArgumentFault.TheVariants as fault
 use Rattle.cli_output.specs.declared.failure.Failure.{Failure}
 use Rattle.cli_output.specs.declared.printed.Printed.{Printed}
 use Rattle.cli_words.specs.Values.{AnswersArgument}
-use Rattle.cli_words.specs.Words.{After, ByWord}
+use Rattle.cli_verdict.specs.Ranges.{PrintsRanges}
+use Rattle.cli_words.specs.Words.{After, ByWord, is_set}
 use Rattle.cli_texts.specs.FaultyTexts.{AnswersOrFault}
 use Rattle.cli_texts.specs.MountWords.{ReadsMounts}
-use Rattle.cli_texts.specs.Printing.{PrintsAlone}
 use Rattle.cli_texts.specs.TableFiles.{ReadsSources}
 use Rattle.cli_texts.specs.WholeFiles.{whole_files, whole_list}
 use Rattle.cli_texts.specs.WholeTables.{Writes, policy_of}
 
--- the ranges that a path has under the policy that an exports text is read as are printed
-pub record PrintsRanges (read : Result Content SiteFault) (path : List (List ℕ)) (printed : Printed) : Type 0 where
+-- the ranges that a path has under the policy that an exports text is read as are printed, by the rule of mountd(8) if that is asked
+pub record PrintsClients (read : Result Content SiteFault) (mountd : Bool) (path : List (List ℕ)) (printed : Printed) : Type 0 where
   pub policy : Content
   pub written : Writes read policy
-  pub ranges : List (Run (Result Grant Denial))
-  pub who : IsWho policy path ranges
-  pub prints : PrintsAlone 0 (who_text policy ranges) printed
+  pub prints : PrintsRanges mountd policy path printed
 
 -- the answer about a path by the texts of the files
-abbrev pub AnswersPath : List (List ℕ) → List Mount → WholeSources → Result Printed Failure → Type 0
-AnswersPath path table sources result = AnswersOrFault (PrintsRanges (policy_of sources table) path) sources table result
+abbrev pub AnswersPath : Bool → List (List ℕ) → List Mount → WholeSources → Result Printed Failure → Type 0
+AnswersPath mountd path table sources result = AnswersOrFault (PrintsClients (policy_of sources table) mountd path) sources table result
 
 -- the path that DIR writes, or why it writes none
 abbrev pub ReadsDir : List Row → Result (List (List ℕ)) Failure → Type 0
@@ -41,7 +34,8 @@ ReadsDir rows result = ByWord (codes "DIR") rows (λ dir. AnswersArgument (λ pa
 
 -- the answer about a path: the file systems are read after it, and then the files
 abbrev pub AnswersByFiles : List Row → Option (List ℕ) → List ℕ → List (List ℕ) → List Mount → Result Printed Failure → Type 0
-AnswersByFiles rows known file path table result = After (ReadsSources whole_list (whole_files rows file) known) (AnswersPath path table) result
+AnswersByFiles rows known file path table result =
+    After (ReadsSources whole_list (whole_files rows file) known) (AnswersPath (is_set (codes "mountd") rows) path table) result
 
 abbrev pub AnswersDir : List Row → Option (List ℕ) → List ℕ → List (List ℕ) → Result Printed Failure → Type 0
 AnswersDir rows known file path result = After (ReadsMounts rows) (AnswersByFiles rows known file path) result

@@ -3,24 +3,23 @@
 ghost use Rattle.desk_text.specs.Lines.{IsReadable};
 ghost use Rattle.desk_findings.specs.CheckFaults.{AreReadable};
 ghost use Rattle.cli_words.specs.Words.{rows_in};
-ghost use Rattle.cli_texts.specs.ClientsCommand.{AnswersClients, AnswersPath, PrintsRanges, ReadsDir};
+ghost use Rattle.cli_texts.specs.ClientsCommand.{AnswersClients, AnswersPath, PrintsClients, ReadsDir};
 ghost use Rattle.cli_texts.specs.WholeTables.{GivesOrFault, policy_of};
 
 use crate::faulty_texts::answer_error;
 use crate::mount_words::read_filesystems;
-use crate::printing::print_alone;
 use crate::whole_files::{read_whole_texts, whole_sources};
 use crate::whole_tables::view_of;
 use clap::ArgMatches;
 use cli_output::failure::Failure;
 use cli_output::printed::Printed;
+use cli_verdict::print_ranges;
 use cli_words::values::read_path;
-use cli_words::words::required;
+use cli_words::words::{is_set, required};
 use desk_findings::{WholeSources, read_sources};
-use desk_policy::{PolicyView, SiteFault};
+use desk_policy::SiteFault;
 use desk_tables::FileSystems;
 use desk_text::{Path, ReadError};
-use desk_who::{who, who_text};
 use std::alloc::Global;
 use std::io::BufRead;
 
@@ -38,7 +37,8 @@ pub fn run_clients<I: BufRead>(
     let filesystems = read_filesystems(rt.alloc(), words)?;
     let texts = read_whole_texts(rt, words, file, input)?;
     let sources = whole_sources(words, file, &texts);
-    answer_path(rt.alloc(), &path, &filesystems, sources)
+    let mountd = is_set(words, "mountd");
+    answer_path(rt.alloc(), mountd, &path, &filesystems, sources)
 }
 
 /// Parses the word DIR.
@@ -52,34 +52,35 @@ fn read_dir(alloc: Global, words: &ArgMatches<'_>) -> Result<Path, Failure>
 /// Answers about a path by the texts of the files.
 fn answer_path(
     alloc: Global,
+    mountd: bool,
     path: &Path,
     filesystems: &FileSystems,
     sources: WholeSources<'_>,
 ) -> Result<Printed, Failure>
     requires tables { AreReadable sources.tables }
     requires exports { IsReadable sources.exports.text.now }
-    ensures { AnswersPath path.now filesystems.now sources.entry result }
+    ensures { AnswersPath mountd path.now filesystems.now sources.entry result }
 {
-    match list_clients(alloc, path, filesystems, sources) {
+    match list_clients(alloc, mountd, path, filesystems, sources) {
         Ok(printed) => Ok(printed),
         Err(error) => answer_error(alloc, sources, filesystems, error),
     }
 }
 
-/// Prints who may mount a path by these texts.
+/// Prints who may mount a path by these texts, by the rule of mountd(8) if that is asked.
 fn list_clients(
     alloc: Global,
+    mountd: bool,
     path: &Path,
     filesystems: &FileSystems,
     sources: WholeSources<'_>,
 ) -> Result<Printed, ReadError<SiteFault>>
     requires tables { AreReadable sources.tables }
     requires exports { IsReadable sources.exports.text.now }
-    ensures { let read = policy_of sources.entry filesystems.now in GivesOrFault (PrintsRanges read path.now) read result }
+    ensures { let read = policy_of sources.entry filesystems.now in GivesOrFault (PrintsClients read mountd path.now) read result }
 {
     let tables = read_sources(alloc, sources.tables)?;
     let view = view_of(alloc, sources, &tables, filesystems)?;
-    let ranges = who(alloc, &view, path)?;
-    let text = who_text(alloc, view.policy(), ranges.as_slice())?;
-    Ok(print_alone(alloc, 0, text))
+    let printed = print_ranges(alloc, &view, path, mountd)?;
+    Ok(printed)
 }

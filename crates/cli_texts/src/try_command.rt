@@ -5,19 +5,18 @@ ghost use Rattle.std.specs.Option.{option_map};
 ghost use Rattle.desk_text.specs.Lines.{IsReadable};
 ghost use Rattle.desk_findings.specs.CheckFaults.{AreReadable};
 ghost use Rattle.cli_words.specs.Words.{rows_in};
-ghost use Rattle.cli_texts.specs.TryCommand.{AnswersRequest, AnswersTry, PrintsVerdict, ReadsRequest, question_in};
+ghost use Rattle.cli_texts.specs.TryCommand.{AnswersRequest, AnswersTry, AnswersTryAs, PrintsVerdict, ReadsRequest, question_in};
 ghost use Rattle.cli_texts.specs.WholeTables.{GivesOrFault, policy_of};
 
 use crate::faulty_texts::answer_error;
-use crate::printing::print_alone;
 use crate::whole_files::{read_whole_texts, whole_sources};
 use clap::ArgMatches;
 use cli_output::failure::Failure;
 use cli_output::printed::Printed;
-use cli_verdict::MountQuestion;
 use cli_verdict::try_text::try_text;
+use cli_verdict::{Asking, MountQuestion, print_tried, read_asking};
 use cli_words::values::{Request, read_credential, read_request};
-use cli_words::words::{all_required, given, is_set, required};
+use cli_words::words::{all_required, given, required};
 use desk_findings::{WholeSources, read_sources};
 use desk_policy::SiteFault;
 use desk_tables::Cred;
@@ -34,17 +33,26 @@ pub fn run_try<I: BufRead>(
 ) -> Result<Printed, Failure>
     ensures { AnswersTry (rows_in words.now) (I.remaining input.old) result }
 {
+    match read_asking(words) {
+        Ok(asking) => try_as(rt, words, asking, input),
+        Err(failure) => Err(failure),
+    }
+}
+
+/// Answers what is asked.
+fn try_as<I: BufRead>(
+    rt: &HostRuntime,
+    words: &ArgMatches<'_>,
+    asking: Asking,
+    input: &mut I,
+) -> Result<Printed, Failure>
+    ensures { AnswersTryAs asking (rows_in words.now) (I.remaining input.old) result }
+{
     let file = required(words, "FILE")?;
     let request = words_request(rt.alloc(), words)?;
     let texts = read_whole_texts(rt, words, file, input)?;
     let sources = whole_sources(words, file, &texts);
-    answer_request(
-        rt.alloc(),
-        given(words, "as"),
-        is_set(words, "why"),
-        &request,
-        sources,
-    )
+    answer_request(rt.alloc(), given(words, "as"), asking, &request, sources)
 }
 
 /// Parses the request that the words HOST, DIR and MOUNT.. write.
@@ -61,34 +69,34 @@ fn words_request(alloc: Global, words: &ArgMatches<'_>) -> Result<Request, Failu
 fn answer_request(
     alloc: Global,
     word: Option<&str>,
-    why: bool,
+    asking: Asking,
     request: &Request,
     sources: WholeSources<'_>,
 ) -> Result<Printed, Failure>
     requires tables { AreReadable sources.tables }
     requires exports { IsReadable sources.exports.text.now }
-    ensures { AnswersRequest (option_map (λ word. word.now) word.entry) why request.now sources.entry result }
+    ensures { AnswersRequest (option_map (λ word. word.now) word.entry) asking request.now sources.entry result }
 {
     let tables = sources.tables;
     let own = read_credential(alloc, word, tables.passwd.text, tables.group.text)?;
-    match decide(alloc, &own, why, request, sources) {
+    match decide(alloc, &own, asking, request, sources) {
         Ok(printed) => Ok(printed),
         Err(error) => answer_error(alloc, sources, &request.filesystems, error),
     }
 }
 
-/// Decides a request of a client with this credential, if it is given, and prints the verdict, and why if that is asked.
+/// Decides a request of a client with this credential, if it is given, and prints what is asked.
 fn decide(
     alloc: Global,
     own: &Option<Cred>,
-    why: bool,
+    asking: Asking,
     request: &Request,
     sources: WholeSources<'_>,
 ) -> Result<Printed, ReadError<SiteFault>>
     requires tables { AreReadable sources.tables }
     requires exports { IsReadable sources.exports.text.now }
     ensures { let table = request.now.filesystems in
-        GivesOrFault (PrintsVerdict sources.entry table (question_in request.now own.now why)) (policy_of sources.entry table) result }
+        GivesOrFault (PrintsVerdict sources.entry table (question_in request.now own.now asking)) (policy_of sources.entry table) result }
 {
     let tables = read_sources(alloc, sources.tables)?;
     let filesystems = request.filesystems.copy()?;
@@ -96,9 +104,8 @@ fn decide(
         address: request.address,
         path: &request.path,
         own,
-        why,
+        asking,
     };
     let tried = try_text(alloc, sources.exports.text, &tables, filesystems, question)?;
-    let status = if tried.granted { 0 } else { 1 };
-    Ok(print_alone(alloc, status, tried.text))
+    Ok(print_tried(tried))
 }

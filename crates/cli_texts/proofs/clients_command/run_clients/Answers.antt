@@ -1,7 +1,8 @@
 -- The words are parsed, and then the files are read.
-use Rattle.std.proofs.Common.{Err, Ok, refl}
+use Rattle.std.proofs.Common.{Bool, Err, Ok, refl, subst}
 use Rattle.std.proofs.lemmas.Result.{err_from_is_err_and}
 use Rattle.cli_words.specs.Words.{rows_in}
+use Rattle.cli_texts.specs.ClientsCommand.{AnswersPath}
 use Rattle.cli_texts.specs.WholeFiles.{whole_files, whole_list, whole_texts}
 use Rattle.cli_texts.proofs.FilesInTurn.{lent}
 use Rattle.cli_texts.proofs.FoundWords.{by_found}
@@ -34,7 +35,8 @@ returns g c =
         next = record {
           step = Ok sources.result;
           is = lent (whole_files (rows_in c.args.words.now) c.in_ok-file.file.now) (g.I.Read.remaining c.args.input.now) (whole_texts c.in_ok-texts.texts) (whole_list sources.result) sources.ensures.paths sources.ensures.texts c.in_ok-texts.ensures.texts;
-          next = c.answer_path.ensures;
+          next =
+              subst (λ (mountd : Bool). AnswersPath mountd c.in_ok-path.path c.in_ok-filesystems.filesystems sources.result c.answer_path.result) c.is_set-mountd.ensures c.answer_path.ensures;
         };
       };
     })

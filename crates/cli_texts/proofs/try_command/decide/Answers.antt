@@ -1,5 +1,5 @@
 -- The answer is by the exports text, and by the tables that were read before it; and its fault is one of the texts that are read.
-use Rattle.std.proofs.Common.{◌≡◌, Err, Result, rules, subst, sym}
+use Rattle.std.proofs.Common.{◌≡◌, Err, Result, subst, sym}
 use Rattle.std.proofs.lemmas.Result.{err_from_is_err_and}
 use Rattle.desk_text.specs.declared.reading.ReadError.{ReadError}
 use Rattle.desk_text.specs.declared.reading.ReadError.TheVariants.{Fault, Memory}
@@ -9,7 +9,7 @@ use Rattle.desk_policy.specs.Policy.{Content}
 use Rattle.desk_policy.specs.View.{IsFaultOf}
 use Rattle.desk_policy.specs.declared.parsing.SiteTables.{SiteTables}
 use Rattle.desk_policy.specs.declared.site_fault.SiteFault.{SiteFault}
-use Rattle.cli_verdict.specs.TryText.{IsAnswerBy, MountQuestion, Tries, answer_of}
+use Rattle.cli_verdict.specs.TryText.{IsAnswerBy, MountQuestion, Tries}
 use Rattle.cli_texts.specs.TryCommand.{PrintsVerdict, question_in}
 use Rattle.cli_texts.specs.WholeTables.{GivesOrFault, policy_of}
 use Rattle.cli_texts.proofs.Viewed.{read_known}
@@ -23,7 +23,7 @@ pub returns-in_err-tried : goal.returns-in_err-tried
 returns-in_err-tried c =
     let p = err_from_is_err_and c.from_residual-in_err-tried.result c.from_residual-in_err-tried.ensures.1 in
     let request = c.args.request.now in
-    let question = question_in request c.args.own.now c.args.why in
+    let question = question_in request c.args.own.now c.args.asking in
     rw (p.1, p.2)
     (fault_tried (PrintsVerdict c.args.sources request.filesystems question) c.in_ok-tables.tables (policy_of c.args.sources request.filesystems) (read_whole_with Two c.in_ok-tables.tables c.in_ok-filesystems.filesystems c.args.sources.exports.text.now) question c.in_err-tried.field-0.0
     (read_known c.args.sources request.filesystems c.in_ok-filesystems.filesystems c.in_ok-tables.tables c.in_ok-tables.ensures c.in_ok-filesystems.ensures) c.in_err-tried.ensures)
@@ -35,9 +35,9 @@ returns c =
     record {
       tables = c.in_ok-tables.tables;
       tables_are = c.in_ok-tables.ensures;
-      answer = answer_of tried;
+      tried = tried;
       answers =
-          subst (λ (read : Result Content SiteFault). IsAnswerBy c.in_ok-tables.tables read (question_in request c.args.own.now c.args.why) (answer_of tried))
+          subst (λ (read : Result Content SiteFault). IsAnswerBy c.in_ok-tables.tables read (question_in request c.args.own.now c.args.asking) tried)
           (sym (read_known c.args.sources request.filesystems c.in_ok-filesystems.filesystems c.in_ok-tables.tables c.in_ok-tables.ensures c.in_ok-filesystems.ensures)) c.in_ok-tried.ensures;
-      prints = search rules;
+      prints = c.print_tried.ensures;
     }

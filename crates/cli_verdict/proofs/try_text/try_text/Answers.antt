@@ -1,6 +1,6 @@
 -- What is answered by a policy without warnings is answered by the policy with them.
 use Rattle.std.proofs.Common.{◌≡◌, ◌∙◌, [], List, Ok, Err, Option, Some, None, Result, ap, ap₂, refl, subst, sym, ℕ}
-use Rattle.std.specs.Prelude.{if◌then◌else◌}
+use Rattle.std.specs.String.{string_bytes}
 use Rattle.desk_text.specs.declared.reading.ReadError.{ReadError}
 use Rattle.desk_text.specs.declared.reading.ReadError.TheVariants.{Fault, Memory}
 use Rattle.desk_tables.specs.FileSystems.{fs_of}
@@ -13,8 +13,13 @@ use Rattle.desk_policy.specs.View.{WarningsChangeNoAnswer}
 use Rattle.desk_policy.specs.declared.parsing.SiteTables.{SiteTables}
 use Rattle.desk_policy.specs.declared.site_fault.SiteFault.{SiteFault}
 use Rattle.desk_policy.specs.declared.verdict.Denial.{Denial}
+use Rattle.desk_server.specs.Server.{server_verdict_of}
+use Rattle.desk_server_prints.specs.LeftOutNote.{TellsLeftOut}
+use Rattle.desk_server_prints.specs.Wider.{wider_line, wider_note}
 use Rattle.desk_why.specs.WhyPrints.{line_named, lines_text, why_in}
-use Rattle.cli_verdict.specs.TryText.{MountQuestion, Tries, answer_above, mount_question_of, policy_answer}
+use Rattle.cli_verdict.specs.TryText.{AnswersBy, AnswersHere, AnswersThere, MountQuestion, Tries, answer_above, answer_on, mount_question_of, reasons_if, reasons_text}
+use Rattle.cli_verdict.specs.declared.asking.Asking.{Asking}
+use Rattle.cli_verdict.specs.declared.asking.Asking.TheVariants.{Reasons, Server, Verdict}
 use Rattle.cli_verdict.specs.declared.try_text.Tried.{Tried}
 use Rattle.cli_verdict.proofs.try_text.try_text.Goals as goal
 
@@ -25,16 +30,40 @@ module _ (tables : SiteTables) (question : MountQuestion) where
   lines_alike content same (Some fs) =
       ap (λ (verdict : Result Grant Denial). lines_text tables.netgroups tables.hosts question.address question.path (line_named verdict) (mount_text content fs) (rows_of content fs)) same
 
-  answers_alike : (content : Content) → verdict_of (with_warnings content []) question.address question.path ≡ verdict_of content question.address question.path
-      → policy_answer tables (with_warnings content []) question ≡ policy_answer tables content question
-  answers_alike content same =
-      ap₂ (λ (why : List ℕ) (verdict : Result Grant Denial). answer_above (if question.why then why else []) content question.own verdict)
-      (lines_alike content same (fs_of content.table question.path)) same
+  reasons_alike : (content : Content) → verdict_of (with_warnings content []) question.address question.path ≡ verdict_of content question.address question.path → (asking : Asking)
+      → reasons_if asking tables (with_warnings content []) question.address question.path ≡ reasons_if asking tables content question.address question.path
+  reasons_alike content same Verdict = refl
+  reasons_alike content same Reasons = lines_alike content same (fs_of content.table question.path)
+  reasons_alike content same Server = refl
+
+  -- the server reads no warnings
+  server_alike : (content : Content) → server_verdict_of (with_warnings content []) question.address question.path ≡ server_verdict_of content question.address question.path
+  unfolding server_verdict_of
+  server_alike content = refl
+
+  here_alike : (content : Content) → verdict_of (with_warnings content []) question.address question.path ≡ verdict_of content question.address question.path → (tried : Tried)
+      → AnswersHere tables (with_warnings content []) question tried → AnswersHere tables content question tried
+  here_alike content same tried told = record {
+    answer = told.answer ∙ ap₂ (λ (why : List ℕ) (verdict : Result Grant Denial). answer_above why content question.own verdict) (reasons_alike content same question.asking) same;
+    beside = told.beside ∙ ap₂ (λ (own server : Result Grant Denial). wider_note (wider_line own server)) same (server_alike content);
+  }
+
+  there_alike : (content : Content) (tried : Tried) → AnswersThere (with_warnings content []) question tried → AnswersThere content question tried
+  there_alike content tried told = record {
+    answer = told.answer ∙ ap (λ (verdict : Result Grant Denial). answer_on content question.own verdict) (server_alike content);
+    beside = record { lists = told.beside.lists; are = told.beside.are; text = told.beside.text };
+  }
+
+  answers_alike : (content : Content) → verdict_of (with_warnings content []) question.address question.path ≡ verdict_of content question.address question.path → (tried : Tried) (asking : Asking)
+      → AnswersBy asking tables (with_warnings content []) question tried → AnswersBy asking tables content question tried
+  answers_alike content same tried Verdict told = here_alike content same tried told
+  answers_alike content same tried Reasons told = here_alike content same tried told
+  answers_alike content same tried Server told = there_alike content tried told
 
   with_warnings_too : (law : WarningsChangeNoAnswer) (read : Result Content SiteFault) (result : Result Tried (ReadError SiteFault))
       → Tries tables (without_warnings read) question result → Tries tables read question result
   with_warnings_too law (Ok content) (Ok tried) told =
-      ((law content []).consistent.0 told.0, told.1 ∙ answers_alike content ((law content []).verdicts question.address question.path))
+      ((law content []).consistent.0 told.0, answers_alike content ((law content []).verdicts question.address question.path) tried question.asking told.1)
   with_warnings_too law (Ok content) (Err (Fault fault)) told = ((law content []).least fault).0 told
   with_warnings_too law (Ok content) (Err Memory) told = tt
   with_warnings_too law (Err fault) (Ok tried) told = told

@@ -1,13 +1,12 @@
 -- The words are parsed, and then the files are read.
-use Rattle.std.proofs.Common.{Bool, Err, List, Ok, Option, codes, refl, subst, ℕ}
+use Rattle.std.proofs.Common.{Err, List, Ok, Option, refl, subst, ℕ}
 use Rattle.std.proofs.lemmas.Result.{err_from_is_err_and}
-use Rattle.std.specs.Option.{option_map}
-use Rattle.cli_words.specs.Words.{is_set, rows_in}
+use Rattle.cli_words.specs.Words.{rows_in}
 use Rattle.cli_texts.specs.TryCommand.{AnswersRequest}
 use Rattle.cli_texts.specs.WholeFiles.{whole_files, whole_list, whole_texts}
 use Rattle.cli_texts.proofs.FilesInTurn.{lent}
 use Rattle.cli_texts.proofs.FoundWords.{by_found}
-use Rattle.cli_texts.proofs.try_command.run_try.Goals as goal
+use Rattle.cli_texts.proofs.try_command.try_as.Goals as goal
 
 pub returns-in_err-texts : goal.returns-in_err-texts
 returns-in_err-texts g c =
@@ -30,7 +29,6 @@ returns g c =
         step = Ok sources.result;
         is = lent (whole_files (rows_in c.args.words.now) c.in_ok-file.file.now) (g.I.Read.remaining c.args.input.now) (whole_texts c.in_ok-texts.texts) (whole_list sources.result) sources.ensures.paths sources.ensures.texts c.in_ok-texts.ensures.texts;
         next =
-            subst (λ (word : Option (List ℕ)). AnswersRequest word (is_set (codes "why") (rows_in c.args.words.now)) c.in_ok-request.request sources.result c.answer_request.result) c.given.ensures
-            (subst (λ (why : Bool). AnswersRequest (option_map (λ word. word.now) c.given.result) why c.in_ok-request.request sources.result c.answer_request.result) c.is_set.ensures c.answer_request.ensures);
+            subst (λ (word : Option (List ℕ)). AnswersRequest word c.args.asking c.in_ok-request.request sources.result c.answer_request.result) c.given.ensures c.answer_request.ensures;
       };
     })
