@@ -60,7 +60,7 @@ abbrev pub AnswersAskAs : Asking → List Row → Result Printed Failure → Typ
 AnswersAskAs asking rows =
     ByWord (codes "DB") rows (λ db. ByWord (codes "HOST") rows (λ host. ByWord (codes "DIR") rows (λ dir.
     After (ParsesHost host) (λ address. After (ParsesDir dir) (λ path. After (ParsesOwn (first_of (codes "as") rows)) (λ own.
-    AnswersQuestion db (wanting (Mounts (record { address = number_of address; path = path; own = own; asking = asking }))))))))
+    AnswersQuestion db (wanting (Mounts (record { address = number_of address; path = path; own = own; asking = asking })))))))))
 
 -- the same, or why nothing is asked
 abbrev pub AnswersAskIf : Result Asking Failure → List Row → Result Printed Failure → Type 0
