@@ -25,12 +25,13 @@ _exportdesk()
         esac
     done
     case $command in
-    try) choices='--hosts --networks --passwd --group --netgroup --as --why --help' ;;
+    try) choices='--hosts --networks --passwd --group --netgroup --as --why --mountd --help' ;;
     check) choices='--hosts --networks --passwd --group --netgroup --site --brief --strict --json --sarif --opinions --help' ;;
-    clients) choices='--hosts --networks --passwd --group --netgroup --help' ;;
+    clients) choices='--hosts --networks --passwd --group --netgroup --mountd --help' ;;
     compare) choices='--hosts --networks --passwd --group --netgroup --all --help' ;;
     test) choices='--hosts --networks --passwd --group --netgroup --json --help' ;;
-    ask) choices='--as --why --help' ;;
+    ask) choices='--as --why --mountd --help' ;;
+    who) choices='--mountd --help' ;;
     put) choices='--base --caller --key --key-file --help' ;;
     impact) choices='--all --proposal --help' ;;
     audit) choices='--proposal --json --help' ;;

@@ -199,7 +199,11 @@ def who(site, path):
 
 
 def who_text(site, path):
-    return "".join(f"{dotted(first)}-{dotted(last)} {found}\n" for first, last, found in who(site, path))
+    return ranges_text(who(site, path))
+
+
+def ranges_text(found):
+    return "".join(f"{dotted(first)}-{dotted(last)} {verdict}\n" for first, last, verdict in found)
 
 
 # ---- what another site would change

@@ -4,7 +4,7 @@ which all lines have one weight, each directory that a line writes, and one that
 """
 
 from reference.definitions import (
-    addresses_of, dotted, fs_of, lists, printed, selected, steady_blocks, unwritten, verdict, weight,
+    addresses_of, dotted, fs_of, lists, printed, ranges_text, runs, selected, steady_blocks, unwritten, verdict, weight,
 )  # fmt: skip
 
 
@@ -89,6 +89,37 @@ def wider_grants(site, mount):
             found.append((line.number, other.number, address, more[0] if more else None))
             break
     return found
+
+
+# ---- what is said beside an answer
+
+
+def granting_line(site, address, path):
+    """The number of the line by which the server grants what the desk denies, or None."""
+    return int(server_verdict(site, address, path).split()[2]) if is_wider(site, address, path) else None
+
+
+def wider_note(site, address, path):
+    line = granting_line(site, address, path)
+    if line is None:
+        return ""
+    return f"exportdesk: mountd(8) grants this by line {line}, which is not selected here: --mountd decides by its rule\n"
+
+
+def first_wider_note(site, path):
+    """The note on the least address to which the server grants a path that the desk denies it."""
+    mount = fs_of(site.mounts, path)
+    for address in addresses_asked(site, mount) if mount is not None else []:
+        line = granting_line(site, address, path)
+        if line is not None:
+            client = dotted(address)
+            return f"exportdesk: mountd(8) grants {client} this by line {line}, which is not selected there: --mountd decides by its rule\n"
+    return ""
+
+
+def who_text(site, path):
+    """The longest ranges that have one verdict of the server."""
+    return ranges_text(runs(lambda address: server_verdict(site, address, path), [site], path))
 
 
 # ---- which lines it takes
