@@ -1,38 +1,66 @@
 -- Where `check` is silent about mountd(8), what is proved here of a policy holds by its rule, too. (this project's own)
-use Rattle.std.specs.Prelude.{◌≡◌, ℕ, ◌<◌, ◌^◌, ◌||◌, Bool, false, List, [], Ok, Some}
+use Rattle.std.specs.Prelude.{◌≡◌, ℕ, ◌<◌, ◌^◌, ◌||◌, All, Bool, true, false, Contains, List, [], Ok, Some, IfSome}
 use Rattle.std.specs.List.{list_any}
 use Rattle.desk_tables.specs.FileSystems.{fs_of}
 use Rattle.desk_tables.specs.declared.filesystems.FsId.{FsId}
 use Rattle.desk_tables.specs.declared.filesystems.Mount.{Mount}
-use Rattle.desk_exports.specs.Files.{EntriesAscend, whole_answer}
+use Rattle.desk_exports.specs.Files.{whole_answer}
 use Rattle.desk_exports.specs.declared.entry.Entry.{Entry}
 use Rattle.desk_exports.specs.declared.profile.Profile.TheVariants.{Two}
 use Rattle.desk_policy.specs.Parsing.{rows_with}
 use Rattle.desk_policy.specs.Policy.{Content, content_of, rows_of}
 use Rattle.desk_policy.specs.Verdict.{verdict_of}
 use Rattle.desk_policy.specs.declared.parsing.SiteTables.{SiteTables}
-use Rattle.desk_server.specs.RepeatedClients.{AreRepeatedClients, loaded_content}
+use Rattle.desk_policy.specs.declared.row.Row.{Row}
+use Rattle.desk_remarks.specs.declared.remark.Remark.TheVariants.{ServerGrantsMore, RepeatedClient}
+use Rattle.desk_server.specs.RepeatedClients.{AreRepeatedClients, loaded, loaded_content}
 use Rattle.desk_server.specs.Server.{server_verdict_of}
 use Rattle.desk_server.specs.WiderGrants.{AreWiderGrants}
+use Rattle.desk_findings.specs.CheckOdd.{IsOnNumbered}
 use Rattle.desk_findings.specs.CheckText.{Gathers, tables_of}
 use Rattle.desk_findings.specs.Finding.{is_fault}
-use Rattle.desk_findings.specs.Told.{shows_other}
 use Rattle.desk_findings.specs.declared.check_text.Gathered.{Gathered}
 use Rattle.desk_findings.specs.declared.check_text.WholeSources.{WholeSources}
 use Rattle.desk_findings.specs.declared.finding.Finding.{Finding}
 use Rattle.desk_findings.specs.declared.finding.Matter.{Matter}
 use Rattle.desk_findings.specs.declared.finding.Matter.TheVariants as matter
 
--- a finding about this says that mountd(8) grants more than this desk, or leaves a line out
-abbrev pub is_of_server : Matter → Bool
-is_of_server (matter.Fault rule other) = false
-is_of_server (matter.Contradiction other address) = false
-is_of_server (matter.Warning kind) = false
-is_of_server (matter.Remark remark example) = shows_other remark
+-- a finding about this says that mountd(8) grants more than this desk
+abbrev pub tells_more : Matter → Bool
+tells_more (matter.Fault rule other) = false
+tells_more (matter.Contradiction other address) = false
+tells_more (matter.Warning kind) = false
+tells_more (matter.Remark ServerGrantsMore example) = true
+tells_more (matter.Remark _ example) = false
 
--- no finding is a fault, and none says that
+-- or that mountd(8) may leave a line out
+abbrev pub tells_repeated : Matter → Bool
+tells_repeated (matter.Fault rule other) = false
+tells_repeated (matter.Contradiction other address) = false
+tells_repeated (matter.Warning kind) = false
+tells_repeated (matter.Remark RepeatedClient example) = true
+tells_repeated (matter.Remark _ example) = false
+
+-- it says one of both
+abbrev pub is_of_server : Matter → Bool
+is_of_server matter = tells_more matter || tells_repeated matter
+
+-- no finding is a fault
+abbrev pub HasNoFault : List Finding → Type 0
+HasNoFault findings = list_any (λ finding. is_fault finding.matter) findings ≡ false
+
+-- no finding is a fault, and none speaks of mountd(8)
 abbrev pub IsSilent : List Finding → Type 0
 IsSilent findings = list_any (λ finding. is_fault finding.matter || is_of_server finding.matter) findings ≡ false
+
+-- a finding is told on the line of this number; one that has no place counts for each line
+abbrev pub IsToldOn : List ℕ → ℕ → Finding → Type 0
+IsToldOn text line finding = IfSome finding.place (IsOnNumbered text line)
+
+-- no finding that says this is told on one of these lines of a text
+abbrev pub NoneIsToldOn : (Matter → Bool) → List ℕ → List Row → List Finding → Type 0
+NoneIsToldOn says text rows findings =
+    All (λ finding. (row : Row) → Contains rows row → says finding.matter ≡ true → IsToldOn text row.entry.line finding → ⊥) findings
 
 -- No line of a file system is told where the server grants more, and none that has a client of an earlier one.
 pub record IsQuiet (content : Content) (fs : ℕ) : Type 0 where
@@ -45,8 +73,37 @@ pub record Write (sources : WholeSources) (table : List Mount) (content : Conten
   pub entries : List (FsId × Entry)
   pub reads_tables : tables_of sources.tables ≡ Ok site_tables
   pub reads_exports : whole_answer (rows_with Two table site_tables) sources.exports.text.now ≡ Ok entries
-  pub ascending : EntriesAscend entries
   pub is : content ≡ content_of site_tables.netgroups site_tables.hosts table entries
+
+-- What is found in texts has no fault, and they write this policy.
+pub record AreFaultless (opinions : Bool) (sources : WholeSources) (table : List Mount) (gathered : Gathered) (content : Content) : Type 0 where
+  pub gathers : Gathers opinions sources table gathered
+  pub faultless : HasNoFault gathered.findings
+  pub write : Write sources table content
+
+-- If then no finding on a line of a file system says that mountd(8) grants more, each verdict on a path of it is that of mountd's rule.
+abbrev pub NothingWiderFoundIsEqual : Type 0
+NothingWiderFoundIsEqual =
+    (opinions : Bool) (sources : WholeSources) (table : List Mount) (gathered : Gathered) (content : Content) → AreFaultless opinions sources table gathered content
+    → (fs : ℕ) → NoneIsToldOn tells_more sources.exports.text.now (rows_of content fs) gathered.findings
+    → (address : ℕ) (path : List (List ℕ)) → address < 2 ^ 32 → fs_of content.table path ≡ Some fs
+    → server_verdict_of content address path ≡ verdict_of content address path
+
+-- If none says that mountd(8) may leave the line out, it puts each line of the file system in force.
+abbrev pub NothingRepeatedFoundIsLoaded : Type 0
+NothingRepeatedFoundIsLoaded =
+    (opinions : Bool) (sources : WholeSources) (table : List Mount) (gathered : Gathered) (content : Content) → AreFaultless opinions sources table gathered content
+    → (fs : ℕ) → NoneIsToldOn tells_repeated sources.exports.text.now (rows_of content fs) gathered.findings
+    → loaded (rows_of content fs) ≡ rows_of content fs
+
+-- If neither is said, each verdict on a path of it is that of mountd's rule by the lines that it puts in force.
+abbrev pub NothingFoundIsTheServers : Type 0
+NothingFoundIsTheServers =
+    (opinions : Bool) (sources : WholeSources) (table : List Mount) (gathered : Gathered) (content : Content) → AreFaultless opinions sources table gathered content
+    → (fs : ℕ) → NoneIsToldOn tells_more sources.exports.text.now (rows_of content fs) gathered.findings
+    → NoneIsToldOn tells_repeated sources.exports.text.now (rows_of content fs) gathered.findings
+    → (address : ℕ) (path : List (List ℕ)) → address < 2 ^ 32 → fs_of content.table path ≡ Some fs
+    → server_verdict_of (loaded_content content) address path ≡ verdict_of content address path
 
 -- If what is found in texts is silent, so it is of each file system of the policy that they write.
 abbrev pub SilentFindingsAreQuiet : Type 0
