@@ -95,7 +95,7 @@ IsRemarkOff says rows one = IsOff says rows (matter.Remark one.remark one.exampl
 abbrev pub IsToldFaultless : Told → Type 0
 IsToldFaultless one = is_fault one.matter ≡ false
 
-abbrev IsOddFaultless : OddLine → Type 0
+abbrev pub IsOddFaultless : OddLine → Type 0
 IsOddFaultless odd = is_fault odd.matter ≡ false
 
 pub faultless_told : (findings : List Finding) → HasNoFault findings → All IsToldFaultless (map told findings)
@@ -105,7 +105,7 @@ pub off_told : (says : Matter → Bool) (text : List ℕ) (rows : List Row) (fin
 off_told says text rows findings none = All-map (IsToldOff says text rows) told findings none
 
 -- what holds of what is told in order holds of what is odd
-in_order : (P : Told → Type 0) (Q : OddLine → Type 0) (source : Source) (given : List OddLine) (all : List Told)
+pub in_order : (P : Told → Type 0) (Q : OddLine → Type 0) (source : Source) (given : List OddLine) (all : List Told)
     → ((spot : Spot) → IsSpot source.text.now spot → P (tell_spot source spot) → Q (odd_of_spot spot)) → TellInOrder source given all → All P all → All Q given
 in_order P Q source given all step tells each =
     let placed = tells.tell.placed in

@@ -34,7 +34,7 @@ use Rattle.desk_idle.specs.Laws.{WholeLinesWriteDirectories, WriteDirectories, W
 use Rattle.desk_findings.specs.CheckOdd.{AreContradictionsIn}
 use Rattle.desk_findings.specs.CheckText.{Gathers, GathersOdd, TellInconsistencies, tables_of}
 use Rattle.desk_findings.specs.Finding.{is_fault}
-use Rattle.desk_findings.specs.Silence.{AreFaultless, HasNoFault, IsQuiet, IsSilent, IsToldOn, NoneIsToldOn, NothingFoundIsTheServers, NothingRepeatedFoundIsLoaded, NothingWiderFoundIsEqual, SilentFindingsAreQuiet, SilentFindingsAreTheServers, Write, is_of_server, tells_more, tells_repeated}
+use Rattle.desk_findings.specs.Silence.{EqualIfNothingWider, HasNoFault, IsQuiet, IsSilent, IsToldOn, LoadedIfNothingRepeated, NoneIsToldOn, OfFaultless,  SilentFindingsAreQuiet, SilentFindingsAreTheServers, TheServersIfNeither, Write, is_of_server, tells_more, tells_repeated}
 use Rattle.desk_findings.specs.declared.check_text.Gathered.{Gathered}
 use Rattle.desk_findings.specs.declared.check_text.WholeSources.{WholeSources}
 use Rattle.desk_findings.specs.declared.finding.Finding.{Finding}
@@ -63,15 +63,9 @@ module _ (ascend : LinesAscend) where
       subst (λ (c : Content). All AreAscending c.rows) (sym write.is)
       (each_ascends write.site_tables.netgroups write.site_tables.hosts write.entries _ (λ i j d less below same. up i j d less below))
 
-  module _ (opinions : Bool) (sources : WholeSources) (table : List Mount) (gathered : Gathered) (content : Content) (are : AreFaultless opinions sources table gathered content) where
-    write : Write sources table content
-    write = are.write
-
-    own : Content
-    own = content_of write.site_tables.netgroups write.site_tables.hosts table write.entries
-
+  module _ (opinions : Bool) (sources : WholeSources) (table : List Mount) (gathered : Gathered) (content : Content) (gathers : Gathers opinions sources table gathered) (faultless : HasNoFault gathered.findings) (write : Write sources table content) where
     finds : GathersOdd opinions sources table write.site_tables write.entries gathered
-    finds = odd_with (tables_of sources.tables) write.site_tables write.entries sources opinions table gathered write.reads_tables write.reads_exports are.gathers
+    finds = odd_with (tables_of sources.tables) write.site_tables write.entries sources opinions table gathered write.reads_tables write.reads_exports gathers
 
     tells : TellInconsistencies opinions sources.exports content (whole_warnings write.site_tables.netgroups write.site_tables.hosts write.entries) finds.tell.exports
     tells =
@@ -82,9 +76,9 @@ module _ (ascend : LinesAscend) where
 
     consistent : HasNoContradiction content
     consistent =
-        let faultless = exports_told IsToldFaultless sources opinions table write.site_tables write.entries gathered finds (faultless_told gathered.findings are.faultless) in
+        let each = exports_told IsToldFaultless sources opinions table write.site_tables write.entries gathered finds (faultless_told gathered.findings faultless) in
         has_no_contradiction content all_ascend
-        (subst (AreContradictionsIn content.rows) (clashes_none opinions sources.exports content (whole_warnings write.site_tables.netgroups write.site_tables.hosts write.entries) finds.tell.exports tells faultless) tells.are_clashes)
+        (subst (AreContradictionsIn content.rows) (clashes_none opinions sources.exports content (whole_warnings write.site_tables.netgroups write.site_tables.hosts write.entries) finds.tell.exports tells each) tells.are_clashes)
 
     pub in_force : IsInForce content
     in_force = record { ascending = ascending_at content all_ascend; consistent = consistent }
@@ -101,14 +95,14 @@ module _ (ascend : LinesAscend) where
     repeated fs path home none =
         repeated_told opinions sources.exports content (whole_warnings write.site_tables.netgroups write.site_tables.hosts write.entries) finds.tell.exports tells consistent fs path home (off tells_repeated (rows_of content fs) none)
 
-  pub nothing_wider_found_is_equal : NothingWiderIsEqual → NothingWiderFoundIsEqual
-  nothing_wider_found_is_equal law opinions sources table gathered content are fs none address path below home =
-      law content fs address path (in_force opinions sources table gathered content are) below home (wider opinions sources table gathered content are fs path home none)
+  pub nothing_wider_found_is_equal : NothingWiderIsEqual → OfFaultless EqualIfNothingWider
+  nothing_wider_found_is_equal law opinions sources table gathered content found none_is write fs none address path below home =
+      law content fs address path (in_force opinions sources table gathered content found none_is write) below home (wider opinions sources table gathered content found none_is write fs path home none)
 
-  pub nothing_found_is_the_servers : SilenceIsTheServersVerdict → NothingFoundIsTheServers
-  nothing_found_is_the_servers law opinions sources table gathered content are fs none_wider none_repeated address path below home =
-      law content fs address path (in_force opinions sources table gathered content are) below home (wider opinions sources table gathered content are fs path home none_wider)
-      (repeated opinions sources table gathered content are fs path home none_repeated)
+  pub nothing_found_is_the_servers : SilenceIsTheServersVerdict → OfFaultless TheServersIfNeither
+  nothing_found_is_the_servers law opinions sources table gathered content found none_is write fs none_wider none_repeated address path below home =
+      law content fs address path (in_force opinions sources table gathered content found none_is write) below home (wider opinions sources table gathered content found none_is write fs path home none_wider)
+      (repeated opinions sources table gathered content found none_is write fs path home none_repeated)
 
   by_rows : NothingRepeatedIsLoaded → (table : List Mount) (fs : ℕ) (rows : List Row) → All (WritesDirectories table fs) rows → AreAscending rows → ((path : List (List ℕ)) → fs_of table path ≡ Some fs → AreRepeatedClients rows []) → loaded rows ≡ rows
   by_rows law table fs [] dirs up none = refl
@@ -121,10 +115,10 @@ module _ (ascend : LinesAscend) where
       let read = ap (λ answer. then_read (in_file (line_fault (codes "exports")) answer) (whole_policy write.site_tables table)) write.reads_exports in
       subst (λ (c : Content). WriteDirectories c fs) (sym write.is) (law Two write.site_tables table sources.exports.text.now _ read fs)
 
-  pub nothing_repeated_found_is_loaded : WholeLinesWriteDirectories → NothingRepeatedIsLoaded → NothingRepeatedFoundIsLoaded
-  nothing_repeated_found_is_loaded dirs law opinions sources table gathered content are fs none =
-      by_rows law content.table fs (rows_of content fs) (write_directories dirs sources table content are.write fs) ((in_force opinions sources table gathered content are).ascending fs)
-      (λ path home. repeated opinions sources table gathered content are fs path home none)
+  pub nothing_repeated_found_is_loaded : WholeLinesWriteDirectories → NothingRepeatedIsLoaded → OfFaultless LoadedIfNothingRepeated
+  nothing_repeated_found_is_loaded dirs law opinions sources table gathered content found none_is write fs none =
+      by_rows law content.table fs (rows_of content fs) (write_directories dirs sources table content write fs) ((in_force opinions sources table gathered content found none_is write).ascending fs)
+      (λ path home. repeated opinions sources table gathered content found none_is write fs path home none)
 
   -- ---- silence
 
@@ -147,11 +141,11 @@ module _ (ascend : LinesAscend) where
   silent_repeated = silent_off tells_repeated (λ what e. (neither (tells_more what) (tells_repeated what) e).1)
 
   pub silent_findings_are_quiet : SilentFindingsAreQuiet
-  silent_findings_are_quiet opinions sources table gathered content found silent written fs path home =
-      let are : AreFaultless opinions sources table gathered content = record { gathers = found; faultless = silent_faultless gathered.findings silent; write = written } in
+  silent_findings_are_quiet opinions sources table gathered content found silent write fs path home =
+      let none_is = silent_faultless gathered.findings silent in
       record {
-        wider = wider opinions sources table gathered content are fs path home (silent_wider sources.exports.text.now (rows_of content fs) gathered.findings silent);
-        repeated = repeated opinions sources table gathered content are fs path home (silent_repeated sources.exports.text.now (rows_of content fs) gathered.findings silent);
+        wider = wider opinions sources table gathered content found none_is write fs path home (silent_wider sources.exports.text.now (rows_of content fs) gathered.findings silent);
+        repeated = repeated opinions sources table gathered content found none_is write fs path home (silent_repeated sources.exports.text.now (rows_of content fs) gathered.findings silent);
       }
 
   equal_at : SilenceIsTheServersVerdict → (content : Content) (address : ℕ) (path : List (List ℕ)) → IsInForce content → ((fs : ℕ) → fs_of content.table path ≡ Some fs → IsQuiet content fs) → address < 2 ^ 32 → (o : Option ℕ) → fs_of content.table path ≡ o
@@ -164,6 +158,6 @@ module _ (ascend : LinesAscend) where
       law content fs address path holds below home here.wider here.repeated
 
   pub silent_findings_are_the_servers : SilenceIsTheServersVerdict → SilentFindingsAreTheServers
-  silent_findings_are_the_servers law opinions sources table gathered content found silent written address path below =
-      let are : AreFaultless opinions sources table gathered content = record { gathers = found; faultless = silent_faultless gathered.findings silent; write = written } in
-      equal_at law content address path (in_force opinions sources table gathered content are) (λ fs home. silent_findings_are_quiet opinions sources table gathered content found silent written fs path home) below (fs_of content.table path) refl
+  silent_findings_are_the_servers law opinions sources table gathered content found silent write address path below =
+      let none_is = silent_faultless gathered.findings silent in
+      equal_at law content address path (in_force opinions sources table gathered content found none_is write) (λ fs home. silent_findings_are_quiet opinions sources table gathered content found silent write fs path home) below (fs_of content.table path) refl

@@ -1,13 +1,16 @@
 -- Where `check` is silent about mountd(8), what is proved here of a policy holds by its rule, too. (this project's own)
 use Rattle.std.specs.Prelude.{◌≡◌, ℕ, ◌<◌, ◌^◌, ◌||◌, All, Bool, true, false, Contains, List, [], Ok, Some, IfSome}
 use Rattle.std.specs.List.{list_any}
+use Rattle.desk_tables.specs.Custodians.{read_custodians}
 use Rattle.desk_tables.specs.FileSystems.{fs_of}
+use Rattle.desk_tables.specs.FileSystemsText.{read_filesystems}
+use Rattle.desk_tables.specs.declared.custodians.Custodian.{Custodian}
 use Rattle.desk_tables.specs.declared.filesystems.FsId.{FsId}
 use Rattle.desk_tables.specs.declared.filesystems.Mount.{Mount}
 use Rattle.desk_exports.specs.Files.{whole_answer}
 use Rattle.desk_exports.specs.declared.entry.Entry.{Entry}
 use Rattle.desk_exports.specs.declared.profile.Profile.TheVariants.{Two}
-use Rattle.desk_policy.specs.Parsing.{rows_with}
+use Rattle.desk_policy.specs.Parsing.{if_listed, rows_with}
 use Rattle.desk_policy.specs.Policy.{Content, content_of, rows_of}
 use Rattle.desk_policy.specs.Verdict.{verdict_of}
 use Rattle.desk_policy.specs.declared.parsing.SiteTables.{SiteTables}
@@ -17,8 +20,10 @@ use Rattle.desk_server.specs.RepeatedClients.{AreRepeatedClients, loaded, loaded
 use Rattle.desk_server.specs.Server.{server_verdict_of}
 use Rattle.desk_server.specs.WiderGrants.{AreWiderGrants}
 use Rattle.desk_findings.specs.CheckOdd.{IsOnNumbered}
+use Rattle.desk_findings.specs.CheckSite.{GathersSite}
 use Rattle.desk_findings.specs.CheckText.{Gathers, tables_of}
 use Rattle.desk_findings.specs.Finding.{is_fault}
+use Rattle.desk_findings.specs.declared.check_site.SiteSources.{SiteSources}
 use Rattle.desk_findings.specs.declared.check_text.Gathered.{Gathered}
 use Rattle.desk_findings.specs.declared.check_text.WholeSources.{WholeSources}
 use Rattle.desk_findings.specs.declared.finding.Finding.{Finding}
@@ -75,35 +80,56 @@ pub record Write (sources : WholeSources) (table : List Mount) (content : Conten
   pub reads_exports : whole_answer (rows_with Two table site_tables) sources.exports.text.now ≡ Ok entries
   pub is : content ≡ content_of site_tables.netgroups site_tables.hosts table entries
 
--- What is found in texts has no fault, and they write this policy.
-pub record AreFaultless (opinions : Bool) (sources : WholeSources) (table : List Mount) (gathered : Gathered) (content : Content) : Type 0 where
-  pub gathers : Gathers opinions sources table gathered
-  pub faultless : HasNoFault gathered.findings
-  pub write : Write sources table content
+-- the texts of a site's files write this policy: each of its custodians is listed
+pub record WriteSite (sources : SiteSources) (content : Content) : Type 0 where
+  pub custodians : List Custodian
+  pub table : List Mount
+  pub reads_custodians : read_custodians sources.custodians.text.now ≡ Ok custodians
+  pub reads_filesystems : if_listed custodians (read_filesystems sources.filesystems.text.now) ≡ Ok table
+  pub writes : Write sources.whole table content
 
--- If then no finding on a line of a file system says that mountd(8) grants more, each verdict on a path of it is that of mountd's rule.
-abbrev pub NothingWiderFoundIsEqual : Type 0
-NothingWiderFoundIsEqual =
-    (opinions : Bool) (sources : WholeSources) (table : List Mount) (gathered : Gathered) (content : Content) → AreFaultless opinions sources table gathered content
-    → (fs : ℕ) → NoneIsToldOn tells_more sources.exports.text.now (rows_of content fs) gathered.findings
+-- If no finding on a line of a file system says that mountd(8) grants more, each verdict on a path of it is that of mountd's rule.
+abbrev pub EqualIfNothingWider : List ℕ → List Finding → Content → Type 0
+EqualIfNothingWider text findings content =
+    (fs : ℕ) → NoneIsToldOn tells_more text (rows_of content fs) findings
     → (address : ℕ) (path : List (List ℕ)) → address < 2 ^ 32 → fs_of content.table path ≡ Some fs
     → server_verdict_of content address path ≡ verdict_of content address path
 
--- If none says that mountd(8) may leave the line out, it puts each line of the file system in force.
-abbrev pub NothingRepeatedFoundIsLoaded : Type 0
-NothingRepeatedFoundIsLoaded =
-    (opinions : Bool) (sources : WholeSources) (table : List Mount) (gathered : Gathered) (content : Content) → AreFaultless opinions sources table gathered content
-    → (fs : ℕ) → NoneIsToldOn tells_repeated sources.exports.text.now (rows_of content fs) gathered.findings
-    → loaded (rows_of content fs) ≡ rows_of content fs
+-- If none says that mountd(8) may leave the line out, it puts all lines of the file system in force.
+abbrev pub LoadedIfNothingRepeated : List ℕ → List Finding → Content → Type 0
+LoadedIfNothingRepeated text findings content =
+    (fs : ℕ) → NoneIsToldOn tells_repeated text (rows_of content fs) findings → loaded (rows_of content fs) ≡ rows_of content fs
 
 -- If neither is said, each verdict on a path of it is that of mountd's rule by the lines that it puts in force.
-abbrev pub NothingFoundIsTheServers : Type 0
-NothingFoundIsTheServers =
-    (opinions : Bool) (sources : WholeSources) (table : List Mount) (gathered : Gathered) (content : Content) → AreFaultless opinions sources table gathered content
-    → (fs : ℕ) → NoneIsToldOn tells_more sources.exports.text.now (rows_of content fs) gathered.findings
-    → NoneIsToldOn tells_repeated sources.exports.text.now (rows_of content fs) gathered.findings
+abbrev pub TheServersIfNeither : List ℕ → List Finding → Content → Type 0
+TheServersIfNeither text findings content =
+    (fs : ℕ) → NoneIsToldOn tells_more text (rows_of content fs) findings → NoneIsToldOn tells_repeated text (rows_of content fs) findings
     → (address : ℕ) (path : List (List ℕ)) → address < 2 ^ 32 → fs_of content.table path ≡ Some fs
     → server_verdict_of (loaded_content content) address path ≡ verdict_of content address path
+
+-- this holds of the exports text, the findings and the policy of texts of which no finding is a fault
+abbrev pub OfFaultless : (List ℕ → List Finding → Content → Type 0) → Type 0
+OfFaultless Holds =
+    (opinions : Bool) (sources : WholeSources) (table : List Mount) (gathered : Gathered) (content : Content) → Gathers opinions sources table gathered → HasNoFault gathered.findings
+    → Write sources table content → Holds sources.exports.text.now gathered.findings content
+
+-- the same of the files of a site
+abbrev pub OfFaultlessSite : (List ℕ → List Finding → Content → Type 0) → Type 0
+OfFaultlessSite Holds =
+    (opinions : Bool) (sources : SiteSources) (gathered : Gathered) (content : Content) → GathersSite opinions sources gathered → HasNoFault gathered.findings
+    → WriteSite sources content → Holds sources.whole.exports.text.now gathered.findings content
+
+-- Texts of which no finding is a fault write a policy.
+abbrev pub FaultlessTextsWrite : Type 0
+FaultlessTextsWrite =
+    (opinions : Bool) (sources : WholeSources) (table : List Mount) (gathered : Gathered) → Gathers opinions sources table gathered → HasNoFault gathered.findings
+    → (content : Content) × Write sources table content
+
+-- So do the files of a site.
+abbrev pub FaultlessSitesWrite : Type 0
+FaultlessSitesWrite =
+    (opinions : Bool) (sources : SiteSources) (gathered : Gathered) → GathersSite opinions sources gathered → HasNoFault gathered.findings
+    → (content : Content) × WriteSite sources content
 
 -- If what is found in texts is silent, so it is of each file system of the policy that they write.
 abbrev pub SilentFindingsAreQuiet : Type 0
@@ -116,4 +142,11 @@ abbrev pub SilentFindingsAreTheServers : Type 0
 SilentFindingsAreTheServers =
     (opinions : Bool) (sources : WholeSources) (table : List Mount) (gathered : Gathered) (content : Content) → Gathers opinions sources table gathered → IsSilent gathered.findings
     → Write sources table content → (address : ℕ) (path : List (List ℕ)) → address < 2 ^ 32
+    → server_verdict_of (loaded_content content) address path ≡ verdict_of content address path
+
+-- So it is of the policy that the files of a site write.
+abbrev pub SilentSitesAreTheServers : Type 0
+SilentSitesAreTheServers =
+    (opinions : Bool) (sources : SiteSources) (gathered : Gathered) (content : Content) → GathersSite opinions sources gathered → IsSilent gathered.findings
+    → WriteSite sources content → (address : ℕ) (path : List (List ℕ)) → address < 2 ^ 32
     → server_verdict_of (loaded_content content) address path ≡ verdict_of content address path
