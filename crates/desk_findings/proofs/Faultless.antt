@@ -30,10 +30,11 @@ use Rattle.desk_exports.specs.declared.entry.Entry.{Entry}
 use Rattle.desk_exports.specs.declared.faults.PlacedFault.{PlacedFault as LinePlacedFault}
 use Rattle.desk_exports.specs.declared.profile.Profile.TheVariants.{Two}
 use Rattle.desk_exports.specs.declared.rules.Rule.{Rule}
-use Rattle.desk_policy.specs.Parsing.{if_listed, in_file, rows_with, then_read, unless_unlisted}
-use Rattle.desk_policy.specs.Policy.{Content, content_of}
-use Rattle.desk_policy.specs.SiteFault.{group_fault, table_fault}
+use Rattle.desk_policy.specs.Parsing.{if_listed, in_file, rows_with, then_read, unless_unlisted, whole_policy}
+use Rattle.desk_policy.specs.Policy.{Content, content_of, with_warnings}
+use Rattle.desk_policy.specs.SiteFault.{group_fault, line_fault, table_fault}
 use Rattle.desk_policy.specs.Unlisted.{has_unlisted, least, unlisted_line}
+use Rattle.desk_policy.specs.Warning.{whole_warnings}
 use Rattle.desk_policy.specs.declared.parsing.SiteTables.{SiteTables}
 use Rattle.desk_policy.specs.declared.per_table.PerTable.{PerTable}
 use Rattle.desk_policy.specs.declared.site_fault.SiteFault.{SiteFault}
@@ -122,7 +123,11 @@ module _ (of_tables : tables.FirstOfFaultsIsReported) (of_netgroup : netgroup.Fi
       → whole_answer (rows_with Two table site_tables) sources.exports.text.now ≡ answer → GathersBy answer opinions sources table site_tables gathered → All IsToldFaultless (map told gathered.findings)
       → (content : Content) × Write sources table content
   write_by opinions sources table gathered site_tables (Ok entries) reads is found each =
-      (content_of site_tables.netgroups site_tables.hosts table entries, record { site_tables = site_tables; entries = entries; reads_tables = reads; reads_exports = is; is = refl })
+      (with_warnings (content_of site_tables.netgroups site_tables.hosts table entries) (whole_warnings site_tables.netgroups site_tables.hosts entries), record {
+        site_tables = site_tables;
+        reads_tables = reads;
+        reads_exports = ap (λ read. then_read (in_file (line_fault (codes "exports")) read) (whole_policy site_tables table)) is;
+      })
   write_by opinions sources table gathered site_tables (Err fault) reads is found each =
       let none = no_faults _ _ (tell_line sources.exports) _ (map told gathered.findings) (λ one. refl) found.tell each in
       absurd (no_first _ fault none ((of_exports (rows_with Two table site_tables) sources.exports.text.now fault).0.0 is))

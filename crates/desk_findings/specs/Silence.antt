@@ -5,13 +5,10 @@ use Rattle.desk_tables.specs.Custodians.{read_custodians}
 use Rattle.desk_tables.specs.FileSystems.{fs_of}
 use Rattle.desk_tables.specs.FileSystemsText.{read_filesystems}
 use Rattle.desk_tables.specs.declared.custodians.Custodian.{Custodian}
-use Rattle.desk_tables.specs.declared.filesystems.FsId.{FsId}
 use Rattle.desk_tables.specs.declared.filesystems.Mount.{Mount}
-use Rattle.desk_exports.specs.Files.{whole_answer}
-use Rattle.desk_exports.specs.declared.entry.Entry.{Entry}
 use Rattle.desk_exports.specs.declared.profile.Profile.TheVariants.{Two}
-use Rattle.desk_policy.specs.Parsing.{if_listed, rows_with}
-use Rattle.desk_policy.specs.Policy.{Content, content_of, rows_of}
+use Rattle.desk_policy.specs.Parsing.{if_listed, read_whole_with}
+use Rattle.desk_policy.specs.Policy.{Content, rows_of}
 use Rattle.desk_policy.specs.Verdict.{verdict_of}
 use Rattle.desk_policy.specs.declared.parsing.SiteTables.{SiteTables}
 use Rattle.desk_policy.specs.declared.row.Row.{Row}
@@ -72,13 +69,11 @@ pub record IsQuiet (content : Content) (fs : ℕ) : Type 0 where
   pub wider : AreWiderGrants content fs []
   pub repeated : AreRepeatedClients (rows_of content fs) []
 
--- these texts write this policy
+-- these texts write this policy, by profile 2
 pub record Write (sources : WholeSources) (table : List Mount) (content : Content) : Type 0 where
   pub site_tables : SiteTables
-  pub entries : List (FsId × Entry)
   pub reads_tables : tables_of sources.tables ≡ Ok site_tables
-  pub reads_exports : whole_answer (rows_with Two table site_tables) sources.exports.text.now ≡ Ok entries
-  pub is : content ≡ content_of site_tables.netgroups site_tables.hosts table entries
+  pub reads_exports : read_whole_with Two site_tables table sources.exports.text.now ≡ Ok content
 
 -- the texts of a site's files write this policy: each of its custodians is listed
 pub record WriteSite (sources : SiteSources) (content : Content) : Type 0 where
