@@ -12,7 +12,6 @@ use Rattle.desk_tables.specs.Networks.{read_networks}
 use Rattle.desk_tables.specs.Rules.{TableFault}
 use Rattle.desk_tables.specs.Users.{read_users}
 use Rattle.desk_tables.specs.declared.custodians.Custodian.{Custodian}
-use Rattle.desk_tables.specs.declared.faults.PlacedFault.{PlacedFault as TablePlacedFault}
 use Rattle.desk_tables.specs.declared.filesystems.FsId.{FsId}
 use Rattle.desk_tables.specs.declared.filesystems.Mount.{Mount}
 use Rattle.desk_tables.specs.declared.groups.Group.{Group}
@@ -22,12 +21,10 @@ use Rattle.desk_tables.specs.declared.users.User.{User}
 use Rattle.desk_netgroup.specs.Laws as netgroup
 use Rattle.desk_netgroup.specs.Netgroups.{read_netgroups}
 use Rattle.desk_netgroup.specs.declared.faults.GroupFault.{GroupFault}
-use Rattle.desk_netgroup.specs.declared.faults.PlacedFault.{PlacedFault as GroupPlacedFault}
 use Rattle.desk_netgroup.specs.declared.group_line.GroupLine.{GroupLine}
 use Rattle.desk_exports.specs.Files.{whole_answer}
 use Rattle.desk_exports.specs.Laws.{FirstFaultIsTheHead}
 use Rattle.desk_exports.specs.declared.entry.Entry.{Entry}
-use Rattle.desk_exports.specs.declared.faults.PlacedFault.{PlacedFault as LinePlacedFault}
 use Rattle.desk_exports.specs.declared.profile.Profile.TheVariants.{Two}
 use Rattle.desk_exports.specs.declared.rules.Rule.{Rule}
 use Rattle.desk_policy.specs.Parsing.{if_listed, in_file, rows_with, then_read, unless_unlisted, whole_policy}
@@ -39,10 +36,9 @@ use Rattle.desk_policy.specs.declared.parsing.SiteTables.{SiteTables}
 use Rattle.desk_policy.specs.declared.per_table.PerTable.{PerTable}
 use Rattle.desk_policy.specs.declared.site_fault.SiteFault.{SiteFault}
 use Rattle.desk_findings.specs.CheckFaults.{TellTables, Tells, tell_group, tell_line, tell_table}
-use Rattle.desk_findings.specs.CheckOdd.{TellInOrder}
 use Rattle.desk_findings.specs.CheckSite as site
 use Rattle.desk_findings.specs.CheckSite.{TellUnlisted, odd_of_unlisted}
-use Rattle.desk_findings.specs.CheckText.{Gathers, GathersBy, GathersWith, tables_of}
+use Rattle.desk_findings.specs.CheckText.{GathersBy, GathersWith, tables_of}
 use Rattle.desk_findings.specs.Finding.{is_fault}
 use Rattle.desk_findings.specs.Silence.{FaultlessSitesWrite, FaultlessTextsWrite, HasNoFault, Write, WriteSite}
 use Rattle.desk_findings.specs.Told.{Told, told}
@@ -114,20 +110,23 @@ module _ (of_tables : tables.FirstOfFaultsIsReported) (of_netgroup : netgroup.Fi
       let networks = answers (read_networks sources.networks.text.now) (λ fault is. no_first _ fault no_networks ((of_tables.of_networks sources.networks.text.now fault).0 is)) in
       let users = answers (read_users sources.passwd.text.now) (λ fault is. no_first _ fault no_users ((of_tables.of_users sources.passwd.text.now fault).0 is)) in
       let groups = answers (read_groups sources.group.text.now) (λ fault is. no_first _ fault no_groups ((of_tables.of_groups sources.group.text.now fault).0 is)) in
-      let netgroups = answers (read_netgroups sources.netgroup.text.now) (λ fault is. no_first _ fault no_netgroups ((of_netgroup sources.netgroup.text.now fault).0 is)) in
-      (record { hosts = hosts.0; networks = networks.0; users = users.0; groups = groups.0; netgroups = netgroups.0 },
-      all_good (read_hosts sources.hosts.text.now) (read_networks sources.networks.text.now) (read_users sources.passwd.text.now) (read_groups sources.group.text.now) (read_netgroups sources.netgroup.text.now)
-      hosts.0 networks.0 users.0 groups.0 netgroups.0 hosts.1 networks.1 users.1 groups.1 netgroups.1)
+      let netgroups = answers (read_netgroups sources.netgroup.text.now) (λ fault is. no_first _ fault no_netgroups ((of_netgroup sources.netgroup.text.now fault).0 is)) in (
+        record { hosts = hosts.0; networks = networks.0; users = users.0; groups = groups.0; netgroups = netgroups.0 },
+        all_good (read_hosts sources.hosts.text.now) (read_networks sources.networks.text.now) (read_users sources.passwd.text.now) (read_groups sources.group.text.now) (read_netgroups sources.netgroup.text.now)
+            hosts.0 networks.0 users.0 groups.0 netgroups.0 hosts.1 networks.1 users.1 groups.1 netgroups.1,
+      )
 
   write_by : (opinions : Bool) (sources : WholeSources) (table : List Mount) (gathered : Gathered) (site_tables : SiteTables) (answer : Result (List (FsId × Entry)) (LineFault Rule)) → tables_of sources.tables ≡ Ok site_tables
       → whole_answer (rows_with Two table site_tables) sources.exports.text.now ≡ answer → GathersBy answer opinions sources table site_tables gathered → All IsToldFaultless (map told gathered.findings)
       → (content : Content) × Write sources table content
-  write_by opinions sources table gathered site_tables (Ok entries) reads is found each =
-      (with_warnings (content_of site_tables.netgroups site_tables.hosts table entries) (whole_warnings site_tables.netgroups site_tables.hosts entries), record {
-        site_tables = site_tables;
-        reads_tables = reads;
-        reads_exports = ap (λ read. then_read (in_file (line_fault (codes "exports")) read) (whole_policy site_tables table)) is;
-      })
+  write_by opinions sources table gathered site_tables (Ok entries) reads is found each = (
+    with_warnings (content_of site_tables.netgroups site_tables.hosts table entries) (whole_warnings site_tables.netgroups site_tables.hosts entries),
+    record {
+      site_tables = site_tables;
+      reads_tables = reads;
+      reads_exports = ap (λ read. then_read (in_file (line_fault (codes "exports")) read) (whole_policy site_tables table)) is;
+    },
+  )
   write_by opinions sources table gathered site_tables (Err fault) reads is found each =
       let none = no_faults _ _ (tell_line sources.exports) _ (map told gathered.findings) (λ one. refl) found.tell each in
       absurd (no_first _ fault none ((of_exports (rows_with Two table site_tables) sources.exports.text.now fault).0.0 is))
@@ -155,14 +154,16 @@ module _ (of_tables : tables.FirstOfFaultsIsReported) (of_netgroup : netgroup.Fi
       → read_filesystems sources.filesystems.text.now ≡ Ok table → unlisted_line custodians table ≡ line → site.GathersIfListed line opinions sources custodians table gathered → HasNoFault gathered.findings
       → (content : Content) × WriteSite sources content
   site_listed opinions sources gathered custodians table None reads is_table is found none =
-      let whole = faultless_texts_write opinions sources.whole table gathered found none in
-      (whole.0, record {
-        custodians = custodians;
-        table = table;
-        reads_custodians = reads;
-        reads_filesystems = ap (if_listed custodians) is_table ∙ ap (unless_unlisted table) is;
-        writes = whole.1;
-      })
+      let whole = faultless_texts_write opinions sources.whole table gathered found none in (
+        whole.0,
+        record {
+          custodians = custodians;
+          table = table;
+          reads_custodians = reads;
+          reads_filesystems = ap (if_listed custodians) is_table ∙ ap (unless_unlisted table) is;
+          writes = whole.1;
+        },
+      )
   site_listed opinions sources gathered custodians table (Some line) reads is_table is found none =
       let each = subst (All IsToldFaultless) found.tell.are (faultless_told gathered.findings none) in
       let no_line = listed sources.filesystems custodians table found.tell.unlisted found.tell.tell_unlisted (first_part IsToldFaultless found.tell.unlisted found.tell.tables each) in

@@ -1,5 +1,5 @@
 -- What is told of the lines of a file system where no finding is a fault: from the findings down to what is said of each line.
-use Rattle.std.proofs.Common.{◌≡◌, ◌∙◌, ◌<◌, ◌++◌, ◌||◌, ℕ, All, Bool, true, false, Contains, List, [], ◌∷◌, Option, Some, None, Result, Ok, Err, IfSome, ap, arith, get_or, inl, inr, map, option_map, refl, slice_get, subst, sym}
+use Rattle.std.proofs.Common.{◌≡◌, ◌∙◌, ◌++◌, ◌||◌, ℕ, All, Bool, true, false, Contains, List, [], ◌∷◌, Option, Some, None, Result, Ok, IfSome, ap, arith, get_or, inl, inr, map, option_map, refl, slice_get, subst, sym}
 use Rattle.std.specs.Prelude.{filter}
 use Rattle.std.specs.List.{AllZip, flat_map, list_any}
 use Rattle.std.proofs.lemmas.Bool.{cases_Bool, eqb-true}
@@ -16,9 +16,8 @@ use Rattle.desk_exports.specs.declared.profile.Profile.TheVariants.{Two}
 use Rattle.desk_exports.specs.declared.rules.Rule.{Rule}
 use Rattle.desk_policy.specs.Contradiction.{HasNoContradiction}
 use Rattle.desk_policy.specs.Parsing.{rows_with}
-use Rattle.desk_policy.specs.Policy.{Content, content_of, rows_of}
+use Rattle.desk_policy.specs.Policy.{Content, rows_of}
 use Rattle.desk_policy.specs.Verdict.{is_in}
-use Rattle.desk_policy.specs.Warning.{whole_warnings}
 use Rattle.desk_policy.specs.Weights.{selected}
 use Rattle.desk_policy.specs.declared.contradiction.Contradiction.{Contradiction}
 use Rattle.desk_policy.specs.declared.parsing.SiteTables.{SiteTables}

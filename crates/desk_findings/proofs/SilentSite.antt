@@ -1,6 +1,5 @@
 -- What is found in a site's files without a fault is what is found in its exports text.
 use Rattle.std.proofs.Common.{◌≡◌, ℕ, Bool, List, Option, Some, None, Result, Ok, Err, subst}
-use Rattle.desk_text.specs.Laws.{LinesAscend}
 use Rattle.desk_tables.specs.FileSystemsText.{read_filesystems}
 use Rattle.desk_tables.specs.Rules.{TableFault}
 use Rattle.desk_tables.specs.declared.custodians.Custodian.{Custodian}
@@ -8,7 +7,6 @@ use Rattle.desk_tables.specs.declared.filesystems.Mount.{Mount}
 use Rattle.desk_policy.specs.Parsing.{if_listed, unless_unlisted}
 use Rattle.desk_policy.specs.Policy.{Content}
 use Rattle.desk_policy.specs.Unlisted.{unlisted_line}
-use Rattle.desk_server.specs.Laws.{SilenceIsTheServersVerdict}
 use Rattle.desk_findings.specs.CheckSite.{GathersBy, GathersFrom, GathersIfListed, GathersSite}
 use Rattle.desk_findings.specs.CheckText.{Gathers}
 use Rattle.desk_findings.specs.Silence.{OfFaultless, OfFaultlessSite, SilentFindingsAreTheServers, SilentSitesAreTheServers, WriteSite}

@@ -1,7 +1,6 @@
 -- Where what is found in texts has no fault and does not speak of mountd(8), the verdicts of their policy are those of the server.
 use Rattle.std.proofs.Common.{◌≡◌, ◌∙◌, ◌<◌, ◌^◌, ◌||◌, ℕ, All, Bool, true, false, Contains, List, [], ◌∷◌, Option, Some, None, Result, Ok, Err, ap, arith, get_or, inl, inr, length, refl, subst, sym}
 use Rattle.std.specs.Prelude.{codes}
-use Rattle.std.specs.List.{list_any}
 use Rattle.std.proofs.lemmas.Bool.{cases_lt}
 use Rattle.std.proofs.lemmas.List.{get_or_past}
 use Rattle.std.proofs.lemmas.List.Elements.{All-head, All-nil, All-weaker}

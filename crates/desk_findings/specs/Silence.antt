@@ -35,7 +35,7 @@ tells_more (matter.Warning kind) = false
 tells_more (matter.Remark ServerGrantsMore example) = true
 tells_more (matter.Remark _ example) = false
 
--- or that mountd(8) may leave a line out
+-- a finding about this says that mountd(8) may leave a line out
 abbrev pub tells_repeated : Matter → Bool
 tells_repeated (matter.Fault rule other) = false
 tells_repeated (matter.Contradiction other address) = false
@@ -43,7 +43,7 @@ tells_repeated (matter.Warning kind) = false
 tells_repeated (matter.Remark RepeatedClient example) = true
 tells_repeated (matter.Remark _ example) = false
 
--- it says one of both
+-- a finding about this says that mountd(8) grants more than this desk, or may leave a line out
 abbrev pub is_of_server : Matter → Bool
 is_of_server matter = tells_more matter || tells_repeated matter
 
@@ -51,7 +51,7 @@ is_of_server matter = tells_more matter || tells_repeated matter
 abbrev pub HasNoFault : List Finding → Type 0
 HasNoFault findings = list_any (λ finding. is_fault finding.matter) findings ≡ false
 
--- no finding is a fault, and none speaks of mountd(8)
+-- no finding is a fault, and none says either of mountd(8)
 abbrev pub IsSilent : List Finding → Type 0
 IsSilent findings = list_any (λ finding. is_fault finding.matter || is_of_server finding.matter) findings ≡ false
 
@@ -75,7 +75,7 @@ pub record Write (sources : WholeSources) (table : List Mount) (content : Conten
   pub reads_tables : tables_of sources.tables ≡ Ok site_tables
   pub reads_exports : read_whole_with Two site_tables table sources.exports.text.now ≡ Ok content
 
--- the texts of a site's files write this policy: each of its custodians is listed
+-- the texts of a site's files write this policy, by profile 2, and each custodian that its file systems name is listed
 pub record WriteSite (sources : SiteSources) (content : Content) : Type 0 where
   pub custodians : List Custodian
   pub table : List Mount
@@ -90,37 +90,38 @@ EqualIfNothingWider text findings content =
     → (address : ℕ) (path : List (List ℕ)) → address < 2 ^ 32 → fs_of content.table path ≡ Some fs
     → server_verdict_of content address path ≡ verdict_of content address path
 
--- If none says that mountd(8) may leave the line out, it puts all lines of the file system in force.
+-- If no finding on a line of a file system says that mountd(8) may leave it out, mountd puts all lines of the file system in force.
 abbrev pub LoadedIfNothingRepeated : List ℕ → List Finding → Content → Type 0
 LoadedIfNothingRepeated text findings content =
     (fs : ℕ) → NoneIsToldOn tells_repeated text (rows_of content fs) findings → loaded (rows_of content fs) ≡ rows_of content fs
 
--- If neither is said, each verdict on a path of it is that of mountd's rule by the lines that it puts in force.
+-- If no finding on a line of a file system says either, each verdict on a path of it is that of mountd's rule by the lines that it puts in
+-- force.
 abbrev pub TheServersIfNeither : List ℕ → List Finding → Content → Type 0
 TheServersIfNeither text findings content =
     (fs : ℕ) → NoneIsToldOn tells_more text (rows_of content fs) findings → NoneIsToldOn tells_repeated text (rows_of content fs) findings
     → (address : ℕ) (path : List (List ℕ)) → address < 2 ^ 32 → fs_of content.table path ≡ Some fs
     → server_verdict_of (loaded_content content) address path ≡ verdict_of content address path
 
--- this holds of the exports text, the findings and the policy of texts of which no finding is a fault
+-- Whenever nothing that is found in texts is a fault, this holds of the exports text, of the findings and of the policy.
 abbrev pub OfFaultless : (List ℕ → List Finding → Content → Type 0) → Type 0
 OfFaultless Holds =
     (opinions : Bool) (sources : WholeSources) (table : List Mount) (gathered : Gathered) (content : Content) → Gathers opinions sources table gathered → HasNoFault gathered.findings
     → Write sources table content → Holds sources.exports.text.now gathered.findings content
 
--- the same of the files of a site
+-- Whenever nothing that is found in the files of a site is a fault, it holds of theirs.
 abbrev pub OfFaultlessSite : (List ℕ → List Finding → Content → Type 0) → Type 0
 OfFaultlessSite Holds =
     (opinions : Bool) (sources : SiteSources) (gathered : Gathered) (content : Content) → GathersSite opinions sources gathered → HasNoFault gathered.findings
     → WriteSite sources content → Holds sources.whole.exports.text.now gathered.findings content
 
--- Texts of which no finding is a fault write a policy.
+-- If nothing that is found in texts is a fault, they write a policy.
 abbrev pub FaultlessTextsWrite : Type 0
 FaultlessTextsWrite =
     (opinions : Bool) (sources : WholeSources) (table : List Mount) (gathered : Gathered) → Gathers opinions sources table gathered → HasNoFault gathered.findings
     → (content : Content) × Write sources table content
 
--- So do the files of a site.
+-- If nothing that is found in the files of a site is a fault, they write a policy.
 abbrev pub FaultlessSitesWrite : Type 0
 FaultlessSitesWrite =
     (opinions : Bool) (sources : SiteSources) (gathered : Gathered) → GathersSite opinions sources gathered → HasNoFault gathered.findings
@@ -139,7 +140,8 @@ SilentFindingsAreTheServers =
     → Write sources table content → (address : ℕ) (path : List (List ℕ)) → address < 2 ^ 32
     → server_verdict_of (loaded_content content) address path ≡ verdict_of content address path
 
--- So it is of the policy that the files of a site write.
+-- If what is found in the files of a site is silent, each verdict of their policy is that of mountd's rule by the lines that it puts in
+-- force.
 abbrev pub SilentSitesAreTheServers : Type 0
 SilentSitesAreTheServers =
     (opinions : Bool) (sources : SiteSources) (gathered : Gathered) (content : Content) → GathersSite opinions sources gathered → IsSilent gathered.findings
