@@ -37,7 +37,7 @@ use Rattle.desk_idle.specs.Laws.{WholeLinesWriteDirectories, WriteDirectories, W
 use Rattle.desk_findings.specs.CheckOdd.{AreContradictionsIn}
 use Rattle.desk_findings.specs.CheckText.{Gathers, GathersOdd, TellInconsistencies, tables_of}
 use Rattle.desk_findings.specs.Finding.{is_fault}
-use Rattle.desk_findings.specs.Silence.{EqualIfNothingWider, HasNoFault, IsQuiet, IsSilent, IsToldOn, LoadedIfNothingRepeated, NoneIsToldOn, OfFaultless, SilentFindingsAreQuiet, SilentFindingsAreTheServers, TheServersIfNeither, Write, is_of_server, tells_more, tells_repeated}
+use Rattle.desk_findings.specs.Silence.{EqualIfNothingWider, HasNoFault, IsQuiet, IsSilent, IsToldOn, LoadedIfNothingRepeated, NoneIsToldOn, OfFaultless, SilentFindingsAreQuiet, SilentFindingsAreTheServers, SilentFindingsSayNothing, TheServersIfNeither, Write, is_of_server, tells_more, tells_repeated}
 use Rattle.desk_findings.specs.declared.check_text.Gathered.{Gathered}
 use Rattle.desk_findings.specs.declared.check_text.WholeSources.{WholeSources}
 use Rattle.desk_findings.specs.declared.finding.Finding.{Finding}
@@ -226,6 +226,10 @@ module _ (ascend : LinesAscend) where
 
   silent_repeated : (text : List ℕ) (rows : List Row) (findings : List Finding) → IsSilent findings → NoneIsToldOn tells_repeated text rows findings
   silent_repeated = silent_off tells_repeated (λ what e. (neither (tells_more what) (tells_repeated what) e).1)
+
+  pub silent_findings_say_nothing : SilentFindingsSayNothing
+  silent_findings_say_nothing findings text rows silent =
+      (silent_faultless findings silent, (silent_wider text rows findings silent, silent_repeated text rows findings silent))
 
   given_are_quiet : (opinions : Bool) (sources : WholeSources) (table : List Mount) (gathered : Gathered) (content : Content) → Gathers opinions sources table gathered → IsSilent gathered.findings
       → Gives sources table content → (fs : ℕ) (path : List (List ℕ)) → fs_of content.table path ≡ Some fs → IsQuiet content fs

@@ -127,6 +127,12 @@ FaultlessSitesWrite =
     (opinions : Bool) (sources : SiteSources) (gathered : Gathered) → GathersSite opinions sources gathered → HasNoFault gathered.findings
     → (content : Content) × WriteSite sources content
 
+-- Silent findings have no fault, and none says either of mountd(8) on a line, whatever lines of a text are asked about.
+abbrev pub SilentFindingsSayNothing : Type 0
+SilentFindingsSayNothing =
+    (findings : List Finding) (text : List ℕ) (rows : List Row) → IsSilent findings
+    → HasNoFault findings × (NoneIsToldOn tells_more text rows findings × NoneIsToldOn tells_repeated text rows findings)
+
 -- If what is found in texts is silent, so it is of each file system of the policy that they write.
 abbrev pub SilentFindingsAreQuiet : Type 0
 SilentFindingsAreQuiet =

@@ -1,6 +1,6 @@
 //! What silence of `check` means, as functions that do nothing.
 
-ghost use Rattle.desk_findings.specs.Silence.{EqualIfNothingWider, FaultlessSitesWrite, FaultlessTextsWrite, LoadedIfNothingRepeated, OfFaultless, OfFaultlessSite, SilentFindingsAreQuiet, SilentFindingsAreTheServers, SilentSitesAreTheServers, TheServersIfNeither};
+ghost use Rattle.desk_findings.specs.Silence.{EqualIfNothingWider, FaultlessSitesWrite, FaultlessTextsWrite, LoadedIfNothingRepeated, OfFaultless, OfFaultlessSite, SilentFindingsAreQuiet, SilentFindingsAreTheServers, SilentFindingsSayNothing, SilentSitesAreTheServers, TheServersIfNeither};
 
 use desk_exports::laws::first_fault_is_the_head;
 use desk_idle::read_lines_write_directories;
@@ -48,9 +48,10 @@ pub fn nothing_found_in_a_site_is_the_servers()
     silent_findings_are_the_servers();
 }
 
-/// If what is found in texts has no fault, and tells of no line that mountd(8) grants more or leaves it out, so it is of each file
-/// system of their policy, and its verdicts are those of the rule of mountd by the lines that it puts in force.
+/// If what is found in texts has no fault, and tells of no line that mountd(8) grants more or may leave it out, so it is of each
+/// file system of their policy, and its verdicts are those of the rule of mountd by the lines that it puts in force.
 pub fn silent_findings_are_the_servers()
+    ensures said { SilentFindingsSayNothing }
     ensures quiet { SilentFindingsAreQuiet }
     ensures verdicts { SilentFindingsAreTheServers }
 {
