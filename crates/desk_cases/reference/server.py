@@ -122,6 +122,35 @@ def who_text(site, path):
     return ranges_text(runs(lambda address: server_verdict(site, address, path), [site], path))
 
 
+def lines_text(count):
+    return "1 line" if count == 1 else f"{count} lines"
+
+
+def counts_note(site):
+    """How many lines there are of all file systems where the server grants more, and that it may leave out."""
+    wider = sum(len(wider_grants(site, mount)) for mount in site.mounts)
+    left_out = sum(len(repeated_clients(site, mount)) for mount in site.mounts)
+    said = [f"grants more than this desk at {lines_text(wider)}"] if wider else []
+    said += [f"may leave out {lines_text(left_out)}"] if left_out else []
+    return f"exportdesk: mountd(8) {', and '.join(said)}: see exportdesk check\n" if said else ""
+
+
+def news_note(before, after):
+    """What the server grants more by one site that it did not by another: by whichever lines, the same is granted if it is at the
+    same address the same directory."""
+    text = ""
+    for mount in after.mounts:
+        known = {found[2:] for found in wider_grants(before, mount)} if mount in before.mounts else set()
+        for _, line, address, directory in wider_grants(after, mount):
+            if (address, directory) not in known:
+                grants = f"exportdesk: mountd(8) now grants {dotted(address)}"
+                if directory is None:
+                    text += f"{grants} any directory of {printed(mount)} by line {line}\n"
+                else:
+                    text += f"{grants} {printed(directory)} by line {line} of {printed(mount)}\n"
+    return text
+
+
 # ---- which lines it takes
 
 
