@@ -26,7 +26,10 @@ use cli_verdict::{print_ranges, print_tried, printed_verdict, tried_by};
 use desk_core::Foresight;
 use desk_impact::{Report, impact_report, lines_report};
 use desk_policy::{Policy, Verdict, all_exports, listing_text};
-use desk_service::{Answer, FileText, Foreseen, ProposalText, Question, Refused, WholeSite};
+use desk_server_notes::news_note;
+use desk_service::{
+    Answer, FileText, Foreseen, Looked, ProposalText, Question, Refused, WholeSite, answer,
+};
 use desk_tables::Cred;
 use desk_who::who_text;
 use std::alloc::{AllocError, Global};
@@ -61,7 +64,7 @@ pub(crate) fn print_answer(
             refused(alloc, Refused::NoRevision, note)
         }
         Answer::Files(files) => print_text(alloc, files_text(alloc, &files)),
-        Answer::Foreseen(foreseen) => print_changes(alloc, asked, &foreseen),
+        Answer::Foreseen(foreseen) => print_changes(alloc, desk, asked, &foreseen),
         Answer::Site(site) => print_site(alloc, asked, &site),
         Answer::Refused(refusal) => {
             let note = refusal_note(alloc, desk, asked, &refusal)?;
@@ -133,22 +136,39 @@ fn print_proposal(alloc: Global, name: &str, proposal: &ProposalText) -> Result<
     })
 }
 
-/// Prints what would change. Standard error says who proposes the text, or that it would be proposed.
+/// Prints what would change. Standard error says who proposes the text, or that it would be proposed, and what mountd(8) would grant
+/// more.
 fn print_changes(
     alloc: Global,
+    desk: &CopiedDesk,
     asked: Asked<'_>,
     foreseen: &Foreseen<'_, View>,
 ) -> Result<Printed, Failure>
     requires { IsSound (ForeseenIs (foreseen_of (λ content. content) foreseen.now)) }
     ensures { TriesToPrint (asked_of asked.entry) (ForeseenIs (foreseen_of (λ content. content) foreseen.now)) result }
 {
-    let note = foreseen_note(alloc, asked.question, foreseen)?;
+    let news = news_of(alloc, desk, asked.question)?;
+    let mut note = foreseen_note(alloc, asked.question, foreseen)?;
+    note.push_str(news.as_str())?;
     let report = report_of(alloc, foreseen, asked.all)?;
     Ok(Printed {
         status: if report.mattering == 0 { 0 } else { 1 },
         text: report.text,
         note,
     })
+}
+
+/// Says what mountd(8) would grant more. Its rule is asked of the whole site as it would be.
+fn news_of(alloc: Global, desk: &CopiedDesk, question: Question<'_>) -> Result<String, AllocError> {
+    let whole = match question {
+        Question::Foresee(name, text) => Question::ForeseeSite(name, text),
+        Question::ForeseeProposal(name) => Question::ForeseeProposedSite(name),
+        _ => return Ok(String::new(alloc)),
+    };
+    match answer(alloc, desk, whole, Looked::Nothing)? {
+        Answer::Site(site) => news_note(alloc, desk.view(), site.view()),
+        _ => Ok(String::new(alloc)),
+    }
 }
 
 /// Reports what would change.

@@ -7,25 +7,28 @@ use Rattle.desk_policy.specs.Policy.{Content}
 use Rattle.desk_policy.specs.declared.site_fault.SiteFault.{SiteFault}
 use Rattle.desk_impact.specs.Report.{IsReport}
 use Rattle.desk_impact.specs.declared.report.Report.{Report}
+use Rattle.desk_server_notes.specs.NewsNote.{TellsNews}
 use Rattle.desk_findings.specs.declared.check_text.WholeSources.{WholeSources}
 use Rattle.cli_output.specs.declared.failure.Failure.{Failure}
+use Rattle.cli_output.specs.Printed.{Prints}
 use Rattle.cli_output.specs.declared.printed.Printed.{Printed}
 use Rattle.cli_words.specs.Words.{After, ByWord, is_set}
 use Rattle.cli_texts.specs.TwoFiles.{two_files, two_list, whole_first, whole_second}
 use Rattle.cli_texts.specs.FaultyTexts.{AnswersOrFault, PrintsFault}
 use Rattle.cli_texts.specs.MountWords.{ReadsMounts}
-use Rattle.cli_texts.specs.Printing.{PrintsAlone}
 use Rattle.cli_texts.specs.TableFiles.{ReadsSources}
 use Rattle.cli_texts.specs.WholeTables.{Writes, policy_of}
 use Rattle.cli_texts.specs.declared.two_files.TwoSources.{TwoSources}
 
--- what changes from a policy to the one that an exports text is read as is printed; the status is 0 if nothing matters to a client
+-- What changes from a policy to the one that an exports text is read as is printed; the status is 0 if nothing matters to a client.
+-- Beside it stands what mountd(8) grants more than before.
 pub record PrintsChanges (before : Content) (read : Result Content SiteFault) (all : Bool) (printed : Printed) : Type 0 where
   pub after : Content
   pub written : Writes read after
   pub report : Report
   pub is_report : IsReport before after all report
-  pub prints : PrintsAlone (if report.mattering == 0 then 0 else 1) (string_bytes report.text) printed
+  pub prints : Prints (if report.mattering == 0 then 0 else 1) (string_bytes report.text) printed
+  pub beside : TellsNews before after (string_bytes printed.note)
 
 -- OLD is read as a policy, and what changes from it to NEW is printed, or the fault of NEW
 pub record PrintsComparison (table : List Mount) (all : Bool) (old new : WholeSources) (printed : Printed) : Type 0 where

@@ -12,7 +12,6 @@ ghost use Rattle.cli_texts.specs.WholeTables.{GivesOrFault, policy_of};
 use crate::View;
 use crate::faulty_texts::answer_error;
 use crate::mount_words::read_filesystems;
-use crate::printing::print_alone;
 use crate::two_files::{NamedFile, TwoSources, read_two_texts, two_sources};
 use crate::whole_tables::view_of;
 use clap::ArgMatches;
@@ -22,6 +21,7 @@ use cli_words::words::{is_set, required};
 use desk_findings::{WholeSources, read_sources};
 use desk_impact::impact_report;
 use desk_policy::{SiteFault, SiteTables};
+use desk_server_notes::news_note;
 use desk_tables::FileSystems;
 use desk_text::ReadError;
 use std::alloc::Global;
@@ -116,7 +116,7 @@ fn compare_with(
     }
 }
 
-/// Prints what changes from a policy to that of NEW.
+/// Prints what changes from a policy to that of NEW. Standard error says what mountd(8) grants more than before.
 fn print_changes(
     alloc: Global,
     before: &View,
@@ -130,7 +130,11 @@ fn print_changes(
     ensures { let read = policy_of sources.entry filesystems.now in GivesOrFault (PrintsChanges before.now read all) read result }
 {
     let after = view_of(alloc, sources, tables, filesystems)?;
+    let note = news_note(alloc, before, &after)?;
     let report = impact_report(alloc, before, &after, all)?;
-    let status = if report.mattering == 0 { 0 } else { 1 };
-    Ok(print_alone(alloc, status, report.text))
+    Ok(Printed {
+        status: if report.mattering == 0 { 0 } else { 1 },
+        text: report.text,
+        note,
+    })
 }
