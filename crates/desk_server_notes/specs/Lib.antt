@@ -1,0 +1,2 @@
+pub mod CountsNote
+pub mod Found
