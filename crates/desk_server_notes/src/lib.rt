@@ -1,7 +1,7 @@
 //! What is said of mountd(8) beside the answer to a command that stores a policy.
 //!
 //! Its promise: [`counts_note`] counts, over all file systems, the lines where mountd grants more than this desk, and those that it
-//! may leave out; nothing if there are none.
+//! may leave out; nothing if there are none. [`news_note`] names what mountd grants more by one policy that it did not by another.
 //!
 //! ```text
 //! // with `/a/x 10.0.0.5` and `/a -network 10.0.0.0/24`:
@@ -12,5 +12,7 @@
 
 pub mod counts;
 mod found;
+pub mod news;
 
 pub use counts::counts_note;
+pub use news::news_note;
