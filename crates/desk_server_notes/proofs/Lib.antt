@@ -1,0 +1,4 @@
+pub mod Counting
+pub mod Knowing
+pub mod Pieces
+pub mod Placing

@@ -1,0 +1,4 @@
+pub mod CountsNote
+pub mod Found
+pub mod NewsNote
+pub mod PrivateNews
