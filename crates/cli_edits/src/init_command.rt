@@ -16,6 +16,7 @@ ghost use Rattle.cli_files.specs.SiteFolder.{AreShortFiles, site_list};
 ghost use Rattle.cli_desk.specs.RefusalLines.{IsRefused, filed_line};
 ghost use Rattle.cli_edits.specs.InitCommand.{AnswersInit, AnswersInitSite, AnswersInitTexts, AnswersInitWith, AreParts, ComesTo, Creates, IsReadyText, IsRefusedFor, IsSiteWith, SplitsExports, Stores, fault_line, new_exports, ready_text, split_line, warning_line};
 
+use crate::server_note::counted;
 use clap::ArgMatches;
 use cli_database_files::new_files::{NewFiles, is_blank};
 use cli_database_files::obstacles::{Obstacle, find_obstacle_to_make};
@@ -187,11 +188,12 @@ fn build_site(
     ensures { AnswersInitWith (site_list texts.now) exports result }
 {
     let site = site_of(rt.alloc(), texts, exports)?;
-    match make_files(rt, db, &site) {
+    let mut note = String::new(rt.alloc());
+    match make_files(rt, db, &site, &mut note) {
         Ok(ready) => Ok(Printed {
             status: 0,
             text: ready,
-            note: String::new(rt.alloc()),
+            note,
         }),
         Err(refused) => refuse(rt, db, sources_of(paths, texts), &site, refused),
     }
@@ -282,8 +284,9 @@ pub enum NotMade {
     Memory,
 }
 
-/// Makes the files of a new database, if nothing known stands in the way, and stores a site. Returns what is printed of it.
-fn make_files(rt: &HostRuntime, db: &str, site: &Site) -> Result<String, NotMade>
+/// Makes the files of a new database, if nothing known stands in the way, and stores a site. Returns what is printed of it; the note
+/// is what is said beside it.
+fn make_files(rt: &HostRuntime, db: &str, site: &Site, note: &mut String) -> Result<String, NotMade>
     ensures { ComesTo (texts_of site.now) result }
 {
     match find_obstacle_to_make(rt, db) {
@@ -292,18 +295,23 @@ fn make_files(rt: &HostRuntime, db: &str, site: &Site) -> Result<String, NotMade
         Err(error) => return Err(NotMade::File(error)),
     }
     match NewFiles::make(rt, db) {
-        Ok(new) => open_made(rt, site, &new),
+        Ok(new) => open_made(rt, site, &new, note),
         Err(error) => Err(NotMade::File(error)),
     }
 }
 
 /// Opens the files that were made, and stores a site. They are removed if SQLite does not open them.
-fn open_made(rt: &HostRuntime, site: &Site, new: &NewFiles) -> Result<String, NotMade>
+fn open_made(
+    rt: &HostRuntime,
+    site: &Site,
+    new: &NewFiles,
+    note: &mut String,
+) -> Result<String, NotMade>
     ensures { ComesTo (texts_of site.now) result }
 {
     match Connection::open_from(rt, new.path.as_str(), false, Wary) {
         Ok(conn) => {
-            let (stored, conn) = remove_if_refused(rt, conn, site, new);
+            let (stored, conn) = remove_if_refused(rt, conn, site, new, note);
             drop(conn);
             stored
         }
@@ -322,12 +330,13 @@ fn remove_if_refused<S: Alter + Drop>(
     conn: Connection<S>,
     site: &Site,
     new: &NewFiles,
+    note: &mut String,
 ) -> (Result<String, NotMade>, Connection<S>)
     requires { (state S.Store conn).in_transaction ≡ false }
     ensures { Stores S.Store conn result.1 (texts_of site.now) result.0 }
 {
     let was_blank = is_blank(&conn);
-    let (stored, conn) = with_ready_text(rt.alloc(), conn, site);
+    let (stored, conn) = with_ready_text(rt.alloc(), conn, site, note);
     if stored.is_err() {
         // Before the lock goes with the connection: after that, another process may write the files.
         new.remove_refused(rt, was_blank);
@@ -340,6 +349,7 @@ fn with_ready_text<S: Alter + Drop>(
     alloc: Global,
     conn: Connection<S>,
     site: &Site,
+    note: &mut String,
 ) -> (Result<String, NotMade>, Connection<S>)
     requires { (state S.Store conn).in_transaction ≡ false }
     ensures { Stores S.Store conn result.1 (texts_of site.now) result.0 }
@@ -348,25 +358,30 @@ fn with_ready_text<S: Alter + Drop>(
     let Ok(ready) = ready_text(alloc, site) else {
         return (Err(NotMade::Memory), conn);
     };
-    let (created, conn) = create_desk(alloc, conn, site);
+    let (created, conn) = create_desk(alloc, conn, site, note);
     match created {
         Ok(()) => (Ok(ready), conn),
         Err(error) => (Err(NotMade::Create(error)), conn),
     }
 }
 
-/// Makes a desk of a site in the database of a connection, which is handed back.
+/// Makes a desk of a site in the database of a connection, which is handed back. The note counts the lines of the policy in force at
+/// which mountd(8) may decide otherwise.
 fn create_desk<S: Alter + Drop>(
     alloc: Global,
     conn: Connection<S>,
     site: &Site,
+    note: &mut String,
 ) -> (Result<(), CreateError>, Connection<S>)
     requires { (state S.Store conn).in_transaction ≡ false }
     ensures { Creates (state S.Store conn) (state S.Store result.1) (texts_of site.now) result.0 }
 {
     let created: Result<Desk<S, View>, _> = Desk::create(alloc, conn, site);
     match created {
-        Ok(desk) => (Ok(()), desk.into_connection()),
+        Ok(desk) => {
+            *note = counted(alloc, desk.view());
+            (Ok(()), desk.into_connection())
+        }
         Err((error, conn)) => (Err(error), conn),
     }
 }

@@ -10,3 +10,4 @@
 
 pub mod init_command;
 pub mod put_command;
+mod server_note;

@@ -12,6 +12,7 @@ ghost use Rattle.cli_words.specs.Words.{rows_in};
 ghost use Rattle.cli_desk.specs.RefusalLines.{IsRefused};
 ghost use Rattle.cli_edits.specs.PutCommand.{AnswersEdit, AnswersPut, HasReplies, IsKey, IsKeyIn, PrintsPut, PrintsReply, PutsFrom, key_fault, line_of};
 
+use crate::server_note::counted;
 use clap::ArgMatches;
 use cli_database_files::database_file::plain_path;
 use cli_database_files::log_file::{log_to_make, remove_log};
@@ -213,13 +214,26 @@ fn reply_printed<S: Alter + Drop>(
     ensures { PrintsReply reply result }
 {
     match reply {
-        Ok(line) => Ok(Printed {
-            status: 0,
-            text: line,
-            note: String::new(alloc),
-        }),
+        Ok(line) => {
+            let note = note_beside(alloc, desk.view(), line.as_str());
+            Ok(Printed {
+                status: 0,
+                text: line,
+                note,
+            })
+        }
         Err(DeskError::Refused(refusal)) => edit_refused(alloc, named.file, desk, edit, refusal),
         Err(error) => refused_by_desk(alloc, named.db, error),
+    }
+}
+
+/// Says of mountd(8) what is said beside the line of an edit: of one in force how many lines it may decide otherwise, and of a proposal
+/// nothing.
+fn note_beside(alloc: Global, index: &View, line: &str) -> String {
+    if line.starts_with("accepted rev ") || line.starts_with("already rev ") {
+        counted(alloc, index)
+    } else {
+        String::new(alloc)
     }
 }
 
