@@ -63,7 +63,7 @@ pub record TellsNewsOf (before after : Content) (mounts : List Mount) (note : Li
   pub are : AllZip (λ mount found. AreGrants before after mount.path found) mounts lists
   pub text : note ≡ news_text mounts lists
 
--- What the server grants more by the later policy is told, mount point by mount point and line by line, unless the earlier one has the
--- same client with the same directory at the same mount point. By which lines, then and now, does not matter.
+-- Of each mount point of the later policy each client and directory is named, of those that are found where mountd grants more than
+-- this desk, that was not found in the file system of this mount point by the earlier one.
 abbrev pub TellsNews : Content → Content → List ℕ → Type 0
 TellsNews before after note = TellsNewsOf before after after.table note
