@@ -52,15 +52,15 @@ abbrev pub foreseeing : Question → Bool → Asked
 foreseeing question all = record { question = question; own = None; all = all; wanted = nothing_wanted }
 
 -- a question on the whole site, of which this is wanted
-abbrev pub wanting : Wanted → Asked
-wanting wanted = record { question = Site; own = None; all = false; wanted = wanted }
+abbrev pub wanting : Wanted → Option Cred → Asked
+wanting wanted own = record { question = Site; own = own; all = false; wanted = wanted }
 
 -- `ask DB HOST DIR [--as CRED]`, by the rule that is asked: the words are parsed from left to right
 abbrev pub AnswersAskAs : Asking → List Row → Result Printed Failure → Type 0
 AnswersAskAs asking rows =
     ByWord (codes "DB") rows (λ db. ByWord (codes "HOST") rows (λ host. ByWord (codes "DIR") rows (λ dir.
     After (ParsesHost host) (λ address. After (ParsesDir dir) (λ path. After (ParsesOwn (first_of (codes "as") rows)) (λ own.
-    AnswersQuestion db (wanting (Mounts (record { address = number_of address; path = path; own = own; asking = asking })))))))))
+    AnswersQuestion db (wanting (Mounts (record { address = number_of address; path = path; own = own; asking = asking })) own)))))))
 
 -- the same, or why nothing is asked
 abbrev pub AnswersAskIf : Result Asking Failure → List Row → Result Printed Failure → Type 0
@@ -85,7 +85,7 @@ AnswersExports rows = ByWord (codes "DB") rows (λ db. AnswersQuestion db (askin
 abbrev pub AnswersWho : List Row → Result Printed Failure → Type 0
 AnswersWho rows =
     ByWord (codes "DB") rows (λ db. ByWord (codes "DIR") rows (λ dir.
-    After (ParsesDir dir) (λ path. AnswersQuestion db (wanting (Ranges path (is_set (codes "mountd") rows))))))
+    After (ParsesDir dir) (λ path. AnswersQuestion db (wanting (Ranges path (is_set (codes "mountd") rows)) None))))
 
 -- `log DB NAME`
 abbrev pub AnswersLog : List Row → Result Printed Failure → Type 0

@@ -52,16 +52,16 @@ fn ask_as(rt: &HostRuntime, words: &ArgMatches<'_>, asking: Asking) -> Result<Pr
         own: &own,
         asking,
     };
-    answer_question(rt, db, wanting(Wanted::Mount(question)))
+    answer_question(rt, db, wanting(Wanted::Mount(question), &own))
 }
 
 /// Returns a question on the whole site, of which this is wanted.
-fn wanting(wanted: Wanted<'_>) -> Asked<'_>
-    ensures { asked_of result ≡ spec.wanting (wanted_of wanted.entry) }
+fn wanting<'a>(wanted: Wanted<'a>, own: &'a Option<Cred>) -> Asked<'a>
+    ensures { asked_of result ≡ spec.wanting (wanted_of wanted.entry) own.now }
 {
     Asked {
         question: Question::Site,
-        own: &None,
+        own,
         all: false,
         file: "",
         wanted,
@@ -94,7 +94,7 @@ pub fn run_who(rt: &HostRuntime, words: &ArgMatches<'_>) -> Result<Printed, Fail
     let dir = required(words, "DIR")?;
     let path = read_path(rt.alloc(), "DIR", dir)?;
     let mountd = is_set(words, "mountd");
-    answer_question(rt, db, wanting(Wanted::Ranges(&path, mountd)))
+    answer_question(rt, db, wanting(Wanted::Ranges(&path, mountd), &None))
 }
 
 /// Answers `log DB NAME`.

@@ -1,5 +1,5 @@
 -- The words are looked up, and parsed from left to right.
-use Rattle.std.proofs.Common.{◌∙◌, Bool, Err, Ok, ap, refl, subst}
+use Rattle.std.proofs.Common.{◌∙◌, Bool, Err, None, Ok, ap, refl, subst}
 use Rattle.std.proofs.lemmas.Result.{err_from_is_err_and}
 use Rattle.cli_questions.specs.QuestionCommands.{wanting}
 use Rattle.cli_questions.specs.Questions.{Asked, AnswersQuestion, Ranges}
@@ -22,4 +22,4 @@ returns-in_err-path c =
 
 pub returns : goal.returns
 returns c =
-    rw (c.in_ok-db.ensures, c.in_ok-dir.ensures) (record { step = Ok c.in_ok-path.path; is = c.in_ok-path.ensures; next = (subst (λ (asked : Asked). AnswersQuestion c.in_ok-db.db.now asked c.answer_question.result) (c.wanting.ensures ∙ ap (λ (mountd : Bool). wanting (Ranges c.in_ok-path.path mountd)) c.is_set-mountd.ensures) c.answer_question.ensures) })
+    rw (c.in_ok-db.ensures, c.in_ok-dir.ensures) (record { step = Ok c.in_ok-path.path; is = c.in_ok-path.ensures; next = (subst (λ (asked : Asked). AnswersQuestion c.in_ok-db.db.now asked c.answer_question.result) (c.wanting.ensures ∙ ap (λ (mountd : Bool). wanting (Ranges c.in_ok-path.path mountd) None) c.is_set-mountd.ensures) c.answer_question.ensures) })
