@@ -51,7 +51,7 @@ pub struct ReportedSite<'a, V> {
 /// cells of small maps.
 #[derive(Clone, Copy)]
 pub(crate) struct FoundOfSite<'a> {
-    pub reasons: &'a [Sequence<LineReasons>],
+    pub reasons: &'a [Sequence<LineReasons<'a>>],
     pub deciding: &'a [Deciding],
     pub maps: &'a [String],
 }
