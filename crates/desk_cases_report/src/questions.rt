@@ -53,12 +53,9 @@ fn of_texts(
         return Ok(false);
     }
     match question {
-        "classes"
-        | "counts"
-        | "grants"
-        | "places"
-        | "table"
-        | "place_classes" => { by_both(alloc, texts, out, question, text) }
+        "classes" | "counts" | "grants" | "places" | "table" | "place_classes" => {
+            by_both(alloc, texts, out, question, text)
+        }
         "stands_out" | "deciding" => standing::by_index(alloc, texts, out, question, text),
         _ => Ok(false),
     }

@@ -262,8 +262,7 @@ fn push_listed(directory: Option<&Path>, page: &mut String) -> Result<(), AllocE
 {
     match directory {
         Some(directory) => push_listed_directory(directory, page),
-        None => page
-            .push_str(" lists every directory of the file system (<code>-alldirs</code>)"),
+        None => page.push_str(" lists every directory of the file system (<code>-alldirs</code>)"),
     }
 }
 
@@ -277,11 +276,7 @@ fn push_listed_directory(directory: &Path, page: &mut String) -> Result<(), Allo
 }
 
 /// Adds that the server may leave a line out, since an earlier one has a client of it.
-fn push_repeated(
-    fs: FsId,
-    found: &RepeatedClient,
-    page: &mut String,
-) -> Result<(), AllocError>
+fn push_repeated(fs: FsId, found: &RepeatedClient, page: &mut String) -> Result<(), AllocError>
     ensures { OnOk result (string_bytes page.new ≡ string_bytes page.old ++ spec.repeated fs.0 found.now) }
 {
     page.push_str("mountd(8) may leave this line out: ")?;
