@@ -1,11 +1,11 @@
 """The part of the report on one file system."""
 
-from reference.definitions import changes, contradiction, effect, fault_text, matters, printed
+from reference.definitions import changes, contradiction, dotted, effect, fault_text, matters, printed
 from reference.idle import is_for_all
 from reference.lines import logical_lines, physical_lines, words_of
 from reference.readings import Fault, read_site
 from reference.report.data import (
-    PRIVATE, SPACE, FileSystem, changed_places, classes_of, counts, network_ends, size_of,
+    GRANTS_MORE, LEFT_OUT, PRIVATE, SPACE, FileSystem, changed_places, classes_of, counts, network_ends, size_of,
 )  # fmt: skip
 from reference.report.maps import figures
 from reference.report.pieces import box, cut, folded, folded_if_long, level_mark, line_link, ranges_cell, table, zero
@@ -31,8 +31,20 @@ def file_of(system):
 
 
 def finding_words(finding):
-    """The words of a finding, with the lines that decide in place of one that never does."""
-    return ", ".join(deciding_words(finding) if words == "never decides" else words for _, words in finding.words)
+    """The words of a finding, with the lines that decide in place of one that never does, and with what mountd(8) does."""
+    told = {"never decides": deciding_words, GRANTS_MORE: wider_words, LEFT_OUT: repeated_words}
+    return ", ".join(told[words](finding) if words in told else words for _, words in finding.words)
+
+
+def wider_words(finding):
+    other, address, directory = finding.system.wider[finding.line]
+    listed = "every directory of the file system (<code>-alldirs</code>)" if directory is None else f"{code(printed(directory))} too"
+    return f"{GRANTS_MORE}: to {dotted(address)} {line_link(finding.system, other)} lists {listed}"
+
+
+def repeated_words(finding):
+    other, address = finding.system.repeated[finding.line]
+    return f"{LEFT_OUT}: {line_link(finding.system, other)} has {dotted(address)}"
 
 
 def deciding_words(finding):
