@@ -44,7 +44,7 @@ const HOW_TO_READ: &str = r##"<section id="read">
 <ul>
 <li>A client is an IPv4 address. Addresses can be forged, and with <code>sys</code> a client says itself who its users are.</li>
 <li>The page is about the texts in the database. Whether the server has the same ones it does not know.</li>
-<li>A denial does not bind every client to whom another directory of the same file system is granted. NFSv4 reaches all of that file system, and so does a client that guesses file handles; and mountd(8) grants a directory by any line for the client's hosts or networks that lists it. What stands out names each line where that grants more, with one of the clients; verdicts, maps and counts leave it out. If in doubt, go by the most that a client may mount of the file system.</li>
+<li>A denial does not bind every client to whom another directory of the same file system is granted. NFSv4 reaches all of that file system, and so does a client that guesses file handles; and mountd(8) grants a directory by any line for the client's hosts or networks that lists it. What stands out names each line where that grants more, and the lists of who may mount name one client for each line that denies; verdicts, maps and counts leave it out. If in doubt, go by the most that a client may mount of the file system.</li>
 <li>Hosts and networks of IPv6 match nobody here, and <code>V4:</code> lines are neither read nor counted.</li>
 <li>When a revision was put: the database keeps no times. Revision 1 by <code>site</code> is what <code>init</code> read, whoever wrote it.</li>
 <li>What is too long is cut, and how much is left out is counted there. <code>exportdesk who</code> lists all clients of a directory. Shares in percent are rounded down.</li>

@@ -26,6 +26,8 @@ use crate::sections::{Listed, Parts, push_back, push_front};
 use crate::waiting::Waiting;
 use desk_core::{Head, Proposal};
 use desk_deciding::Deciding;
+use desk_impact::Section as PlaceSection;
+use desk_openings::Opening;
 use desk_overview::{SiteLine, lines_of_site, reasons_of_site};
 use desk_page_summary::{Section, push_section_end, push_section_start};
 use desk_policy::{Policy, PolicyView, SiteTables};
@@ -50,6 +52,8 @@ pub struct ReportedSite<'a, V> {
     pub waiting: &'a [Waiting<'a, V>],
     /// What the server does otherwise, by file system, in the order of the table.
     pub server: &'a [ServerFindings<'a>],
+    /// Where it grants what is denied.
+    pub openings: &'a [PlaceSection<'a, Opening>],
 }
 
 /// What is found of a site beside its lines: why each of them stands out, which others decide in place of those that never do, and the
@@ -222,6 +226,7 @@ fn push_each_of<V: PolicyView>(
         waiting: site.waiting,
         lines,
         deciding,
+        openings: site.openings,
     };
     push_each(alloc, &telling, systems, page)
 }

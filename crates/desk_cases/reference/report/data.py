@@ -9,7 +9,7 @@ from reference.definitions import (
     effect, printed, runs, selected, steady_blocks, unwritten, verdict, weight, who,
 )  # fmt: skip
 from reference.idle import is_for_all
-from reference.server import repeated_clients, wider_grants
+from reference.server import addresses_asked, is_wider, repeated_clients, server_verdict, wider_grants
 from reference.why import is_for_nobody, named_line
 
 SPACE = 2**32
@@ -157,6 +157,17 @@ class FileSystem:
         firsts = [first for first, _ in steady_blocks(((self.site, self.mount),))]
         matched = [first for first in firsts if weight(self.site, line, first) is not None]
         return sorted({named_line(verdict(self.site, first, place)) for first in matched for place in self.places})
+
+    def openings(self, places):
+        """What mountd(8) grants at these places of that which is denied: for each line that a denial names, in order, the least client
+        to whom it grants something, the first such place, that line, and the line by which it does."""
+        found = {}
+        for address in addresses_asked(self.site, self.mount) if self.wider else []:
+            for place in places:
+                denied = named_line(verdict(self.site, address, place))
+                if denied in self.wider and denied not in found and is_wider(self.site, address, place):
+                    found[denied] = address, place, denied, named_line(server_verdict(self.site, address, place))
+        return [found[denied] for denied in sorted(found)]
 
     def groups(self):
         """The places, those together whose granted ranges are the same, in the order of their first."""

@@ -18,8 +18,8 @@ from reference.why import named_line
 # A text of more lines is folded. If a file system has more groups of directories, none of them has maps, and so many are listed.
 OPEN_LINES, MOST_DRAWN, MOST_GROUPS = 40, 12, 100
 # So many directories stand in a heading, and in a caption; so many lines that decide for the clients of another one, reasons of a
-# denial apart, and networks in the table of shares.
-MOST_NAMES, MOST_CAPTION, MOST_DECIDING, MOST_REASONS, MOST_SHARES = 8, 3, 6, 5, 12
+# denial apart, networks in the table of shares, and lines whose denials mountd(8) does not keep.
+MOST_NAMES, MOST_CAPTION, MOST_DECIDING, MOST_REASONS, MOST_SHARES, MOST_OPENINGS = 8, 3, 6, 5, 12, 6
 OTHERS = "other directories"
 
 
@@ -143,9 +143,20 @@ def group_block(system, group, is_drawn):
     if rest:
         made += folded(directories_more(len(rest)), f'<p class="names">{codes(rest)}</p>\n')
     if not system.granted(group[0]):
-        return f"{made}<p>Nobody may mount them.</p>\n</section>\n"
+        return f"{made}<p>Nobody may mount them.</p>\n{openings_block(system, group)}</section>\n"
     made += figures(classes_of(system.who[group[0]]), False) if is_drawn else ""
-    return made + verdict_table(system, group) + "</section>\n"
+    return made + verdict_table(system, group) + openings_block(system, group) + "</section>\n"
+
+
+def openings_block(system, group):
+    """What mountd(8) grants of that which is denied."""
+    found = [opening_words(system, *opening) for opening in system.openings(group)]
+    return f"<p>mountd(8) grants more: {and_more(found, MOST_OPENINGS)}</p>\n" if found else ""
+
+
+def opening_words(system, address, place, denied, line):
+    what = OTHERS if place == system.other else code(printed(place))
+    return f"{what} to {dotted(address)} by {line_link(system, line)} (denied here by {line_link(system, denied)})"
 
 
 def verdict_table(system, group):
