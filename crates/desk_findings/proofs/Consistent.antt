@@ -1,13 +1,11 @@
 -- Lines of which none is told as contradicting an earlier one do not contradict each other.
-use Rattle.std.proofs.Common.{◌≡◌, ◌≢◌, ◌∙◌, ◌<◌, ◌≤◌, ◌++◌, ℕ, Bool, true, false, eqb, List, [], ◌∷◌, Option, Some, None, IsSome, ap, arith, get_or, inl, inr, length, refl, subst, suc, sym, zero}
-use Rattle.std.specs.Prelude.{find}
+use Rattle.std.proofs.Common.{◌≡◌, ◌≢◌, ◌∙◌, ◌<◌, ◌++◌, ℕ, Bool, true, false, eqb, List, [], ◌∷◌, Option, Some, None, IsSome, ap, arith, get_or, inl, inr, length, refl, subst, suc, sym, zero}
 use Rattle.std.specs.List.{All, Contains}
 use Rattle.std.proofs.lemmas.Bool.{cases_lt, eq-eqb, eqb-true}
 use Rattle.std.proofs.lemmas.List.{get_or_past}
-use Rattle.desk_policy.specs.Contradiction.{AreConsistent, AreContradictions, Contradicts, DiffersFromFirst, HasNoContradiction, MatchAlike}
+use Rattle.desk_policy.specs.Contradiction.{AreConsistent, AreContradictions, DiffersFromFirst, HasNoContradiction}
 use Rattle.desk_policy.specs.Policy.{AreAscending, Content, rows_of}
 use Rattle.desk_policy.specs.Weights.{weight_of}
-use Rattle.desk_policy.specs.declared.contradiction.Contradiction.{Contradiction}
 use Rattle.desk_policy.specs.declared.row.Row.{Row}
 use Rattle.desk_policy.proofs.ByKeys.{first_up_to, found_is, some_is}
 use Rattle.desk_policy.proofs.FirstDiffers.{at_or_before}

@@ -1,7 +1,9 @@
 pub mod Consistent
+pub mod Faultless
 pub mod FoundFaults
 pub mod FoundSlices
 pub mod OneFaults
 pub mod PlacedWords
 pub mod Silent
+pub mod SilentSite
 pub mod SilentTexts

@@ -27,6 +27,9 @@ pub use check_faults::{Source, line_at, lines_of};
 pub use check_site::{SiteSources, gather_site};
 pub use check_text::{Gathered, WholeSources, gather, read_sources};
 pub use finding::{Finding, Matter, has_fault};
-pub use laws::silent_findings_are_the_servers;
+pub use laws::{
+    faultless_texts_write, nothing_found_in_a_site_is_the_servers, nothing_found_is_the_servers,
+    silent_findings_are_the_servers,
+};
 pub use one_fault::{find_split_fault, first_about};
 pub use one_site_fault::{are_readable, find_contradiction, find_line_fault};

@@ -1,5 +1,5 @@
 -- The line that grants by mountd's rule, group by group of lighter lines.
-use Rattle.std.proofs.Common.{◌≡◌, ◌∙◌, ℕ, suc, ◌<◌, ◌≤◌, ◌&&◌, Bool, true, false, cond, eqb, List, [], ◌∷◌, Option, Some, None, Ok, Err, ap, arith, inl, inr, length, refl, subst, sym}
+use Rattle.std.proofs.Common.{◌≡◌, ◌∙◌, ℕ, suc, ◌<◌, ◌≤◌, ◌&&◌, Bool, true, false, cond, eqb, List, [], ◌∷◌, Option, Some, None, Ok, Err, ap, arith, inl, inr, refl, subst, sym}
 use Rattle.std.specs.Prelude.{filter, find, nat_lt, slice_get}
 use Rattle.std.specs.List.{All, Contains, list_all, list_any}
 use Rattle.std.proofs.lemmas.Bool.{and_from, cases_Bool, cases_lt, cond-true, cond-false, eq-eqb, eqb-true, le-leb, lt-ltb}
@@ -11,13 +11,13 @@ use Rattle.desk_policy.specs.Verdict.{Grant}
 use Rattle.desk_policy.specs.declared.verdict.Denial.TheVariants.{NoLine, NotListed}
 use Rattle.desk_policy.specs.Weights.{is_at_most, weight_of}
 use Rattle.desk_policy.specs.declared.row.Row.{Row}
-use Rattle.desk_index.specs.Keys.{numbers}
 use Rattle.desk_index.specs.Lighter.{AreHeaviestBelow, IsHeaviestBelow, is_weight, weighing}
 use Rattle.desk_index.specs.declared.lighter.Weighed.{Weighed}
 use Rattle.desk_idle.proofs.Looks.{none_passes}
 use Rattle.desk_idle.proofs.Removal.{selected-some, weighs}
 use Rattle.desk_server.specs.Server.{asked, for_everybody, granting, is_everybody, is_named, named, or_others, server_verdict_by}
-use Rattle.desk_server.proofs.Lighter.{few_by, found_has, weight_is}
+use Rattle.desk_server.proofs.Lighter.{few_by, found_has, some_numbered, weight_is}
+use Rattle.desk_server.proofs.Lists.{none_has}
 use Rattle.desk_server.proofs.Widening.{everybody_weight, filter_from, filter_has, named_weight, or_either, selected_from}
 
 -- ---- lists
@@ -47,10 +47,6 @@ find_alike p q h (x ∷ xs) = ap (λ b. cond b (Some x) (find p xs)) (h x) ∙ a
 all_pass : (p : Row → Bool) (xs : List Row) → ((x : Row) → Contains xs x → p x ≡ true) → list_all p xs ≡ true
 all_pass p [] h = refl
 all_pass p (x ∷ xs) h = and_from _ _ (h x (0, omega arith, refl)) (all_pass p xs (λ y has. h y (suc has.0, (let b = has.1 in omega arith), has.2)))
-
-none_has : (xs : List Row) → ((x : Row) → Contains xs x → ⊥) → xs ≡ []
-none_has [] h = refl
-none_has (x ∷ xs) h = absurd (h x (0, omega arith, refl))
 
 -- ---- lines that mountd asks
 
@@ -233,11 +229,7 @@ module _ (listing : Row → Bool) (rows : List Row) (address : ℕ) where
 
     -- a group has a line
     pub some_line : (row : Row) × Contains (weighing rows address group.weight) row
-    some_line = by_lines (weighing rows address group.weight) is.lines
-      where
-        by_lines : (rs : List Row) → group.lines.now ≡ numbers rs → (row : Row) × Contains rs row
-        by_lines [] e = absurd (let some = is.some in let few = ap length e in omega arith)
-        by_lines (row ∷ rs) e = (row, (0, omega arith, refl))
+    some_line = some_numbered (weighing rows address group.weight) group.lines.now is.lines is.some
 
 -- ---- the verdict
 

@@ -12,5 +12,6 @@ pub mod Nesting
 pub mod Telling
 pub mod Finding
 pub mod Lighter
+pub mod OneDirectory
 pub mod ByGroups
 pub mod Asked

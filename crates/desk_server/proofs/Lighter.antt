@@ -1,7 +1,8 @@
 -- The first of the heaviest lines that widen what is selected, group by group of lighter lines.
-use Rattle.std.proofs.Common.{◌≡◌, ◌∙◌, ℕ, suc, ◌+◌, ◌<◌, ◌≤◌, ◌++◌, ◌||◌, Bool, true, List, [], ◌∷◌, Option, Some, None, ap, arith, drop, get_or, inl, inr, length, not, refl, subst, sym, take}
-use Rattle.std.specs.Prelude.{find}
+use Rattle.std.proofs.Common.{◌≡◌, ◌∙◌, ℕ, suc, ◌+◌, ◌<◌, ◌≤◌, ◌++◌, Bool, true, List, [], ◌∷◌, Option, Some, None, ap, arith, drop, get_or, inl, inr, length, not, refl, subst, sym, take}
+use Rattle.std.specs.Prelude.{find, slice_get}
 use Rattle.std.specs.List.{All, AllByRecursion, Contains, list_all, list_any}
+use Rattle.std.specs.Option.{option_map}
 use Rattle.std.proofs.lemmas.Bool.{and_from, and_parts, cases_Bool, cases_lt, cond-true, cond-false, eq-eqb, eqb-true, le-leb, not-true, or_cases, true≢false}
 use Rattle.std.proofs.lemmas.List.{append_assoc, get_or_default, take-append-drop}
 use Rattle.std.proofs.lemmas.List.Elements.{All-contains, All-contains_itself, All-filter}
@@ -18,15 +19,21 @@ use Rattle.desk_policy.specs.Listings.{written}
 use Rattle.desk_policy.specs.Verdict.{is_directory_among}
 use Rattle.desk_policy.specs.Weights.{is_at_most, is_greatest, name_weight, selected, weight_by, weight_of}
 use Rattle.desk_policy.specs.declared.row.Row.{Row}
+use Rattle.desk_index.specs.Keys.{numbers}
 use Rattle.desk_index.specs.Lighter.{AreHeaviestBelow, IsHeaviestBelow, is_weight, weighing}
 use Rattle.desk_index.specs.declared.lighter.Weighed.{Weighed}
+use Rattle.desk_idle.specs.Idle.{first_selected}
 use Rattle.desk_idle.specs.Laws.{brings}
-use Rattle.desk_idle.proofs.Bringing.{Lacks, each_lacks, witness}
+use Rattle.desk_idle.proofs.Bringing.{Lacks, each_lacks, selected_has, witness}
 use Rattle.desk_idle.proofs.Directories.{Path}
+use Rattle.desk_idle.proofs.Front.{front}
 use Rattle.desk_idle.proofs.Lists.{in_middle}
 use Rattle.desk_idle.proofs.Looks.{first_or, none_passes}
+use Rattle.desk_idle.proofs.OneKey.{weighs}
+use Rattle.desk_idle.proofs.Removal.{selected-some}
 use Rattle.desk_server.specs.PrivateWider.{WidenBelow, Widened}
 use Rattle.desk_server.specs.WiderGrants.{Widens, WidensFirst}
+use Rattle.desk_server.proofs.Lists.{none_has}
 use Rattle.desk_server.proofs.Widening.{filter_from, filter_has}
 
 -- ---- weights
@@ -87,9 +94,6 @@ module _ (rows : List Row) (address : ℕ) where
   abbrev brings_more : Row → Bool
   brings_more row = brings (selected rows address) row
 
-  pub all_below : All (λ (row : Row). HasBlock row.entry.clients) rows → WidenBelow rows address 35
-  all_below blocks row own w = few_by row.entry.clients row.addrs address own (All-contains (λ (r : Row). HasBlock r.entry.clients) rows row blocks w.has) w.matches
-
   -- to lines of which one has -alldirs nothing can be brought
   pub all_listed : list_any (λ (row : Row). row.entry.alldirs) (selected rows address) ≡ true → Widened rows address → ⊥
   all_listed all wide =
@@ -141,7 +145,7 @@ module _ (rows : List Row) (address : ℕ) where
 -- ---- the selected lines
 
 -- a line brings nothing to lines that it is one of
-brings_nothing : (chosen : List Row) (row : Row) → Contains chosen row → brings chosen row ≡ true → ⊥
+pub brings_nothing : (chosen : List Row) (row : Row) → Contains chosen row → brings chosen row ≡ true → ⊥
 brings_nothing chosen row has brought =
     let parts = and_parts _ _ brought in
     elim (or_cases row.entry.alldirs (list_any (λ (dir : Path). not (is_directory_among dir (written chosen))) row.entry.dirs) parts.1) [
@@ -184,20 +188,62 @@ module _ (rows : List Row) (address : ℕ) (greatest : ℕ) (most : (row : Row) 
       brings_nothing (selected rows address) row
       (filter_has (λ (other : Row). is_greatest rows address (weight_of other address)) rows row has (ap (is_greatest rows address) weighs ∙ at_most_all rows [] refl))
 
-pub below_selected : (rows : List Row) (address : ℕ) → All (λ (row : Row). HasBlock row.entry.clients) rows → (group : Weighed) → IsHeaviestBelow rows address 35 group → WidenBelow rows address group.weight
-below_selected rows address blocks group is row own w =
-    let most : (other : Row) (weight : ℕ) → Contains rows other → weight_of other address ≡ Some weight → weight ≤ group.weight =
-    λ other weight has weighs. is.most other weight has weighs (few_by other.entry.clients other.addrs address weight (All-contains (λ (r : Row). HasBlock r.entry.clients) rows other blocks has) weighs) in
-    elim (cases_lt own group.weight) [
-      | inl lt ↦ lt
-      | inr le ↦
-          let up = most row own w.has w.matches in
-          let same : own ≡ group.weight = omega arith in
-          absurd (greatest_bring_nothing rows address group.weight most row w.has (w.matches ∙ ap (λ (n : ℕ). Some n) same) w.brought)
-    ]
+-- some line has one of these numbers
+pub some_numbered : (rs : List Row) (lines : List ℕ) → lines ≡ numbers rs → 0 < length lines → (row : Row) × Contains rs row
+some_numbered [] lines e some = absurd (let few = ap length e in omega arith)
+some_numbered (row ∷ rs) lines e some = (row, (0, omega arith, refl))
 
-pub none_below : (rows : List Row) (address : ℕ) → All (λ (row : Row). HasBlock row.entry.clients) rows → AreHeaviestBelow rows address 35 None → WidenBelow rows address 0
-none_below rows address blocks none row own w = absurd (none row own w.has w.matches (all_below rows address blocks row own w))
+-- the heaviest lines of all are the selected ones
+module _ (rows : List Row) (address : ℕ) (blocks : All (λ (row : Row). HasBlock row.entry.clients) rows) where
+  few : (row : Row) (own : ℕ) → Contains rows row → weight_of row address ≡ Some own → own < 35
+  few row own has weighs = few_by row.entry.clients row.addrs address own (All-contains (λ (r : Row). HasBlock r.entry.clients) rows row blocks has) weighs
+
+  none_selected : AreHeaviestBelow rows address 35 None → selected rows address ≡ []
+  none_selected none = none_has (selected rows address) (λ row chosen.
+      let w = weighs rows address row chosen in
+      let has = selected_has rows address row chosen in
+      none row w.weight has w.is (few row w.weight has w.is))
+
+  pub none_first : AreHeaviestBelow rows address 35 None → first_selected rows address ≡ None
+  none_first none = ap (λ (rs : List Row). option_map (λ (row : Row). row.entry.line) (slice_get rs 0)) (none_selected none)
+
+  module _ (group : Weighed) (is : IsHeaviestBelow rows address 35 group) where
+    most : (row : Row) (own : ℕ) → Contains rows row → weight_of row address ≡ Some own → own ≤ group.weight
+    most row own has weighs = is.most row own has weighs (few row own has weighs)
+
+    pub are_selected : selected rows address ≡ weighing rows address group.weight
+    are_selected =
+        let one = some_numbered (weighing rows address group.weight) group.lines.now is.lines is.some in
+        let own = filter_from (λ (r : Row). is_weight group.weight (weight_of r address)) rows one.0 one.1 in
+        selected-some rows address group.weight
+        (list_any_at (λ (r : Row). is_weight group.weight (weight_of r address)) rows own.0.0 one.0 own.0.1 (ap (λ (r : Row). is_weight group.weight (weight_of r address)) own.0.2 ∙ own.1))
+        (at_most_all rows address group.weight most rows [] refl)
+
+    pub all_weigh : (row : Row) → Contains (selected rows address) row → weight_of row address ≡ Some group.weight
+    all_weigh row chosen =
+        let own = filter_from (λ (r : Row). is_weight group.weight (weight_of r address)) rows row (subst (λ (rs : List Row). Contains rs row) are_selected chosen) in
+        weight_is (weight_of row address) group.weight own.1
+
+    pub are_numbers : group.lines.now ≡ numbers (selected rows address)
+    are_numbers = is.lines ∙ ap numbers (sym are_selected)
+
+    -- the first of the numbers is that of the first line
+    pub first_is : (line : ℕ) → Some line ≡ slice_get group.lines.now 0 → first_selected rows address ≡ Some line
+    first_is line e =
+        let chosen = selected rows address in
+        let f = front chosen chosen group.lines.now line are_numbers (All-contains_itself chosen) e in
+        ap (λ (rs : List Row). option_map (λ (row : Row). row.entry.line) (slice_get rs 0)) f.are ∙ ap (λ (n : ℕ). Some n) f.number
+
+    -- what widens them is lighter
+    pub below_selected : WidenBelow rows address group.weight
+    below_selected row own w =
+        elim (cases_lt own group.weight) [
+          | inl lt ↦ lt
+          | inr le ↦
+              let up = most row own w.has w.matches in
+              let same : own ≡ group.weight = omega arith in
+              absurd (greatest_bring_nothing rows address group.weight most row w.has (w.matches ∙ ap (λ (n : ℕ). Some n) same) w.brought)
+        ]
 
 -- the lines of one weight are lines of the file system
 pub weighing_has : (rows : List Row) (address weight : ℕ) → All (Contains rows) (weighing rows address weight)

@@ -1,5 +1,5 @@
 -- What filters keep.
-use Rattle.std.proofs.Common.{◌≡◌, ◌∙◌, ◌&&◌, Bool, true, cond, List, [], ◌∷◌, Some, None, ap, arith, inl, inr, refl, subst, sym}
+use Rattle.std.proofs.Common.{◌≡◌, ◌∙◌, ◌&&◌, ◌<◌, ◌≤◌, Bool, true, cond, List, [], ◌∷◌, Some, None, ap, arith, get_or, inl, inr, length, refl, subst, sym}
 use Rattle.std.specs.Prelude.{filter, find}
 use Rattle.std.specs.List.{Contains, list_all, list_any}
 use Rattle.std.proofs.lemmas.Bool.{and_from, and_parts, cases_Bool, cond-false, cond-true, or_cases, true≢false}
@@ -8,6 +8,17 @@ use Rattle.desk_idle.proofs.Looks.{first_or}
 
 pub no_element : {X : Type 0} (x : X) → Contains [] x → ⊥
 no_element x has = (let lt = has.1 in omega arith)
+
+-- what has no element is empty
+pub none_has : {X : Type 0} (xs : List X) → ((x : X) → Contains xs x → ⊥) → xs ≡ []
+none_has [] h = refl
+none_has (x ∷ xs) h = absurd (h x (0, omega arith, refl))
+
+-- a list of one element
+pub only_element : {X : Type 0} (xs : List X) (x : X) → 1 ≤ length xs → length xs < 2 → x ≡ get_or xs 0 x → xs ≡ x ∷ []
+only_element [] x some few e = absurd (omega arith)
+only_element {X = X} (y ∷ []) x some few e = ap (λ (z : X). z ∷ []) (sym e)
+only_element (y ∷ z ∷ zs) x some few e = absurd (omega arith)
 
 -- what passes is kept
 pub kept_has : {X : Type 0} (p : X → Bool) (xs : List X) (x : X) → Contains xs x → p x ≡ true → Contains (filter p xs) x

@@ -1,26 +1,28 @@
 -- What is known of lines from looks at addresses, one after another.
 use Rattle.std.proofs.Common.{◌≡◌, ◌⊎◌, ◌∙◌, ℕ, suc, ◌<◌, ◌^◌, ◌&&◌, ◌++◌, Bool, true, false, cond, eqb, List, [], ◌∷◌, Option, Some, None, ap, arith, get_or, inl, inr, length, nat_cmp, refl, subst, sym, take}
-use Rattle.std.specs.Prelude.{slice_get}
+use Rattle.std.specs.Prelude.{nat_lt}
 use Rattle.std.specs.BTreeMap.{BTreeMap, is_at}
 use Rattle.std.specs.BTreeMap as tree
 use Rattle.std.specs.List.{All, Contains}
 use Rattle.std.specs.List.Sorted.{IsStrictlyIncreasing}
 use Rattle.std.specs.Map.{lookup}
 use Rattle.std.specs.Option.{is_some}
-use Rattle.std.proofs.lemmas.Bool.{and_right, cases_Bool, cases_eq, cond-true, cond-false, eq-eqb, eqb-true, ne_eqb, or_cases, or_left, or_right, true≢false}
+use Rattle.std.proofs.lemmas.Bool.{and_right, cases_Bool, cases_eq, cond-true, cond-false, eq-eqb, eqb-true, ltb-true, ne_eqb, or_cases, or_left, or_right, true≢false}
 use Rattle.std.proofs.lemmas.List.{get_or-take, length-take}
 use Rattle.std.proofs.lemmas.List.Folds.{list_any-append}
 use Rattle.std.proofs.lemmas.List.Kept.{AllPairs-from_increasing}
+use Rattle.std.proofs.lemmas.Option.{cond_some}
 use Rattle.desk_text.specs.Address.{number_of}
 use Rattle.desk_text.specs.AddrSet.{is_among}
+use Rattle.desk_exports.specs.declared.entry.Clients.{Clients}
+use Rattle.desk_exports.specs.declared.entry.Clients.TheVariants as clients
 use Rattle.desk_policy.specs.Keys.{HasBlock, LinesAreSelectedByKeys}
 use Rattle.desk_policy.specs.Policy.{AreAscending}
-use Rattle.desk_policy.specs.Weights.{selected}
+use Rattle.desk_policy.specs.Weights.{name_weight, selected, weight_by, weight_of}
 use Rattle.desk_policy.specs.declared.row.Row.{Row}
 use Rattle.desk_idle.specs.Idle.{first_selected}
 use Rattle.desk_idle.specs.PrivateMarks.{has_one_key}
 use Rattle.desk_idle.proofs.Bringing.{one_line, selected_has}
-use Rattle.desk_idle.proofs.Lists.{in_middle}
 use Rattle.desk_server.specs.PrivateWider.{AreTold, AreUpTo, IsFoundAmong, IsFoundAt, IsLook, IsSeen, IsTold, IsWide, Widened, is_kept}
 use Rattle.desk_server.specs.declared.wider.WiderGrant.{WiderGrant}
 use Rattle.desk_server.proofs.Nesting.{same_wide}
@@ -43,6 +45,13 @@ among_more before address other e = list_any-append (λ n. eqb n other) before (
 
 among_last : (before : List ℕ) (address : ℕ) → is_among address (before ++ address ∷ []) ≡ true
 among_last before address = list_any-append (λ n. eqb n address) before (address ∷ []) ∙ or_right _ _ (or_left _ _ (eq-eqb address address refl))
+
+-- clients that match an address with less weight than by a name have one key
+one_key_by : (who : Clients) (addresses : List ℕ) (address weight : ℕ) → weight < name_weight → weight_by who addresses address ≡ Some weight → has_one_key who ≡ true
+one_key_by (clients.Hosts names) addresses address weight few e = let s = cond_some (is_among address addresses) name_weight weight e in let same : 34 ≡ weight = s.1 in absurd (omega arith)
+one_key_by (clients.Net net noted) addresses address weight few e = refl
+one_key_by (clients.Net6 value) addresses address weight few e = let wrong : None ≡ Some weight = e in cc
+one_key_by clients.World addresses address weight few e = refl
 
 module _ (rows : List Row) (before : List ℕ) (address : ℕ) where
   abbrev more : List ℕ
@@ -101,17 +110,20 @@ module _ (rows : List Row) (before : List ℕ) (address : ℕ) where
     | inr apart ↦ stays line (tree.get nat_cmp known line) (other_first first line is apart) (are line)
   ]
 
+  -- the selected lines weigh this, and this one is the first of them
   module _ (law : LinesAreSelectedByKeys) (ascending : AreAscending rows) (blocks : All (λ (row : Row). HasBlock row.entry.clients) rows) (below : address < 2 ^ 32)
-      (first : Row) (has : Contains (selected rows address) first) (is : first_selected rows address ≡ Some first.entry.line) where
-    -- where this line has one key, it is the same wherever it is the first
-    nowhere : has_one_key first.entry.clients ≡ true → (Widened rows address → ⊥) → (other : ℕ) → other < 2 ^ 32 → IsWide rows first.entry.line other → ⊥
-    nowhere one not other small wide =
-        let here = selected_has rows address first has in
-        let f = selected_line (selected rows other) first.entry.line wide.first in
-        let same : f.row ≡ first = one_line rows f.row first ascending (selected_has rows other f.row f.has) here f.number in
-        not (same_wide law rows blocks first here one other address small below (subst (Contains (selected rows other)) same f.has) has wide.widened)
+      (weight : ℕ) (all : (row : Row) → Contains (selected rows address) row → weight_of row address ≡ Some weight) (first : ℕ) (is : first_selected rows address ≡ Some first) where
+    -- where it is not selected by a name, it is the same wherever it is the first
+    nowhere : weight < name_weight → (Widened rows address → ⊥) → (other : ℕ) → other < 2 ^ 32 → IsWide rows first other → ⊥
+    nowhere few not other small wide =
+        let here = selected_line (selected rows address) first is in
+        let there = selected_line (selected rows other) first wide.first in
+        let has = selected_has rows address here.row here.has in
+        let same : there.row ≡ here.row = one_line rows there.row here.row ascending (selected_has rows other there.row there.has) has (there.number ∙ sym here.number) in
+        let one = one_key_by here.row.entry.clients here.row.addrs address weight few (all here.row here.has) in
+        not (same_wide law rows blocks here.row has one other address small below (subst (Contains (selected rows other)) same there.has) here.has wide.widened)
 
-    seen : (found : WiderGrant) → IsSeen rows first.entry.line address found → IsTold rows before first.entry.line None → IsFoundAmong rows more first.entry.line found
+    seen : (found : WiderGrant) → IsSeen rows first address found → IsTold rows before first None → IsFoundAmong rows more first found
     seen found look told = record {
       number = look.number;
       is_address = subst (λ (n : ℕ). n < 2 ^ 32) (sym look.place) below;
@@ -125,31 +137,31 @@ module _ (rows : List Row) (before : List ℕ) (address : ℕ) where
     }
 
     -- what is known of the line then
-    own_look : (look : Option WiderGrant) → IsLook rows first.entry.line address look → IsTold rows before first.entry.line None
-        → IsTold rows more first.entry.line (cond (is_kept look first) (Some look) None)
+    own_look : (look : Option WiderGrant) → IsLook rows first address look → IsTold rows before first None
+        → IsTold rows more first (cond (is_kept look weight) (Some look) None)
     own_look (Some found) look told = seen found look told
     own_look None look told =
-        elim (cases_Bool (has_one_key first.entry.clients)) [
-          | inl one ↦ subst (IsTold rows more first.entry.line) (sym (cond-true (has_one_key first.entry.clients) (Some None) None one)) (nowhere one look)
-          | inr many ↦ subst (IsTold rows more first.entry.line) (sym (cond-false (has_one_key first.entry.clients) (Some None) None many)) (stays first.entry.line None (λ wide. look wide.widened) told)
+        elim (cases_Bool (nat_lt weight name_weight)) [
+          | inl few ↦ subst (IsTold rows more first) (sym (cond-true (nat_lt weight name_weight) (Some None) None few)) (nowhere (ltb-true weight name_weight few) look)
+          | inr many ↦ subst (IsTold rows more first) (sym (cond-false (nat_lt weight name_weight) (Some None) None many)) (stays first None (λ wide. look wide.widened) told)
         ]
 
-    pub told_look : (old new : BTreeMap ℕ (Option WiderGrant)) (look : Option WiderGrant) → is_some (tree.get nat_cmp old first.entry.line) ≡ false → IsLook rows first.entry.line address look
-        → ((line : ℕ) → tree.get nat_cmp new line ≡ cond (is_kept look first && eqb first.entry.line line) (Some look) (tree.get nat_cmp old line))
+    pub told_look : (old new : BTreeMap ℕ (Option WiderGrant)) (look : Option WiderGrant) → is_some (tree.get nat_cmp old first) ≡ false → IsLook rows first address look
+        → ((line : ℕ) → tree.get nat_cmp new line ≡ cond (is_kept look weight && eqb first line) (Some look) (tree.get nat_cmp old line))
         → AreTold rows before old → AreTold rows more new
-    told_look old new look unknown is_look updates are = λ line. elim (cases_eq line first.entry.line) [
+    told_look old new look unknown is_look updates are = λ line. elim (cases_eq line first) [
       | inl same ↦
-          let none = is_none (tree.get nat_cmp old first.entry.line) unknown in
-          let here : eqb first.entry.line line ≡ true = eq-eqb first.entry.line line (sym same) in
-          let told = subst (IsTold rows before first.entry.line) none (are first.entry.line) in
+          let none = is_none (tree.get nat_cmp old first) unknown in
+          let here : eqb first line ≡ true = eq-eqb first line (sym same) in
+          let told = subst (IsTold rows before first) none (are first) in
           subst (λ n. IsTold rows more n (tree.get nat_cmp new line)) (sym same)
-          (subst (IsTold rows more first.entry.line) (sym (updates line ∙ ap (λ b. cond (is_kept look first && b) (Some look) (tree.get nat_cmp old line)) here ∙ ap (λ b. cond b (Some look) (tree.get nat_cmp old line)) (and_true (is_kept look first))
-          ∙ ap (λ o. cond (is_kept look first) (Some look) o) (ap (tree.get nat_cmp old) same ∙ none)))
+          (subst (IsTold rows more first) (sym (updates line ∙ ap (λ b. cond (is_kept look weight && b) (Some look) (tree.get nat_cmp old line)) here ∙ ap (λ b. cond b (Some look) (tree.get nat_cmp old line)) (and_true (is_kept look weight))
+          ∙ ap (λ o. cond (is_kept look weight) (Some look) o) (ap (tree.get nat_cmp old) same ∙ none)))
           (own_look look is_look told))
       | inr apart ↦
-          let there : eqb first.entry.line line ≡ false = ne_eqb first.entry.line line (λ e. apart (sym e)) in
-          subst (IsTold rows more line) (sym (updates line ∙ cond-false (is_kept look first && eqb first.entry.line line) (Some look) (tree.get nat_cmp old line) (and_right (is_kept look first) (eqb first.entry.line line) there)))
-          (stays line (tree.get nat_cmp old line) (other_first first.entry.line line is apart) (are line))
+          let there : eqb first line ≡ false = ne_eqb first line (λ e. apart (sym e)) in
+          subst (IsTold rows more line) (sym (updates line ∙ cond-false (is_kept look weight && eqb first line) (Some look) (tree.get nat_cmp old line) (and_right (is_kept look weight) (eqb first line) there)))
+          (stays line (tree.get nat_cmp old line) (other_first first line is apart) (are line))
     ]
       where
         is_none : (o : Option (Option WiderGrant)) → is_some o ≡ false → o ≡ None
@@ -160,11 +172,7 @@ module _ (rows : List Row) (before : List ℕ) (address : ℕ) where
         and_true true = refl
         and_true false = refl
 
--- ---- the first look, and the first line
-
-pub first_has : (chosen : List Row) (row : Row) → Some row ≡ slice_get chosen 0 → Contains chosen row
-first_has [] row e = let wrong : Some row ≡ None = e in cc
-first_has (first ∷ others) row e = let same : first ≡ row = (let f : Some row ≡ Some first = e in cc) in subst (Contains (first ∷ others)) same (in_middle [] first others)
+-- ---- the first look
 
 -- without any look nothing is known
 pub none_told : (rows : List Row) (known : BTreeMap ℕ (Option WiderGrant)) → known.entries ≡ [] → AreTold rows [] known

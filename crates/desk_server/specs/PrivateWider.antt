@@ -1,5 +1,5 @@
 -- What the private contracts of wider grants cite.
-use Rattle.std.specs.Prelude.{◌≡◌, ℕ, ◌<◌, ◌≤◌, ◌^◌, ◌==◌, ◌||◌, All, Bool, true, Contains, List, ◌∷◌, Option, Some, None}
+use Rattle.std.specs.Prelude.{◌≡◌, ℕ, ◌<◌, ◌≤◌, ◌^◌, ◌==◌, ◌||◌, All, Bool, true, false, Contains, List, [], ◌∷◌, Option, Some, None, nat_lt}
 use Rattle.std.specs.List.{AllPairs, list_any}
 use Rattle.std.specs.BTreeMap.{BTreeMap}
 use Rattle.std.specs.BTreeMap as tree
@@ -7,12 +7,13 @@ use Rattle.std.specs.Option.{is_some, option_copied}
 use Rattle.std.specs.Ordering.{nat_cmp}
 use Rattle.desk_text.specs.Address.{number_of}
 use Rattle.desk_text.specs.AddrSet.{is_among}
-use Rattle.desk_policy.specs.Weights.{selected}
+use Rattle.desk_policy.specs.Weights.{name_weight, selected}
 use Rattle.desk_policy.specs.declared.row.Row.{Row}
+use Rattle.desk_index.specs.Lighter.{IsHeaviestBelow}
+use Rattle.desk_index.specs.declared.lighter.Weighed.{Weighed}
 use Rattle.desk_who.specs.Starts.{AreStarts}
 use Rattle.desk_policy.specs.Policy.{Content}
 use Rattle.desk_idle.specs.Idle.{first_selected}
-use Rattle.desk_idle.specs.PrivateMarks.{has_one_key}
 use Rattle.desk_server.specs.WiderGrants.{IsWiderAt, IsWiderGrant, Widens, WidensFirst, first_unwritten}
 use Rattle.desk_server.specs.declared.wider.WiderGrant.{WiderGrant}
 
@@ -22,14 +23,20 @@ pub record Widened (rows : List Row) (address : ℕ) : Type 0 where
   pub weight : ℕ
   pub widens : Widens rows address row weight
 
--- all lines that widen it are lighter than this
-abbrev pub WidenBelow : List Row → ℕ → ℕ → Type 0
-WidenBelow rows address below = (row : Row) (own : ℕ) → Widens rows address row own → own < below
-
 -- so it is at an address where this line is the first that is selected
 pub record IsWide (rows : List Row) (line address : ℕ) : Type 0 where
   pub first : first_selected rows address ≡ Some line
   pub widened : Widened rows address
+
+-- all lines that widen what is selected at an address are lighter than this
+abbrev pub WidenBelow : List Row → ℕ → ℕ → Type 0
+WidenBelow rows address below = (row : Row) (own : ℕ) → Widens rows address row own → own < below
+
+-- the heaviest lines below some weight; all lines that widen what is selected at an address are below it, too
+pub record AreNext (rows : List Row) (address : ℕ) (group : Weighed) : Type 0 where
+  pub below : ℕ
+  pub all : WidenBelow rows address below
+  pub are : IsHeaviestBelow rows address below group
 
 -- the first of the heaviest lines that widen what is selected at an address, if there is one
 abbrev pub IsWidest : List Row → ℕ → Option Row → Type 0
@@ -83,10 +90,10 @@ pub record AreAllTold (rows : List Row) (known : BTreeMap ℕ (Option WiderGrant
   pub are : AreStarts rows starts
   pub tell : AreTold rows (0 ∷ starts) known
 
--- What a look finds is kept, and that it finds nothing, where a line is the first that has one key: it finds nothing wherever that
--- line is selected.
-abbrev pub is_kept : Option WiderGrant → Row → Bool
-is_kept look row = is_some look || has_one_key row.entry.clients
+-- What a look finds is kept. That it finds nothing is kept, too, if the selected lines weigh less than by a name: they are for a
+-- network or for everybody, and it finds nothing wherever the first of them is selected.
+abbrev pub is_kept : Option WiderGrant → ℕ → Bool
+is_kept look weight = is_some look || nat_lt weight name_weight
 
 -- a line's finding, if there is one
 abbrev pub IsFinding : Content → ℕ → ℕ → Option WiderGrant → Type 0
@@ -105,3 +112,13 @@ pub record AreWiderAmong (content : Content) (fs : ℕ) (lines : List Row) (foun
   pub own : All (HasLine lines) found
   pub all : (row : Row) (address : ℕ) → Contains lines row → IsWiderAt content fs row.entry.line address → list_any (λ one. one.line == row.entry.line) found ≡ true
   pub ascending : AllPairs (λ one later. one.line < later.line) found
+
+-- a line writes this directory alone, and does not have -alldirs
+pub record ListsOnly (dir : List (List ℕ)) (row : Row) : Type 0 where
+  pub alldirs : row.entry.alldirs ≡ false
+  pub dirs : row.entry.dirs ≡ dir ∷ []
+
+-- all these lines write one directory alone, the same, and none has -alldirs
+pub record ListAlike (rows : List Row) : Type 0 where
+  pub dir : List (List ℕ)
+  pub only : All (ListsOnly dir) rows

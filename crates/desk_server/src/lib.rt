@@ -12,6 +12,7 @@
 //! ```
 #![tactic(auto)]
 
+mod alike;
 pub mod deciding;
 pub mod laws;
 mod looking;

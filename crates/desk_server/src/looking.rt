@@ -8,13 +8,14 @@ ghost use Rattle.desk_policy.specs.Policy.{AreAscending, rows_of};
 ghost use Rattle.desk_policy.specs.Weights.{selected};
 ghost use Rattle.desk_policy.specs.declared.row.Row.{Row};
 ghost use Rattle.desk_index.specs.Keys.{numbers};
+ghost use Rattle.desk_index.specs.Lighter.{IsHeaviestBelow};
 ghost use Rattle.desk_idle.specs.Laws.{brings};
 ghost use Rattle.desk_idle.specs.Listed.{IsListedBy};
-ghost use Rattle.desk_server.specs.PrivateWider.{IsLook, IsWidest, WidenBelow, Widened};
+ghost use Rattle.desk_server.specs.PrivateWider.{AreNext, IsLook, IsWidest};
 
 use crate::wider::WiderGrant;
 use desk_idle::Listed;
-use desk_index::{Index, Probes, row_numbered};
+use desk_index::{Index, Probes, Weighed, row_numbered};
 use desk_policy::{PolicyView, Row};
 use desk_tables::FsId;
 use desk_text::Addr;
@@ -42,28 +43,33 @@ fn first_numbered<'a>(rows: &'a [Row], lines: &[u32]) -> Option<&'a Row>
     }
 }
 
-/// Looks at an address, at which this line is the first that is selected.
+/// Looks at an address, at which the lines of this group are selected, this one first.
 pub(crate) fn look_at<'a>(
     alloc: Global,
     index: &'a Index,
     fs: FsId,
     address: Addr,
+    group: Weighed<'a>,
     line: u32,
 ) -> Result<Option<WiderGrant<'a>>, AllocError>
-    requires { AreAscending (rows_of index.now fs.0) }
+    requires ascending { AreAscending (rows_of index.now fs.0) }
+    requires group { IsHeaviestBelow (rows_of index.now fs.0) (number_of address) 35 group }
     ensures { IfOk result (IsLook (rows_of index.now fs.0) line (number_of address)) }
 {
-    let below = selected_weight(index, fs, address);
-    if !is_named_below(index, fs, address, below) {
+    let _probes = Probes::new(index);
+    // What widens the selected lines is lighter, and names the client.
+    let Some(lighter) = index.heaviest_below(fs, address, group.weight) else {
+        return Ok(None);
+    };
+    if lighter.weight == 0 {
         return Ok(None);
     }
     let rows = index.policy().rows(fs);
-    let lines = selected_lines(index, fs, address);
-    if have_alldirs(rows, lines) {
+    if have_alldirs(rows, group.lines) {
         return Ok(None);
     }
-    let listed = listed_by(alloc, rows, lines)?;
-    match widest(index, fs, address, below, &listed) {
+    let listed = listed_by(alloc, rows, group.lines)?;
+    match widest(index, fs, address, lighter, &listed) {
         Some(row) => Ok(Some(WiderGrant {
             line,
             address,
@@ -71,40 +77,6 @@ pub(crate) fn look_at<'a>(
             directory: listed.first_new(row),
         })),
         None => Ok(None),
-    }
-}
-
-/// Gives the weight of the lines that are selected for an address, or 0 if there are none. What widens them is lighter.
-fn selected_weight(index: &Index, fs: FsId, address: Addr) -> u8
-    ensures { WidenBelow (rows_of index.now fs.0) (number_of address) result }
-{
-    let _lists = index.policy().rows_by_filesystem();
-    let _probes = Probes::new(index);
-    match index.heaviest_below(fs, address, 35) {
-        Some(group) => group.weight,
-        None => 0,
-    }
-}
-
-/// Tests whether a line names the client of an address with less than this weight.
-fn is_named_below(index: &Index, fs: FsId, address: Addr, below: u8) -> bool
-    requires { WidenBelow (rows_of index.now fs.0) (number_of address) below }
-    ensures { result ≡ false → Widened (rows_of index.now fs.0) (number_of address) → ⊥ }
-{
-    let _probes = Probes::new(index);
-    match index.heaviest_below(fs, address, below) {
-        Some(group) => 0 < group.weight,
-        None => false,
-    }
-}
-
-/// Lends the numbers of the lines that are selected for an address.
-fn selected_lines(index: &Index, fs: FsId, address: Addr) -> &[u32]
-    ensures { result.now ≡ numbers (selected (rows_of index.now fs.0) (number_of address)) }
-{
-    match index.selected(fs, address) {
-        Some(found) => found.lines(),
-        None => &[],
     }
 }
 
@@ -138,30 +110,29 @@ fn listed_by<'a>(alloc: Global, rows: &'a [Row], lines: &[u32]) -> Result<Listed
     Ok(listed)
 }
 
-/// Finds the first of the heaviest lines that name the client and list what the selected ones do not. All such lines are lighter than
-/// this.
+/// Finds the first of the heaviest lines that name the client and list what the selected ones do not: of this group of lines, or of
+/// lighter ones.
 fn widest<'a>(
     index: &'a Index,
     fs: FsId,
     address: Addr,
-    mut below: u8,
+    mut group: Weighed<'a>,
     listed: &Listed<'a>,
 ) -> Option<&'a Row>
     requires ascending { AreAscending (rows_of index.now fs.0) }
-    requires below { WidenBelow (rows_of index.now fs.0) (number_of address) below }
+    requires next { AreNext (rows_of index.now fs.0) (number_of address) group }
     requires listed { IsListedBy listed.now (selected (rows_of index.now fs.0) (number_of address)) }
     ensures { IsWidest (rows_of index.now fs.0) (number_of address) (option_copied result) }
 {
-    let _probes = Probes::new(index);
     let rows = index.policy().rows(fs);
-    while let Some(group) = index.heaviest_below(fs, address, below) {
-        if group.weight == 0 {
-            return None;
-        }
+    while group.weight > 0 {
         if let Some(row) = first_new(rows, group.lines, listed) {
             return Some(row);
         }
-        below = group.weight;
+        match index.heaviest_below(fs, address, group.weight) {
+            Some(lighter) => group = lighter,
+            None => return None,
+        }
     }
     None
 }

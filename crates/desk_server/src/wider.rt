@@ -10,12 +10,11 @@ ghost use Rattle.std.specs.Ordering.{nat_cmp};
 ghost use Rattle.desk_text.specs.Address.{number_of};
 ghost use Rattle.desk_policy.specs.Policy.{AreAscending, Content, rows_of};
 ghost use Rattle.desk_idle.specs.Laws.{WriteDirectories};
-ghost use Rattle.desk_idle.specs.PrivateMarks as marks;
 ghost use Rattle.desk_server.specs.PrivateWider.{AreAllTold, AreTold, AreUpTo, IsFinding, is_kept};
 ghost use Rattle.desk_server.specs.WiderGrants.{AreWiderGrants};
 
-use crate::looking::{first_row, look_at};
-use desk_exports::Clients;
+use crate::alike::list_alike;
+use crate::looking::look_at;
 use desk_index::{Index, Probes};
 use desk_policy::laws::lines_are_selected_by_keys;
 use desk_policy::{PolicyView, Row};
@@ -24,6 +23,9 @@ use desk_text::{Addr, Path};
 use desk_who::starts_among;
 use std::alloc::{AllocError, Global};
 use std::collections::BTreeMap;
+
+/// The weight of a line by a name; that of a network, or of everybody, is less.
+const NAME_WEIGHT: u8 = 34;
 
 /// A line that is the first selected where the server grants more than this desk.
 #[derive(Clone, Copy)]
@@ -49,6 +51,10 @@ pub fn wider_grants<'a>(
     ensures { IfOk result (λ found. AreWiderGrants index.now fs.0 found.items) }
 {
     let _lists = index.policy().rows_by_filesystem();
+    // Where all lines list the same, none lists more than the selected ones.
+    if list_alike(index.policy().rows(fs)) {
+        return Ok(Vec::new(alloc));
+    }
     let known = known_of(alloc, index, fs)?;
     findings(alloc, index, fs, &known)
 }
@@ -117,37 +123,33 @@ fn look<'a>(
     lines_are_selected_by_keys();
     let _number = address.number();
     let _probes = Probes::new(index);
-    let Some(first) = first_row(index, fs, address) else {
+    // The heaviest lines of all are the selected ones.
+    let Some(group) = index.heaviest_below(fs, address, 35) else {
         return Ok(());
     };
-    if known.contains_key(&first.entry.line) {
+    let Some(line) = group.lines.first() else {
+        return Ok(());
+    };
+    if known.contains_key(line) {
         return Ok(());
     }
-    let seen = look_at(alloc, index, fs, address, first.entry.line)?;
-    keep(known, first, seen)
+    let seen = look_at(alloc, index, fs, address, group, *line)?;
+    keep(known, *line, group.weight, seen)
 }
 
-/// Keeps what was seen of a line: also that nothing was, if it is the same wherever the line is selected.
+/// Keeps what was seen of a line that is selected with this weight: also that nothing was, if it is the same wherever the line is
+/// selected.
 fn keep<'a>(
     known: &mut BTreeMap<u32, Option<WiderGrant<'a>>>,
-    first: &Row,
+    line: u32,
+    weight: u8,
     seen: Option<WiderGrant<'a>>,
 ) -> Result<(), AllocError>
-    ensures { OnOk result ((line : ℕ) → tree.get nat_cmp known.new line
-        ≡ (if is_kept seen.entry first.now && first.now.entry.line == line then Some seen.entry else tree.get nat_cmp known.old line)) }
+    ensures { OnOk result ((other : ℕ) → tree.get nat_cmp known.new other
+        ≡ (if is_kept seen.entry weight && line == other then Some seen.entry else tree.get nat_cmp known.old other)) }
 {
-    if seen.is_some() || has_one_key(&first.entry.clients) {
-        known.insert(first.entry.line, seen)?;
+    if seen.is_some() || weight < NAME_WEIGHT {
+        known.insert(line, seen)?;
     }
     Ok(())
-}
-
-/// Tests whether these clients are a network, or everybody.
-fn has_one_key(clients: &Clients) -> bool
-    ensures { result ≡ marks.has_one_key clients.now }
-{
-    match clients {
-        Clients::Net(_, _) | Clients::World => true,
-        Clients::Hosts(_) | Clients::Net6(_) => false,
-    }
 }
