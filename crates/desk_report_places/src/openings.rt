@@ -1,6 +1,7 @@
 //! What the server grants of that which is denied at some places.
 
 ghost use Rattle.std.specs.Prelude.{◌≡◌, ◌||◌, ◌++◌, IfOk, OnOk, map};
+ghost use Rattle.desk_text.specs.Path.{same_path};
 ghost use Rattle.desk_who.specs.Runs.{run_value};
 ghost use Rattle.desk_impact.specs.Places.{place_of};
 ghost use Rattle.desk_impact.specs.Sections.{section_value};
@@ -13,6 +14,7 @@ ghost use Rattle.desk_report_places.specs.Openings.{AreOpeningsOf};
 use desk_impact::{Place, Section};
 use desk_openings::Opening;
 use desk_page_places::PlaceOpening;
+use desk_text::Path;
 use desk_who::Run;
 use std::alloc::{AllocError, Global};
 
@@ -78,14 +80,21 @@ fn push_opened<'a>(
         ≡ map opening_value all.old.items ++ map (spec.opened_by (place_of place.entry)) (map (run_value openings_spec.opening_value) ranges.now)) }
 {
     for run in ranges {
-        all.push(PlaceOpening {
-            place,
-            address: run.first,
-            denied: run.value.denied,
-            line: run.value.line,
-        })?;
+        all.push(opened_at(place, run))?;
     }
     Ok(())
+}
+
+/// Makes what it grants at a place to the first address of a range.
+fn opened_at<'a>(place: Place<'a>, run: &Run<Opening>) -> PlaceOpening<'a>
+    ensures { opening_value result ≡ spec.opened_by (place_of place.entry) (run_value openings_spec.opening_value run.now) }
+{
+    PlaceOpening {
+        place,
+        address: run.first,
+        denied: run.value.denied,
+        line: run.value.line,
+    }
 }
 
 /// Tests whether a place is one of these.
@@ -111,8 +120,15 @@ fn is_same(place: Place<'_>, other: Place<'_>) -> bool
     ensures { result ≡ spec.same_place (place_of place.entry) (place_of other.entry) }
 {
     match (place, other) {
-        (Place::Directory(path), Place::Directory(same)) => path == same,
-        (Place::Others(mount), Place::Others(same)) => mount == same,
+        (Place::Directory(path), Place::Directory(same)) => are_equal(path, same),
+        (Place::Others(mount), Place::Others(same)) => are_equal(mount, same),
         (Place::Directory(_), Place::Others(_)) | (Place::Others(_), Place::Directory(_)) => false,
     }
+}
+
+/// Tests whether two paths are equal.
+fn are_equal(path: &Path, other: &Path) -> bool
+    ensures { result ≡ same_path path.now other.now }
+{
+    path == other
 }

@@ -1,4 +1,4 @@
-use Rattle.std.proofs.Common.{◌++◌, ◌∙◌, List, ap, map, refl, sym}
+use Rattle.std.proofs.Common.{◌++◌, ◌∙◌, List, ap, map, sym}
 use Rattle.std.proofs.lemmas.List.{append-nil, take_all}
 use Rattle.desk_who.specs.Runs.{run_value}
 use Rattle.desk_who.specs.declared.runs.Run.{Run as KeptRun}
@@ -18,7 +18,7 @@ pub loop-run-preserved : goal.loop-run-preserved
 loop-run-preserved c =
     let of : KeptRun Opening → OpeningValue = λ run. opened_by (place_of c.args.place) (run_value openings.opening_value run) in
     gathers of c.args.ranges.now c.loop-run.run-index c.run-item.result c.loop-run-test.true c.run-item.is opening_value (map opening_value c.args.all.now.items)
-    c.loop-run.all.items c.push.new.self.items _ c.in_ok-push.ensures.items refl c.loop-run.invariant
+    c.loop-run.all.items c.push.new.self.items c.opened_at.result c.in_ok-push.ensures.items c.opened_at.ensures c.loop-run.invariant
 
 pub returns : goal.returns
 returns c =
