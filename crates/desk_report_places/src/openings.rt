@@ -130,5 +130,5 @@ fn is_same(place: Place<'_>, other: Place<'_>) -> bool
 fn are_equal(path: &Path, other: &Path) -> bool
     ensures { result ≡ same_path path.now other.now }
 {
-    path == other
+    *path == *other
 }
