@@ -1,5 +1,5 @@
-use Rattle.std.proofs.Common.{◌++◌, ◌∙◌, List, ap, map, sym}
-use Rattle.std.proofs.lemmas.List.{append-nil, take_all}
+use Rattle.std.proofs.Common.{◌++◌, ◌∙◌, List, ap, get_or, map, sym}
+use Rattle.std.proofs.lemmas.List.{append-nil, get_or_default, take_all}
 use Rattle.desk_who.specs.Runs.{run_value}
 use Rattle.desk_who.specs.declared.runs.Run.{Run as KeptRun}
 use Rattle.desk_impact.specs.Places.{place_of}
@@ -17,7 +17,11 @@ loop-run-init c = sym (append-nil (map opening_value c.args.all.now.items))
 pub loop-run-preserved : goal.loop-run-preserved
 loop-run-preserved c =
     let of : KeptRun Opening → OpeningValue = λ run. opened_by (place_of c.args.place) (run_value openings.opening_value run) in
-    gathers of c.args.ranges.now c.loop-run.run-index c.run-item.result c.loop-run-test.true c.run-item.is opening_value (map opening_value c.args.all.now.items)
+    let ranges : List (KeptRun Opening) = c.args.ranges.now in
+    let i = c.loop-run.run-index in
+    let none : KeptRun Opening = record { first = record { number = 0 }; last = record { number = 0 }; value = record { denied = 0; line = 0 } } in
+    let run : KeptRun Opening = get_or ranges i none in
+    gathers of ranges i run c.loop-run-test.true (get_or_default ranges i none run c.loop-run-test.true) opening_value (map opening_value c.args.all.now.items)
     c.loop-run.all.items c.push.new.self.items c.opened_at.result c.in_ok-push.ensures.items c.opened_at.ensures c.loop-run.invariant
 
 pub returns : goal.returns
