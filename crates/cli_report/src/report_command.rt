@@ -14,7 +14,7 @@ use cli_output::failure::Failure;
 use cli_output::printed::Printed;
 use cli_words::words::required;
 use desk_core::{Head, can_be_kept};
-use desk_policy::PolicyView;
+use desk_index::Index;
 use desk_report_page::page_of_state;
 use desk_store::Desk;
 use sqlite::Alter;
@@ -44,10 +44,10 @@ fn answer_on(rt: &HostRuntime, db: &str) -> Result<Printed, Failure>
 
 /// Prints the page of a desk. More than one newest revision of a file, or one that cannot be kept, which no desk has, is as if memory ran
 /// out.
-fn print_page<S: Alter + Drop, V: PolicyView + Drop>(
+fn print_page<S: Alter + Drop>(
     alloc: Global,
     db: &str,
-    desk: &Desk<S, V>,
+    desk: &Desk<S, Index>,
 ) -> Result<Printed, Failure>
     ensures { PrintsOnDesk S.Store desk.now db.now result }
 {

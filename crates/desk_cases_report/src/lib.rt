@@ -9,6 +9,7 @@ mod places;
 mod questions;
 mod report;
 mod revisions;
+mod standing;
 mod subject;
 
 use std::alloc::{AllocError, Global};

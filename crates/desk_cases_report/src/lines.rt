@@ -3,15 +3,16 @@
 ghost use Rattle.std.specs.Prelude.{map};
 ghost use Rattle.desk_deciding.specs.Deciding.{AreInLineOrder, AreSectionsOf, deciding_value};
 ghost use Rattle.desk_impact.specs.Sections.{section_value};
-ghost use Rattle.desk_report.specs.Grants.{AreGrants};
 ghost use Rattle.desk_report.specs.Laws.{IsSound};
+ghost use Rattle.desk_report.specs.Lines.{AreLineReasons};
 
 use crate::classes::add_bar;
 use desk_cases_texts::answers::Asked;
 use desk_deciding::{Deciding, deciding_lines};
 use desk_policy::Policy;
-use desk_report::{FileSystemReport, Level, LineGrants, LineReasons, Reason, reasons_of_lines};
+use desk_report::{FileSystemReport, Level, LineGrants, LineReasons, Reason};
 use desk_tables::FsId;
+use desk_text::Path;
 use std::alloc::{AllocError, Global};
 
 /// `grants FS`: each line of the file system, with the number of addresses to which it grants something: `line 2 65536|line 3 0`.
@@ -31,15 +32,15 @@ pub fn deciding(
     policy: &Policy,
     fs: FsId,
     system: &FileSystemReport<'_>,
+    reasons: &[LineReasons<'_>],
     out: &mut String,
 ) -> Asked
     requires sound { IsSound policy.now fs.0 }
-    requires grants { AreGrants policy.now fs.0 system.now.grants }
     requires sections { AreSectionsOf policy.now fs.0 (map section_value system.now.sections) }
+    requires reasons { AreLineReasons policy.now fs.0 reasons.now }
 {
-    let reasons = reasons_of_lines(alloc, policy, fs, system.grants.as_slice())?;
     let sections = system.sections.as_slice();
-    let found = deciding_lines(alloc, policy, fs, sections, reasons.as_slice())?;
+    let found = deciding_lines(alloc, policy, fs, sections, reasons)?;
     say_deciding(out, &found)
 }
 
@@ -65,23 +66,10 @@ fn add_lines(out: &mut String, lines: &[u32]) -> Result<(), AllocError> {
 }
 
 /// `stands_out FS`: each line of the file system, with the reasons for which it stands out, each with its level, or `nothing`, and `|`
-/// between lines: `line 2 look first for everybody read-write, look first root kept for networks|line 3 nothing`.
-pub fn stands_out(
-    alloc: Global,
-    policy: &Policy,
-    fs: FsId,
-    grants: &[LineGrants],
-    out: &mut String,
-) -> Asked
-    requires sound { IsSound policy.now fs.0 }
-    requires grants { AreGrants policy.now fs.0 grants.now }
-{
-    let found = reasons_of_lines(alloc, policy, fs, grants)?;
-    say_reasons(out, found.as_slice())
-}
-
-/// Answers with the lines, and why each stands out.
-fn say_reasons(out: &mut String, found: &[LineReasons]) -> Asked {
+/// between lines: `line 2 look first for everybody read-write, look first root kept for networks|line 3 nothing`. Where mountd(8) grants
+/// more, `to 10.0.0.5 by line 2 /a/b`, without a directory if that line has -alldirs; and where it may leave the line out, `has 10.0.0.5
+/// of line 1`.
+pub fn stands_out(out: &mut String, found: &[LineReasons<'_>]) -> Asked {
     for (place, one) in found.iter().enumerate() {
         add_bar(out, place)?;
         let line = one.line;
@@ -92,7 +80,7 @@ fn say_reasons(out: &mut String, found: &[LineReasons]) -> Asked {
 }
 
 /// Adds why a line stands out.
-fn add_reasons(out: &mut String, reasons: &[Reason]) -> Result<(), AllocError> {
+fn add_reasons(out: &mut String, reasons: &[Reason<'_>]) -> Result<(), AllocError> {
     if reasons.is_empty() {
         out.push_str("nothing")?;
     }
@@ -100,6 +88,7 @@ fn add_reasons(out: &mut String, reasons: &[Reason]) -> Result<(), AllocError> {
         out.push_str(if place > 0 { ", " } else { "" })?;
         out.push_str(level_name(reason.level()))?;
         out.push_str(reason_name(*reason))?;
+        add_server(out, *reason)?;
     }
     Ok(())
 }
@@ -112,8 +101,35 @@ fn level_name(level: Level) -> &'static str {
     }
 }
 
+/// Adds what a reason tells of mountd(8).
+fn add_server(out: &mut String, reason: Reason<'_>) -> Result<(), AllocError> {
+    match reason {
+        Reason::ServerGrantsMore(found) => {
+            let (address, line) = (found.address, found.other);
+            write!(out, " to {address} by line {line}")?;
+            add_directory(out, found.directory)
+        }
+        Reason::RepeatedClient(found) => {
+            let (address, line) = (found.address, found.other);
+            write!(out, " {address} of line {line}")
+        }
+        _ => Ok(()),
+    }
+}
+
+/// Adds a directory, if there is one.
+fn add_directory(out: &mut String, directory: Option<&Path>) -> Result<(), AllocError> {
+    match directory {
+        Some(directory) => {
+            out.push(' ')?;
+            out.push_str(directory.text())
+        }
+        None => Ok(()),
+    }
+}
+
 /// Returns how a reason is written.
-fn reason_name(reason: Reason) -> &'static str {
+fn reason_name(reason: Reason<'_>) -> &'static str {
     match reason {
         Reason::NoClient => "no client",
         Reason::NeverDecides => "never decides",
@@ -122,5 +138,7 @@ fn reason_name(reason: Reason) -> &'static str {
         Reason::Wide => "wide",
         Reason::RootKeptForNetworks => "root kept for networks",
         Reason::RootKeptForNames => "root kept for names",
+        Reason::ServerGrantsMore(_) => "server grants more",
+        Reason::RepeatedClient(_) => "has",
     }
 }

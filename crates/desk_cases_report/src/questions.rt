@@ -1,25 +1,23 @@
 //! Questions on what an auditor's report tells of a site: of that which the texts write that were kept last (`file`), and which is
-//! consistent. It is compiled anew for each question, into both views; if the index tells something else, both are told (`add_by_keys`).
+//! consistent. It is compiled anew for each question, but for those of `standing` into both views; if the index tells something else, both
+//! are told (`add_by_keys`).
 
 ghost use Rattle.std.specs.Prelude.{◌≡◌, [], map};
-ghost use Rattle.desk_deciding.specs.Deciding.{AreSectionsOf};
 ghost use Rattle.desk_impact.specs.Sections.{section_value};
 ghost use Rattle.desk_policy.specs.Site.{HaveReadableLengths, texts_of};
 ghost use Rattle.desk_report.specs.Classes.{class_run};
-ghost use Rattle.desk_report.specs.Grants.{AreGrants};
-ghost use Rattle.desk_report.specs.Laws.{IsSound, IsSoundSite, TellVerdicts};
+ghost use Rattle.desk_report.specs.Laws.{IsSoundSite, TellVerdicts};
 ghost use Rattle.desk_report.specs.Systems.{AreSystems, system_value};
 ghost use Rattle.desk_report.specs.Values.{AreRunsOfSome};
 
 use crate::subject::Subject;
-use crate::{classes, lines, pages, places, revisions};
+use crate::{classes, lines, pages, places, revisions, standing};
 use desk_cases_texts::answers::{Asked, number, split};
 use desk_cases_texts::indexes::add_by_keys;
 use desk_cases_texts::sites::say_fault;
 use desk_index::Index;
 use desk_policy::{Plain, Policy, PolicyView, compile};
 use desk_report::{FileSystemReport, orders_tell_verdicts, sites_are_sound, systems_of_site};
-use desk_tables::FsId;
 use desk_text::Path;
 use std::alloc::Global;
 
@@ -55,14 +53,10 @@ fn of_texts(
         return Ok(false);
     }
     match question {
-        "classes"
-        | "counts"
-        | "grants"
-        | "places"
-        | "table"
-        | "place_classes"
-        | "stands_out"
-        | "deciding" => { by_both(alloc, texts, out, question, text) }
+        "classes" | "counts" | "grants" | "places" | "table" | "place_classes" => {
+            by_both(alloc, texts, out, question, text)
+        }
+        "stands_out" | "deciding" => standing::by_index(alloc, texts, out, question, text),
         _ => Ok(false),
     }
 }
@@ -179,31 +173,25 @@ fn of_number(
         return Ok(false);
     }
     let system = systems.swap_remove(place);
-    of_system(alloc, policy, FsId(fs), system, out, question, text)
+    of_system(alloc, policy, system, out, question, text)
 }
 
 /// Answers by what is told of a file system.
 fn of_system(
     alloc: Global,
     policy: &Policy,
-    fs: FsId,
     system: FileSystemReport<'_>,
     out: &mut String,
     question: &str,
     text: &str,
 ) -> Asked
-    requires sound { IsSound policy.now fs.0 }
-    requires grants { AreGrants policy.now fs.0 system.grants }
     requires classes { AreRunsOfSome (map class_run system.classes) }
     requires told { TellVerdicts (map section_value system.sections) }
-    requires sections { AreSectionsOf policy.now fs.0 (map section_value system.sections) }
 {
     match question {
         "classes" => classes::say(out, system.classes.as_slice()),
         "counts" => classes::counts(out, system.classes.as_slice(), text),
         "grants" => lines::grants(out, system.grants.as_slice()),
-        "deciding" => lines::deciding(alloc, policy, fs, &system, out),
-        "stands_out" => lines::stands_out(alloc, policy, fs, system.grants.as_slice(), out),
         "places" => places::groups(alloc, out, system.sections.into_vec()),
         "table" => places::table(alloc, policy, out, system.sections.into_vec(), text),
         "place_classes" => places::classes(alloc, out, system.sections.as_slice(), text),

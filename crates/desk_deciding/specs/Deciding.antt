@@ -11,7 +11,7 @@ use Rattle.desk_impact.specs.Sections.{PlaceBreaches}
 use Rattle.desk_report.specs.Sections.{AreSections, is_section_in}
 use Rattle.desk_report.specs.declared.lines.LineReasons.{LineReasons}
 use Rattle.desk_report.specs.declared.reasons.Reason.{Reason}
-use Rattle.desk_report.specs.declared.reasons.Reason.TheVariants.{NoClient, NeverDecides, ForEverybodyReadOnly, ForEverybodyReadWrite, Wide, RootKeptForNetworks, RootKeptForNames}
+use Rattle.desk_report.specs.declared.reasons.Reason.TheVariants.{NoClient, NeverDecides, ForEverybodyReadOnly, ForEverybodyReadWrite, Wide, RootKeptForNetworks, RootKeptForNames, ServerGrantsMore, RepeatedClient}
 use Rattle.desk_deciding.specs.declared.deciding.Deciding.{Deciding as Kept}
 
 -- A line decides for a client of this one: the verdict for an address that this one matches, on some path of the file system, names it.
@@ -63,8 +63,10 @@ is_never ForEverybodyReadWrite = false
 is_never Wide = false
 is_never RootKeptForNetworks = false
 is_never RootKeptForNames = false
+is_never (ServerGrantsMore found) = false
+is_never (RepeatedClient found) = false
 
--- so it is by the first of these reasons (there is no other then)
+-- so it is by the first of these reasons (behind it stands at most what the server does otherwise)
 abbrev pub never_decides : List Reason → Bool
 never_decides [] = false
 never_decides (reason ∷ reasons) = is_never reason

@@ -52,7 +52,7 @@ pub fn deciding_lines(
     policy: &Policy,
     fs: FsId,
     sections: &[Section<'_>],
-    reasons: &[LineReasons],
+    reasons: &[LineReasons<'_>],
 ) -> Result<Deciding, AllocError>
     requires sections { AreSectionsOf policy.now fs.0 (map section_value sections.now) }
     requires reasons { AreLineReasons policy.now fs.0 reasons.now }
@@ -86,7 +86,7 @@ fn add_line<'a>(
     alloc: Global,
     sections: &[Section<'_>],
     row: &'a Row,
-    reasons: &LineReasons,
+    reasons: &LineReasons<'_>,
     lists: &mut Lists<'a>,
     lines: &mut Vec<NeverDecides>,
 ) -> Result<(), AllocError>
@@ -104,8 +104,8 @@ fn add_line<'a>(
     Ok(())
 }
 
-/// Tests whether the first of these reasons is that the line never decides, of which no other stands beside it.
-fn never_decides(reasons: &[Reason]) -> bool
+/// Tests whether the first of these reasons is that the line never decides: behind it stands at most what the server does otherwise.
+fn never_decides(reasons: &[Reason<'_>]) -> bool
     ensures { result ≡ spec.never_decides reasons.now }
 {
     match reasons.first() {

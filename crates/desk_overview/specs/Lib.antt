@@ -1,3 +1,4 @@
+pub mod Server
 pub mod Lines
 pub mod PrivateLines
 pub mod Findings

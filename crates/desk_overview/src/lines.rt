@@ -23,7 +23,7 @@ pub struct SiteLine<'a> {
     pub fs: FsId,
     pub row: &'a Row,
     pub count: u64,
-    pub reasons: &'a [Reason],
+    pub reasons: &'a [Reason<'a>],
 }
 
 impl<'a> SiteLine<'a> {
@@ -55,7 +55,7 @@ pub fn lines_of_site<'a>(
     alloc: Global,
     policy: &'a Policy,
     systems: &[FileSystemReport<'_>],
-    reasons: &'a [Sequence<LineReasons>],
+    reasons: &'a [Sequence<LineReasons<'a>>],
 ) -> Result<Vec<SiteLine<'a>>, AllocError>
     requires sound { IsSoundSite policy.now }
     requires systems { AreSystems policy.now (map system_value systems.now) }
@@ -82,7 +82,7 @@ fn push_lines<'a>(
     policy: &'a Policy,
     fs: FsId,
     grants: &[LineGrants],
-    reasons: &'a [LineReasons],
+    reasons: &'a [LineReasons<'a>],
 ) -> Result<(), AllocError>
     requires grants { AreGrants policy.now fs.0 grants.now }
     requires reasons { AreLineReasons policy.now fs.0 reasons.now }

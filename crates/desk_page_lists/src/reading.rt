@@ -32,6 +32,8 @@ const HOW_TO_READ: &str = r##"<section id="read">
 <tbody>
 <tr><th scope="row"><b class="l look-first">look first</b></th><td>for everybody, read-write, sec=..</td><td>names no client or a network /0, is not <code>-ro</code>, and grants something</td></tr>
 <tr><th scope="row"><b class="l look-first">look first</b></th><td>root stays root, every user acts as root</td><td>is for a network or for everybody, keeps uid 0, and grants something</td></tr>
+<tr><th scope="row"><b class="l look-first">look first</b></th><td>mountd(8) grants more</td><td>is the first to decide for some client to whom mountd(8) also grants a directory that is denied here: by another line, for a network of that client, which lists it (named are the least such client, that line, and the first such directory)</td></tr>
+<tr><th scope="row"><b class="l look-first">look first</b></th><td>mountd(8) may leave this line out</td><td>has a client of an earlier line of the file system: an address, its network, or everybody. mountd(8) takes one line for a client and a file system, and may leave this one out with all its clients (named are the first such line, and the least such client: of a network its first address, of everybody 0.0.0.0)</td></tr>
 <tr><th scope="row"><b class="l check">check</b></th><td>for everybody, read-only, sec=..</td><td>names no client or a network /0, is <code>-ro</code>, and grants something</td></tr>
 <tr><th scope="row"><b class="l check">check</b></th><td>root stays root, every user acts as root</td><td>is for hosts or netgroups, keeps uid 0, and grants something</td></tr>
 <tr><th scope="row"><b class="l check">check</b></th><td>wide</td><td>grants something to over 65,536 addresses, and is not for everybody</td></tr>
@@ -42,7 +44,7 @@ const HOW_TO_READ: &str = r##"<section id="read">
 <ul>
 <li>A client is an IPv4 address. Addresses can be forged, and with <code>sys</code> a client says itself who its users are.</li>
 <li>The page is about the texts in the database. Whether the server has the same ones it does not know.</li>
-<li>A denial does not bind every client to whom another directory of the same file system is granted. NFSv4 reaches all of that file system, and so does a client that guesses file handles; and mountd(8) grants a directory by any line for the client's hosts or networks that lists it. If in doubt, go by the most that a client may mount of the file system.</li>
+<li>A denial does not bind every client to whom another directory of the same file system is granted. NFSv4 reaches all of that file system, and so does a client that guesses file handles; and mountd(8) grants a directory by any line for the client's hosts or networks that lists it. What stands out names each line where that grants more, and the lists of who may mount name one client for each line that denies; verdicts, maps and counts leave it out. If in doubt, go by the most that a client may mount of the file system.</li>
 <li>Hosts and networks of IPv6 match nobody here, and <code>V4:</code> lines are neither read nor counted.</li>
 <li>When a revision was put: the database keeps no times. Revision 1 by <code>site</code> is what <code>init</code> read, whoever wrote it.</li>
 <li>What is too long is cut, and how much is left out is counted there. <code>exportdesk who</code> lists all clients of a directory. Shares in percent are rounded down.</li>

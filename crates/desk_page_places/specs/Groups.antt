@@ -1,10 +1,11 @@
 -- Who may mount directories that are granted alike. (this project's own, over HTML)
-use Rattle.std.specs.Prelude.{ℕ, ◌==◌, List, ◌++◌, codes, if◌then◌else◌}
+use Rattle.std.specs.Prelude.{ℕ, ◌==◌, List, ◌++◌, codes, if◌then◌else◌, map}
 use Rattle.std.specs.List.{flat_map}
 use Rattle.std.specs.String.{string_bytes}
 use Rattle.desk_impact.specs.Sections.{PlaceBreaches}
 use Rattle.desk_report.specs.Groups.{group_value}
 use Rattle.desk_page_places.specs.Names.{MembersValue, folded_names, heading, members_in}
+use Rattle.desk_page_places.specs.Openings.{OpeningValue, opening_value, openings_text}
 use Rattle.desk_page_places.specs.Tables.{HasSizes, TableValue, granting, table_block, told_value}
 use Rattle.desk_page_places.specs.declared.groups.GroupPart.{GroupPart}
 
@@ -26,19 +27,21 @@ abbrev pub who_block : ℕ → MembersValue → List ℕ → TableValue → List
 who_block fs members maps told = if granting told.rows == 0 then nobody else maps_and_table fs members maps told
 
 -- all of it, given what is in the group
-abbrev pub group_by : ℕ → MembersValue → List ℕ → TableValue → List ℕ
-group_by fs members maps told = group_head members ++ who_block fs members maps told ++ codes "</section>\n"
+abbrev pub group_by : ℕ → MembersValue → List ℕ → TableValue → List OpeningValue → List ℕ
+group_by fs members maps told openings =
+    group_head members ++ who_block fs members maps told ++ openings_text fs openings ++ codes "</section>\n"
 
--- Who may mount directories of a file system that are granted alike, with their maps, if they are drawn.
-abbrev pub group_block : ℕ → List PlaceBreaches → List ℕ → TableValue → List ℕ
-group_block fs sections maps told = group_by fs (members_in sections) maps told
+-- Who may mount directories of a file system that are granted alike, with their maps, if they are drawn, and with what the server grants
+-- of that which is denied.
+abbrev pub group_block : ℕ → List PlaceBreaches → List ℕ → TableValue → List OpeningValue → List ℕ
+group_block fs sections maps told openings = group_by fs (members_in sections) maps told openings
 
 -- the same of each of some groups
 abbrev pub HasToldSizes : GroupPart → Type 0
 HasToldSizes part = HasSizes (told_value part.table)
 
 abbrev pub group_text : ℕ → GroupPart → List ℕ
-group_text fs part = group_block fs (group_value part.group) (string_bytes part.maps) (told_value part.table)
+group_text fs part = group_block fs (group_value part.group) (string_bytes part.maps) (told_value part.table) (map opening_value part.openings)
 
 unfoldable pub groups_text : ℕ → List GroupPart → List ℕ
 groups_text fs parts = flat_map (group_text fs) parts

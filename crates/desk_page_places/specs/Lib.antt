@@ -1,3 +1,4 @@
+pub mod Openings
 pub mod Groups
 pub mod Laws
 pub mod Lists

@@ -1,16 +1,19 @@
 //! Who may mount directories that are granted alike.
 
-ghost use Rattle.std.specs.Prelude.{◌≡◌, ◌++◌, All, OnOk};
+ghost use Rattle.std.specs.Prelude.{◌≡◌, ◌++◌, All, OnOk, map};
 ghost use Rattle.std.specs.String.{string_bytes};
 ghost use Rattle.desk_report.specs.Groups.{group_value};
 ghost use Rattle.desk_page_places.specs.Names.{members_value};
 ghost use Rattle.desk_page_places.specs.Groups as spec;
+ghost use Rattle.desk_page_places.specs.Openings.{opening_value};
 ghost use Rattle.desk_page_places.specs.Tables.{HasSizes, told_value};
 
 use crate::names::{Members, members_of, push_folded_names, push_heading};
+use crate::openings::{PlaceOpening, push_openings};
 use crate::tables::{granting, push_table_block};
 use desk_report::{Group, Table};
 use desk_tables::FsId;
+use desk_text::Sequence;
 use std::alloc::{AllocError, Global};
 
 /// A group of directories that are granted alike, and who may mount them.
@@ -20,6 +23,8 @@ pub struct GroupPart<'a> {
     pub table: Table<'a>,
     /// Its maps, if they are drawn: HTML, which comes onto the page as it is.
     pub maps: String,
+    /// What the server grants of that which is denied: for each line that a denial names, to the least client.
+    pub openings: Sequence<PlaceOpening<'a>>,
 }
 
 /// Adds who may mount the directories of each of these groups.
@@ -40,26 +45,30 @@ pub fn push_groups(
             &part.group,
             part.maps.as_str(),
             &part.table,
+            part.openings.as_slice(),
             page,
         )?;
     }
     Ok(())
 }
 
-/// Adds who may mount the directories of a group of a file system, given its maps, as HTML, and the table of the group.
+/// Adds who may mount the directories of a group of a file system, given its maps, as HTML, the table of the group, and what the server
+/// grants of that which is denied.
 pub fn push_group(
     alloc: Global,
     fs: FsId,
     group: &Group<'_>,
     maps: &str,
     table: &Table<'_>,
+    openings: &[PlaceOpening<'_>],
     page: &mut String,
 ) -> Result<(), AllocError>
     requires { HasSizes (told_value table.now) }
-    ensures { OnOk result (string_bytes page.new ≡ string_bytes page.old ++ spec.group_block fs.0 (group_value group.now) maps.now (told_value table.now)) }
+    ensures { OnOk result (string_bytes page.new
+        ≡ string_bytes page.old ++ spec.group_block fs.0 (group_value group.now) maps.now (told_value table.now) (map opening_value openings.now)) }
 {
     let members = members_of(alloc, group.sections.as_slice())?;
-    push_group_of(alloc, fs, &members, maps, table, page)
+    push_group_of(alloc, fs, &members, maps, table, openings, page)
 }
 
 /// Adds who may mount the directories of a group, given what is in it.
@@ -69,13 +78,16 @@ fn push_group_of(
     members: &Members<'_>,
     maps: &str,
     table: &Table<'_>,
+    openings: &[PlaceOpening<'_>],
     page: &mut String,
 ) -> Result<(), AllocError>
     requires { HasSizes (told_value table.now) }
-    ensures { OnOk result (string_bytes page.new ≡ string_bytes page.old ++ spec.group_by fs.0 (members_value members.now) maps.now (told_value table.now)) }
+    ensures { OnOk result (string_bytes page.new
+        ≡ string_bytes page.old ++ spec.group_by fs.0 (members_value members.now) maps.now (told_value table.now) (map opening_value openings.now)) }
 {
     push_group_head(alloc, members, page)?;
     push_who(alloc, fs, members, maps, table, page)?;
+    push_openings(alloc, fs, openings, page)?;
     page.push_str("</section>\n")
 }
 

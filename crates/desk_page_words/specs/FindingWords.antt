@@ -1,16 +1,21 @@
 -- Why a line stands out, in words. (this project's own)
-use Rattle.std.specs.Prelude.{ℕ, ◌==◌, Bool, List, [], ◌++◌, codes, drop, length, nat_le, take, if◌then◌else◌}
+use Rattle.std.specs.Prelude.{ℕ, ◌==◌, Bool, List, [], ◌++◌, Option, None, Some, codes, drop, length, nat_le, take, if◌then◌else◌}
 use Rattle.std.specs.List.{join_by}
+use Rattle.std.specs.Option.{option_copied}
+use Rattle.desk_text.specs.Address.{addr_text, number_of}
+use Rattle.desk_text.specs.Path.{path_text}
 use Rattle.desk_exports.specs.Flavours.{flavour_word}
 use Rattle.desk_exports.specs.declared.entry.Flavour.{Flavour}
 use Rattle.desk_exports.specs.declared.entry.Mapping.{Mapping}
 use Rattle.desk_exports.specs.declared.entry.Mapping.TheVariants.{All, Root}
 use Rattle.desk_exports.specs.declared.entry.Terms.{Terms}
-use Rattle.desk_page.specs.Pieces.{line_link}
+use Rattle.desk_page.specs.Pieces.{code, line_link}
 use Rattle.desk_page.specs.Amounts.{and_more}
 use Rattle.desk_page_words.specs.declared.finding_words.Finding.{Finding}
 use Rattle.desk_report.specs.declared.reasons.Reason.{Reason}
-use Rattle.desk_report.specs.declared.reasons.Reason.TheVariants.{NoClient, NeverDecides, ForEverybodyReadOnly, ForEverybodyReadWrite, Wide, RootKeptForNetworks, RootKeptForNames}
+use Rattle.desk_report.specs.declared.reasons.Reason.TheVariants.{NoClient, NeverDecides, ForEverybodyReadOnly, ForEverybodyReadWrite, Wide, RootKeptForNetworks, RootKeptForNames, ServerGrantsMore, RepeatedClient}
+use Rattle.desk_server.specs.declared.repeated.RepeatedClient.{RepeatedClient as Repeated}
+use Rattle.desk_server.specs.declared.wider.WiderGrant.{WiderGrant}
 
 -- the names of flavours, as a line writes them
 abbrev pub flavour_names : List Flavour → List ℕ
@@ -45,6 +50,24 @@ decide_words count = if count == 1 then codes " decides for all its clients" els
 abbrev pub deciding : ℕ → List ℕ → List ℕ
 deciding fs lines = codes "never decides: " ++ some_lines fs lines ++ decide_words (length lines)
 
+-- what another line lists more: a directory; or it has -alldirs, and lists every directory
+abbrev pub listed_directory : List (List ℕ) → List ℕ
+listed_directory directory = codes " lists " ++ code (path_text directory) ++ codes " too"
+
+abbrev pub listed : Option (List (List ℕ)) → List ℕ
+listed (Some directory) = listed_directory directory
+listed None = codes " lists every directory of the file system (<code>-alldirs</code>)"
+
+-- to whom the server grants more, by which line, and what that lists
+abbrev pub wider : ℕ → WiderGrant → List ℕ
+wider fs found =
+    codes "mountd(8) grants more: to " ++ addr_text (number_of found.address) ++ codes " " ++ line_link fs found.other ++ listed (option_copied found.directory)
+
+-- that the server may leave the line out, since an earlier one has a client of it
+abbrev pub repeated : ℕ → Repeated → List ℕ
+repeated fs found =
+    codes "mountd(8) may leave this line out: " ++ line_link fs found.other ++ codes " has " ++ addr_text (number_of found.address)
+
 -- a reason why a line stands out
 abbrev pub reason_words : Finding → Reason → List ℕ
 reason_words finding NoClient = codes "matches nobody"
@@ -54,6 +77,8 @@ reason_words finding ForEverybodyReadWrite = for_everybody (codes "read-write") 
 reason_words finding Wide = codes "wide: over 65,536 addresses"
 reason_words finding RootKeptForNetworks = root_kept finding.terms.now finding.is_for_network
 reason_words finding RootKeptForNames = root_kept finding.terms.now finding.is_for_network
+reason_words finding (ServerGrantsMore found) = wider finding.fs.0 found
+reason_words finding (RepeatedClient found) = repeated finding.fs.0 found
 
 -- reasons with commas between them, and all reasons why a line stands out
 abbrev pub reasons_words : Finding → List Reason → List ℕ

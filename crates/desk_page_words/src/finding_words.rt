@@ -2,16 +2,20 @@
 
 ghost use Rattle.std.specs.Prelude.{◌≡◌, ◌++◌, OnOk, codes};
 ghost use Rattle.std.specs.List.{flat_map};
+ghost use Rattle.std.specs.Option.{option_copied};
 ghost use Rattle.std.specs.String.{string_bytes};
+ghost use Rattle.desk_text.specs.Address.{addr_text, number_of};
 ghost use Rattle.desk_exports.specs.Flavours.{flavour_word};
 ghost use Rattle.desk_page.specs.Pieces.{line_link};
 ghost use Rattle.desk_page_words.specs.FindingWords as spec;
 ghost use Rattle.desk_report.specs.Reasons.{level_of_all};
 
 use desk_exports::{Flavour, Mapping, Terms};
-use desk_page::{push_and_more, push_line_link};
+use desk_page::{push_and_more, push_code, push_line_link};
 use desk_report::{Level, Reason, level_of_reasons};
+use desk_server::{RepeatedClient, WiderGrant};
 use desk_tables::FsId;
+use desk_text::{Addr, Path};
 use std::alloc::{AllocError, Global};
 
 /// So many of the lines that decide in place of another one are named.
@@ -23,7 +27,7 @@ pub struct Finding<'a> {
     pub fs: FsId,
     /// The number of the line.
     pub line: u32,
-    pub reasons: &'a [Reason],
+    pub reasons: &'a [Reason<'a>],
     pub terms: &'a Terms,
     /// Whether it writes a network that does not have every address.
     pub is_for_network: bool,
@@ -55,7 +59,7 @@ pub fn push_finding_words(
 fn push_reasons(
     alloc: Global,
     finding: &Finding<'_>,
-    reasons: &[Reason],
+    reasons: &[Reason<'_>],
     page: &mut String,
 ) -> Result<(), AllocError>
     ensures { OnOk result (string_bytes page.new ≡ string_bytes page.old ++ spec.reasons_words finding.now reasons.now) }
@@ -73,7 +77,7 @@ fn push_reasons(
 fn push_later_reasons(
     alloc: Global,
     finding: &Finding<'_>,
-    reasons: &[Reason],
+    reasons: &[Reason<'_>],
     page: &mut String,
 ) -> Result<(), AllocError>
     ensures { OnOk result (string_bytes page.new
@@ -90,10 +94,10 @@ fn push_later_reasons(
 fn push_reason(
     alloc: Global,
     finding: &Finding<'_>,
-    reason: Reason,
+    reason: Reason<'_>,
     page: &mut String,
 ) -> Result<(), AllocError>
-    ensures { OnOk result (string_bytes page.new ≡ string_bytes page.old ++ spec.reason_words finding.now reason) }
+    ensures { OnOk result (string_bytes page.new ≡ string_bytes page.old ++ spec.reason_words finding.now reason.entry) }
 {
     match reason {
         Reason::NoClient => page.push_str("matches nobody"),
@@ -104,6 +108,8 @@ fn push_reason(
         Reason::RootKeptForNetworks | Reason::RootKeptForNames => {
             push_root_kept(finding.terms, finding.is_for_network, page)
         }
+        Reason::ServerGrantsMore(found) => push_wider(finding.fs, &found, page),
+        Reason::RepeatedClient(found) => push_repeated(finding.fs, &found, page),
     }
 }
 
@@ -237,4 +243,51 @@ fn push_later_links(fs: FsId, lines: &[u32], page: &mut String) -> Result<(), Al
         push_line_link(fs, *line, page)?;
     }
     Ok(())
+}
+
+/// Adds to whom the server grants more, by which line, and what that lists.
+fn push_wider(fs: FsId, found: &WiderGrant<'_>, page: &mut String) -> Result<(), AllocError>
+    ensures { OnOk result (string_bytes page.new ≡ string_bytes page.old ++ spec.wider fs.0 found.now) }
+{
+    page.push_str("mountd(8) grants more: to ")?;
+    push_address(found.address, page)?;
+    page.push_str(" ")?;
+    push_line_link(fs, found.other, page)?;
+    push_listed(found.directory, page)
+}
+
+/// Adds what a line lists more.
+fn push_listed(directory: Option<&Path>, page: &mut String) -> Result<(), AllocError>
+    ensures { OnOk result (string_bytes page.new ≡ string_bytes page.old ++ spec.listed (option_copied directory.entry)) }
+{
+    match directory {
+        Some(directory) => push_listed_directory(directory, page),
+        None => page.push_str(" lists every directory of the file system (<code>-alldirs</code>)"),
+    }
+}
+
+/// Adds the directory that it lists more.
+fn push_listed_directory(directory: &Path, page: &mut String) -> Result<(), AllocError>
+    ensures { OnOk result (string_bytes page.new ≡ string_bytes page.old ++ spec.listed_directory directory.now) }
+{
+    page.push_str(" lists ")?;
+    push_code(directory.text(), page)?;
+    page.push_str(" too")
+}
+
+/// Adds that the server may leave a line out, since an earlier one has a client of it.
+fn push_repeated(fs: FsId, found: &RepeatedClient, page: &mut String) -> Result<(), AllocError>
+    ensures { OnOk result (string_bytes page.new ≡ string_bytes page.old ++ spec.repeated fs.0 found.now) }
+{
+    page.push_str("mountd(8) may leave this line out: ")?;
+    push_line_link(fs, found.other, page)?;
+    page.push_str(" has ")?;
+    push_address(found.address, page)
+}
+
+/// Adds an address.
+fn push_address(address: Addr, page: &mut String) -> Result<(), AllocError>
+    ensures { OnOk result (string_bytes page.new ≡ string_bytes page.old ++ addr_text (number_of address)) }
+{
+    write!(page, "{address}")
 }

@@ -29,6 +29,7 @@ pub mod Reported
 pub mod Rowed
 pub mod SamePlaces
 pub mod Selecting
+pub mod Served
 pub mod SiteMost
 pub mod Sites
 pub mod Standing

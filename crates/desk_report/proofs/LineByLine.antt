@@ -1,5 +1,5 @@
 -- Why a line stands out, by the number of addresses to which it grants something.
-use Rattle.std.proofs.Common.{◌≡◌, ℕ, ◌∙◌, Bool, true, false, cond, [], ◌∷◌, ap}
+use Rattle.std.proofs.Common.{◌≡◌, ℕ, ◌++◌, ◌∙◌, Bool, List, true, false, cond, [], ◌∷◌, ap}
 use Rattle.std.specs.Prelude.{◌==◌, Contains}
 use Rattle.std.specs.Bool.{Decides}
 use Rattle.std.proofs.lemmas.Bool.{eq-eqb, false_from_ne_true, ne_eqb}
@@ -11,7 +11,9 @@ use Rattle.desk_report.specs.Laws.{IsSound}
 use Rattle.desk_report.specs.Lines.{IsToldOf}
 use Rattle.desk_report.specs.PrivateLines.{reasons_by}
 use Rattle.desk_report.specs.Reasons.{reasons_on}
+use Rattle.desk_report.specs.Server.{AreServerReasons}
 use Rattle.desk_report.specs.declared.lines.LineReasons.{LineReasons}
+use Rattle.desk_report.specs.declared.reasons.Reason.{Reason}
 use Rattle.desk_report.specs.declared.reasons.Reason.TheVariants.{NoClient, NeverDecides}
 use Rattle.desk_report.proofs.GrantsNothing.{idle_lines_grant_nothing}
 
@@ -23,17 +25,21 @@ module _ (content : Content) (fs : ℕ) (sound : IsSound content fs) (row : Row)
   some : IsNamed content fs one.line → (count == 0) ≡ false
   some named = ne_eqb count 0 (λ is. (idle_lines_grant_nothing content fs one.line count sound counts).1 is named)
 
-  pub told_of : one.reasons ≡ reasons_by row count nobody → IsToldOf content fs one
-  told_of reasons = record {
+  pub told_of : (server : List Reason) → AreServerReasons content fs row server → one.reasons ≡ reasons_by row count nobody ++ server → IsToldOf content fs one
+  told_of server served reasons = record {
     row = row;
     has = has;
     line = line;
     count = count;
     counts = counts;
+    own = reasons_by row count nobody;
     nobody = λ nothing matches.
-        reasons ∙ ap (λ b. cond b (cond nobody (NoClient ∷ []) (NeverDecides ∷ [])) (reasons_on row count)) (none nothing) ∙ ap (λ b. cond b (NoClient ∷ []) (NeverDecides ∷ [])) (decides.1 matches);
+        ap (λ b. cond b (cond nobody (NoClient ∷ []) (NeverDecides ∷ [])) (reasons_on row count)) (none nothing) ∙ ap (λ b. cond b (NoClient ∷ []) (NeverDecides ∷ [])) (decides.1 matches);
     never = λ nothing matches.
-        reasons ∙ ap (λ b. cond b (cond nobody (NoClient ∷ []) (NeverDecides ∷ [])) (reasons_on row count)) (none nothing)
+        ap (λ b. cond b (cond nobody (NoClient ∷ []) (NeverDecides ∷ [])) (reasons_on row count)) (none nothing)
         ∙ ap (λ b. cond b (NoClient ∷ []) (NeverDecides ∷ [])) (false_from_ne_true nobody (λ is. matches (decides.0 is)));
-    decides = λ named. reasons ∙ ap (λ b. cond b (cond nobody (NoClient ∷ []) (NeverDecides ∷ [])) (reasons_on row count)) (some named);
+    decides = λ named. ap (λ b. cond b (cond nobody (NoClient ∷ []) (NeverDecides ∷ [])) (reasons_on row count)) (some named);
+    server = server;
+    are_server = served;
+    reasons = reasons;
   }

@@ -18,6 +18,8 @@ pub mod PrivateGrants
 pub mod Systems
 pub mod PrivateSystems
 pub mod Reasons
+pub mod Server
+pub mod PrivateServer
 pub mod Lines
 pub mod PrivateLines
 pub mod Laws

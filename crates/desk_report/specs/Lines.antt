@@ -1,24 +1,30 @@
 -- Why each line of a file system stands out. (this project's own)
-use Rattle.std.specs.Prelude.{◌≡◌, ℕ, ◌∷◌, [], All, Contains, List, map}
+use Rattle.std.specs.Prelude.{◌≡◌, ℕ, ◌∷◌, ◌++◌, [], All, Contains, List, map}
 use Rattle.desk_policy.specs.Policy.{Content, rows_of}
 use Rattle.desk_policy.specs.declared.row.Row.{Row}
 use Rattle.desk_idle.specs.Idle.{DecidesNothing, IsNamed, MatchesNobody}
 use Rattle.desk_report.specs.Grants.{GrantsTo, HoldsOf}
 use Rattle.desk_report.specs.Reasons.{reasons_on}
+use Rattle.desk_report.specs.Server.{AreServerReasons}
 use Rattle.desk_report.specs.declared.lines.LineReasons.{LineReasons}
+use Rattle.desk_report.specs.declared.reasons.Reason.{Reason}
 use Rattle.desk_report.specs.declared.reasons.Reason.TheVariants.{NoClient, NeverDecides}
 
 -- Why a line stands out: if it decides nothing, that alone, and whether it matches anybody; and else what its words and the number
--- of addresses say to which it grants something.
+-- of addresses say to which it grants something. Behind this stands what the server does otherwise, of either line.
 pub record IsToldOf (content : Content) (fs : ℕ) (one : LineReasons) : Type 0 where
   pub row : Row
   pub has : Contains (rows_of content fs) row
   pub line : row.entry.line ≡ one.line
   pub count : ℕ
   pub counts : HoldsOf (GrantsTo content fs one.line) count
-  pub nobody : DecidesNothing content fs one.line → MatchesNobody row → one.reasons ≡ NoClient ∷ []
-  pub never : DecidesNothing content fs one.line → (MatchesNobody row → ⊥) → one.reasons ≡ NeverDecides ∷ []
-  pub decides : IsNamed content fs one.line → one.reasons ≡ reasons_on row count
+  pub own : List Reason
+  pub nobody : DecidesNothing content fs one.line → MatchesNobody row → own ≡ NoClient ∷ []
+  pub never : DecidesNothing content fs one.line → (MatchesNobody row → ⊥) → own ≡ NeverDecides ∷ []
+  pub decides : IsNamed content fs one.line → own ≡ reasons_on row count
+  pub server : List Reason
+  pub are_server : AreServerReasons content fs row server
+  pub reasons : one.reasons ≡ own ++ server
 
 -- The lines of a file system, in their order, each with why it stands out.
 pub record AreLineReasons (content : Content) (fs : ℕ) (found : List LineReasons) : Type 0 where

@@ -9,7 +9,7 @@ use Rattle.desk_report.specs.Class.{keeps_root}
 use Rattle.desk_report.specs.declared.reasons.Level.{Level}
 use Rattle.desk_report.specs.declared.reasons.Level.TheVariants.{LookFirst, Check}
 use Rattle.desk_report.specs.declared.reasons.Reason.{Reason}
-use Rattle.desk_report.specs.declared.reasons.Reason.TheVariants.{NoClient, NeverDecides, ForEverybodyReadOnly, ForEverybodyReadWrite, Wide, RootKeptForNetworks, RootKeptForNames}
+use Rattle.desk_report.specs.declared.reasons.Reason.TheVariants.{NoClient, NeverDecides, ForEverybodyReadOnly, ForEverybodyReadWrite, Wide, RootKeptForNetworks, RootKeptForNames, ServerGrantsMore, RepeatedClient}
 
 -- clients are everybody: neither names nor a network are written, or a network of all addresses
 abbrev pub are_all : Clients → Bool
@@ -52,6 +52,8 @@ level_of ForEverybodyReadWrite = LookFirst
 level_of Wide = Check
 level_of RootKeptForNetworks = LookFirst
 level_of RootKeptForNames = Check
+level_of (ServerGrantsMore found) = LookFirst
+level_of (RepeatedClient found) = LookFirst
 
 -- a reason is one to look at first
 abbrev pub is_first_level : Level → Bool

@@ -7,6 +7,7 @@ ghost use Rattle.desk_report.specs.Reasons as spec;
 use crate::class::keeps_root;
 use desk_exports::Clients;
 use desk_policy::Row;
+use desk_server::{RepeatedClient, WiderGrant};
 use std::alloc::{AllocError, Global};
 
 /// To more addresses than these a line grants something widely.
@@ -19,9 +20,10 @@ pub enum Level {
     Check,
 }
 
-/// Why a line stands out: the first two are of a line that decides nothing, the others of one that grants something.
+/// Why a line stands out: the first two are of a line that decides nothing, the last two of one by which mountd(8) does something else
+/// than this desk, and the others of one that grants something.
 #[derive(Clone, Copy)]
-pub enum Reason {
+pub enum Reason<'i> {
     /// It matches nobody.
     NoClient,
     /// It matches somebody, but other lines decide for all its clients.
@@ -36,15 +38,22 @@ pub enum Reason {
     RootKeptForNetworks,
     /// It keeps root, for the clients that it names.
     RootKeptForNames,
+    /// It is the first that is selected for some client to whom the server grants more.
+    ServerGrantsMore(WiderGrant<'i>),
+    /// It has a client of an earlier line, so that the server may leave it out.
+    RepeatedClient(RepeatedClient),
 }
 
-impl Reason {
+impl Reason<'_> {
     /// Returns its level.
     pub fn level(self) -> Level
-        ensures { result ≡ spec.level_of self }
+        ensures { result ≡ spec.level_of self.entry }
     {
         match self {
-            Reason::ForEverybodyReadWrite | Reason::RootKeptForNetworks => Level::LookFirst,
+            Reason::ForEverybodyReadWrite
+            | Reason::RootKeptForNetworks
+            | Reason::ServerGrantsMore(_)
+            | Reason::RepeatedClient(_) => Level::LookFirst,
             Reason::NoClient
             | Reason::NeverDecides
             | Reason::ForEverybodyReadOnly
@@ -55,7 +64,7 @@ impl Reason {
 }
 
 /// Returns the highest level of these reasons: to look first, if one of them has it.
-pub fn level_of_reasons(reasons: &[Reason]) -> Level
+pub fn level_of_reasons(reasons: &[Reason<'_>]) -> Level
     ensures { result ≡ spec.level_of_all reasons.now }
 {
     if has_first(reasons) {
@@ -66,15 +75,15 @@ pub fn level_of_reasons(reasons: &[Reason]) -> Level
 }
 
 /// Tests whether one of these reasons is one to look at first.
-fn has_first(reasons: &[Reason]) -> bool
+fn has_first(reasons: &[Reason<'_>]) -> bool
     ensures { result ≡ list_any spec.is_first reasons.now }
 {
     reasons.iter().any(|reason| is_first(*reason))
 }
 
 /// Tests whether a reason is one to look at first.
-fn is_first(reason: Reason) -> bool
-    ensures { result ≡ spec.is_first reason }
+fn is_first(reason: Reason<'_>) -> bool
+    ensures { result ≡ spec.is_first reason.entry }
 {
     match reason.level() {
         Level::LookFirst => true,
@@ -84,7 +93,7 @@ fn is_first(reason: Reason) -> bool
 
 /// Lists why a line stands out that grants something, given to how many addresses it does: for whom it is, and then whether it keeps
 /// root.
-pub fn reasons_on(alloc: Global, row: &Row, count: u64) -> Result<Vec<Reason>, AllocError>
+pub fn reasons_on<'i>(alloc: Global, row: &Row, count: u64) -> Result<Vec<Reason<'i>>, AllocError>
     ensures { IfOk result (λ reasons. reasons.items ≡ spec.reasons_on row.now count) }
 {
     let mut reasons = Vec::new(alloc);
@@ -98,7 +107,7 @@ pub fn reasons_on(alloc: Global, row: &Row, count: u64) -> Result<Vec<Reason>, A
 }
 
 /// Finds whether a line stands out by whom it is for.
-fn audience_reason(row: &Row, count: u64) -> Option<Reason>
+fn audience_reason<'i>(row: &Row, count: u64) -> Option<Reason<'i>>
     ensures { result ≡ spec.audience_reason row.now count }
 {
     if !are_all(&row.entry.clients) {
@@ -116,7 +125,7 @@ fn audience_reason(row: &Row, count: u64) -> Option<Reason>
 }
 
 /// Finds whether a line keeps root, and for whom.
-fn root_reason(row: &Row) -> Option<Reason>
+fn root_reason<'i>(row: &Row) -> Option<Reason<'i>>
     ensures { result ≡ spec.root_reason row.now }
 {
     if !keeps_root(&row.entry.terms) {

@@ -27,6 +27,8 @@ said_by line reasons.ForEverybodyReadWrite = granted line
 said_by line reasons.Wide = granted line
 said_by line reasons.RootKeptForNetworks = granted line
 said_by line reasons.RootKeptForNames = granted line
+said_by line (reasons.ServerGrantsMore found) = granted line
+said_by line (reasons.RepeatedClient found) = granted line
 
 -- the same, by the first of the reasons for which it stands out, if it does
 abbrev pub said_for : LineValue → List Reason → Said

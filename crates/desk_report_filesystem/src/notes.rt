@@ -117,8 +117,8 @@ fn said_of(line: &SiteLine<'_>) -> Said
 }
 
 /// Says the same, given the first reason for which it stands out.
-fn said_by(line: &SiteLine<'_>, reason: Reason) -> Said
-    ensures { result ≡ spec.said_by (line_value line.now) reason }
+fn said_by(line: &SiteLine<'_>, reason: Reason<'_>) -> Said
+    ensures { result ≡ spec.said_by (line_value line.now) reason.entry }
 {
     match reason {
         Reason::NoClient => Said::MatchesNobody,
@@ -127,7 +127,9 @@ fn said_by(line: &SiteLine<'_>, reason: Reason) -> Said
         | Reason::ForEverybodyReadWrite
         | Reason::Wide
         | Reason::RootKeptForNetworks
-        | Reason::RootKeptForNames => granted(line),
+        | Reason::RootKeptForNames
+        | Reason::ServerGrantsMore(_)
+        | Reason::RepeatedClient(_) => granted(line),
     }
 }
 

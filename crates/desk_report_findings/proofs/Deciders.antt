@@ -1,5 +1,5 @@
 -- The lines that are named in place of one that never decides.
-use Rattle.std.proofs.Common.{◌≡◌, ℕ, ◌<◌, ◌++◌, ◌∙◌, Bool, true, false, cond, List, [], ◌∷◌, None, Some, ap, arith, filter, find, get_or, inl, inr, length, map, refl, subst, sym}
+use Rattle.std.proofs.Common.{◌≡◌, ℕ, ◌<◌, ◌++◌, ◌∙◌, Bool, true, false, cond, List, [], ◌∷◌, Option, None, Some, ap, arith, filter, find, get_or, inl, inr, length, map, refl, subst, sym}
 use Rattle.std.specs.Prelude.{◌==◌, Contains, nat_lt, option_map, unwrap_or}
 use Rattle.std.specs.Option.{option_to_list}
 use Rattle.std.proofs.lemmas.Bool.{cases_Bool}
@@ -14,6 +14,9 @@ use Rattle.desk_report.proofs.Numbered.{found_by_number}
 use Rattle.desk_report.specs.Class.{keeps_root}
 use Rattle.desk_report.specs.Lines.{IsToldOf}
 use Rattle.desk_report.specs.Reasons.{are_all, are_names, narrow, reasons_on}
+use Rattle.desk_report.specs.Server.{AreServerReasons, server_reasons}
+use Rattle.desk_server.specs.declared.repeated.RepeatedClient.{RepeatedClient as Repeated}
+use Rattle.desk_server.specs.declared.wider.WiderGrant.{WiderGrant}
 use Rattle.desk_report.specs.declared.lines.LineReasons.{LineReasons}
 use Rattle.desk_report.specs.declared.reasons.Reason.{Reason}
 use Rattle.desk_report.specs.declared.reasons.Reason.TheVariants.{ForEverybodyReadOnly, ForEverybodyReadWrite, NoClient, RootKeptForNames, RootKeptForNetworks, Wide}
@@ -84,9 +87,24 @@ never_on row count = by (are_all row.entry.clients) row.entry.terms.ro (nat_lt n
     by false ro false true false = refl
     by false ro false false names = refl
 
+-- what the server does otherwise is no such reason, and comes last
+never_behind : (own server : List Reason) → never_decides own ≡ false → never_decides server ≡ false → never_decides (own ++ server) ≡ false
+never_behind [] server apart behind = behind
+never_behind (reason ∷ reasons) server apart behind = apart
+
+never_served : (content : Content) (fs : ℕ) (row : Row) (server : List Reason) → AreServerReasons content fs row server → never_decides server ≡ false
+never_served content fs row server are = ap never_decides are.are ∙ by are.wider are.repeated
+  where
+    by : (wider : Option WiderGrant) (repeated : Option Repeated) → never_decides (server_reasons wider repeated) ≡ false
+    by None None = refl
+    by None (Some one) = refl
+    by (Some one) repeated = refl
+
 module _ (content : Content) (fs number : ℕ) (reasons : List Reason) (told : IsToldOf content fs (record { line = number; reasons = reasons })) (is_never : never_decides reasons ≡ true) where
-  clash : (others : List Reason) → reasons ≡ others → never_decides others ≡ false → ⊥
-  clash others are apart = let e : true ≡ false = sym is_never ∙ ap never_decides are ∙ apart in cc
+  clash : (own : List Reason) → told.own ≡ own → never_decides own ≡ false → ⊥
+  clash own are apart =
+      let behind : never_decides (own ++ told.server) ≡ false = never_behind own told.server apart (never_served content fs told.row told.server told.are_server) in
+      let e : true ≡ false = sym is_never ∙ ap never_decides (told.reasons ∙ ap (λ some. some ++ told.server) are) ∙ behind in cc
 
   nothing : DecidesNothing content fs number
   nothing named = clash (reasons_on told.row told.count) (told.decides named) (never_on told.row told.count)
@@ -105,7 +123,7 @@ named_decide content line reasons found ascending has is are decided is_never =
     let same : told.row ≡ of_entry.row = same_row rows ascending told.row of_entry.row told.has of_entry.has (told.line ∙ sym entry.2 ∙ sym of_entry.line) in
     let nothing' : DecidesNothing content fs entry.0.line = subst (DecidesNothing content fs) (sym entry.2) (nothing content fs number line.reasons told is_never) in
     let somebody' : MatchesNobody of_entry.row → ⊥ = λ nobody. somebody content fs number line.reasons told is_never (subst MatchesNobody (sym same) nobody) in
-    let passing : never entry.0 ≡ true = ap never_decides (of_entry.never nothing' somebody') in
+    let passing : never entry.0 ≡ true = ap never_decides (of_entry.reasons ∙ ap (λ some. some ++ of_entry.server) (of_entry.never nothing' somebody')) in
     let one = counterpart decided_line reason_line found (filter never reasons) decided.lines entry.0 (passes never reasons entry.0 entry.1 passing) in
     let numbered : one.0.line ≡ number = one.2 ∙ entry.2 in
     let looked : find (λ (other : DecidedFor). other.line == one.0.line) found ≡ Some one.0 =

@@ -113,7 +113,7 @@ for_is telling told waiting proposal tells old new gains = record { text = gains
 
 -- the part with what waits for a file system is that of the file system, if what is told of it is
 pub told_is : (telling : TellingValue) (told : ToldSystem) (system : SystemValue) → map class_run told.classes.now ≡ system.classes → AreFindingsIn telling told.fs.0 told.findings.now
-    → GainsFileSystemMaps system.classes [] told.maps.now → AreListedGroups system.sections (listed_value told.listed.now) → (old new : List ℕ)
+    → GainsFileSystemMaps system.classes [] told.maps.now → AreListedGroups telling.openings system.sections (listed_value told.listed.now) → (old new : List ℕ)
     → Gains (IsTextFor telling told (waiting_for telling.waiting told.fs.0)) old new → Gains (IsSystemText telling told.fs.0 system) old new
 told_is telling told system classes findings maps groups old new gains =
     let made = gains.is.is.made in

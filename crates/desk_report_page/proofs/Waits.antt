@@ -12,6 +12,7 @@ use Rattle.desk_core.specs.Head.{Newest, newest_in}
 use Rattle.desk_core.specs.Site.{HasLinesOf, IsInForce, policy_of, policy_read, site_in}
 use Rattle.desk_core.specs.declared.head.Head.{Head}
 use Rattle.desk_core.specs.declared.proposal.Proposal.{Proposal}
+use Rattle.desk_openings.specs.Opening.{AreOpenings}
 use Rattle.desk_report_page.specs.Found.{Source}
 use Rattle.desk_report_page.specs.Given.{HasReadableText}
 use Rattle.desk_report_page.specs.Page.{IsSource}
@@ -76,10 +77,11 @@ waiting_alike newest old new proposals waiting same is = record {
 -- what the page is made of is that of the state
 pub source_of : (source : Source) (heads : List Head) (proposals : List Proposal) (old : Content) → source.heads ≡ heads → source.proposals ≡ proposals
     → IsRead (site_in (newest_in heads)) source.content → read_site_tables (site_in (newest_in heads)) ≡ Ok source.tables
-    → AreForeseen (newest_in heads) old proposals source.waiting → IsSource source
-source_of source heads proposals old heads_are proposals_are read tables foreseen = record {
+    → AreForeseen (newest_in heads) old proposals source.waiting → AreOpenings source.content source.openings → IsSource source
+source_of source heads proposals old heads_are proposals_are read tables foreseen openings = record {
   policy_is = subst (λ hs. read_site (site_in (newest_in hs)) ≡ Ok source.content) (sym heads_are) read.is;
   consistent = read.consistent;
+  are_openings = openings;
   tables_are = subst (λ hs. read_site_tables (site_in (newest_in hs)) ≡ Ok source.tables) (sym heads_are) tables;
   are_waiting =
       subst (λ hs. AreWaiting (newest_in hs) source.content source.proposals source.waiting) (sym heads_are)

@@ -9,7 +9,8 @@ use Rattle.desk_policy.specs.SiteFile.{exports_file_name}
 use Rattle.desk_policy.specs.declared.site_fault.SiteFault.{SiteFault}
 use Rattle.desk_core.specs.Head.{newest_in}
 use Rattle.desk_core.specs.declared.head.Head.{Head}
-use Rattle.desk_impact.specs.Sections.{PlaceBreaches}
+use Rattle.desk_impact.specs.Sections.{PlaceBreaches, PlaceFound}
+use Rattle.desk_openings.specs.declared.opening.Opening.{Opening}
 use Rattle.desk_report.specs.Classes.{class_run}
 use Rattle.desk_report.specs.Systems.{SystemValue}
 use Rattle.desk_overview.specs.Lines.{LineValue, line_value}
@@ -33,14 +34,15 @@ use Rattle.desk_report_page.specs.Found.{Found, Source}
 use Rattle.desk_report_page.specs.Pieces.{Then}
 use Rattle.desk_report_page.specs.Waiting.{Waiting}
 
--- what the parts of all file systems are made of: the policy in force, the newest revisions, what waits, the lines of the whole site, and
--- which lines decide in place of those that never do, by file system
+-- what the parts of all file systems are made of: the policy in force, the newest revisions, what waits, the lines of the whole site,
+-- which lines decide in place of those that never do, by file system, and where the server grants what is denied
 pub record TellingValue : Type 0 where
   pub content : Content
   pub heads : List Head
   pub waiting : List Waiting
   pub lines : List LineValue
   pub decided : List (List DecidedFor)
+  pub openings : List (PlaceFound Opening)
 
 abbrev pub telling_of : Source → Found → TellingValue
 telling_of source found = record {
@@ -49,6 +51,7 @@ telling_of source found = record {
   waiting = source.waiting;
   lines = found.lines;
   decided = found.decided;
+  openings = source.openings;
 }
 
 -- what waits for a file system, if something does
@@ -91,9 +94,9 @@ pub record AreFindingsIn (telling : TellingValue) (fs : ℕ) (findings : List Fi
   pub findings_are : findings ≡ map (λ one. one.finding) counted
 
 -- the groups of a file system's directories, as they are given
-pub record AreGroupsIn (sections : List PlaceBreaches) (given : FileSystemData) : Type 0 where
+pub record AreGroupsIn (openings : List (PlaceFound Opening)) (sections : List PlaceBreaches) (given : FileSystemData) : Type 0 where
   pub listed : ListedGroups
-  pub are : AreListedGroups sections (listed_value listed)
+  pub are : AreListedGroups openings sections (listed_value listed)
   pub groups : given.groups.now ≡ listed.groups
   pub count : given.group_count ≡ listed.count
   pub unlisted : given.unlisted ≡ listed.unlisted
@@ -114,7 +117,7 @@ pub record IsDataOf (telling : TellingValue) (fs : ℕ) (system : SystemValue) (
   pub findings : AreFindingsIn telling fs given.findings.now
   pub proposal : TellsIfAny telling.content (waiting_for telling.waiting fs) given.proposal
   pub maps : GainsFileSystemMaps system.classes [] given.maps.now
-  pub groups : AreGroupsIn system.sections given
+  pub groups : AreGroupsIn telling.openings system.sections given
 
 -- the part of the page on a file system
 pub record IsSystemText (telling : TellingValue) (fs : ℕ) (system : SystemValue) (text : List ℕ) : Type 0 where

@@ -4,6 +4,8 @@ use Rattle.desk_policy.specs.Policy.{Content}
 use Rattle.desk_policy.specs.declared.parsing.SiteTables.{SiteTables}
 use Rattle.desk_who.specs.Runs.{Run}
 use Rattle.desk_core.specs.declared.head.Head.{Head}
+use Rattle.desk_impact.specs.Sections.{PlaceFound}
+use Rattle.desk_openings.specs.declared.opening.Opening.{Opening}
 use Rattle.desk_core.specs.declared.proposal.Proposal.{Proposal}
 use Rattle.desk_report.specs.Classes.{AreClassesOfSite}
 use Rattle.desk_report.specs.Systems.{AreSystems, SystemValue}
@@ -14,14 +16,15 @@ use Rattle.desk_deciding.specs.Deciding.{AreDecidedFor, DecidedFor}
 use Rattle.desk_page_maps.specs.Figures.{GainsOverviewMaps}
 use Rattle.desk_report_page.specs.Waiting.{Waiting}
 
--- what a page is made of: the policy in force and its tables, the newest revisions and the proposals, in no order, and those of these for
--- exports files of listed file systems, with what would be in force
+-- what a page is made of: the policy in force and its tables, the newest revisions and the proposals, in no order, those of these for
+-- exports files of listed file systems, with what would be in force, and where the server grants what is denied by the policy
 pub record Source : Type 0 where
   pub content : Content
   pub tables : SiteTables
   pub heads : List Head
   pub proposals : List Proposal
   pub waiting : List Waiting
+  pub openings : List (PlaceFound Opening)
 
 -- what is found of it: of each file system; why each line stands out, and which lines decide in place of those that never do, by file
 -- system; the lines of the whole site; and the cells of small maps, of all file systems together and then of each

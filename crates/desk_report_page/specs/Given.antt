@@ -2,6 +2,7 @@
 use Rattle.std.specs.Prelude.{map}
 use Rattle.desk_text.specs.Lines.{IsReadable}
 use Rattle.desk_policy.specs.Policy.{Content}
+use Rattle.desk_openings.specs.Opening.{opening_section}
 use Rattle.desk_report_page.specs.Found.{Source}
 use Rattle.desk_report_page.specs.Waiting.{Waiting, waiting_value}
 use Rattle.desk_report_page.specs.declared.page.ReportedSite.{ReportedSite}
@@ -14,6 +15,7 @@ site_source in_force site = record {
   heads = site.heads.now;
   proposals = site.proposals.now;
   waiting = map (waiting_value in_force) site.waiting.now;
+  openings = map opening_section site.openings.now;
 }
 
 -- the text of a proposal that waits is not too long to be read

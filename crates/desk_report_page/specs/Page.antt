@@ -9,6 +9,7 @@ use Rattle.desk_core.specs.Site.{site_in}
 use Rattle.desk_core.specs.Standing.{Standing, standing_in}
 use Rattle.desk_core.specs.declared.head.Head.{Head}
 use Rattle.desk_core.specs.declared.proposal.Proposal.{Proposal}
+use Rattle.desk_openings.specs.Opening.{AreOpenings}
 use Rattle.desk_page.specs.Head.{page_head}
 use Rattle.desk_page_lists.specs.Again.{make_again}
 use Rattle.desk_page_lists.specs.Reading.{how_to_read}
@@ -106,12 +107,14 @@ IsPage source found word =
     (IsBack source.content source.tables (standing_in source.heads source.proposals) word))
 
 -- The policy, with its warnings, and the tables are those that the texts of the newest revisions write, and no two of its lines contradict
--- each other; and of each proposal for the exports file of a listed file system it is told what would be in force.
+-- each other; of each proposal for the exports file of a listed file system it is told what would be in force; and it is told where the
+-- server grants what is denied.
 pub record IsSource (source : Source) : Type 0 where
   pub policy_is : read_site (site_in (newest_in source.heads)) ≡ Ok source.content
   pub consistent : HasNoContradiction source.content
   pub tables_are : read_site_tables (site_in (newest_in source.heads)) ≡ Ok source.tables
   pub are_waiting : AreWaiting (newest_in source.heads) source.content source.proposals source.waiting
+  pub are_openings : AreOpenings source.content source.openings
 
 -- The page of newest revisions and proposals, for a word that names their database.
 pub record IsPageOf (heads : List Head) (proposals : List Proposal) (word page : List ℕ) : Type 0 where

@@ -10,6 +10,7 @@ use Rattle.desk_report.specs.Sections.{AreSections}
 use Rattle.desk_report.specs.Systems.{IsSystem, SystemValue}
 use Rattle.desk_overview.specs.Lines.{AreLinesOfSite, line_value}
 use Rattle.desk_deciding.specs.Deciding.{AreInLineOrder, deciding_value}
+use Rattle.desk_openings.specs.Opening.{opening_section}
 use Rattle.desk_page_places.specs.Groups.{HasToldSizes}
 use Rattle.desk_page_filesystem.specs.Parts.{file_system}
 use Rattle.desk_page_filesystem.specs.declared.parts.FileSystemPart.{FileSystemPart}
@@ -30,6 +31,7 @@ telling_value in_force telling = record {
   waiting = map (waiting_value in_force) telling.waiting.now;
   lines = map line_value telling.lines.now;
   decided = map deciding_value telling.deciding.now;
+  openings = map opening_section telling.openings.now;
 }
 
 -- All of it is of one sound site, and its texts are not too long to be read.

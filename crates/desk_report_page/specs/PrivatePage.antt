@@ -28,6 +28,7 @@ told_of source lines decided = record {
   waiting = source.waiting;
   lines = lines;
   decided = decided;
+  openings = source.openings;
 }
 
 -- what is found of a site, with what is found of each file system, and the lines

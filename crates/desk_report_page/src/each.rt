@@ -22,6 +22,8 @@ ghost use Rattle.desk_report_page.specs.Waiting.{waiting_value};
 use crate::waiting::{Outcome, Waiting};
 use desk_core::{Head, newest_among};
 use desk_deciding::Deciding;
+use desk_impact::Section;
+use desk_openings::Opening;
 use desk_overview::SiteLine;
 use desk_page_filesystem::{Outcome as ToldOutcome, ProposalPart};
 use desk_page_maps::push_file_system_maps;
@@ -43,6 +45,8 @@ pub(crate) struct Telling<'b, V> {
     pub waiting: &'b [Waiting<'b, V>],
     pub lines: &'b [SiteLine<'b>],
     pub deciding: &'b [Deciding],
+    /// Where the server grants what is denied.
+    pub openings: &'b [Section<'b, Opening>],
 }
 
 /// What is told of one file system beside its lines.
@@ -94,7 +98,7 @@ fn push_system<V: PolicyView>(
         classes,
         grants: _,
     } = system;
-    let listed = listed_groups(alloc, sections.into_vec())?;
+    let listed = listed_groups(alloc, telling.openings, sections.into_vec())?;
     let maps = maps_of(alloc, classes.as_slice())?;
     let counted = site_findings(alloc, lines_in(telling.lines, fs), telling.deciding)?;
     let findings = findings_of(alloc, counted.as_slice())?;

@@ -26,7 +26,7 @@ pub(crate) fn deciding_of_site(
     alloc: Global,
     policy: &Policy,
     systems: &[FileSystemReport<'_>],
-    reasons: &[Sequence<LineReasons>],
+    reasons: &[Sequence<LineReasons<'_>>],
 ) -> Result<Vec<Deciding>, AllocError>
     requires sound { IsSoundSite policy.now }
     requires systems { AreSystems policy.now (map system_value systems.now) }

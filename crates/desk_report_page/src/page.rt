@@ -6,6 +6,7 @@ ghost use Rattle.desk_core.specs.Head.{CanBeKept};
 ghost use Rattle.desk_deciding.specs.Deciding.{AreInLineOrder, deciding_value};
 ghost use Rattle.desk_core.specs.Standing.{standing_in};
 ghost use Rattle.desk_overview.specs.Lines.{AreLinesOfSite, line_value};
+ghost use Rattle.desk_overview.specs.Server.{AreServerOfSite};
 ghost use Rattle.desk_page_summary.specs.declared.sections.Section.TheVariants.{Each};
 ghost use Rattle.desk_report.specs.Laws.{IsSoundSite};
 ghost use Rattle.desk_report.specs.Systems.{AreSystems, system_value};
@@ -25,10 +26,14 @@ use crate::sections::{Listed, Parts, push_back, push_front};
 use crate::waiting::Waiting;
 use desk_core::{Head, Proposal};
 use desk_deciding::Deciding;
+use desk_impact::Section as PlaceSection;
+use desk_openings::Opening;
 use desk_overview::{SiteLine, lines_of_site, reasons_of_site};
 use desk_page_summary::{Section, push_section_end, push_section_start};
 use desk_policy::{Policy, PolicyView, SiteTables};
-use desk_report::{FileSystemReport, LineReasons, sites_are_sound, systems_of_site};
+use desk_report::{
+    FileSystemReport, LineReasons, ServerFindings, sites_are_sound, systems_of_site,
+};
 use desk_text::{Path, Sequence};
 use std::alloc::{AllocError, Global};
 
@@ -45,13 +50,17 @@ pub struct ReportedSite<'a, V> {
     pub proposals: &'a [Proposal],
     /// Those of them for exports files of listed file systems, with what would be in force.
     pub waiting: &'a [Waiting<'a, V>],
+    /// What the server does otherwise, by file system, in the order of the table.
+    pub server: &'a [ServerFindings<'a>],
+    /// Where it grants what is denied.
+    pub openings: &'a [PlaceSection<'a, Opening>],
 }
 
 /// What is found of a site beside its lines: why each of them stands out, which others decide in place of those that never do, and the
 /// cells of small maps.
 #[derive(Clone, Copy)]
 pub(crate) struct FoundOfSite<'a> {
-    pub reasons: &'a [Sequence<LineReasons>],
+    pub reasons: &'a [Sequence<LineReasons<'a>>],
     pub deciding: &'a [Deciding],
     pub maps: &'a [String],
 }
@@ -65,6 +74,7 @@ pub fn report_page<V: PolicyView>(
     requires kept { All CanBeKept site.heads.now }
     requires readable { All HasReadableText (site_source V.in_force site).waiting }
     requires source { IsSource (site_source V.in_force site) }
+    requires server { AreServerOfSite (V.in_force site.view.now) site.server.now }
     ensures { IfOk result (λ page. IsPageOf site.entry.heads.now site.entry.proposals.now database.now (string_bytes page)) }
 {
     sites_are_sound(site.view.policy());
@@ -83,6 +93,7 @@ fn page_from<V: PolicyView>(
 ) -> Result<String, AllocError>
     requires given { IsGiven (site_source V.in_force site.now) }
     requires root { root.now ≡ [] }
+    requires server { AreServerOfSite (V.in_force site.now.view.now) site.now.server.now }
     ensures { IfOk result (λ page. IsPageOf site.now.heads.now site.now.proposals.now database.now (string_bytes page)) }
 {
     let systems = systems_of_site(alloc, site.view, root)?;
@@ -97,11 +108,12 @@ fn page_of<V: PolicyView>(
     systems: Vec<FileSystemReport<'_>>,
 ) -> Result<String, AllocError>
     requires given { IsGiven (site_source V.in_force site.now) }
+    requires server { AreServerOfSite (V.in_force site.now.view.now) site.now.server.now }
     requires systems { AreSystems (V.in_force site.now.view.now) (map system_value systems.items) }
     ensures { IfOk result (λ page. IsPageOf site.now.heads.now site.now.proposals.now database.now (string_bytes page)) }
 {
     let policy = site.view.policy();
-    let reasons = reasons_of_site(alloc, policy, systems.as_slice())?;
+    let reasons = reasons_of_site(alloc, policy, systems.as_slice(), site.server)?;
     let deciding = deciding_of_site(alloc, policy, systems.as_slice(), reasons.as_slice())?;
     let maps = small_maps(alloc, policy, systems.as_slice())?;
     let found = FoundOfSite {
@@ -214,6 +226,7 @@ fn push_each_of<V: PolicyView>(
         waiting: site.waiting,
         lines,
         deciding,
+        openings: site.openings,
     };
     push_each(alloc, &telling, systems, page)
 }

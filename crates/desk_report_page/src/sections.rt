@@ -45,7 +45,7 @@ pub(crate) struct Parts<'a> {
     pub heads: &'a [Head],
     pub proposals: &'a [Proposal],
     pub systems: &'a [FileSystemReport<'a>],
-    pub reasons: &'a [Sequence<LineReasons>],
+    pub reasons: &'a [Sequence<LineReasons<'a>>],
     pub deciding: &'a [Deciding],
     pub lines: &'a [SiteLine<'a>],
     /// The cells of small maps, of all file systems together and then of each.

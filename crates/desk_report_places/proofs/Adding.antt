@@ -110,7 +110,7 @@ in_two : (n : ℕ) (groups : List (List PlaceBreaches)) → places_in (take n gr
 in_two n groups = sym (flat_map-append places_of (take n groups) (drop n groups)) ∙ ap places_in (take-append-drop n groups)
 
 pub listed_add_up : ListedAddUp
-listed_add_up sections value listed =
+listed_add_up openings sections value listed =
     let groups = listed.groups in
     let own = listed.are_listed in
     let first = places_in (take most_listed groups) in

@@ -3,4 +3,5 @@ pub mod Counted
 pub mod Gathered
 pub mod Homes
 pub mod Listed
+pub mod Opened
 pub mod WithLines

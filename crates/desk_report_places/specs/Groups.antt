@@ -3,11 +3,14 @@ use Rattle.std.specs.Prelude.{◌≡◌, ℕ, All, Bool, true, false, List, drop
 use Rattle.std.specs.List.{flat_map, list_any}
 use Rattle.std.specs.String.{string_bytes}
 use Rattle.desk_impact.specs.Places.{Directory, Others, Place}
-use Rattle.desk_impact.specs.Sections.{PlaceBreaches}
+use Rattle.desk_impact.specs.Sections.{PlaceBreaches, PlaceFound}
+use Rattle.desk_openings.specs.declared.opening.Opening.{Opening}
 use Rattle.desk_report.specs.Groups.{AreSectionGroups, group_value}
 use Rattle.desk_report.specs.Tables.{IsTableOf, TableValue, table_value}
 use Rattle.desk_page_places.specs.declared.groups.GroupPart.{GroupPart}
+use Rattle.desk_page_places.specs.declared.openings.PlaceOpening.{PlaceOpening}
 use Rattle.desk_report_places.specs.Maps.{AreMapsOfGroup, are_drawn}
+use Rattle.desk_report_places.specs.Openings.{AreOpeningsOf}
 use Rattle.desk_report_places.specs.declared.groups.ListedGroups.{ListedGroups}
 
 -- so many groups are listed
@@ -36,19 +39,21 @@ places_of sections = map (λ section. section.place) sections
 abbrev pub places_in : List (List PlaceBreaches) → List Place
 places_in groups = flat_map places_of groups
 
--- a group as it is listed: its places, its table and its maps
+-- a group as it is listed: its places, its table, its maps, and what the server grants of that which is denied
 pub record PartValue : Type 0 where
   pub sections : List PlaceBreaches
   pub table : TableValue
   pub maps : List ℕ
+  pub openings : List PlaceOpening
 
 abbrev pub part_value : GroupPart → PartValue
-part_value part = record { sections = group_value part.group; table = table_value part.table; maps = string_bytes part.maps }
+part_value part = record { sections = group_value part.group; table = table_value part.table; maps = string_bytes part.maps; openings = part.openings }
 
--- It has its own table; and its own maps, if groups have maps.
-pub record IsPart (drawn : Bool) (part : PartValue) : Type 0 where
+-- It has its own table; its own maps, if groups have maps; and what the server grants of that which is denied, given where it does.
+pub record IsPart (drawn : Bool) (openings : List (PlaceFound Opening)) (part : PartValue) : Type 0 where
   pub table : IsTableOf part.sections part.table
   pub maps : AreMapsOfGroup drawn part.sections part.maps
+  pub opened : AreOpeningsOf openings part.sections part.openings
 
 -- groups as they are listed, how many there are, and what is left out
 pub record ListedValue : Type 0 where
@@ -67,15 +72,15 @@ listed_value listed = record {
 
 -- Of these groups the first hundred are listed, in their order, and of the others the directories are counted. No number counts the
 -- other directories of a file system: whether they are left out is told by itself.
-pub record AreListed (groups : List (List PlaceBreaches)) (value : ListedValue) : Type 0 where
+pub record AreListed (openings : List (PlaceFound Opening)) (groups : List (List PlaceBreaches)) (value : ListedValue) : Type 0 where
   pub listed : map (λ part. part.sections) value.groups ≡ take most_listed groups
-  pub parts : All (IsPart (are_drawn (length groups))) value.groups
+  pub parts : All (IsPart (are_drawn (length groups)) openings) value.groups
   pub count : value.count ≡ length groups
   pub unlisted : value.unlisted ≡ directories_among (places_in (drop most_listed groups))
   pub others : value.has_unlisted_others ≡ has_others (places_in (drop most_listed groups))
 
 -- The places of a file system in groups of those that are granted alike, as they are listed.
-pub record AreListedGroups (sections : List PlaceBreaches) (value : ListedValue) : Type 0 where
+pub record AreListedGroups (openings : List (PlaceFound Opening)) (sections : List PlaceBreaches) (value : ListedValue) : Type 0 where
   pub groups : List (List PlaceBreaches)
   pub are : AreSectionGroups sections groups
-  pub are_listed : AreListed groups value
+  pub are_listed : AreListed openings groups value

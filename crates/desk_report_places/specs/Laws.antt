@@ -2,7 +2,8 @@
 use Rattle.std.specs.Prelude.{◌≡◌, ℕ, ◌+◌, ◌<◌, ◌||◌, List, length, map}
 use Rattle.desk_tables.specs.FileSystems.{AreAscending}
 use Rattle.desk_policy.specs.Policy.{Content, with_lines_of}
-use Rattle.desk_impact.specs.Sections.{PlaceBreaches}
+use Rattle.desk_impact.specs.Sections.{PlaceBreaches, PlaceFound}
+use Rattle.desk_openings.specs.declared.opening.Opening.{Opening}
 use Rattle.desk_report_places.specs.Changes.{AreChangesIn, ChangesValue}
 use Rattle.desk_report_places.specs.Groups.{AreListedGroups, ListedValue, directories_among, has_others, places_in, places_of}
 
@@ -17,7 +18,8 @@ pub record AddUp (sections : List PlaceBreaches) (value : ListedValue) : Type 0 
 
 -- No place of a file system is left out: it is in a group that is listed, or counted.
 abbrev pub ListedAddUp : Type 0
-ListedAddUp = (sections : List PlaceBreaches) (value : ListedValue) → AreListedGroups sections value → AddUp sections value
+ListedAddUp =
+    (openings : List (PlaceFound Opening)) (sections : List PlaceBreaches) (value : ListedValue) → AreListedGroups openings sections value → AddUp sections value
 
 -- What lines would change at the places of a file system is what the whole policy with them would change there.
 abbrev pub ChangesAreOfWhole : Type 0

@@ -1,5 +1,6 @@
 pub mod Changes
 pub mod Directories
+pub mod Openings
 pub mod Groups
 pub mod Laws
 pub mod Maps

@@ -6,7 +6,7 @@
 //! for a file system would change for its clients, at each of its places, and counts what would change of lines or reasons alone.
 //!
 //! ```text
-//! let listed = listed_groups(alloc, system.sections.into_vec())?;
+//! let listed = listed_groups(alloc, openings, system.sections.into_vec())?;
 //! push_groups(alloc, fs, listed.groups.as_slice(), &mut page)?;
 //! changes_of(alloc, view, &proposed, fs)?.silent      // 2
 //! ```
@@ -19,6 +19,7 @@ mod impacts;
 pub mod laws;
 mod left;
 mod maps;
+mod openings;
 
 pub use changes::{Changes, changes_of};
 pub use groups::{ListedGroups, listed_groups};

@@ -25,7 +25,7 @@ use std::alloc::{AllocError, Global};
 pub struct SystemsData<'a> {
     pub policy: &'a Policy,
     pub systems: &'a [FileSystemReport<'a>],
-    pub reasons: &'a [Sequence<LineReasons>],
+    pub reasons: &'a [Sequence<LineReasons<'a>>],
     pub heads: &'a [Head],
     pub proposals: &'a [Proposal],
     pub maps: &'a [String],
@@ -87,21 +87,21 @@ fn system_row<'a>(
 }
 
 /// Counts the lines that are to be looked at first.
-fn count_first(lines: &[LineReasons]) -> usize
+fn count_first(lines: &[LineReasons<'_>]) -> usize
     ensures { result ≡ count_by spec.is_first_line lines.now }
 {
     lines.iter().filter(|line| is_first_line(line)).count()
 }
 
 /// Counts the lines that are to be checked.
-fn count_check(lines: &[LineReasons]) -> usize
+fn count_check(lines: &[LineReasons<'_>]) -> usize
     ensures { result ≡ count_by spec.is_check_line lines.now }
 {
     lines.iter().filter(|line| is_check_line(line)).count()
 }
 
 /// Tests whether a line is to be looked at first.
-fn is_first_line(line: &LineReasons) -> bool
+fn is_first_line(line: &LineReasons<'_>) -> bool
     ensures { result ≡ spec.is_first_line line.now }
 {
     match level_of_reasons(line.reasons.as_slice()) {
@@ -111,7 +111,7 @@ fn is_first_line(line: &LineReasons) -> bool
 }
 
 /// Tests whether a line is to be checked.
-fn is_check_line(line: &LineReasons) -> bool
+fn is_check_line(line: &LineReasons<'_>) -> bool
     ensures { result ≡ spec.is_check_line line.now }
 {
     !line.reasons.is_empty() && !is_first_line(line)

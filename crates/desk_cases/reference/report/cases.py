@@ -90,8 +90,19 @@ def place_of_verdict(verdict):
 
 
 def reasons_text(system, line):
-    found = [f"{level} {reason_of(line, words)}" for level, words in data.words_of(system, line)]
+    found = [f"{level} {server_reason(system, line, words) or reason_of(line, words)}" for level, words in data.words_of(system, line)]
     return ", ".join(found) or "nothing"
+
+
+def server_reason(system, line, words):
+    """What mountd(8) does, if these words say it."""
+    if words == data.GRANTS_MORE:
+        other, address, directory = system.wider[line.number]
+        return f"server grants more to {dotted(address)} by line {other}" + (f" {printed(directory)}" if directory is not None else "")
+    if words == data.LEFT_OUT:
+        other, address = system.repeated[line.number]
+        return f"has {dotted(address)} of line {other}"
+    return None
 
 
 def reason_of(line, words):

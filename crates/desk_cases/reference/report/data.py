@@ -3,11 +3,13 @@ granted alike, what stands out, and which maps show where a class changes.
 """
 
 import bisect
+import functools
 
 from reference.definitions import (
     effect, printed, runs, selected, steady_blocks, unwritten, verdict, weight, who,
 )  # fmt: skip
 from reference.idle import is_for_all
+from reference.server import addresses_asked, is_wider, repeated_clients, server_verdict, wider_grants
 from reference.why import is_for_nobody, named_line
 
 SPACE = 2**32
@@ -125,6 +127,16 @@ class FileSystem:
         """The ranges of a place whose verdict is a grant."""
         return [found for found in self.who[place] if effect(found[2])]
 
+    @functools.cached_property
+    def wider(self):
+        """By the number of each line where mountd(8) grants more: the other line, the client, and a directory or None."""
+        return {number: shows for number, *shows in wider_grants(self.site, self.mount)}
+
+    @functools.cached_property
+    def repeated(self):
+        """By the number of each line with a client of an earlier one: that line, and the client."""
+        return {number: shows for number, *shows in repeated_clients(self.site, self.mount)}
+
     def granted_by_lines(self):
         """For each line the addresses for which it grants some directory: the verdict names it."""
         found = {line.number: [] for line in self.lines}
@@ -145,6 +157,17 @@ class FileSystem:
         firsts = [first for first, _ in steady_blocks(((self.site, self.mount),))]
         matched = [first for first in firsts if weight(self.site, line, first) is not None]
         return sorted({named_line(verdict(self.site, first, place)) for first in matched for place in self.places})
+
+    def openings(self, places):
+        """What mountd(8) grants at these places of that which is denied: for each line that a denial names, in order, the least client
+        to whom it grants something, the first such place, that line, and the line by which it does."""
+        found = {}
+        for address in addresses_asked(self.site, self.mount) if self.wider else []:
+            for place in places:
+                denied = named_line(verdict(self.site, address, place))
+                if denied in self.wider and denied not in found and is_wider(self.site, address, place):
+                    found[denied] = address, place, denied, named_line(server_verdict(self.site, address, place))
+        return [found[denied] for denied in sorted(found)]
 
     def groups(self):
         """The places, those together whose granted ranges are the same, in the order of their first."""
@@ -198,6 +221,8 @@ def maps_of(classes):
 
 
 FIRST, CHECK = "look first", "check"
+# What begins the words on a line by which mountd(8) does something else than the desk.
+GRANTS_MORE, LEFT_OUT = "mountd(8) grants more", "mountd(8) may leave this line out"
 
 
 class Finding:
@@ -216,6 +241,12 @@ def findings_of(system):
 
 
 def words_of(system, line):
+    words = own_words(system, line)
+    words += [(FIRST, GRANTS_MORE)] if line.number in system.wider else []
+    return words + ([(FIRST, LEFT_OUT)] if line.number in system.repeated else [])
+
+
+def own_words(system, line):
     if system.decides_nothing(line):
         return [(CHECK, "matches nobody" if system.matches_nobody(line) else "never decides")]
     access = "read-only" if is_read_only(line.terms) else "read-write"

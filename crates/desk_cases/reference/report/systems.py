@@ -1,11 +1,11 @@
 """The part of the report on one file system."""
 
-from reference.definitions import changes, contradiction, effect, fault_text, matters, printed
+from reference.definitions import changes, contradiction, dotted, effect, fault_text, matters, printed
 from reference.idle import is_for_all
 from reference.lines import logical_lines, physical_lines, words_of
 from reference.readings import Fault, read_site
 from reference.report.data import (
-    PRIVATE, SPACE, FileSystem, changed_places, classes_of, counts, network_ends, size_of,
+    GRANTS_MORE, LEFT_OUT, PRIVATE, SPACE, FileSystem, changed_places, classes_of, counts, network_ends, size_of,
 )  # fmt: skip
 from reference.report.maps import figures
 from reference.report.pieces import box, cut, folded, folded_if_long, level_mark, line_link, ranges_cell, table, zero
@@ -18,8 +18,8 @@ from reference.why import named_line
 # A text of more lines is folded. If a file system has more groups of directories, none of them has maps, and so many are listed.
 OPEN_LINES, MOST_DRAWN, MOST_GROUPS = 40, 12, 100
 # So many directories stand in a heading, and in a caption; so many lines that decide for the clients of another one, reasons of a
-# denial apart, and networks in the table of shares.
-MOST_NAMES, MOST_CAPTION, MOST_DECIDING, MOST_REASONS, MOST_SHARES = 8, 3, 6, 5, 12
+# denial apart, networks in the table of shares, and lines whose denials mountd(8) does not keep.
+MOST_NAMES, MOST_CAPTION, MOST_DECIDING, MOST_REASONS, MOST_SHARES, MOST_OPENINGS = 8, 3, 6, 5, 12, 6
 OTHERS = "other directories"
 
 
@@ -31,8 +31,20 @@ def file_of(system):
 
 
 def finding_words(finding):
-    """The words of a finding, with the lines that decide in place of one that never does."""
-    return ", ".join(deciding_words(finding) if words == "never decides" else words for _, words in finding.words)
+    """The words of a finding, with the lines that decide in place of one that never does, and with what mountd(8) does."""
+    told = {"never decides": deciding_words, GRANTS_MORE: wider_words, LEFT_OUT: repeated_words}
+    return ", ".join(told[words](finding) if words in told else words for _, words in finding.words)
+
+
+def wider_words(finding):
+    other, address, directory = finding.system.wider[finding.line]
+    listed = "every directory of the file system (<code>-alldirs</code>)" if directory is None else f"{code(printed(directory))} too"
+    return f"{GRANTS_MORE}: to {dotted(address)} {line_link(finding.system, other)} lists {listed}"
+
+
+def repeated_words(finding):
+    other, address = finding.system.repeated[finding.line]
+    return f"{LEFT_OUT}: {line_link(finding.system, other)} has {dotted(address)}"
 
 
 def deciding_words(finding):
@@ -131,9 +143,20 @@ def group_block(system, group, is_drawn):
     if rest:
         made += folded(directories_more(len(rest)), f'<p class="names">{codes(rest)}</p>\n')
     if not system.granted(group[0]):
-        return f"{made}<p>Nobody may mount them.</p>\n</section>\n"
+        return f"{made}<p>Nobody may mount them.</p>\n{openings_block(system, group)}</section>\n"
     made += figures(classes_of(system.who[group[0]]), False) if is_drawn else ""
-    return made + verdict_table(system, group) + "</section>\n"
+    return made + verdict_table(system, group) + openings_block(system, group) + "</section>\n"
+
+
+def openings_block(system, group):
+    """What mountd(8) grants of that which is denied."""
+    found = [opening_words(system, *opening) for opening in system.openings(group)]
+    return f"<p>mountd(8) grants more: {and_more(found, MOST_OPENINGS)}</p>\n" if found else ""
+
+
+def opening_words(system, address, place, denied, line):
+    what = OTHERS if place == system.other else code(printed(place))
+    return f"{what} to {dotted(address)} by {line_link(system, line)} (denied here by {line_link(system, denied)})"
 
 
 def verdict_table(system, group):

@@ -11,6 +11,8 @@ use Rattle.desk_report.specs.declared.grants.LineGrants.{LineGrants}
 use Rattle.desk_report.specs.declared.lines.LineReasons.{LineReasons}
 use Rattle.desk_report.proofs.Gathered.{take_next}
 use Rattle.desk_report.proofs.LineByLine.{told_of}
+use Rattle.desk_report.proofs.Served.{served}
+use Rattle.desk_report.specs.PrivateServer.{reasons_in}
 use Rattle.desk_report.proofs.lines.reasons_of_lines.Goals as goal
 
 abbrev line_in : LineReasons → ℕ
@@ -44,7 +46,8 @@ loop-place-preserved c =
     sym (get_or-map grant_line grants place none 0 within') ∙ ap (λ (lines : List ℕ). get_or lines place 0) c.requires.grants.lines ∙ get_or-map line_of rows place row 0 within ∙ ap line_of (sym is) ∙ line in
     let counts : HoldsOf (GrantsTo content fs one.line) grant.count = subst (λ n. HoldsOf (GrantsTo content fs n) grant.count) own (c.requires.grants.counts place none within') in
     let reasons = c.from_vec.ensures ∙ c.in_ok-reasons.ensures in
-    let told : IsToldOf content fs one = told_of content fs c.requires.sound row has grant.count one line counts c.matches_nobody.result c.matches_nobody.ensures reasons in
+    let told : IsToldOf content fs one = told_of content fs c.requires.sound row has grant.count one line counts c.matches_nobody.result c.matches_nobody.ensures
+    (reasons_in c.args.server.now row.entry.line) (served content fs c.args.server.now c.requires.server row has) reasons in
     record {
       lines = ap (map line_in) c.in_ok-push.ensures.items ∙ map-append line_in found (one ∷ []) ∙ ap (λ (lines : List ℕ). lines ++ one.line ∷ []) c.loop-place.invariant.lines
           ∙ ap (λ n. map line_of (take place rows) ++ n ∷ []) (sym line) ∙ sym (ap (map line_of) (take_next rows place row within is) ∙ map-append line_of (take place rows) (row ∷ []));

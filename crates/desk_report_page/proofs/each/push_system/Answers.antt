@@ -39,6 +39,6 @@ returns g c =
     })
     (subst (GainsFileSystemMaps system.classes []) (sym c.as_str.ensures.value)
     (subst (λ runs. GainsFileSystemMaps (map class_run runs) [] (string_bytes c.in_ok-maps.maps)) c.as_slice.ensures c.in_ok-maps.ensures))
-    (subst (λ (sections : List Section). AreListedGroups (map section_value sections) (listed_value c.in_ok-listed.listed)) c.into_vec.ensures c.in_ok-listed.ensures.groups)
+    (subst (λ (sections : List Section). AreListedGroups telling.openings (map section_value sections) (listed_value c.in_ok-listed.listed)) c.into_vec.ensures c.in_ok-listed.ensures.groups)
     (string_bytes c.args.page.now) (string_bytes c.push_told.new.page))
     c.push_told.ensures

@@ -3,6 +3,7 @@ use Rattle.std.proofs.lemmas.List.{length-map, take-map}
 use Rattle.std.proofs.lemmas.List.Elements.{All-map, All-same, All-take}
 use Rattle.desk_impact.specs.Places.{place_of}
 use Rattle.desk_impact.specs.declared.places.Place.{Place as LentPlace}
+use Rattle.desk_openings.specs.Opening.{opening_section}
 use Rattle.desk_page_places.specs.Groups.{HasToldSizes}
 use Rattle.desk_page_places.specs.declared.groups.GroupPart.{GroupPart}
 use Rattle.desk_report.specs.Groups.{group_value}
@@ -29,9 +30,9 @@ returns-clause-groups c =
     record {
       listed = ap (λ (items : List GroupPart). map (λ (part : PartValue). part.sections) (map part_value items)) c.from_vec.ensures ∙ listed_sections parts
           ∙ c.in_ok-parts.ensures.groups ∙ ap (map group_value) c.truncate.ensures.items ∙ sym (take-map group_value most_listed groups);
-      parts = subst (λ (drawn : Bool). All (IsPart drawn) (map part_value c.from_vec.result)) (c.are_drawn.ensures ∙ ap are_drawn count)
-          (subst (λ (items : List GroupPart). All (IsPart c.are_drawn.result) (map part_value items)) (sym c.from_vec.ensures)
-          (All-map (IsPart c.are_drawn.result) part_value parts c.in_ok-parts.ensures.parts));
+      parts = subst (λ (drawn : Bool). All (IsPart drawn (map opening_section c.args.openings.now)) (map part_value c.from_vec.result)) (c.are_drawn.ensures ∙ ap are_drawn count)
+          (subst (λ (items : List GroupPart). All (IsPart c.are_drawn.result (map opening_section c.args.openings.now)) (map part_value items)) (sym c.from_vec.ensures)
+          (All-map (IsPart c.are_drawn.result (map opening_section c.args.openings.now)) part_value parts c.in_ok-parts.ensures.parts));
       count = count;
       unlisted = c.count_directories.ensures ∙ ap (λ (items : List LentPlace). directories_among (map place_of items)) c.as_slice-2.ensures.value ∙ ap directories_among places;
       others = c.has_others.ensures ∙ ap (λ (items : List LentPlace). has_others (map place_of items)) c.as_slice-3.ensures.value ∙ ap has_others places;

@@ -3,6 +3,7 @@ use Rattle.std.specs.Prelude.{All, Contains}
 use Rattle.std.proofs.lemmas.List.{append-nil, append_assoc, map-append, nil_from_length}
 use Rattle.std.proofs.lemmas.List.Elements.{All-contains, All-nil, All-push, Contains-append_right}
 use Rattle.desk_impact.proofs.Same.{contains_map}
+use Rattle.desk_openings.specs.Opening.{opening_section}
 use Rattle.desk_page_places.specs.Groups.{HasToldSizes}
 use Rattle.desk_page_places.specs.declared.groups.GroupPart.{GroupPart}
 use Rattle.desk_report.specs.Groups.{group_value}
@@ -15,7 +16,7 @@ pub loop-group-init : goal.loop-group-init
 loop-group-init c = record {
   given = c.into_iter-group-iterator.ensures.into_iter_gives.0;
   groups = ap (map (λ (part : GroupPart). group_value part.group)) c.new-parts.ensures.items;
-  parts = subst (All (λ part. IsPart c.args.drawn (part_value part))) (sym c.new-parts.ensures.items) (All-nil (λ part. IsPart c.args.drawn (part_value part)));
+  parts = subst (All (λ part. IsPart c.args.drawn (map opening_section c.args.openings.now) (part_value part))) (sym c.new-parts.ensures.items) (All-nil (λ part. IsPart c.args.drawn (map opening_section c.args.openings.now) (part_value part)));
   sizes = subst (All HasToldSizes) (sym c.new-parts.ensures.items) (All-nil HasToldSizes);
 }
 
@@ -43,7 +44,7 @@ loop-group-preserved c =
       groups = ap (map (λ (one : GroupPart). group_value one.group)) pushed ∙ map-append (λ (one : GroupPart). group_value one.group) parts (part ∷ [])
           ∙ ap (λ some. some ++ group_value part.group ∷ []) c.loop-group.invariant.groups ∙ ap (λ own. map group_value c.loop-group.yielded ++ own ∷ []) c.in_ok-part_of.ensures.group
           ∙ sym (map-append group_value c.loop-group.yielded (group ∷ []));
-      parts = subst (All (λ one. IsPart c.args.drawn (part_value one))) (sym pushed) (All-push (λ one. IsPart c.args.drawn (part_value one)) parts part c.loop-group.invariant.parts c.in_ok-part_of.ensures.part);
+      parts = subst (All (λ one. IsPart c.args.drawn (map opening_section c.args.openings.now) (part_value one))) (sym pushed) (All-push (λ one. IsPart c.args.drawn (map opening_section c.args.openings.now) (part_value one)) parts part c.loop-group.invariant.parts c.in_ok-part_of.ensures.part);
       sizes = subst (All HasToldSizes) (sym pushed) (All-push HasToldSizes parts part c.loop-group.invariant.sizes c.in_ok-part_of.ensures.sizes);
     }
 

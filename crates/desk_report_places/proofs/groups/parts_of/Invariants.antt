@@ -1,5 +1,6 @@
 -- The parts of the groups so far.
 use Rattle.std.proofs.Common.{◌≡◌, ◌++◌, All, map}
+use Rattle.desk_openings.specs.Opening.{opening_section}
 use Rattle.desk_page_places.specs.Groups.{HasToldSizes}
 use Rattle.desk_report.specs.Groups.{group_value}
 use Rattle.desk_report_places.specs.Groups.{IsPart, part_value}
@@ -9,6 +10,6 @@ abbrev pub invariant-loop-group : goal.invariant-loop-group
 invariant-loop-group l = record {
   given : l.yielded ++ l.group-iterator.rest.items ≡ l.fn.groups.items;
   groups : map (λ part. group_value part.group) l.parts.items ≡ map group_value l.yielded;
-  parts : All (λ part. IsPart l.drawn (part_value part)) l.parts.items;
+  parts : All (λ part. IsPart l.drawn (map opening_section l.openings) (part_value part)) l.parts.items;
   sizes : All HasToldSizes l.parts.items;
 }
