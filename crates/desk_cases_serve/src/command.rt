@@ -68,9 +68,10 @@ pub fn try_command(rt: &HostRuntime) -> io::Result<String> {
     };
     let mut err = Vec::new(rt.alloc());
     let mut made = Vec::new(rt.alloc());
+    let mut said = Vec::new(rt.alloc());
     let mut input: &[u8] = b"";
     let init = ["init", "asked.db", "site"];
-    if cli::run(rt, init.as_slice(), &mut input, &mut made, &mut err) != 0 {
+    if cli::run(rt, init.as_slice(), &mut input, &mut made, &mut said) != 0 {
         wrong.push_str("no database is made\n")?;
     }
     let number = format!(in rt.alloc(); "{port}")?;
