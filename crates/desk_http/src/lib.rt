@@ -9,11 +9,17 @@
 #![tactic(auto)]
 
 pub mod answering;
+pub mod connection;
 pub mod edits;
 pub mod laws;
 pub mod questions;
 pub mod replies;
 pub mod serving;
+pub mod stepping;
 
-pub use laws::{replies_are_a_run, runs_follow};
+pub use connection::{Connection, State};
+pub use laws::{
+    interleavings_go_on, interleavings_serve, replies_are_a_run, runs_follow, stepping_serves,
+};
 pub use serving::serve;
+pub use stepping::{ReplyText, Step, take_step};
