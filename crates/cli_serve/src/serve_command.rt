@@ -10,7 +10,7 @@ ghost use Rattle.cli_serve.specs.PrivateServe.{Starts};
 ghost use Rattle.cli_serve.specs.ServeCommand.{IsBadLimit, IsUnbound, ReadsAsked, RefusesServe, StartsServe, limit_number, listening_line};
 
 use crate::loopback::loopback;
-use crate::serving::serve_on;
+use crate::serving::Serving;
 use clap::ArgMatches;
 use cli_database_files::database_file::plain_path;
 use cli_database_files::log_file::{log_to_make, remove_log};
@@ -21,14 +21,18 @@ use cli_output::printed::Printed;
 use cli_words::values::{read_count, read_port};
 use cli_words::words::{given, required};
 use desk_store::Desk;
+use mio::net::TcpListener;
 use sqlite::{FileFrom, FileStore, Wary};
 use std::alloc::{AllocError, Global};
 use std::io;
 use std::io::{ErrorKind, Write};
-use std::net::TcpListener;
+use std::os::fd::RawFd;
 
 /// How long a message, its reply, and the time between two may take, in seconds, if the words do not say it.
 const DEFAULT_SECONDS: u32 = 5;
+
+/// The descriptor of standard error.
+const STANDARD_ERROR: RawFd = 2;
 
 /// What `serve` is asked.
 #[derive(Clone, Copy)]
@@ -53,7 +57,7 @@ pub struct Started {
 #[derive(Drop)]
 pub struct Service {
     desk: Desk<FileStore<FileFrom<Wary>>, View>,
-    listener: TcpListener,
+    serving: Serving,
     /// How many connections are served.
     pub connections: u32,
     /// How long a message, its reply, and the time between two may take, in seconds; 0 for no limit.
@@ -63,11 +67,9 @@ pub struct Service {
 }
 
 impl Service {
-    /// Serves its connections, one after another. What is to be reported meanwhile goes to `err`.
+    /// Serves its connections, beside one another. What is to be reported meanwhile goes to `err`, which is standard error.
     pub fn run<E: Write>(&mut self, rt: &HostRuntime, err: &mut E) {
-        let limit = u64::from(self.seconds) * 1000;
-        let connections = self.connections;
-        serve_on(rt, &mut self.desk, &self.listener, connections, limit, err);
+        self.serving.run(rt, &mut self.desk, err);
     }
 
     /// Ends. A log that was made for nothing goes before the lock goes with the desk: after that, another process may write it.
@@ -169,8 +171,8 @@ fn listen(
     requires { string_bytes line ≡ listening_line asked.port }
     ensures { Starts asked.entry result }
 {
-    match TcpListener::bind(rt, loopback(asked.port)) {
-        Ok(listener) => Ok(Started {
+    match serving(rt, asked) {
+        Ok(serving) => Ok(Started {
             printed: Printed {
                 status: 0,
                 text: line,
@@ -178,7 +180,7 @@ fn listen(
             },
             service: Service {
                 desk,
-                listener,
+                serving,
                 connections: asked.connections,
                 seconds: asked.seconds,
                 log,
@@ -190,6 +192,19 @@ fn listen(
             Err(Err(unbound(asked.port, error)))
         }
     }
+}
+
+/// Binds the port, and makes ready to serve.
+fn serving(rt: &HostRuntime, asked: Asked<'_>) -> io::Result<Serving> {
+    let listener = TcpListener::bind(rt, loopback(asked.port))?;
+    let limit = u64::from(asked.seconds) * 1000;
+    Serving::new(
+        rt,
+        listener,
+        asked.connections,
+        limit,
+        Some(STANDARD_ERROR),
+    )
 }
 
 /// Returns the failure to bind a port.
