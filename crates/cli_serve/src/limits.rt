@@ -1,7 +1,7 @@
 //! What decides how long a connection goes on: functions of moments, which ask nothing of the system. A moment is how many
 //! milliseconds after the start of the service it is.
 
-ghost use Rattle.std.specs.Prelude.{◌≡◌, ◌-◌, ◌^◌, min};
+ghost use Rattle.std.specs.Prelude.{◌≡◌, ℕ, ◌-◌, ◌^◌, Bool, min};
 ghost use Rattle.std.specs.Option.{option_map};
 ghost use Rattle.cli_serve.specs.Limits.{ComesAt, begun, has_to_end, is_over, makes_room_before, with_bytes};
 ghost use Rattle.cli_serve.specs.PrivateLimits.{earlier};
@@ -56,7 +56,9 @@ fn limit_end(limit: u64, since: u64) -> Option<u128>
 }
 
 /// Tells whether a moment has come, if it ever comes.
-pub fn has_come(moment: Option<u128>, now: u64) -> bool {
+pub fn has_come(moment: Option<u128>, now: u64) -> bool
+    ensures { (is_so : ℕ → Bool) → ComesAt is_so moment → result ≡ is_so now }
+{
     match moment {
         Some(moment) => moment <= u128::from(now),
         None => false,

@@ -19,8 +19,8 @@ use mio::event::Event;
 use sqlite::Alter;
 use std::alloc::{AllocError, Global};
 
-/// The most reads behind the end of a connection. With 4096 bytes each they come to 1 MiB.
-const UNREAD_READS: u32 = 256;
+/// From how many bytes on nothing more is read behind the end of a connection: 1 MiB.
+const UNREAD_BYTES: usize = 1 << 20;
 
 /// How a peer is served in a turn.
 #[derive(Clone, Copy)]
@@ -28,6 +28,8 @@ pub struct Terms<'a> {
     pub rt: &'a HostRuntime,
     pub routes: &'a Routes,
     pub clock: &'a Clock,
+    /// When it was last asked which sockets are ready: what came behind that is not known yet, so no limit is over by it.
+    pub asked: u64,
     /// The limit of time of a message, of its reply and of idleness, in milliseconds; 0 for none.
     pub limit: u64,
     /// Whether messages are answered.
@@ -67,8 +69,10 @@ pub struct Peer {
     has_sent_all: bool,
     /// How many edits were refused for who sent them, and that was not told yet.
     refused: u64,
-    /// How many reads were made behind the end.
-    unread: u32,
+    /// Whether the end of what the peer sends was read.
+    is_read_out: bool,
+    /// How many bytes were read behind the end.
+    unread: usize,
     /// Whether it is to be let go.
     is_over: bool,
 }
@@ -87,6 +91,7 @@ impl Peer {
             can_write: true,
             has_sent_all: false,
             refused: 0,
+            is_read_out: false,
             unread: 0,
             is_over: false,
         })
@@ -102,8 +107,13 @@ impl Peer {
         self.is_over
     }
 
+    /// Returns how many bytes are kept of replies that wait to be sent.
+    pub fn held(&self) -> usize {
+        self.session.held()
+    }
+
     /// Returns how many bytes wait to be sent.
-    pub fn unsent(&self) -> usize {
+    fn unsent(&self) -> usize {
         self.session.unsent().len()
     }
 
@@ -155,7 +165,7 @@ impl Peer {
     }
 
     /// Tells whether a message may be at the front of the bytes that came, and nothing waits to be sent.
-    fn is_due(&self) -> bool {
+    pub fn is_due(&self) -> bool {
         self.unsent() == 0 && !self.session.has_ended() && !self.session.is_waiting()
     }
 
@@ -186,9 +196,9 @@ impl Peer {
         self.send(terms);
         self.serve(desk, terms, room, &mut left);
         if matches!(self.phase, Phase::Ended(_)) {
-            self.read_on();
+            self.read_on(room);
         }
-        if has_come(self.end(terms.limit), terms.now()) {
+        if has_come(self.end(terms.limit), terms.asked) {
             self.is_over = true;
         }
     }
@@ -237,10 +247,9 @@ impl Peer {
     ) -> bool
         ensures run { (messages : List Message) × (texts : List (List ℕ)) × Serves (HasGoodDisk S.Store) (StandsAt S.Store) desk.old messages texts desk.new }
     {
-        if left.answers == 0
-            || !terms.answers
-            || !self.session.unsent().is_empty()
+        if !self.session.unsent().is_empty()
             || self.session.has_ended()
+            || self.is_put_off(terms, left)
         {
             return false;
         }
@@ -250,6 +259,11 @@ impl Peer {
             self.reply(terms);
         }
         is_answered
+    }
+
+    /// Tells whether what came is not answered now. If nothing came, it is only found that bytes are waited for.
+    fn is_put_off(&self, terms: &Terms<'_>, left: &Left) -> bool {
+        self.session.has_bytes() && (left.answers == 0 || !terms.answers)
     }
 
     /// Begins to send a reply.
@@ -280,7 +294,10 @@ impl Peer {
                 return true;
             }
             Received::Nothing => self.can_read = false,
-            Received::Ended => self.end_stream(terms),
+            Received::Ended(is_read_out) => {
+                self.is_read_out = is_read_out;
+                self.end_stream(terms);
+            }
             Received::Failed => self.is_over = true,
         }
         false
@@ -308,12 +325,13 @@ impl Peer {
         }
     }
 
-    /// Notes that nothing waits to be sent any more. If the stream has ended, the peer is told so.
+    /// Notes that nothing waits to be sent any more. If the stream has ended, the peer is told so; but one of which all was read is let
+    /// go at once.
     fn rest(&mut self, terms: &Terms<'_>) {
         let now = terms.now();
         if self.session.has_ended() {
             self.phase = Phase::Ended(now);
-            if !self.session.wire().end_sending() {
+            if self.is_read_out || !self.session.wire().end_sending() {
                 self.is_over = true;
             }
         } else if self.session.has_bytes() {
@@ -325,14 +343,16 @@ impl Peer {
 
     /// Reads on behind the end, until the peer ends too, up to a bound. A socket that is closed with unread bytes resets its connection,
     /// and the peer may lose the last reply. (RFC 9112, section 9.6)
-    fn read_on(&mut self) {
-        if !self.can_read {
+    fn read_on(&mut self, room: &mut [u8]) {
+        if !self.can_read || self.is_over {
             return;
         }
-        self.unread = self.unread.saturating_add(1);
-        match self.session.wire().drop_bytes() {
+        match self.session.wire().drop_bytes(room) {
             Ok(Some(0)) | Err(_) => self.is_over = true,
-            Ok(Some(_)) => self.is_over = self.unread >= UNREAD_READS,
+            Ok(Some(count)) => {
+                self.unread = self.unread.saturating_add(count);
+                self.is_over = self.unread >= UNREAD_BYTES;
+            }
             Ok(None) => self.can_read = false,
         }
     }

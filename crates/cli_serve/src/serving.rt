@@ -30,7 +30,7 @@ const MOST_PEERS: usize = 256;
 const MOST_ACCEPTS: u32 = 64;
 
 /// The most bytes of replies that may wait for a message to be answered: 64 MiB.
-const MOST_UNSENT: usize = 64 << 20;
+const MOST_HELD: usize = 64 << 20;
 
 /// How long no connection is accepted once the system could not give one, in milliseconds.
 const PAUSE_MILLIS: u64 = 10;
@@ -54,6 +54,8 @@ pub struct Serving {
     left: u32,
     /// The number of the last that was accepted.
     number: usize,
+    /// The number of the peer from which on messages are answered in the next turn.
+    first: usize,
     /// Whether one may wait to be accepted.
     can_accept: bool,
     /// None is accepted before this moment.
@@ -94,6 +96,7 @@ impl Serving {
             most: MOST_PEERS,
             left: connections,
             number: LISTENER,
+            first: LISTENER,
             can_accept: true,
             resumes: 0,
             unsaid: 0,
@@ -138,14 +141,14 @@ impl Serving {
     )
         ensures run { (messages : List Message) × (texts : List (List ℕ)) × Serves (HasGoodDisk S.Store) (StandsAt S.Store) desk.old messages texts desk.new }
     {
-        self.wait(rt, longest);
+        let asked = self.wait(rt, longest);
         self.accept(rt);
-        self.reach_all(rt, desk);
+        self.reach_all(rt, desk, asked);
         self.let_go(err);
     }
 
-    /// Waits until something can be done, and notes what is ready.
-    fn wait(&mut self, rt: &HostRuntime, longest: Option<u64>) {
+    /// Waits until something can be done, and notes what is ready. Returns when that was asked.
+    fn wait(&mut self, rt: &HostRuntime, longest: Option<u64>) -> u64 {
         let now = self.clock.now(rt);
         let until = time_until(self.next_moment(now), now);
         let longest = match (longest, until) {
@@ -154,8 +157,9 @@ impl Serving {
             (longest, None) => longest,
         };
         if self.readiness.wait(longest).is_err() {
-            return;
+            return now;
         }
+        let asked = self.clock.now(rt);
         for event in self.readiness.found().iter() {
             let number = event.token().0;
             if number == LISTENER {
@@ -164,6 +168,7 @@ impl Serving {
                 note(&mut self.peers, number, event);
             }
         }
+        asked
     }
 
     /// Returns the next moment at which something is to be done, if nothing comes before: this one, if something can be done now.
@@ -172,7 +177,7 @@ impl Serving {
         if self.left > 0 && self.can_accept && self.has_room() {
             next = Some(u128::from(self.resumes.max(now)));
         }
-        let answers = self.unsent() <= MOST_UNSENT;
+        let answers = self.held() <= MOST_HELD;
         for peer in self.peers.as_slice() {
             if peer.is_ready(answers) {
                 return Some(u128::from(now));
@@ -182,11 +187,11 @@ impl Serving {
         next
     }
 
-    /// Returns how many bytes of replies wait to be sent.
-    fn unsent(&self) -> usize {
+    /// Returns how many bytes are kept of replies that wait to be sent.
+    fn held(&self) -> usize {
         let mut sum = 0usize;
         for peer in self.peers.as_slice() {
-            sum = sum.saturating_add(peer.unsent());
+            sum = sum.saturating_add(peer.held());
         }
         sum
     }
@@ -264,28 +269,35 @@ impl Serving {
         }
     }
 
-    /// Does for each connection what can be done without waiting.
+    /// Does for each connection what can be done without waiting. Where so many replies wait that a message is not answered, the next turn
+    /// answers from there on.
     fn reach_all<S: Alter + Drop, V: PolicyView + Drop>(
         &mut self,
         rt: &HostRuntime,
         desk: &mut Desk<S, V>,
+        asked: u64,
     )
         ensures run { (messages : List Message) × (texts : List (List ℕ)) × Serves (HasGoodDisk S.Store) (StandsAt S.Store) desk.old messages texts desk.new }
     {
         runs_follow::<S, V>();
-        let mut unsent = self.unsent();
+        let mut held = self.held();
+        let from = self.first;
+        let mut first = LISTENER;
         for peer in self.peers.iter_mut() {
             let terms = Terms {
                 rt,
                 routes: &self.routes,
                 clock: &self.clock,
+                asked,
                 limit: self.limit,
-                answers: unsent <= MOST_UNSENT,
+                answers: held <= MOST_HELD && peer.number() >= from,
             };
-            let before = peer.unsent();
+            let before = peer.held();
             peer.reach(desk, &terms, self.room.as_mut_slice());
-            unsent = unsent.saturating_sub(before).saturating_add(peer.unsent());
+            held = held.saturating_sub(before).saturating_add(peer.held());
+            first = first_put_off(first, from, held, peer);
         }
+        self.first = first;
     }
 
     /// Says what is to be said of the connections that have ended, in their order, and closes them.
@@ -311,6 +323,15 @@ impl Serving {
             let mut peer = self.peers.remove(index);
             self.unsaid = self.unsaid.saturating_add(peer.let_go());
         }
+    }
+}
+
+/// Returns the number of the first peer from this one on that is not answered since so many bytes wait; if none was found before.
+fn first_put_off(first: usize, from: usize, held: usize, peer: &Peer) -> usize {
+    if first == LISTENER && held > MOST_HELD && peer.number() >= from && peer.is_due() {
+        peer.number()
+    } else {
+        first
     }
 }
 

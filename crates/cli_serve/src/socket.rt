@@ -37,11 +37,10 @@ impl Socket {
         self.stream.shutdown(Shutdown::Write).is_ok()
     }
 
-    /// Reads bytes that nobody wants. Returns how many came, or nothing if none are there yet.
-    pub fn drop_bytes(&self) -> Result<Option<usize>, Failed> {
-        let mut unread = [0u8; 4096];
+    /// Reads bytes that nobody wants, by way of this room. Returns how many came, or nothing if none are there yet.
+    pub fn drop_bytes(&self, room: &mut [u8]) -> Result<Option<usize>, Failed> {
         let mut stream = &self.stream;
-        match stream.read(&mut unread) {
+        match stream.read(room) {
             Ok(count) => Ok(Some(count)),
             Err(error) => if_waits(error.kind()),
         }

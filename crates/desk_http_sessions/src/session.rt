@@ -1,6 +1,6 @@
 //! A session: the service of one peer, in calls that do not wait.
 
-ghost use Rattle.std.specs.Prelude.{◌≡◌, ◌<◌, ◌≤◌, ℕ, ◌+◌, IfOk, List, [], ◌∷◌, drop, false, length, true};
+ghost use Rattle.std.specs.Prelude.{◌≡◌, ◌≢◌, ◌<◌, ◌≤◌, ℕ, ◌+◌, IfOk, List, [], ◌∷◌, drop, false, length, nat_lt, true};
 ghost use Rattle.desk_store.specs.Desk.{HasGoodDisk, StandsAt};
 ghost use Rattle.desk_http_messages.specs.Replies.{joined, last_texts};
 ghost use Rattle.desk_http_messages.specs.Stream.{Message};
@@ -28,8 +28,8 @@ pub enum Received {
     Nothing,
     /// Bytes came, and whether they filled the room, so that more may be there.
     Bytes(bool),
-    /// The stream has ended. A reply to its fault may wait.
-    Ended,
+    /// The stream has ended, and whether it did at the end of the input. A reply to its fault may wait.
+    Ended(bool),
     /// The read failed.
     Failed,
 }
@@ -155,6 +155,14 @@ impl<W: Wire + Drop> Session<W> {
         unsent_of(&self.reply, self.sent)
     }
 
+    /// Returns how many bytes the reply has that is being sent. It is kept whole until all of it is sent.
+    pub fn held(&self) -> usize {
+        match &self.reply {
+            None => 0,
+            Some(text) => text.as_bytes().len(),
+        }
+    }
+
     /// Tells whether the stream has ended: once nothing waits to be sent, the session has.
     pub fn has_ended(&self) -> bool
         ensures { result ≡ has_ended self.now.place.state }
@@ -170,7 +178,9 @@ impl<W: Wire + Drop> Session<W> {
     }
 
     /// Tells whether bytes came that are not answered.
-    pub fn has_bytes(&self) -> bool {
+    pub fn has_bytes(&self) -> bool
+        ensures { result ≡ nat_lt 0 (length self.now.place.waiting) }
+    {
         self.connection.room() < CAPACITY
     }
 
@@ -209,7 +219,7 @@ impl<W: Wire + Drop> Session<W> {
                 Some(end) => {
                     self.reply = last_reply(end);
                     self.sent = 0;
-                    Received::Ended
+                    Received::Ended(count == 0)
                 }
             },
             Ok(None) => Received::Nothing,
@@ -222,6 +232,7 @@ impl<W: Wire + Drop> Session<W> {
         ensures exchanges { Exchanges W.left W.held self.old [] self.new }
         ensures place { self.new.place ≡ self.old.place }
         ensures all { result ≡ Sent.All → self.new.unsent ≡ [] }
+        ensures part { result ≡ Sent.Part → self.new.unsent ≢ [] }
     {
         match self.wire.send(unsent_of(&self.reply, self.sent)) {
             Ok(Some(count)) => self.go_on(count),
@@ -237,6 +248,7 @@ impl<W: Wire + Drop> Session<W> {
         ensures place { self.new.place ≡ self.old.place }
         ensures wire { self.new.wire ≡ self.old.wire }
         ensures all { result ≡ Sent.All → self.new.unsent ≡ [] }
+        ensures part { result ≡ Sent.Part → self.new.unsent ≢ [] }
     {
         self.sent = sent_with(&self.reply, self.sent, count);
         if !self.unsent().is_empty() {

@@ -3,5 +3,5 @@ use Rattle.desk_store.specs.Desk.{HasGoodDisk, StandsAt}
 use Rattle.cli_serve.proofs.Runs.{no_messages}
 use Rattle.cli_serve.proofs.peer.Peer.answer.Goals as goal
 
-pub returns-then-left-eq0 : goal.returns-then-left-eq0
-returns-then-left-eq0 g c = record { run = no_messages (HasGoodDisk g.S.Store) (StandsAt g.S.Store) c.args.desk.now }
+pub returns-then-not-is_empty : goal.returns-then-not-is_empty
+returns-then-not-is_empty g c = record { run = no_messages (HasGoodDisk g.S.Store) (StandsAt g.S.Store) c.args.desk.now }
