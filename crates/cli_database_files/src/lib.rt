@@ -10,7 +10,9 @@
 #![tactic(auto)]
 
 pub mod copy;
+pub mod copying;
 pub mod database_file;
+pub mod kept;
 pub mod log_file;
 pub mod new_files;
 pub mod obstacles;
