@@ -13,6 +13,7 @@
 ghost use Rattle.std.specs.Prelude.{IfOk, IfSome, IsTrue};
 ghost use Rattle.sqlite_disk.specs.Memory.{memory_is_usable};
 ghost use Rattle.cli_database_files.specs.Copy.{AreUsable};
+ghost use Rattle.cli_database_files.specs.Copying.{HasBytes, IsCopyOf};
 
 use crate::kept::{HEADER_LEN, kept};
 use sqlite_disk::{Disk, Files, Memory};
@@ -28,13 +29,13 @@ pub struct Copying {
     /// The log, if there was one.
     log: Option<fs::File>,
     /// The header that the log had at first, as far as it had one.
-    before: Vec<u8>,
+    pub before: Vec<u8>,
     /// The bytes of DB.
-    db_bytes: Vec<u8>,
+    pub db_bytes: Vec<u8>,
     /// The first reading of the log.
-    first: Vec<u8>,
+    pub first: Vec<u8>,
     /// The second.
-    second: Vec<u8>,
+    pub second: Vec<u8>,
 }
 
 impl Copying {
@@ -85,7 +86,8 @@ impl Copying {
         db_path: &str,
         log_path: &str,
     ) -> io::Result<Option<Files<Memory>>>
-        ensures { IfOk result (λ copied. IfSome copied AreUsable) }
+        ensures usable { IfOk result (λ copied. IfSome copied AreUsable) }
+        ensures copied { IfOk result (λ copied. IfSome copied (IsCopyOf self)) }
     {
         let after = match &self.log {
             Some(log) => header_of(self.alloc, log)?,
@@ -109,8 +111,7 @@ impl Copying {
 
     /// Tells whether the log had a header at first.
     pub fn has_header(&self) -> bool {
-        self.before.len() == HEADER_LEN
-            && self.before.as_slice().starts_with(&[0x37, 0x7f, 0x06])
+        self.before.len() == HEADER_LEN && self.before.as_slice().starts_with(&[0x37, 0x7f, 0x06])
     }
 }
 
@@ -147,7 +148,8 @@ fn leads_to(rt: &HostRuntime, path: &str, file: Option<&fs::File>) -> io::Result
 
 /// Returns a file in memory with these bytes.
 fn in_memory(alloc: Global, bytes: &[u8]) -> io::Result<Memory>
-    ensures { IfOk result (λ copy. IsTrue (memory_is_usable copy)) }
+    ensures usable { IfOk result (λ copy. IsTrue (memory_is_usable copy)) }
+    ensures bytes { IfOk result (HasBytes bytes.now) }
 {
     let mut copy = Memory::new(alloc);
     copy.write_at(0, bytes)?;
