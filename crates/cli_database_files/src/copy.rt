@@ -105,8 +105,8 @@ pub fn unread(alloc: Global, path: &str, error: io::Error) -> Failure
     }
 }
 
-/// Copies the files: under the lock that SQLite's readers share or, if another has DB alone, beside it. If the log is written from its
-/// front on meanwhile, it begins again, up to a bound.
+/// Copies the files: under the lock that SQLite's readers share or, if another has DB alone, beside it. If there is no log beside another,
+/// or it is written from its front on meanwhile, it begins again, up to a bound.
 fn copy_locked(rt: &HostRuntime, path: &str) -> io::Result<Result<Files<Memory>, Error>>
     ensures { IfOk result (λ copied. IfOk copied AreUsable) }
 {
@@ -121,7 +121,8 @@ fn copy_locked(rt: &HostRuntime, path: &str) -> io::Result<Result<Files<Memory>,
     Ok(Err(BUSY))
 }
 
-/// Copies the files once; gives none if the log was written from its front on meanwhile, or other files took their names.
+/// Copies the files once. Gives none if there is no log beside another, if it was written from its front on meanwhile, or if other files took
+/// their names.
 fn copy_once(rt: &HostRuntime, path: &str) -> io::Result<Result<Option<Files<Memory>>, Error>>
     ensures { IfOk result (λ copied. IfOk copied (λ files. IfSome files AreUsable)) }
 {
@@ -175,7 +176,7 @@ fn copy_files_of(
         Ok(None) | Err(_) => return Ok(Err(CANNOT_OPEN)),
     };
     if beside && !begun.has_header() {
-        return Ok(Err(BUSY));
+        return Ok(Ok(None));
     }
     let copied = copy_rest(rt, begun, file, real, log_path.as_str())?;
     Ok(Ok(copied))

@@ -9,6 +9,7 @@ use crate::clock::Clock;
 use crate::limits::{Phase, begun, end_of, has_come, with_bytes};
 use crate::refusals::is_refusal;
 use crate::socket::Socket;
+use cli_database_files::names::Names;
 use desk_http::runs_follow;
 use desk_http_messages::buffer::CAPACITY;
 use desk_http_requests::Routes;
@@ -34,12 +35,22 @@ pub struct Terms<'a> {
     pub limit: u64,
     /// Whether messages are answered.
     pub answers: bool,
+    /// The names of the files of the database, if it has files.
+    pub names: Option<&'a Names>,
 }
 
 impl Terms<'_> {
     /// Returns what moment it is.
     fn now(&self) -> u64 {
         self.clock.now(self.rt)
+    }
+
+    /// Tells whether the files of the database have their names.
+    fn has_files(&self) -> bool {
+        match self.names {
+            Some(names) => names.are_same(self.rt),
+            None => true,
+        }
     }
 }
 
@@ -75,6 +86,8 @@ pub struct Peer {
     unread: usize,
     /// Whether it is to be let go.
     is_over: bool,
+    /// Whether it is let go since the files of the database lost their names.
+    has_lost: bool,
 }
 
 impl Peer {
@@ -94,6 +107,7 @@ impl Peer {
             is_read_out: false,
             unread: 0,
             is_over: false,
+            has_lost: false,
         })
     }
 
@@ -268,6 +282,9 @@ impl Peer {
 
     /// Begins to send a reply.
     fn reply(&mut self, terms: &Terms<'_>) {
+        if self.loses(terms) {
+            return;
+        }
         if is_refusal(self.session.unsent()) {
             self.refused = self.refused.saturating_add(1);
         }

@@ -14,6 +14,7 @@ use crate::serving::Serving;
 use clap::ArgMatches;
 use cli_database_files::database_file::plain_path;
 use cli_database_files::log_file::{log_to_make, remove_log};
+use cli_database_files::names::Names;
 use cli_desk::View;
 use cli_desk::desks::{check_file, open_desk};
 use cli_output::failure::Failure;
@@ -67,14 +68,25 @@ pub struct Service {
 }
 
 impl Service {
-    /// Serves its connections, beside one another. What is to be reported meanwhile goes to `err`, which is standard error.
-    pub fn run<E: Write>(&mut self, rt: &HostRuntime, err: &mut E) {
+    /// Serves its connections, beside one another. What is to be reported meanwhile goes to `err`, which is standard error. Tells whether it
+    /// served them all: it ends if the files of its database are moved, removed or replaced.
+    pub fn run<E: Write>(&mut self, rt: &HostRuntime, err: &mut E) -> bool {
         self.serving.run(rt, &mut self.desk, err);
+        if !self.serving.has_lost() {
+            return true;
+        }
+        let _ = err.write_all(
+            b"exportdesk: DB or its log (DB-wal) was moved, removed or replaced: it is served no longer\n",
+        );
+        false
     }
 
-    /// Ends. A log that was made for nothing goes before the lock goes with the desk: after that, another process may write it.
+    /// Ends. A log that was made for nothing goes before the lock goes with the desk: after that, another process may write it. What stands
+    /// at its name once the files lost theirs is not its own.
     pub fn close(self, rt: &HostRuntime) {
-        remove_log(rt, &self.log);
+        if !self.serving.has_lost() {
+            remove_log(rt, &self.log);
+        }
         drop(self);
     }
 }
@@ -147,8 +159,11 @@ fn start_on(rt: &HostRuntime, asked: Asked<'_>) -> Result<Started, Result<Printe
     let Ok(log) = log_to_make(rt, asked.db) else {
         return Err(Err(Failure::Memory));
     };
+    let Ok(names) = Names::of(rt, asked.db) else {
+        return Err(Err(Failure::Memory));
+    };
     match open_desk(rt, asked.db, path.as_str(), &log, Wary) {
-        Ok(desk) => listen(rt, desk, asked, log, line),
+        Ok(desk) => listen(rt, desk, asked, log, line, names),
         Err(answer) => Err(answer),
     }
 }
@@ -167,11 +182,12 @@ fn listen(
     asked: Asked<'_>,
     log: Option<String>,
     line: String,
+    names: Names,
 ) -> Result<Started, Result<Printed, Failure>>
     requires { string_bytes line ≡ listening_line asked.port }
     ensures { Starts asked.entry result }
 {
-    match serving(rt, asked) {
+    match serving(rt, asked, names) {
         Ok(serving) => Ok(Started {
             printed: Printed {
                 status: 0,
@@ -195,16 +211,14 @@ fn listen(
 }
 
 /// Binds the port, and makes ready to serve.
-fn serving(rt: &HostRuntime, asked: Asked<'_>) -> io::Result<Serving> {
+fn serving(rt: &HostRuntime, asked: Asked<'_>, names: Names) -> io::Result<Serving> {
     let listener = TcpListener::bind(rt, loopback(asked.port))?;
     let limit = u64::from(asked.seconds) * 1000;
-    Serving::new(
-        rt,
-        listener,
-        asked.connections,
-        limit,
-        Some(STANDARD_ERROR),
-    )
+    let mut serving = Serving::new(rt, listener, asked.connections, limit, Some(STANDARD_ERROR))?;
+    let mut names = names;
+    names.note_log(rt);
+    serving.watch(names);
+    Ok(serving)
 }
 
 /// Returns the failure to bind a port.

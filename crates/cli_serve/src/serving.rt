@@ -11,6 +11,7 @@ use crate::notes::Notes;
 use crate::peer::{Peer, Terms};
 use crate::readiness::{LISTENER, Readiness};
 use crate::socket::Socket;
+use cli_database_files::names::Names;
 use desk_http::runs_follow;
 use desk_http_messages::buffer::CAPACITY;
 use desk_http_requests::Routes;
@@ -66,6 +67,10 @@ pub struct Serving {
     limit: u64,
     /// The room that reads go by.
     room: Vec<u8>,
+    /// The names of the files of the database, if it has files.
+    names: Option<Names>,
+    /// Whether these lost their names.
+    has_lost: bool,
 }
 
 impl Serving {
@@ -102,15 +107,27 @@ impl Serving {
             unsaid: 0,
             limit,
             room,
+            names: None,
+            has_lost: false,
         })
     }
 
-    /// Tells whether all connections were accepted and have ended.
-    pub fn is_over(&self) -> bool {
-        self.left == 0 && self.peers.is_empty()
+    /// Watches these names: before a message is answered and before its reply is sent they have to lead to the files of the database.
+    pub fn watch(&mut self, names: Names) {
+        self.names = Some(names);
     }
 
-    /// Serves until all connections were accepted and have ended.
+    /// Tells whether the files of the database lost their names. Then nothing is answered any more.
+    pub fn has_lost(&self) -> bool {
+        self.has_lost
+    }
+
+    /// Tells whether all connections were accepted and have ended, or the files of the database lost their names.
+    pub fn is_over(&self) -> bool {
+        self.has_lost || (self.left == 0 && self.peers.is_empty())
+    }
+
+    /// Serves until all connections were accepted and have ended, or the files of the database lose their names.
     pub fn run<S: Alter + Drop, V: PolicyView + Drop, E: Write>(
         &mut self,
         rt: &HostRuntime,
@@ -303,6 +320,7 @@ impl Serving {
     /// Says what is to be said of the connections that have ended, in their order, and closes them.
     fn let_go<E: Write>(&mut self, err: &mut E) {
         for peer in self.peers.iter_mut() {
+            self.has_lost = self.has_lost || peer.has_lost();
             let refused = peer.take_refused();
             if refused > 0 {
                 self.notes.say(refused, err);

@@ -403,14 +403,7 @@ fn served<S: Alter + Drop, V: PolicyView + Drop>(
     let listener = TcpListener::bind(rt, SocketAddr::from((Ipv4Addr::LOCALHOST, 0)))?;
     let streams = connected(rt, listener.local_addr()?, trial.peers)?;
     let mut err = Vec::new(rt.alloc());
-    serve_on(
-        rt,
-        desk,
-        listener,
-        trial.connections,
-        trial.limit,
-        &mut err,
-    )?;
+    serve_on(rt, desk, listener, trial.connections, trial.limit, &mut err)?;
     check_reports(trial, err.as_slice(), wrong)?;
     Ok(streams)
 }

@@ -3,6 +3,7 @@
 
 use crate::desks::site;
 use crate::trials::{EDIT, ONE_REVISION, QUESTION, STORED};
+use cli_database_files::names::Names;
 use cli_serve::Serving;
 use desk_cases_store::Fresh;
 use desk_index::Index;
@@ -11,9 +12,9 @@ use desk_store::Desk;
 use desk_text::Text;
 use mio::net::TcpListener;
 use sqlite::{Alter, MemStore};
-use std::io;
 use std::io::{ErrorKind, Read, Write};
 use std::net::{Ipv4Addr, SocketAddr, TcpStream};
+use std::{fs, io};
 
 /// The most turns that something may take, and how many milliseconds one waits at most.
 const TURNS: u32 = 2000;
@@ -38,10 +39,12 @@ enum Turns {
     DoesNotRead,
     Resets,
     MakesRoom,
+    /// They are removed, or the log is replaced.
+    LosesFiles(bool),
 }
 
 /// The trials, each with its name.
-const TRIALS: [(&str, Turns); 6] = [
+const TRIALS: [(&str, Turns); 8] = [
     (
         "a peer that holds its last byte back until another has its reply",
         Turns::HoldsItsLastByte,
@@ -63,7 +66,23 @@ const TRIALS: [(&str, Turns); 6] = [
         "as many silent peers as can be open, and one that asks",
         Turns::MakesRoom,
     ),
+    (
+        "a database that is removed between two questions",
+        Turns::LosesFiles(false),
+    ),
+    (
+        "a log that is replaced between a question and an edit",
+        Turns::LosesFiles(true),
+    ),
 ];
+
+/// The names of a database and its log, which a trial removes.
+const DB: &str = "turns.db";
+
+const LOG: &str = "turns.db-wal";
+
+/// A file that takes the place of the log.
+const DB_BESIDE: &str = "turns.other";
 
 /// A service of a new desk, at a port that is free.
 #[derive(Drop)]
@@ -192,6 +211,41 @@ fn try_one<S: Fresh, V: PolicyView + Drop>(
         Turns::DoesNotRead => does_not_read(house),
         Turns::Resets => resets(house),
         Turns::MakesRoom => makes_room(house),
+        Turns::LosesFiles(is_replaced) => loses_files(house, is_replaced),
+    }
+}
+
+fn loses_files<S: Fresh, V: PolicyView + Drop>(
+    house: &mut House<'_, S, V>,
+    is_replaced: bool,
+) -> io::Result<&'static str> {
+    fs::write(house.rt, DB, b"db".as_slice())?;
+    let mut names = Names::of(house.rt, DB)?;
+    fs::write(house.rt, LOG, b"log".as_slice())?;
+    names.note_log(house.rt);
+    house.serving.watch(names);
+    let mut first = house.connect_with(QUESTION)?;
+    if !house.receives(&mut first, ONE_REVISION)? {
+        return Ok("it has no reply while the files are there");
+    }
+    if is_replaced {
+        fs::write(house.rt, DB_BESIDE, b"log".as_slice())?;
+        fs::rename(house.rt, DB_BESIDE, LOG)?;
+        first.write_all(EDIT)?;
+    } else {
+        fs::remove_file(house.rt, DB)?;
+        first.write_all(QUESTION)?;
+    }
+    let (found, has_ended) = house.receive(&mut first, 1)?;
+    let _ = fs::remove_file(house.rt, DB);
+    fs::remove_file(house.rt, LOG)?;
+    match (
+        found.is_empty() && has_ended,
+        house.serving.has_lost() && house.serving.is_over(),
+    ) {
+        (true, true) => Ok(""),
+        (false, _) => Ok("it has a reply, or its connection stays"),
+        (true, false) => Ok("the service goes on"),
     }
 }
 
@@ -307,9 +361,7 @@ fn does_not_read<S: Fresh, V: PolicyView + Drop>(
     Ok("")
 }
 
-fn resets<S: Fresh, V: PolicyView + Drop>(
-    house: &mut House<'_, S, V>,
-) -> io::Result<&'static str> {
+fn resets<S: Fresh, V: PolicyView + Drop>(house: &mut House<'_, S, V>) -> io::Result<&'static str> {
     let mut slow = house.connect()?;
     for _ in 0..MANY {
         slow.write_all(LARGE_QUESTION)?;
