@@ -63,15 +63,19 @@ fn finish<O: Write, E: Write>(
 {
     let status = report(rt.alloc(), origin, answer, out, err);
     if let Some(service) = service {
-        end(rt, service, status == 0, err);
+        if !end(rt, service, status == 0, err) {
+            return 4;
+        }
     }
     status
 }
 
-/// Runs a service, if its line is printed, and ends it.
-fn end<E: Write>(rt: &HostRuntime, mut service: Service, is_printed: bool, err: &mut E) {
+/// Runs a service, if its line is printed, and ends it. Tells whether it served all that it was to serve.
+fn end<E: Write>(rt: &HostRuntime, mut service: Service, is_printed: bool, err: &mut E) -> bool {
+    let mut has_served = true;
     if is_printed {
-        service.run(rt, err);
+        has_served = service.run(rt, err);
     }
     service.close(rt);
+    has_served
 }

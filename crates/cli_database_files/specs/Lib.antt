@@ -1,1 +1,3 @@
 pub mod Copy
+pub mod Copying
+pub mod Kept

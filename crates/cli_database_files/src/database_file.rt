@@ -10,6 +10,9 @@ use std::{fs, io};
 
 pub const CANNOT_OPEN: Error = Error::SqliteFailure(ErrorCode::CannotOpen);
 
+/// Another has the database open alone.
+pub const BUSY: Error = Error::SqliteFailure(ErrorCode::DatabaseBusy);
+
 /// Returns a path that SQLite takes for one: to it `:memory:`, and what begins with `file:`, is something else.
 pub fn plain_path(alloc: Global, db: &str) -> Result<String, AllocError> {
     if db.starts_with('/') {
@@ -42,7 +45,7 @@ pub fn lock(file: &fs::File, kind: RangeLock) -> Result<(), Error> {
         return Ok(());
     }
     match io::Error::from_raw_os_error(os::errno()).kind() {
-        io::ErrorKind::WouldBlock => Err(Error::SqliteFailure(ErrorCode::DatabaseBusy)),
+        io::ErrorKind::WouldBlock => Err(BUSY),
         _ => Err(Error::SqliteFailure(ErrorCode::SystemIoFailure)),
     }
 }

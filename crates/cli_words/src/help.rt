@@ -211,10 +211,9 @@ pub(crate) fn help_of(command: Subcommand) -> Help {
             about: "Answers questions and takes edits over HTTP on the loopback address",
             usage: None,
             end: Some(
-                "It prints `listening 127.0.0.1:N`, and then serves one connection after another, until it has\n\
-             served M of them. While it runs, every other command on DB is refused: ask and edit over HTTP\n\
-             instead, as docs/HTTP.md says. There is no TLS, and a question needs no key: whoever reaches the\n\
-             port may ask.",
+                "It prints `listening 127.0.0.1:N`, and then serves up to 256 connections at once, until M of them\n\
+             have ended. While it runs, every other command on DB is refused: ask and edit over HTTP instead, as\n\
+             docs/HTTP.md says. There is no TLS, and a question needs no key: whoever reaches the port may ask.",
             ),
         },
     }

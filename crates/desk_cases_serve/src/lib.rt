@@ -1,12 +1,13 @@
-//! Tries connections on loopback: peers connect and write, the desk serves so many connections, one after another, and then what
-//! each peer received, what was reported and what the desk holds is compared. Then the command is tried. Replies over memory are
-//! in the worked cases over HTTP.
+//! Tries connections on loopback: peers connect and write, the desk serves so many connections, beside one another, and then what
+//! each peer received, what was reported and what the desk holds is compared. Then peers write, read and end between the turns of a
+//! service. Then the command is tried. Replies over memory are in the worked cases over HTTP.
 #![tactic(auto)]
 
 mod command;
 mod desks;
 mod peers;
 mod trials;
+mod turns;
 
 use std::io;
 
@@ -16,6 +17,14 @@ pub fn try_all(rt: &HostRuntime) -> io::Result<bool> {
     for trial in &trials::TRIALS {
         let wrong = trials::try_one(rt, trial)?;
         if report(rt, trial.name, wrong.as_str())? {
+            passed = passed.saturating_add(1);
+        } else {
+            failed = failed.saturating_add(1);
+        }
+    }
+    for index in 0..turns::count() {
+        let (name, wrong) = turns::try_turns(rt, index)?;
+        if report(rt, name, wrong)? {
             passed = passed.saturating_add(1);
         } else {
             failed = failed.saturating_add(1);

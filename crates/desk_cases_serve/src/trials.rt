@@ -7,18 +7,19 @@ use desk_cases_store::Fresh;
 use desk_index::Index;
 use desk_policy::{PolicyView, Site};
 use desk_store::Desk;
+use mio::net::TcpListener;
 use sqlite::{Alter, MemStore};
 use std::alloc::AllocError;
-use std::net::{Ipv4Addr, SocketAddr, TcpListener, TcpStream};
+use std::net::{Ipv4Addr, SocketAddr, TcpStream};
 use std::{io, str};
 
 /// An edit.
-const EDIT: &[u8] =
+pub const EDIT: &[u8] =
     b"PUT /v1/file?name=hosts&base=1 HTTP/1.1\r\nX-Custodian: site\r\nX-Key: abc\r\nContent-Length: 20\r\n\r\n\
     127.0.0.1 localhost\n";
 
 /// Its reply.
-const STORED: &[u8] =
+pub const STORED: &[u8] =
     b"HTTP/1.1 200 OK\r\ncontent-type: application/json\r\ncontent-length: 25\r\n\r\n\
     {\"already\":false,\"rev\":2}";
 
@@ -41,10 +42,10 @@ const EDIT_REPLIES: &[u8] =
     {\"current\":2,\"error\":\"Stale\",\"number\":7}";
 
 /// A question on the revisions.
-const QUESTION: &[u8] = b"GET /v1/revisions?name=hosts HTTP/1.1\r\n\r\n";
+pub const QUESTION: &[u8] = b"GET /v1/revisions?name=hosts HTTP/1.1\r\n\r\n";
 
 /// Its reply before the edit, and afterwards.
-const ONE_REVISION: &[u8] =
+pub const ONE_REVISION: &[u8] =
     b"HTTP/1.1 200 OK\r\ncontent-type: application/json\r\ncontent-length: 56\r\n\r\n\
     {\"name\":\"hosts\",\"revisions\":[{\"author\":\"site\",\"rev\":1}]}";
 
@@ -110,14 +111,13 @@ const BAD_KEY: &[u8] =
     {\"error\":\"BadKey\",\"number\":2}";
 
 /// Peers that connect one after another, how many connections are served then, with a limit of so many milliseconds, and what is
-/// reported and what the desk holds afterwards. An accept waits for a peer, or fails if there is none.
+/// reported and what the desk holds afterwards.
 #[derive(Clone, Copy)]
 pub struct Trial {
     pub name: &'static str,
     peers: &'static [Peer],
     connections: u32,
     limit: u64,
-    waits: bool,
     reports: &'static str,
     holds: &'static str,
 }
@@ -247,16 +247,15 @@ const TRIES_A_KEY: Peer = Peer {
 /// How many milliseconds a message may take, mostly.
 const LIMIT: u64 = 30_000;
 
-/// More than a program of the gate may take: with this limit nobody is served behind a connection that does not make room.
-const LONG_LIMIT: u64 = 600_000;
+/// How many a message, its reply and idleness may take where a peer is too slow.
+const SHORT_LIMIT: u64 = 200;
 
-pub const TRIALS: [Trial; 13] = [
+pub const TRIALS: [Trial; 12] = [
     Trial {
         name: "three edits, of which the last closes",
         peers: &[CLOSED_BY_DESK],
         connections: 1,
         limit: LIMIT,
-        waits: true,
         reports: "",
         holds: EDITED,
     },
@@ -265,7 +264,6 @@ pub const TRIALS: [Trial; 13] = [
         peers: &[ASKS_NOTHING, EDITOR],
         connections: 2,
         limit: LIMIT,
-        waits: true,
         reports: "",
         holds: EDITED,
     },
@@ -274,7 +272,6 @@ pub const TRIALS: [Trial; 13] = [
         peers: &[READS_NOTHING, ASKS_LATER],
         connections: 2,
         limit: LIMIT,
-        waits: true,
         reports: "",
         holds: EDITED,
     },
@@ -283,7 +280,6 @@ pub const TRIALS: [Trial; 13] = [
         peers: &[ONE_EDIT, ASKS_LATER, NOT_SERVED],
         connections: 2,
         limit: LIMIT,
-        waits: true,
         reports: "",
         holds: EDITED,
     },
@@ -292,7 +288,6 @@ pub const TRIALS: [Trial; 13] = [
         peers: &[LARGE, ASKS_FIRST],
         connections: 2,
         limit: LIMIT,
-        waits: true,
         reports: "",
         holds: AS_MADE,
     },
@@ -301,7 +296,6 @@ pub const TRIALS: [Trial; 13] = [
         peers: &[ENDS_IN_HEAD, ENDS_IN_BODY],
         connections: 2,
         limit: LIMIT,
-        waits: true,
         reports: "",
         holds: AS_MADE,
     },
@@ -309,8 +303,7 @@ pub const TRIALS: [Trial; 13] = [
         name: "a peer that waits too long, and one behind it",
         peers: &[WAITS_IN_HEAD, EDITOR],
         connections: 2,
-        limit: 200,
-        waits: true,
+        limit: SHORT_LIMIT,
         reports: "",
         holds: EDITED,
     },
@@ -318,8 +311,7 @@ pub const TRIALS: [Trial; 13] = [
         name: "a peer that stays after its reply, and one behind it",
         peers: &[STAYS, EDITOR],
         connections: 2,
-        limit: LONG_LIMIT,
-        waits: true,
+        limit: SHORT_LIMIT,
         reports: "",
         holds: EDITED,
     },
@@ -327,8 +319,7 @@ pub const TRIALS: [Trial; 13] = [
         name: "a peer that says nothing, one that stays, and one behind them",
         peers: &[SAYS_NOTHING, STAYS, EDITOR],
         connections: 3,
-        limit: LONG_LIMIT,
-        waits: true,
+        limit: SHORT_LIMIT,
         reports: "",
         holds: EDITED,
     },
@@ -336,8 +327,7 @@ pub const TRIALS: [Trial; 13] = [
         name: "two peers that stay, and a third that is not served",
         peers: &[STAYS, STAYS, NOT_SERVED],
         connections: 2,
-        limit: 200,
-        waits: true,
+        limit: SHORT_LIMIT,
         reports: "",
         holds: AS_MADE,
     },
@@ -346,7 +336,6 @@ pub const TRIALS: [Trial; 13] = [
         peers: &[TRIES_KEYS, ASKS_FIRST, TRIES_A_KEY],
         connections: 3,
         limit: LIMIT,
-        waits: true,
         reports: "exportdesk: 3 edits refused\nexportdesk: 1 edit refused\n",
         holds: AS_MADE,
     },
@@ -355,16 +344,6 @@ pub const TRIALS: [Trial; 13] = [
         peers: &[NOT_SERVED],
         connections: 0,
         limit: LIMIT,
-        waits: true,
-        reports: "",
-        holds: AS_MADE,
-    },
-    Trial {
-        name: "accepts that fail",
-        peers: &[],
-        connections: 3,
-        limit: LIMIT,
-        waits: false,
         reports: "",
         holds: AS_MADE,
     },
@@ -422,17 +401,9 @@ fn served<S: Alter + Drop, V: PolicyView + Drop>(
     wrong: &mut String,
 ) -> io::Result<Vec<Option<TcpStream>>> {
     let listener = TcpListener::bind(rt, SocketAddr::from((Ipv4Addr::LOCALHOST, 0)))?;
-    listener.set_nonblocking(!trial.waits)?;
     let streams = connected(rt, listener.local_addr()?, trial.peers)?;
     let mut err = Vec::new(rt.alloc());
-    serve_on(
-        rt,
-        desk,
-        &listener,
-        trial.connections,
-        trial.limit,
-        &mut err,
-    );
+    serve_on(rt, desk, listener, trial.connections, trial.limit, &mut err)?;
     check_reports(trial, err.as_slice(), wrong)?;
     Ok(streams)
 }
