@@ -1,11 +1,13 @@
 //! How a command ends: what it prints, and its exit status.
 
-ghost use Rattle.std.specs.Prelude.{◌≡◌, ◌≢◌, ◌⊎◌, OnOk};
+ghost use Rattle.std.specs.Prelude.{◌≡◌, ◌≢◌, ◌⊎◌, IfOk, OnOk};
 ghost use Rattle.std.specs.Io.KnownBytes.{Appends};
 ghost use Rattle.cli_output.specs.Printed as spec;
+ghost use Rattle.cli_output.specs.Shown.{shown_lines};
 
 use crate::failure::{Failure, Origin, message};
-use std::alloc::Global;
+use crate::shown::shown_lines;
+use std::alloc::{AllocError, Global};
 use std::io;
 use std::io::Write;
 
@@ -32,19 +34,36 @@ pub fn report<O: Write, E: Write>(
     ensures printed { result ≢ 4 → Appends (O.contents out.old) (O.contents out.new) (spec.text_of answer) }
 {
     match answer {
-        Ok(printed) => {
-            let _ = err.write_all(printed.note.as_bytes());
-            print(printed.text.as_str(), printed.status, out, err)
-        }
+        Ok(printed) => match say(alloc, printed.note.as_str(), err) {
+            Ok(_) => print(printed.text.as_str(), printed.status, out, err),
+            Err(_) => print_memory(out, err),
+        },
         Err(Failure::Memory) => print_memory(out, err),
-        Err(failure) => match message(alloc, origin, &failure) {
-            Ok(text) => {
-                let _ = err.write_all(text.as_bytes());
-                2
-            }
+        Err(failure) => match say_failure(alloc, origin, &failure, err) {
+            Ok(_) => 2,
             Err(_) => print_memory(out, err),
         },
     }
+}
+
+/// Says why a command has no answer on standard error.
+fn say_failure<E: Write>(
+    alloc: Global,
+    origin: Origin,
+    failure: &Failure,
+    err: &mut E,
+) -> Result<io::Result<()>, AllocError> {
+    let text = message(alloc, origin, failure)?;
+    say(alloc, text.as_str(), err)
+}
+
+/// Says lines on standard error as they are shown, with each control character by its code; an error of the writer is given in the
+/// result.
+pub fn say<E: Write>(alloc: Global, lines: &str, err: &mut E) -> Result<io::Result<()>, AllocError>
+    ensures { IfOk result (λ said. OnOk said (Appends (E.contents err.old) (E.contents err.new) (shown_lines lines.now))) }
+{
+    let shown = shown_lines(alloc, lines)?;
+    Ok(write(shown.as_str(), err))
 }
 
 /// Prints that memory ran out, and returns the status.
