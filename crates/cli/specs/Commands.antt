@@ -5,7 +5,7 @@ use Rattle.clap.specs.Words.{Row}
 use Rattle.clap.specs.declared.error.ErrorKind.{ErrorKind}
 use Rattle.clap.specs.declared.error.ErrorKind.TheVariants.{DisplayHelp, DisplayVersion, OutOfMemory}
 use Rattle.cli_output.specs.Failure.{IsMissing, IsUnreadLine}
-use Rattle.cli_output.specs.Printed.{status_of, text_of}
+use Rattle.cli_output.specs.Printed.{PrintsAtFour, status_of, text_of}
 use Rattle.cli_output.specs.declared.failure.Failure.{Failure}
 use Rattle.cli_output.specs.declared.failure.Failure.TheVariants.{FirstLine, Memory, Usage}
 use Rattle.cli_output.specs.declared.failure.ReadFailure.TheVariants.{Text}
@@ -97,9 +97,11 @@ abbrev pub AnswersProgram : List (List ℕ) → Option (List ℕ) → Result Pri
 AnswersProgram [] known result = AnswersFirstLine known result
 AnswersProgram (word ∷ words) known result = AnswersCommand (word ∷ words) known result
 
--- a run: some answer to the words, whose status is returned, and of which just this is printed; or the status 4
+-- A run: some answer to the words, whose status is returned, and of which just this is printed; or the status 4, at which nothing else is
+-- printed than a front of that answer or of the line that memory ran out.
 pub record Runs (words : List (List ℕ)) (known : Option (List ℕ)) (exit : ℕ) (Prints : List ℕ → Type 0) : Type 0 where
   pub answer : Result Printed Failure
   pub answers : AnswersProgram words known answer
   pub status : (exit ≡ status_of answer) ⊎ (exit ≡ 4)
   pub prints : exit ≢ 4 → Prints (text_of answer)
+  pub at_four : exit ≡ 4 → PrintsAtFour answer Prints
