@@ -9,6 +9,7 @@ ghost use Rattle.sqlite.specs.Held.{state};
 ghost use Rattle.desk_core.specs.Edit.{asked};
 ghost use Rattle.desk_service.specs.declared.refused.Refused.TheVariants as refused;
 ghost use Rattle.cli_words.specs.Words.{rows_in};
+ghost use Rattle.cli_database_files.specs.DatabaseFile.{plain_path};
 ghost use Rattle.cli_desk.specs.RefusalLines.{IsRefused};
 ghost use Rattle.cli_edits.specs.PutCommand.{AnswersEdit, AnswersPut, HasReplies, IsKey, IsKeyIn, PrintsPut, PrintsReply, PutsFrom, key_fault, line_of};
 
@@ -161,7 +162,7 @@ fn line_of(alloc: Global, words: &str, rev: u64) -> Result<String, AllocError>
     format!(in alloc; "{words}{rev}\n")
 }
 
-/// Opens the database at a path, and puts an edit into it. Beside the answer is the connection, if there is one.
+/// Opens the database DB, at its path of SQLite's, and puts an edit into it. Beside the answer is the connection, if there is one.
 fn open_files<S: Start>(
     rt: &HostRuntime,
     named: Named<'_>,
@@ -171,6 +172,7 @@ fn open_files<S: Start>(
     log: &Option<String>,
     start: S,
 ) -> (Result<Printed, Failure>, Option<FilesFrom<S>>)
+    requires { path.now ≡ plain_path named.db.now }
     ensures { PutsFrom over_files (image_at S.Start) (asked edit.now) replies result.0 result.1 }
 {
     match open_connection(rt, named.db, path, log, start) {
