@@ -20,7 +20,7 @@ use cli_database_files::log_file::{log_to_make, remove_log};
 use cli_desk::View;
 use cli_desk::desks::{FilesFrom, check_file, open_connection, put_over};
 use cli_desk::refusal_lines::refused;
-use cli_desk::refusal_notes::{refusal_note, refused_by_desk};
+use cli_desk::refusal_notes::{KeylessEdit, refusal_note, refused_by_desk};
 use cli_desk::site_notes::{NewText, edit_fault_note};
 use cli_files::files::{is_input, read_if_given};
 use cli_output::failure::Failure;
@@ -198,7 +198,7 @@ fn over_connection<S: Alter + Drop>(
     let put: Result<(_, Desk<S, View>), _> = put_over(alloc, conn, edit, replies);
     match put {
         Ok((reply, desk)) => {
-            let answer = reply_printed(alloc, named, &desk, edit, reply);
+            let answer = reply_printed(alloc, named, &desk, KeylessEdit::of(edit), reply);
             (answer, desk.into_connection())
         }
         Err((error, conn)) => (refused_by_desk(alloc, named.db, error), conn),
@@ -210,7 +210,7 @@ fn reply_printed<S: Alter + Drop>(
     alloc: Global,
     named: Named<'_>,
     desk: &Desk<S, View>,
-    edit: &Edit<'_>,
+    edit: KeylessEdit<'_>,
     reply: Result<String, DeskError>,
 ) -> Result<Printed, Failure>
     ensures { PrintsReply reply result }
@@ -244,7 +244,7 @@ fn edit_refused<S: Alter + Drop>(
     alloc: Global,
     path: &str,
     desk: &Desk<S, View>,
-    edit: &Edit<'_>,
+    edit: KeylessEdit<'_>,
     refusal: Refusal,
 ) -> Result<Printed, Failure>
     ensures { IsRefused (refused.Edit refusal) result }
