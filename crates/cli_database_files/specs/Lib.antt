@@ -1,3 +1,5 @@
 pub mod Copy
 pub mod Copying
+pub mod DatabaseFile
 pub mod Kept
+pub mod LogFile
