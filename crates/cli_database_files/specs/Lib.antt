@@ -1,3 +1,4 @@
 pub mod Copy
 pub mod Copying
 pub mod Kept
+pub mod OneFile
