@@ -14,7 +14,7 @@ use Rattle.cli_output.specs.declared.printed.Printed.{Printed}
 use Rattle.cli_words.specs.Commands.{AskForHelp, command_found, faults_of}
 use Rattle.cli_words.specs.LineWords.{IsBadWord, words_of}
 use Rattle.cli_words.specs.declared.commands.Subcommand.{Subcommand}
-use Rattle.cli_words.specs.declared.commands.Subcommand.TheVariants.{Ask, Audit, Cat, Check, Clients, Compare, Exports, Files, Impact, Init, Log, Proposal, Put, Report, Serve, Show, Split, Test, Try, Who, Write}
+use Rattle.cli_words.specs.declared.commands.Subcommand.TheVariants.{Ask, Audit, Cat, Check, Clients, Compare, Copy, Exports, Files, Impact, Init, Log, Proposal, Put, Report, Serve, Show, Split, Test, Try, Who, Write}
 use Rattle.cli_files.specs.Input.{first_line}
 use Rattle.cli_texts.specs.CheckCommand.{AnswersCheck}
 use Rattle.cli_texts.specs.ClientsCommand.{AnswersClients}
@@ -28,6 +28,7 @@ use Rattle.cli_report.specs.ReportCommand.{AnswersReport}
 use Rattle.cli_edits.specs.InitCommand.{AnswersInit}
 use Rattle.cli_edits.specs.PutCommand.{AnswersPut}
 use Rattle.cli_serve.specs.ServeCommand.{AnswersServe}
+use Rattle.cli_write.specs.CopyCommand.{AnswersCopy}
 use Rattle.cli_write.specs.WriteCommand.{AnswersWrite}
 
 -- an error of clap is help, with the status 0, for the two kinds that are asked for, and else a failure; out of memory says nothing
@@ -66,6 +67,7 @@ AnswersGiven Proposal rows known result = AnswersProposal rows result
 AnswersGiven Files rows known result = AnswersFiles rows result
 AnswersGiven Report rows known result = AnswersReport rows result
 AnswersGiven Write rows known result = AnswersWrite rows result
+AnswersGiven Copy rows known result = AnswersCopy rows result
 AnswersGiven Serve rows known result = AnswersServe rows result
 
 -- the answer to what clap finds: that to the command, or that there is none

@@ -3,3 +3,4 @@ pub mod Copying
 pub mod DatabaseFile
 pub mod Kept
 pub mod LogFile
+pub mod OneFile

@@ -18,5 +18,6 @@ pub mod log_file;
 pub mod names;
 pub mod new_files;
 pub mod obstacles;
+pub mod one_file;
 #[cfg(test)]
 mod tests;

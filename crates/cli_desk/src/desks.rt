@@ -58,7 +58,7 @@ pub fn open_copied_desk(rt: &HostRuntime, db: &str) -> Result<CopiedDesk, Result
 
 /// Opens a desk on the database of a connection to a copy; or prints why there is none. An error of the copy's disk is reported as out
 /// of memory.
-fn desk_on_copy(
+pub fn desk_on_copy(
     alloc: Global,
     db: &str,
     conn: Copied,

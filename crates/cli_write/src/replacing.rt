@@ -136,7 +136,7 @@ fn replace(rt: &HostRuntime, path: &str, text: &str, old: Option<&Metadata>) -> 
 
 /// Makes the path of the new file: `/etc/.exports.123456789.new` beside `/etc/exports`. The number is that of the clock, so that what
 /// an interrupted run left is in no other's way, nor are two runs at once in each other's.
-fn new_path(rt: &HostRuntime, path: &str) -> io::Result<String> {
+pub(crate) fn new_path(rt: &HostRuntime, path: &str) -> io::Result<String> {
     let number = nanoseconds(rt)?;
     let new = match path.rsplit_once('/') {
         Some((folder, name)) => format!(in rt.alloc(); "{folder}/.{name}.{number}.new")?,
@@ -233,7 +233,7 @@ fn take_path(rt: &HostRuntime, new: &str, path: &str) -> io::Result<()> {
 
 /// Syncs the folder of a file, which has its name. Not every file system can, and a folder may be unreadable; then the name waits for
 /// the system.
-fn sync_folder(rt: &HostRuntime, path: &str) {
+pub(crate) fn sync_folder(rt: &HostRuntime, path: &str) {
     let folder = match path.rsplit_once('/') {
         Some(("", _)) => "/",
         Some((folder, _)) => folder,
