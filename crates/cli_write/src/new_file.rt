@@ -67,12 +67,13 @@ fn find_taken(rt: &HostRuntime, path: &str) -> io::Result<Option<Taken>> {
 
 /// Looks whether a path is that of the log or the journal of something that is there.
 fn find_other(rt: &HostRuntime, path: &str) -> io::Result<Option<Taken>> {
-    match path.rsplit_once('-') {
-        Some((other, "wal" | "journal" | "shm")) if is_there(rt, other)? => {
-            Ok(Some(Taken::BesideOther))
-        }
-        _ => Ok(None),
+    let Some((other, end)) = path.rsplit_once('-') else {
+        return Ok(None);
+    };
+    if (end == "wal" || end == "journal" || end == "shm") && is_there(rt, other)? {
+        return Ok(Some(Taken::BesideOther));
     }
+    Ok(None)
 }
 
 /// Tests whether anything stands at a path, also a link that leads nowhere.
