@@ -1,6 +1,7 @@
 -- What the program answers to the words of a command, and how it ends. (this project's own)
 use Rattle.std.specs.Prelude.{◌≡◌, ◌≢◌, ◌⊎◌, ℕ, List, [], ◌∷◌, take, Option, Some, None, IfSome, Result, Ok, Err, IsErrAnd, codes}
 use Rattle.std.specs.Io.BufRead.{take_through}
+use Rattle.std.specs.Io.KnownBytes.{Consumes}
 use Rattle.clap.specs.Words.{Row}
 use Rattle.clap.specs.declared.error.ErrorKind.{ErrorKind}
 use Rattle.clap.specs.declared.error.ErrorKind.TheVariants.{DisplayHelp, DisplayVersion, OutOfMemory}
@@ -84,11 +85,12 @@ abbrev pub AnswersLine : Result (List ℕ) TextFault → Option (List ℕ) → R
 AnswersLine (Ok line) rest result = (result ≡ Err Memory) ⊎ AnswersCommand (words_of line) rest result
 AnswersLine (Err fault) rest result = result ≡ Err (FirstLine (Text fault))
 
--- the answer to the first line of an input; what stands behind that line is left to the reader
+-- the answer to the first line of an input, over all that stands behind that line
 pub record AnswersInput (known : Option (List ℕ)) (result : Result Printed Failure) : Type 0 where
   pub line : List ℕ
   pub first : IfSome known (λ given. line ≡ take_through 10 (take 16777218 given))
   pub rest : Option (List ℕ)
+  pub left : Consumes known rest line
   pub answers : AnswersLine (first_line line) rest result
 
 abbrev pub AnswersFirstLine : Option (List ℕ) → Result Printed Failure → Type 0
