@@ -93,10 +93,8 @@ fetch-site: gone cannot be reached by ssh
 END
 for table in passwd group hosts networks; do
     echo "$table" >servers/tank/plays/getent.fails
-    status=3
-    case $table in hosts | networks) status=1 ;; esac
     trial 2 fetch-site tank 'from nfs1' <<END
-fetch-site: tank: $table cannot be fetched (status $status)
+fetch-site: tank: $table cannot be fetched (status 1)
 END
 done
 rm servers/tank/plays/getent.fails servers/tank/plays/mounts
@@ -105,6 +103,11 @@ cat says why
 fetch-site: tank: mounts cannot be fetched (status 1)
 END
 rm servers/tank/etc/exports
+: >servers/nfs1/plays/ssh.loses
+trial 2 fetch-site nfs1 'from nfs1' <<'END'
+fetch-site: nfs1: exports cannot be fetched (status 0)
+END
+rm servers/nfs1/plays/ssh.loses
 trial 2 fetch-site tank 'from nfs1' <<'END'
 fetch-site: tank has no /etc/exports
 END
