@@ -37,7 +37,7 @@ pub struct Terms<'a> {
     /// Whether messages are answered.
     pub answers: bool,
     /// The names of the files of the database, if it has files.
-    pub names: Option<&'a Names>,
+    pub names: &'a Option<Names>,
 }
 
 impl Terms<'_> {

@@ -329,7 +329,7 @@ impl Serving {
                 asked,
                 limit: self.limit,
                 answers: held <= most && peer.number() >= from,
-                names: self.names.as_ref(),
+                names: &self.names,
             };
             let before = peer.held();
             peer.reach(desk, &terms, self.room.as_mut_slice());
