@@ -7,7 +7,7 @@ use Rattle.cli_write.proofs.checked_copy.checked_copy.Goals as goal
 pub returns-in-Ok-clause-copy : goal.returns-in-Ok-clause-copy
 returns-in-Ok-clause-copy c =
     let trees = (file_state c.args.conn).committed.trees in
-    IfOk-weaker _ _ (λ bytes. IsCheckedCopy trees bytes.items) (λ bytes each. each trees c.in-Ok.ensures.alone) c.checked_bytes.ensures.copy
+    IfOk-weaker c.checked_bytes.result _ (λ bytes. IsCheckedCopy trees bytes.items) (λ bytes each. each trees c.in-Ok.ensures.alone) c.checked_bytes.ensures.copy
 
 pub unopened-requires : goal.unopened-requires
 unopened-requires c = c.in-Err.ensures.unopened c.args.db.now
