@@ -1,7 +1,7 @@
 //! What a command prints, with its exit status; or why it has no answer.
 //!
-//! Its promise: [`printed::report`] prints just what a command answers and returns its status, or the status 4. It knows no
-//! command. What standard error says goes through [`printed::say`], and no text in it can write to the terminal: [`shown::shown_lines`]
+//! Its promise: [`printed::report`] prints just what a command answers and returns its status, or the status 4. It has the words of
+//! each failure, but those of no answer. What standard error says goes through [`printed::say`], and no text in it can write to the terminal: [`shown::shown_lines`]
 //! and [`shown::shown_name`] write control characters by their codes.
 //!
 //! ```text
