@@ -89,12 +89,7 @@ fn read_file<S: Opens, I: BufRead>(
 {
     match open_and_read(system, alloc, word, input) {
         Ok(bytes) => Ok(bytes),
-        Err(error) => Err(Failure::of_file(
-            alloc,
-            argument,
-            word,
-            ReadFailure::of_error(error)?,
-        )),
+        Err(error) => Err(Failure::of_file(alloc, argument, word, ReadFailure::of_error(error)?)),
     }
 }
 

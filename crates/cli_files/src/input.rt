@@ -30,6 +30,7 @@ pub fn read_bytes<R: Read + Drop>(alloc: Global, reader: R, room: usize) -> io::
 
 /// Reads the first line that a reader gives, with its line end, and stops behind the most bytes of a text and CR LF. All that
 /// follows is left to the reader.
+#[tactic(auto, using(crate::proofs::KnownBytes::ended_line, crate::proofs::KnownBytes::unended_line, crate::proofs::KnownBytes::line_at_limit, crate::proofs::KnownBytes::pushed))]
 pub fn read_line<I: BufRead>(alloc: Global, input: &mut I) -> io::Result<Vec<u8>>
     ensures line { IfSome (I.remaining input.old)
         (λ given. IfOk result (λ line. line.items ≡ take_through 10 (take 16777218 given))) }
@@ -49,6 +50,7 @@ pub fn read_line<I: BufRead>(alloc: Global, input: &mut I) -> io::Result<Vec<u8>
 }
 
 /// Reads one byte, if there is one. A read that is interrupted is made again.
+#[tactic(auto, using(crate::proofs::KnownBytes::given_byte))]
 fn read_byte<I: BufRead>(input: &mut I) -> io::Result<Option<u8>>
     ensures { IfOk result (GivesByte (I.remaining input.old) (I.remaining input.new)) }
 {
