@@ -1,5 +1,5 @@
 -- The report of the changes is printed as it is shown.
-use Rattle.std.proofs.Common.{◌∙◌, ap, refl, rules}
+use Rattle.std.proofs.Common.{◌∙◌, ap, rules}
 use Rattle.cli_output.specs.Shown.{shown_lines}
 use Rattle.cli_questions.proofs.printing.print_changes.Goals as goal
 

@@ -1,5 +1,5 @@
 -- What changes to the policy of NEW is reported.
-use Rattle.std.proofs.Common.{◌∙◌, ap, refl, rules}
+use Rattle.std.proofs.Common.{◌∙◌, ap, rules}
 use Rattle.cli_output.specs.Shown.{shown_lines}
 use Rattle.cli_texts.proofs.compare_command.print_changes.Goals as goal
 
