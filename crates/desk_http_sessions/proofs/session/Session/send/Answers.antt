@@ -30,7 +30,7 @@ returns-in-Ok-None-clause-exchanges g c =
     let new : Kept g.row.W.Denot = record { place = i.connection; unsent = unsent_of i.reply i.sent; wire = c.send.new.self } in
     let told = subst (λ (f : Option ℕ). Sends (held i.wire) (held c.send.new.self) (Ok f) c.unsent_of.result.now) c.in-Ok-None.field-0-is c.in-Ok-None.ensures.sent in
     subst (λ (k : Kept g.row.W.Denot). Exchanges left held k [] new) c.self.view_is
-        (waits left held old new refl refl c.in-Ok-None.ensures.left told)
+    (waits left held old new refl refl c.in-Ok-None.ensures.left told)
 
 pub returns-in-Err-clause-exchanges : goal.returns-in-Err-clause-exchanges
 returns-in-Err-clause-exchanges g c =
@@ -40,4 +40,4 @@ returns-in-Err-clause-exchanges g c =
     let old : Kept g.row.W.Denot = record { place = i.connection; unsent = unsent_of i.reply i.sent; wire = i.wire } in
     let new : Kept g.row.W.Denot = record { place = i.connection; unsent = unsent_of i.reply i.sent; wire = c.send.new.self } in
     subst (λ (k : Kept g.row.W.Denot). Exchanges left held k [] new) c.self.view_is
-        (waits left held old new refl refl c.in-Err.ensures.left c.in-Err.ensures.sent)
+    (waits left held old new refl refl c.in-Err.ensures.left c.in-Err.ensures.sent)
