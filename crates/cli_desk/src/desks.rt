@@ -143,7 +143,10 @@ fn open_named<S: Start>(
     ensures opened { IfOk result (λ conn. HasCleanDisk (file_state conn) → Opens (file_state conn)) }
     ensures found { IfOk result (λ conn. HasCleanDisk (file_state conn) → FindsIn (image_at S.Start) (file_state conn)) }
 {
-    Connection::open_from(rt, path, false, start)
+    match Connection::open_from(rt, path, false, start) {
+        Ok(conn) => Ok(conn),
+        Err(left) => Err(left),
+    }
 }
 
 /// Opens a connection to the database DB, at its path of SQLite's; else prints why it is not opened, and a log that was made for it
