@@ -112,6 +112,9 @@ const TRIALS: [(&str, Turns); 11] = [
 /// The most bytes of replies that wait for a message to be answered, where a trial has few.
 const FEW: usize = 1000;
 
+/// After so many turns the system takes no more for a peer that does not read.
+const SETTLED: u32 = 200;
+
 /// The lengths of the pieces in which an edit comes.
 const PIECES: [usize; 8] = [1, 2, 3, 4095, 4096, 4097, 8191, 8192];
 
@@ -302,7 +305,7 @@ fn holds_no_more<S: Fresh, V: PolicyView + Drop>(
     for _ in 0..MANY {
         slow.write_all(LARGE_QUESTION)?;
     }
-    for _ in 0..5 {
+    for _ in 0..SETTLED {
         house.turn(WAIT_MILLIS);
     }
     let mut other = house.connect_with(QUESTION)?;
