@@ -12,4 +12,4 @@ at_any status answer Prints (inr other) whole at_four =
     inl (record { front = text_of answer; rest = []; text_is = sym (append-nil (text_of answer)); prints = whole other.1 })
 
 pub returns-then-not-end-clause-at_four : goal.returns-then-not-end-clause-at_four
-returns-then-not-end-clause-at_four g c = λ _. at_any c.report-status.result _ _ (eqb_tells c.report-status.result 4) c.report-status.ensures.printed c.report-status.ensures.at_four
+returns-then-not-end-clause-at_four g c = λ _. at_any c.report-status.result c.args.answer _ (eqb_tells c.report-status.result 4) c.report-status.ensures.printed c.report-status.ensures.at_four
