@@ -2,6 +2,7 @@
 
 ghost use Rattle.std.specs.Prelude.{◌≡◌, ◌⊎◌, IfSome, drop};
 ghost use Rattle.std.specs.Io.KnownBytes.{Appends};
+ghost use Rattle.cli_output.specs.Printed.{PrintsFront, memory_line};
 ghost use Rattle.cli.specs.Commands.{Runs};
 
 use crate::words::{Arguments, program_words};
@@ -26,7 +27,7 @@ where
     I: BufRead + IsTerminal,
     O: Write,
     E: Write,
-    ensures { IfSome (A.arguments arguments.now) (λ all. (result ≡ 4)
+    ensures { IfSome (A.arguments arguments.now) (λ all. ((result ≡ 4) × PrintsFront memory_line (Appends (O.contents out.old) (O.contents out.new)))
         ⊎ Runs (drop 1 all) (I.Read.remaining input.old) result (Appends (O.contents out.old) (O.contents out.new))) }
 {
     let Ok(words) = program_words(rt.alloc(), arguments) else {

@@ -29,6 +29,7 @@ impl Arguments for HostRuntime {
 }
 
 /// Returns the words behind the program's name, as bytes.
+#[tactic(auto, using(crate::proofs::ProgramWords::one_more, crate::proofs::ProgramWords::no_more))]
 pub fn program_words<A: Arguments>(alloc: Global, system: &A) -> Result<Vec<Vec<u8>>, AllocError>
     ensures { IfSome (A.arguments system.now)
         (λ all. IfOk result (λ words. map (λ word. word.items) words.items ≡ drop 1 all)) }
