@@ -23,8 +23,8 @@ ghost use Rattle.cli_output.specs.Printed.{PrintsAtFour, status_of, text_of};
 ghost use Rattle.cli.specs.Commands.{Runs};
 
 use crate::commands::{run_first_line, run_words};
-use cli_output::failure::{Failure, Origin};
 pub use crate::program::run_process;
+use cli_output::failure::{Failure, Origin};
 pub use cli_output::printed::print_memory;
 use cli_output::printed::{Printed, report};
 use cli_serve::serve_command::Service;

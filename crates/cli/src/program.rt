@@ -11,7 +11,13 @@ use std::io::{BufRead, IsTerminal, Lock, Write};
 
 /// Runs the command of this process, and returns the exit status.
 pub fn run_process(rt: &HostRuntime) -> u8 {
-    run_arguments(rt, rt, &mut rt.stdin().lock(), &mut rt.stdout(), &mut rt.stderr())
+    run_arguments(
+        rt,
+        rt,
+        &mut rt.stdin().lock(),
+        &mut rt.stdout(),
+        &mut rt.stderr(),
+    )
 }
 
 /// Runs the command whose words these arguments have, behind the program's name, and returns the exit status.
