@@ -17,7 +17,7 @@ mod commands;
 
 ghost use Rattle.std.specs.Prelude.{◌≡◌, ◌≢◌, ◌⊎◌, map};
 ghost use Rattle.std.specs.Io.KnownBytes.{Appends};
-ghost use Rattle.cli_output.specs.Printed.{status_of, text_of};
+ghost use Rattle.cli_output.specs.Printed.{PrintsAtFour, status_of, text_of};
 ghost use Rattle.cli.specs.Commands.{Runs};
 
 use crate::commands::{run_first_line, run_words};
@@ -60,6 +60,7 @@ fn finish<O: Write, E: Write>(
 ) -> u8
     ensures status { (result ≡ status_of answer) ⊎ (result ≡ 4) }
     ensures printed { result ≢ 4 → Appends (O.contents out.old) (O.contents out.new) (text_of answer) }
+    ensures at_four { result ≡ 4 → PrintsAtFour answer (Appends (O.contents out.old) (O.contents out.new)) }
 {
     let status = report(rt.alloc(), origin, answer, out, err);
     if let Some(service) = service {

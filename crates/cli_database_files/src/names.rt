@@ -2,8 +2,10 @@
 //! stays open, and what is written to it from then on is lost to everybody else.
 
 use crate::database_file::real_path;
+use std::alloc::AllocError;
+use std::fs;
+use std::io::ErrorKind;
 use std::os::unix::fs::MetadataExt;
-use std::{fs, io};
 
 /// What tells a file of this machine from every other that is there meanwhile.
 #[derive(Clone, Copy)]
@@ -23,9 +25,13 @@ pub struct Names {
 
 impl Names {
     /// Notes what stands at the name of a database. This comes before it is opened, and `note_log` after that: so another file that takes its
-    /// place meanwhile is noticed.
-    pub fn of(rt: &HostRuntime, db: &str) -> io::Result<Names> {
-        let db = real_path(rt, db)?;
+    /// place meanwhile is noticed. If the system does not say where the name leads, no file is ever the same.
+    pub fn of(rt: &HostRuntime, db: &str) -> Result<Names, AllocError> {
+        let db = match real_path(rt, db) {
+            Ok(real) => real,
+            Err(error) if error.kind() == ErrorKind::OutOfMemory => return Err(AllocError),
+            Err(_) => String::from_str(rt.alloc(), db)?,
+        };
         let log = format!(in rt.alloc(); "{db}-wal")?;
         let db_mark = mark_at(rt, db.as_str());
         Ok(Names {

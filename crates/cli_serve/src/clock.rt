@@ -17,11 +17,11 @@ impl Clock {
         })
     }
 
-    /// Returns what moment it is; 0 if the system does not tell the time.
-    pub fn now(&self, rt: &HostRuntime) -> u64 {
+    /// Returns what moment it is; this one, which was before, if the system does not tell the time.
+    pub fn now(&self, rt: &HostRuntime, before: u64) -> u64 {
         match self.start.elapsed(rt) {
             Ok(passed) => passed.as_millis().min(u128::from(u64::MAX)) as u64,
-            Err(_) => 0,
+            Err(_) => before,
         }
     }
 }

@@ -10,6 +10,7 @@
 #![tactic(auto)]
 
 mod clock;
+pub mod kept;
 pub mod limits;
 pub mod loopback;
 mod notes;

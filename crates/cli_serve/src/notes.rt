@@ -16,6 +16,8 @@ const OUTPUT: Token = Token(0);
 pub struct Notes {
     /// How many edits were refused for who sent them, and that was not said yet.
     refused: u64,
+    /// Whether the last write failed. No other is tried before more is to be said.
+    has_failed: bool,
     /// What tells whether a write would wait.
     watch: Option<Watch>,
 }
@@ -35,14 +37,23 @@ impl Notes {
             Some(descriptor) => Watch::new(rt, descriptor).ok(),
             None => None,
         };
-        Notes { refused: 0, watch }
+        Notes {
+            refused: 0,
+            has_failed: false,
+            watch,
+        }
     }
 
     /// Counts edits of a connection that has ended that were refused for who sent them, and says so if that does not wait.
     pub fn say<E: Write>(&mut self, refused: u64, err: &mut E) {
         self.refused = self.refused.saturating_add(refused);
-        if self.refused > 0 && self.takes_now() && report_refused(self.refused, err).is_ok() {
-            self.refused = 0;
+        self.has_failed = self.has_failed && refused == 0;
+        if self.refused == 0 || self.has_failed || !self.takes_now() {
+            return;
+        }
+        match report_refused(self.refused, err) {
+            Ok(()) => self.refused = 0,
+            Err(_) => self.has_failed = true,
         }
     }
 

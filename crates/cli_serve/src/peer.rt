@@ -6,6 +6,7 @@ ghost use Rattle.desk_http_messages.specs.Stream.{Message};
 ghost use Rattle.desk_http.specs.Answering.{Serves};
 
 use crate::clock::Clock;
+use crate::kept::is_kept;
 use crate::limits::{Phase, begun, end_of, has_come, with_bytes};
 use crate::refusals::is_refusal;
 use crate::socket::Socket;
@@ -36,13 +37,13 @@ pub struct Terms<'a> {
     /// Whether messages are answered.
     pub answers: bool,
     /// The names of the files of the database, if it has files.
-    pub names: Option<&'a Names>,
+    pub names: &'a Option<Names>,
 }
 
 impl Terms<'_> {
     /// Returns what moment it is.
     fn now(&self) -> u64 {
-        self.clock.now(self.rt)
+        self.clock.now(self.rt, self.asked)
     }
 
     /// Tells whether the files of the database have their names.
@@ -86,7 +87,7 @@ pub struct Peer {
     unread: usize,
     /// Whether it is to be let go.
     is_over: bool,
-    /// Whether it is let go since the files of the database lost their names.
+    /// Whether it is let go without a reply that says that an edit is kept, since the files of the database lost their names.
     has_lost: bool,
 }
 
@@ -119,6 +120,11 @@ impl Peer {
     /// Tells whether it is to be let go.
     pub fn is_over(&self) -> bool {
         self.is_over
+    }
+
+    /// Tells whether it is let go without a reply that says that an edit is kept, since the files of the database lost their names.
+    pub fn has_lost(&self) -> bool {
+        self.has_lost
     }
 
     /// Returns how many bytes are kept of replies that wait to be sent.
@@ -270,9 +276,19 @@ impl Peer {
         let is_answered = self.session.answer(terms.rt.alloc(), terms.routes, desk);
         if is_answered {
             left.answers = left.answers.saturating_sub(1);
-            self.reply(terms);
+            if is_kept(self.session.unsent()) && !terms.has_files() {
+                self.lose();
+            } else {
+                self.reply(terms);
+            }
         }
         is_answered
+    }
+
+    /// Lets it go without its reply, which says that an edit is kept: it may be in files that lost their names.
+    fn lose(&mut self) {
+        self.is_over = true;
+        self.has_lost = true;
     }
 
     /// Tells whether what came is not answered now. If nothing came, it is only found that bytes are waited for.
@@ -282,9 +298,6 @@ impl Peer {
 
     /// Begins to send a reply.
     fn reply(&mut self, terms: &Terms<'_>) {
-        if self.loses(terms) {
-            return;
-        }
         if is_refusal(self.session.unsent()) {
             self.refused = self.refused.saturating_add(1);
         }

@@ -69,7 +69,7 @@ pub struct Service {
 
 impl Service {
     /// Serves its connections, beside one another. What is to be reported meanwhile goes to `err`, which is standard error. Tells whether it
-    /// served them all: it ends if the files of its database are moved, removed or replaced.
+    /// served them all: it ends if an edit was made in files that were moved, removed or replaced.
     pub fn run<E: Write>(&mut self, rt: &HostRuntime, err: &mut E) -> bool {
         self.serving.run(rt, &mut self.desk, err);
         if !self.serving.has_lost() {

@@ -46,11 +46,15 @@ pub struct Serving {
     readiness: Readiness,
     routes: Routes,
     clock: Clock,
+    /// When the clock was read last.
+    moment: u64,
     notes: Notes,
     /// What is served, in the order in which it was accepted.
     peers: Vec<Peer>,
     /// The most of them.
     most: usize,
+    /// The most bytes of replies that may wait for a message to be answered.
+    most_held: usize,
     /// How many more are accepted.
     left: u32,
     /// The number of the last that was accepted.
@@ -69,7 +73,7 @@ pub struct Serving {
     room: Vec<u8>,
     /// The names of the files of the database, if it has files.
     names: Option<Names>,
-    /// Whether these lost their names.
+    /// Whether a reply that says that an edit is kept was not sent, since the files lost their names.
     has_lost: bool,
 }
 
@@ -96,9 +100,11 @@ impl Serving {
             readiness,
             routes,
             clock,
+            moment: 0,
             notes,
             peers,
             most: MOST_PEERS,
+            most_held: MOST_HELD,
             left: connections,
             number: LISTENER,
             first: LISTENER,
@@ -112,22 +118,28 @@ impl Serving {
         })
     }
 
-    /// Watches these names: before a message is answered and before its reply is sent they have to lead to the files of the database.
+    /// Has no message answered while more bytes of replies wait than this, in the place of 64 MiB.
+    pub fn hold_at_most(&mut self, most: usize) {
+        self.most_held = most;
+    }
+
+    /// Watches these names: a reply that says that an edit is kept is sent only if they lead to the files of the database after that; else the
+    /// service is over.
     pub fn watch(&mut self, names: Names) {
         self.names = Some(names);
     }
 
-    /// Tells whether the files of the database lost their names. Then nothing is answered any more.
+    /// Tells whether a reply that says that an edit is kept was not sent, since the files of the database lost their names.
     pub fn has_lost(&self) -> bool {
         self.has_lost
     }
 
-    /// Tells whether all connections were accepted and have ended, or the files of the database lost their names.
+    /// Tells whether all connections were accepted and have ended, or an edit was lost with the names of the files of the database.
     pub fn is_over(&self) -> bool {
         self.has_lost || (self.left == 0 && self.peers.is_empty())
     }
 
-    /// Serves until all connections were accepted and have ended, or the files of the database lose their names.
+    /// Serves until all connections were accepted and have ended, or an edit was lost with the names of the files of the database.
     pub fn run<S: Alter + Drop, V: PolicyView + Drop, E: Write>(
         &mut self,
         rt: &HostRuntime,
@@ -164,9 +176,15 @@ impl Serving {
         self.let_go(err);
     }
 
+    /// Returns what moment it is.
+    fn now(&mut self, rt: &HostRuntime) -> u64 {
+        self.moment = self.clock.now(rt, self.moment);
+        self.moment
+    }
+
     /// Waits until something can be done, and notes what is ready. Returns when that was asked.
     fn wait(&mut self, rt: &HostRuntime, longest: Option<u64>) -> u64 {
-        let now = self.clock.now(rt);
+        let now = self.now(rt);
         let until = time_until(self.next_moment(now), now);
         let longest = match (longest, until) {
             (Some(longest), Some(until)) => Some(longest.min(until)),
@@ -176,7 +194,7 @@ impl Serving {
         if self.readiness.wait(longest).is_err() {
             return now;
         }
-        let asked = self.clock.now(rt);
+        let asked = self.now(rt);
         for event in self.readiness.found().iter() {
             let number = event.token().0;
             if number == LISTENER {
@@ -194,7 +212,7 @@ impl Serving {
         if self.left > 0 && self.can_accept && self.has_room() {
             next = Some(u128::from(self.resumes.max(now)));
         }
-        let answers = self.held() <= MOST_HELD;
+        let answers = self.held() <= self.most_held;
         for peer in self.peers.as_slice() {
             if peer.is_ready(answers) {
                 return Some(u128::from(now));
@@ -220,7 +238,7 @@ impl Serving {
 
     /// Accepts the connections that wait, up to a bound.
     fn accept(&mut self, rt: &HostRuntime) {
-        let now = self.clock.now(rt);
+        let now = self.now(rt);
         if now < self.resumes {
             return;
         }
@@ -242,7 +260,8 @@ impl Serving {
         }
     }
 
-    /// Notes that no connection was accepted, and why. Tells whether no other is accepted now: none waits, or the system cannot give one.
+    /// Notes that no connection was accepted, and why. Tells whether no other is accepted now: none waits, or the system cannot give one. It
+    /// counts as one that was, but not if one that is open can make room for it: it waits then, if there is one.
     fn is_refused(&mut self, error: &io::Error, now: u64) -> bool {
         match error.kind() {
             ErrorKind::WouldBlock => {
@@ -255,11 +274,12 @@ impl Serving {
             }
             _ => {}
         }
-        self.left = self.left.saturating_sub(1);
         self.resumes = now.saturating_add(PAUSE_MILLIS);
-        if error.raw_os_error() == Some(NO_DESCRIPTORS) {
+        if error.raw_os_error() == Some(NO_DESCRIPTORS) && !self.peers.is_empty() {
             self.most = self.peers.len().saturating_sub(1).max(1);
             self.make_room();
+        } else {
+            self.left = self.left.saturating_sub(1);
         }
         true
     }
@@ -299,6 +319,7 @@ impl Serving {
         runs_follow::<S, V>();
         let mut held = self.held();
         let from = self.first;
+        let most = self.most_held;
         let mut first = LISTENER;
         for peer in self.peers.iter_mut() {
             let terms = Terms {
@@ -307,12 +328,13 @@ impl Serving {
                 clock: &self.clock,
                 asked,
                 limit: self.limit,
-                answers: held <= MOST_HELD && peer.number() >= from,
+                answers: held <= most && peer.number() >= from,
+                names: &self.names,
             };
             let before = peer.held();
             peer.reach(desk, &terms, self.room.as_mut_slice());
             held = held.saturating_sub(before).saturating_add(peer.held());
-            first = first_put_off(first, from, held, peer);
+            first = first_put_off(first, from, held > most, peer);
         }
         self.first = first;
     }
@@ -344,9 +366,9 @@ impl Serving {
     }
 }
 
-/// Returns the number of the first peer from this one on that is not answered since so many bytes wait; if none was found before.
-fn first_put_off(first: usize, from: usize, held: usize, peer: &Peer) -> usize {
-    if first == LISTENER && held > MOST_HELD && peer.number() >= from && peer.is_due() {
+/// Returns the number of the first peer from this one on that is not answered if too many bytes wait; if none was found before.
+fn first_put_off(first: usize, from: usize, is_full: bool, peer: &Peer) -> usize {
+    if first == LISTENER && is_full && peer.number() >= from && peer.is_due() {
         peer.number()
     } else {
         first
@@ -386,8 +408,9 @@ fn first_to_go(peers: &[Peer]) -> Option<usize> {
     found
 }
 
-/// Accepts and serves so many connections, beside one another, until the last of them has ended. An accept that fails counts as one. The
-/// limit is as `Serving::new` has it. It fails if the service cannot begin.
+/// Accepts and serves so many connections, beside one another, until the last of them has ended. An accept that fails counts as one, unless
+/// there are no more descriptors and a connection that is open makes room. The limit is as `Serving::new` has it. It fails if the service
+/// cannot begin.
 pub fn serve_on<S: Alter + Drop, V: PolicyView + Drop, E: Write>(
     rt: &HostRuntime,
     desk: &mut Desk<S, V>,

@@ -207,6 +207,15 @@ pub(crate) fn help_of(command: Subcommand) -> Help {
              told by a line `written NAME`. A text that init could not read is refused, and nothing is written.",
             ),
         },
+        Subcommand::Copy => Help {
+            about: "Copies a database into one new file, as its backup",
+            usage: None,
+            end: Some(
+                "FILE holds all that DB held at that moment, with the log DB-wal taken in, and is made for its owner alone.\n\
+             It must not be there yet, nor anything named FILE-wal or FILE-journal. DB may be in use by serve or put\n\
+             meanwhile. Once FILE is written and synced, it prints `copied`.",
+            ),
+        },
         Subcommand::Serve => Help {
             about: "Answers questions and takes edits over HTTP on the loopback address",
             usage: None,

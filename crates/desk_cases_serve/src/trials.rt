@@ -49,7 +49,7 @@ pub const ONE_REVISION: &[u8] =
     b"HTTP/1.1 200 OK\r\ncontent-type: application/json\r\ncontent-length: 56\r\n\r\n\
     {\"name\":\"hosts\",\"revisions\":[{\"author\":\"site\",\"rev\":1}]}";
 
-const TWO_REVISIONS: &[u8] =
+pub const TWO_REVISIONS: &[u8] =
     b"HTTP/1.1 200 OK\r\ncontent-type: application/json\r\ncontent-length: 82\r\n\r\n\
     {\"name\":\"hosts\",\"revisions\":[{\"author\":\"site\",\"rev\":1},{\"author\":\"site\",\"rev\":2}]}";
 
@@ -102,13 +102,25 @@ const WRONG_KEY_REPLIES: &[u8] =
     {\"error\":\"UnknownCaller\",\"number\":1}";
 
 /// One edit with a wrong key, and its reply.
-const WRONG_KEY: &[u8] =
+pub const WRONG_KEY: &[u8] =
     b"PUT /v1/file?name=hosts&base=1 HTTP/1.1\r\nX-Custodian: site\r\nX-Key: abd\r\nContent-Length: 20\r\n\r\n\
     127.0.0.1 localhost\n";
 
-const BAD_KEY: &[u8] =
+pub const BAD_KEY: &[u8] =
     b"HTTP/1.1 403 Forbidden\r\ncontent-type: application/json\r\ncontent-length: 29\r\n\r\n\
     {\"error\":\"BadKey\",\"number\":2}";
+
+/// The head of an edit with a wrong key and a body that is as long as a body may be.
+const LONG_WRONG_KEY: &[u8] =
+    b"PUT /v1/file?name=hosts&base=1 HTTP/1.1\r\nX-Custodian: site\r\nX-Key: abd\r\nContent-Length: 65536\r\n\r\n";
+
+/// The replies to it, and to what stands behind its body, which has no head.
+const BAD_KEY_AND_HEAD: &[u8] =
+    b"HTTP/1.1 403 Forbidden\r\ncontent-type: application/json\r\ncontent-length: 29\r\n\r\n\
+    {\"error\":\"BadKey\",\"number\":2}\
+    HTTP/1.1 400 Bad Request\r\ncontent-type: application/json\r\ncontent-length: 32\r\n\
+    connection: close\r\n\r\n\
+    {\"error\":\"BadHead\",\"number\":101}";
 
 /// Peers that connect one after another, how many connections are served then, with a limit of so many milliseconds, and what is
 /// reported and what the desk holds afterwards.
@@ -215,7 +227,7 @@ const WAITS_IN_HEAD: Peer = Peer {
 };
 
 /// One that asks, and then keeps its connection open without a byte, and one that never sends any.
-pub const STAYS: Peer = Peer {
+const STAYS: Peer = Peer {
     sends: QUESTION,
     filler: 0,
     then: Then::Waits,
@@ -244,11 +256,24 @@ const TRIES_A_KEY: Peer = Peer {
     receives: Receives::Whole(BAD_KEY),
 };
 
+/// One that writes more than is kept of what a peer sends: such an edit, and behind it what has no head.
+const FILLS_THE_ROOM: Peer = Peer {
+    sends: LONG_WRONG_KEY,
+    filler: 80_000,
+    then: Then::EndsWriting,
+    receives: Receives::Whole(BAD_KEY_AND_HEAD),
+};
+
 /// How many milliseconds a message may take, mostly.
 const LIMIT: u64 = 30_000;
 
 /// How many a message, its reply and idleness may take where a peer is too slow.
 const SHORT_LIMIT: u64 = 200;
+
+/// The shortest limit, and the longest.
+const SHORTEST_LIMIT: u64 = 1;
+
+const LONGEST_LIMIT: u64 = u64::MAX;
 
 pub const TRIALS: [Trial; 12] = [
     Trial {
@@ -346,6 +371,42 @@ pub const TRIALS: [Trial; 12] = [
         limit: LIMIT,
         reports: "",
         holds: AS_MADE,
+    },
+];
+
+/// More of them: one value cannot have so many bytes.
+pub const MORE_TRIALS: [Trial; 4] = [
+    Trial {
+        name: "two peers with a wrong key each",
+        peers: &[TRIES_A_KEY, TRIES_A_KEY],
+        connections: 2,
+        limit: LIMIT,
+        reports: "exportdesk: 1 edit refused\nexportdesk: 1 edit refused\n",
+        holds: AS_MADE,
+    },
+    Trial {
+        name: "a peer that fills the room with an edit that is refused, and one behind it",
+        peers: &[FILLS_THE_ROOM, EDITOR],
+        connections: 2,
+        limit: LIMIT,
+        reports: "exportdesk: 1 edit refused\n",
+        holds: EDITED,
+    },
+    Trial {
+        name: "the shortest limit, and messages that came before it",
+        peers: &[ONE_EDIT, ASKS_LATER],
+        connections: 2,
+        limit: SHORTEST_LIMIT,
+        reports: "",
+        holds: EDITED,
+    },
+    Trial {
+        name: "the longest limit",
+        peers: &[CLOSED_BY_DESK, ASKS_LATER],
+        connections: 2,
+        limit: LONGEST_LIMIT,
+        reports: "",
+        holds: EDITED,
     },
 ];
 

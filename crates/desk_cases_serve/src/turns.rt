@@ -2,7 +2,7 @@
 //! answered.
 
 use crate::desks::site;
-use crate::trials::{EDIT, ONE_REVISION, QUESTION, STORED};
+use crate::trials::{BAD_KEY, EDIT, ONE_REVISION, QUESTION, STORED, TWO_REVISIONS, WRONG_KEY};
 use cli_database_files::names::Names;
 use cli_serve::Serving;
 use desk_cases_store::Fresh;
@@ -39,12 +39,21 @@ enum Turns {
     DoesNotRead,
     Resets,
     MakesRoom,
-    /// They are removed, or the log is replaced.
-    LosesFiles(bool),
+    HoldsNoMore,
+    InPieces,
+    LosesFiles(Lost),
+}
+
+/// How a database loses its files, what a peer sends then, and what it receives: nothing if the service ends.
+#[derive(Clone, Copy)]
+struct Lost {
+    is_log_replaced: bool,
+    sends: &'static [u8],
+    receives: &'static [u8],
 }
 
 /// The trials, each with its name.
-const TRIALS: [(&str, Turns); 8] = [
+const TRIALS: [(&str, Turns); 11] = [
     (
         "a peer that holds its last byte back until another has its reply",
         Turns::HoldsItsLastByte,
@@ -67,14 +76,47 @@ const TRIALS: [(&str, Turns); 8] = [
         Turns::MakesRoom,
     ),
     (
-        "a database that is removed between two questions",
-        Turns::LosesFiles(false),
+        "no message is answered while too many replies wait, and all are afterwards",
+        Turns::HoldsNoMore,
     ),
     (
-        "a log that is replaced between a question and an edit",
-        Turns::LosesFiles(true),
+        "edits in pieces of many lengths, with questions of another between the pieces",
+        Turns::InPieces,
+    ),
+    (
+        "a question once a database was removed",
+        Turns::LosesFiles(Lost {
+            is_log_replaced: false,
+            sends: QUESTION,
+            receives: TWO_REVISIONS,
+        }),
+    ),
+    (
+        "an edit with a wrong key once a database was removed",
+        Turns::LosesFiles(Lost {
+            is_log_replaced: false,
+            sends: WRONG_KEY,
+            receives: BAD_KEY,
+        }),
+    ),
+    (
+        "an edit once a log was replaced",
+        Turns::LosesFiles(Lost {
+            is_log_replaced: true,
+            sends: EDIT,
+            receives: b"",
+        }),
     ),
 ];
+
+/// The most bytes of replies that wait for a message to be answered, where a trial has few.
+const FEW: usize = 1000;
+
+/// The lengths of the pieces in which an edit comes.
+const PIECES: [usize; 8] = [1, 2, 3, 4095, 4096, 4097, 8191, 8192];
+
+/// Between how many pieces of an edit another asks.
+const MOST_ASKED: usize = 50;
 
 /// The names of a database and its log, which a trial removes.
 const DB: &str = "turns.db";
@@ -211,42 +253,164 @@ fn try_one<S: Fresh, V: PolicyView + Drop>(
         Turns::DoesNotRead => does_not_read(house),
         Turns::Resets => resets(house),
         Turns::MakesRoom => makes_room(house),
-        Turns::LosesFiles(is_replaced) => loses_files(house, is_replaced),
+        Turns::HoldsNoMore => holds_no_more(house),
+        Turns::InPieces => in_pieces(house),
+        Turns::LosesFiles(lost) => loses_files(house, lost),
     }
 }
 
 fn loses_files<S: Fresh, V: PolicyView + Drop>(
     house: &mut House<'_, S, V>,
-    is_replaced: bool,
+    lost: Lost,
 ) -> io::Result<&'static str> {
     fs::write(house.rt, DB, b"db".as_slice())?;
     let mut names = Names::of(house.rt, DB)?;
     fs::write(house.rt, LOG, b"log".as_slice())?;
     names.note_log(house.rt);
     house.serving.watch(names);
-    let mut first = house.connect_with(QUESTION)?;
-    if !house.receives(&mut first, ONE_REVISION)? {
+    let mut first = house.connect_with(EDIT)?;
+    if !house.receives(&mut first, STORED)? {
         return Ok("it has no reply while the files are there");
     }
-    if is_replaced {
+    drop(first);
+    if lost.is_log_replaced {
         fs::write(house.rt, DB_BESIDE, b"log".as_slice())?;
         fs::rename(house.rt, DB_BESIDE, LOG)?;
-        first.write_all(EDIT)?;
     } else {
         fs::remove_file(house.rt, DB)?;
-        first.write_all(QUESTION)?;
     }
-    let (found, has_ended) = house.receive(&mut first, 1)?;
+    let mut second = house.connect_with(lost.sends)?;
+    let (found, has_ended) = house.receive(&mut second, lost.receives.len().max(1))?;
     let _ = fs::remove_file(house.rt, DB);
     fs::remove_file(house.rt, LOG)?;
-    match (
-        found.is_empty() && has_ended,
-        house.serving.has_lost() && house.serving.is_over(),
-    ) {
-        (true, true) => Ok(""),
-        (false, _) => Ok("it has a reply, or its connection stays"),
-        (true, false) => Ok("the service goes on"),
+    let ends = lost.receives.is_empty();
+    if found.as_slice() != lost.receives || has_ended != ends {
+        return Ok("it has another reply");
     }
+    if house.serving.has_lost() != ends || house.serving.is_over() != ends {
+        return Ok("the service goes on, or ends");
+    }
+    Ok("")
+}
+
+fn holds_no_more<S: Fresh, V: PolicyView + Drop>(
+    house: &mut House<'_, S, V>,
+) -> io::Result<&'static str> {
+    house.serving.hold_at_most(FEW);
+    let reply = large_reply(house)?;
+    let mut slow = house.connect()?;
+    for _ in 0..MANY {
+        slow.write_all(LARGE_QUESTION)?;
+    }
+    for _ in 0..5 {
+        house.turn(WAIT_MILLIS);
+    }
+    let mut other = house.connect_with(QUESTION)?;
+    for _ in 0..5 {
+        house.turn(WAIT_MILLIS);
+    }
+    let mut found = Vec::new(house.rt.alloc());
+    if take(&mut other, &mut found)? || !found.is_empty() {
+        return Ok("the other is answered while a reply waits");
+    }
+    let (found, has_ended) = house.receive(&mut slow, MANY.saturating_mul(reply.len()))?;
+    if has_ended || !is_repeated(found.as_slice(), reply.as_slice()) {
+        return Ok("its replies are not whole");
+    }
+    if !house.receives(&mut other, ONE_REVISION)? {
+        return Ok("the other is not answered afterwards");
+    }
+    Ok("")
+}
+
+fn in_pieces<S: Fresh, V: PolicyView + Drop>(
+    house: &mut House<'_, S, V>,
+) -> io::Result<&'static str> {
+    let mut other = house.connect()?;
+    let mut rev = 1u32;
+    for length in PIECES {
+        let body = body_of(house.rt, rev)?;
+        let wrong = put_in_pieces(house, &mut other, rev, body.as_str(), length)?;
+        if !wrong.is_empty() {
+            return Ok(wrong);
+        }
+        rev = rev.saturating_add(1);
+        let is_stored = match house.desk.revision(house.rt.alloc(), "netgroup", rev) {
+            Ok(Some(revision)) => revision.body.as_str() == body.as_str(),
+            _ => false,
+        };
+        if !is_stored {
+            return Ok("what is stored is not what was put");
+        }
+    }
+    Ok("")
+}
+
+/// Puts an edit of this revision in pieces of this length. Between the pieces another peer asks. Returns what is wrong.
+fn put_in_pieces<S: Fresh, V: PolicyView + Drop>(
+    house: &mut House<'_, S, V>,
+    other: &mut TcpStream,
+    base: u32,
+    body: &str,
+    length: usize,
+) -> io::Result<&'static str> {
+    let edit = edit_of(house.rt, base, body)?;
+    let mut stream = house.connect()?;
+    stream.set_nodelay(true)?;
+    let mut rest = edit.as_bytes();
+    for count in 0..edit.len() {
+        if rest.is_empty() {
+            break;
+        }
+        let (piece, behind) = rest.split_at(length.min(rest.len()));
+        stream.write_all(piece)?;
+        rest = behind;
+        if count >= MOST_ASKED {
+            house.turn(WAIT_MILLIS);
+            continue;
+        }
+        other.write_all(QUESTION)?;
+        if !house.receives(other, ONE_REVISION)? {
+            return Ok("another is not answered between the pieces");
+        }
+    }
+    let wanted = reply_of(house.rt, base)?;
+    if !house.receives(&mut stream, wanted.as_bytes())? {
+        return Ok("the edit is not stored");
+    }
+    Ok("")
+}
+
+/// Returns a text of 9,000 bytes: 90 lines of comment, which are others for each number.
+fn body_of(rt: &HostRuntime, number: u32) -> io::Result<String> {
+    let mut text = String::new(rt.alloc());
+    for line in 0..90u32 {
+        let is = number.saturating_mul(1000).saturating_add(line);
+        write!(text, "# line {is:>92}\n")?;
+    }
+    Ok(text)
+}
+
+/// Returns an edit that has a text follow this revision.
+fn edit_of(rt: &HostRuntime, base: u32, body: &str) -> io::Result<String> {
+    let mut text = String::new(rt.alloc());
+    let length = body.len();
+    write!(
+        text,
+        "PUT /v1/file?name=netgroup&base={base} HTTP/1.1\r\nX-Custodian: site\r\nX-Key: abc\r\nContent-Length: {length}\r\n\r\n{body}"
+    )?;
+    Ok(text)
+}
+
+/// Returns the reply that the edit is stored which follows this revision. The number of its own has one digit.
+fn reply_of(rt: &HostRuntime, base: u32) -> io::Result<String> {
+    let mut text = String::new(rt.alloc());
+    let rev = base.saturating_add(1);
+    write!(
+        text,
+        "HTTP/1.1 200 OK\r\ncontent-type: application/json\r\ncontent-length: 25\r\n\r\n{{\"already\":false,\"rev\":{rev}}}"
+    )?;
+    Ok(text)
 }
 
 fn holds_its_last_byte<S: Fresh, V: PolicyView + Drop>(
@@ -330,12 +494,7 @@ fn one_message_a_turn<S: Fresh, V: PolicyView + Drop>(
 fn does_not_read<S: Fresh, V: PolicyView + Drop>(
     house: &mut House<'_, S, V>,
 ) -> io::Result<&'static str> {
-    let mut one = house.connect_with(LARGE_QUESTION)?;
-    for _ in 0..5 {
-        house.turn(WAIT_MILLIS);
-    }
-    let mut reply = Vec::new(house.rt.alloc());
-    let _ = take(&mut one, &mut reply)?;
+    let reply = large_reply(house)?;
     let mut slow = house.connect()?;
     for _ in 0..MANY {
         slow.write_all(LARGE_QUESTION)?;
@@ -348,17 +507,36 @@ fn does_not_read<S: Fresh, V: PolicyView + Drop>(
         return Ok("the other is not answered");
     }
     let (found, has_ended) = house.receive(&mut slow, MANY.saturating_mul(reply.len()))?;
-    if has_ended || reply.len() < 50_000 {
-        return Ok("its connection ends, or its reply is too short");
-    }
-    let mut rest = found.as_slice();
-    for _ in 0..MANY {
-        match rest.split_at_checked(reply.len()) {
-            Some((front, behind)) if front == reply.as_slice() => rest = behind,
-            _ => return Ok("its replies are not whole"),
-        }
+    if has_ended || !is_repeated(found.as_slice(), reply.as_slice()) {
+        return Ok("its replies are not whole");
     }
     Ok("")
+}
+
+/// Returns a large reply.
+fn large_reply<S: Fresh, V: PolicyView + Drop>(house: &mut House<'_, S, V>) -> io::Result<Vec<u8>> {
+    let mut one = house.connect_with(LARGE_QUESTION)?;
+    for _ in 0..5 {
+        house.turn(WAIT_MILLIS);
+    }
+    let mut reply = Vec::new(house.rt.alloc());
+    let _ = take(&mut one, &mut reply)?;
+    Ok(reply)
+}
+
+/// Tells whether a reply is large, and bytes begin with it, as often as it is asked for.
+fn is_repeated(found: &[u8], reply: &[u8]) -> bool {
+    if reply.len() < 50_000 {
+        return false;
+    }
+    let mut rest = found;
+    for _ in 0..MANY {
+        match rest.split_at_checked(reply.len()) {
+            Some((front, behind)) if front == reply => rest = behind,
+            _ => return false,
+        }
+    }
+    true
 }
 
 fn resets<S: Fresh, V: PolicyView + Drop>(house: &mut House<'_, S, V>) -> io::Result<&'static str> {

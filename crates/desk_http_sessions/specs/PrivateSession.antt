@@ -1,5 +1,5 @@
 -- How a session keeps what waits to be sent. (this project's own)
-use Rattle.std.specs.Prelude.{◌≡◌, ◌⊎◌, ℕ, ◌≤◌, List, [], ◌∷◌, Option, Some, None, drop, length}
+use Rattle.std.specs.Prelude.{◌≡◌, ◌⊎◌, ℕ, ◌≤◌, List, [], ◌∷◌, ◌++◌, Option, Some, None, drop, length}
 use Rattle.desk_http_messages.specs.declared.requests.End.{End}
 use Rattle.desk_http_messages.specs.declared.requests.End.TheVariants.{Bad, ReadFault}
 use Rattle.desk_http_messages.specs.Replies.{last_texts}
@@ -25,8 +25,10 @@ step_texts (step.Reply text ends) = text_bytes text ∷ []
 step_texts (step.Fault fault) = last_texts (Bad fault)
 step_texts (step.Waits pending) = []
 
--- A connection read these bytes, and how it ended, if it did. If it goes on, they are what came, whole; and if it ends, they are, too,
--- unless the reads are used up.
+-- A connection was given these bytes, and how that ended its stream, if it did. If the stream goes on, they came whole. If it has ended,
+-- they are the end, which is none; or the read failed or would have been one too many, and no more than their front came.
 abbrev pub TakesIn : Place → List ℕ → Option End → Place → Type 0
 TakesIn p bytes None q = ReadMoves p bytes None q
-TakesIn p bytes (Some end) q = ReadMoves p bytes (Some end) q ⊎ ((end ≡ ReadFault) × ((found : List ℕ) × ReadMoves p found (Some end) q))
+TakesIn p bytes (Some end) q =
+    (found : List ℕ) × (lost : List ℕ) × (bytes ≡ found ++ lost) × ReadMoves p found (Some end) q
+    × (((bytes ≡ []) × (lost ≡ [])) ⊎ (end ≡ ReadFault))

@@ -6,10 +6,10 @@ ghost use Rattle.desk_http_messages.specs.Replies.{joined, last_texts};
 ghost use Rattle.desk_http_messages.specs.Stream.{Message};
 ghost use Rattle.desk_http.specs.Answering.{Serves};
 ghost use Rattle.desk_http.specs.Connection.{AtDesk, Event, fresh, has_ended, is_waiting};
-ghost use Rattle.desk_http_sessions.specs.Session.{Exchanges};
+ghost use Rattle.desk_http_sessions.specs.Session.{AreReads, Exchanges};
 ghost use Rattle.desk_http_sessions.specs.PrivateSession.{IsWithin, TakesIn, step_texts, unsent_of};
 
-use crate::given::Given;
+use crate::given::{Given, Over};
 use crate::wire::Wire;
 use desk_http::{Connection, ReplyText, Step};
 use desk_http_messages::End;
@@ -123,6 +123,10 @@ fn take_in(connection: &mut Connection, bytes: &[u8]) -> Option<End>
     requires { is_waiting connection.old.state ≡ true }
     ensures { TakesIn connection.old bytes.now result connection.new }
 {
+    if bytes.is_empty() {
+        let mut over = Over::new();
+        return connection.read_from(&mut over);
+    }
     let mut given = Given::new(bytes);
     connection.read_from(&mut given)
 }
@@ -209,7 +213,7 @@ impl<W: Wire + Drop> Session<W> {
         requires waits { is_waiting self.old.place.state ≡ true }
         requires taken { self.old.unsent ≡ [] }
         requires room { 0 < length room.old }
-        ensures exchanges { (events : List Event) × Exchanges W.left W.held self.old events self.new }
+        ensures exchanges { (events : List Event) × Exchanges W.left W.held self.old events self.new × AreReads events }
     {
         let most = self.connection.room().min(room.len());
         let room = &mut room[..most];

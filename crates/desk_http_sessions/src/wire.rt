@@ -12,7 +12,7 @@ pub trait Wire {
     // The bytes that were sent, if they are told.
     ghost held: { Self → Option (List ℕ) };
 
-    /// Reads some bytes of those that have come: none if no more will come, and nothing if none are there yet.
+    /// Reads some bytes of those that have come: none into a buffer with room if no more will come, and nothing if none are there yet.
     fn receive(&mut self, buf: &mut [u8]) -> Result<Option<usize>, Failed>
         ensures room { length buf.new ≡ length buf.old }
         ensures count { IfOk result (λ found. IfSome found (λ n. n ≤ length buf.new)) }

@@ -13,10 +13,9 @@ returns-clause-exchanges g c =
     let old : Kept g.row.W.Denot = record { place = i.connection; unsent = unsent_of i.reply i.sent; wire = i.wire } in
     let new : Kept g.row.W.Denot = record { place = c.step-step.new.self; unsent = unsent_of c.reply_in.result 0; wire = i.wire } in
     let step = step_event (HasGoodDisk g.S.Store) (StandsAt g.S.Store) i.connection c.step-step.new.self c.args.desk.now c.step-step.result c.step-step.new.desk c.step-step.ensures.moves in
-    let taken = ap (λ (k : Kept g.row.W.Denot). k.unsent) c.self.view_is ∙ c.requires.taken in
-    (
+    let taken = ap (λ (k : Kept g.row.W.Denot). k.unsent) c.self.view_is ∙ c.requires.taken in (
       step.0,
       subst (λ (k : Kept g.row.W.Denot). Exchanges g.W.Wire.left g.W.Wire.held k (step.0 ∷ []) new) c.self.view_is
-          (answered g.W.Wire.left g.W.Wire.held old new step.0 step.1 step.4 taken (c.reply_in.ensures ∙ ap joined (sym step.3)) refl),
+          (answered g.W.Wire.left g.W.Wire.held old new step.0 step.1 step.4 step.5 taken (c.reply_in.ensures ∙ ap joined (sym step.3)) refl),
       step.2,
     )
