@@ -612,4 +612,5 @@ COMMANDS = {
             title="`write` into a folder with older files",
         ),
     ],
+    "copy": [Command(["copy", "DB", "NEW"], "copied\n", database="first")],
 }

@@ -63,7 +63,7 @@ class Server:
 
     def expect_end(self, where, refused=()):
         """Waits until it has ended by itself, which has to be with status 0, and with no message but that so many edits were
-        refused, of one connection after another."""
+        refused, of the connections in the order in which they ended."""
         status, out, messages = self.wait()
         line = f"listening 127.0.0.1:{self.port}\n".encode()
         wanted = b"".join(map(refused_line, refused))
@@ -79,8 +79,8 @@ def refused_line(count):
 class Client:
     """A connection to a port of the loopback address."""
 
-    def __init__(self, port):
-        self.socket = socket.create_connection(("127.0.0.1", port), timeout=SECONDS)
+    def __init__(self, port, seconds=SECONDS):
+        self.socket = socket.create_connection(("127.0.0.1", port), timeout=seconds)
         self.rest = b""
 
     def __enter__(self):

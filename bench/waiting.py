@@ -1,21 +1,155 @@
-"""How long clients of `exportdesk serve` wait for one another, for `bench/clients`. It has a clock: run it on a quiet machine."""
+"""How long clients of `exportdesk serve` wait for one another, for `bench/clients`. It has a clock: run it on a quiet machine.
+
+Beside each case a client connects fifty times, asks once, and takes the whole reply. A row shows the median and the worst of
+these times in seconds. It ends in `over` if the median is 0.1 s or more, or the worst 0.5 s or more. The other clients are one
+process, which renews a connection when it ends.
+"""
 
 import concurrent.futures
+import contextlib
+import multiprocessing
 import resource
+import selectors
 import socket
-import threading
+import statistics
+import struct
 import time
 
 from databases import fail
-from messages import HISTORY, QUESTIONS, put
+from messages import QUESTIONS, put
 from serving import Client
 
 # (More than any client makes.)
-MANY = 1_000_000
+MANY = 4_000_000_000
 LARGEST = 65536
 QUESTION = QUESTIONS[0]
+ASKED, REPLIED = QUESTION.request(), len(QUESTION.reply())
+TRIES, PAUSE = 50, 0.12
+# How long a try may take, and all of a case, before it is given up.
+LONGEST, WHOLE = 10, 60
 # A head that is not whole: 33 header lines, which are read on.
 LINES = b"GET /v1/revisions?name=hosts HTTP/1.1\r\n" + 33 * b"A: b\r\n"
+# A head whose body does not come.
+ANNOUNCED = b"PUT /v1/file?name=hosts&base=1 HTTP/1.1\r\nX-Custodian: site\r\nX-Key: abc\r\nContent-Length: 60000\r\n\r\n"
+# An edit that makes a file as large as it may be, and a question of it.
+LARGE = put("hosts", 1, "site", "abc", "#" * LARGEST, 200, '{"already":false,"rev":2}')
+ASKED_LARGE = b"GET /v1/file?name=hosts HTTP/1.1\r\n\r\n"
+
+
+class Habit:
+    """What each of the other connections does: it sends bytes, and once a reply of so many bytes has come, it `stays`, `asks`
+    again or `ends`; or it `never reads`, and sends them again and again."""
+
+    def __init__(self, sends=b"", reply=0, then="stays"):
+        self.sends, self.reply, self.then = sends, reply, then
+
+
+SILENT = Habit()
+KEPT = Habit(ASKED, REPLIED)
+ONE_BYTE = Habit(b"G")
+NO_LIMIT = ("--timeout", 0)
+
+# Each case: its name, how many connections, what they do, and the options of the server.
+CASES = [
+    *((f"{count} silent", count, SILENT, ()) for count in (1, 20, 200)),
+    *((f"{count} kept after a reply", count, KEPT, ()) for count in (1, 20, 200)),
+    *((f"{count} of one byte", count, ONE_BYTE, ()) for count in (40, 300, 1000)),
+    *((f"{count} of one byte, no limit", count, ONE_BYTE, NO_LIMIT) for count in (40, 300, 1000)),
+    ("20 of 33 header lines", 20, Habit(LINES), ()),
+    ("20 that do not read", 20, Habit(ASKED_LARGE, then="never reads"), ()),
+    ("8 that ask without end", 8, Habit(ASKED, REPLIED, "asks"), ()),
+    ("8 that ask 32 at a time", 8, Habit(32 * ASKED, 32 * REPLIED, "asks"), ()),
+    ("100 of one session", 100, Habit(ASKED, REPLIED, "ends"), ()),
+    ("20 bodies announced", 20, Habit(ANNOUNCED), ()),
+]
+
+
+class Other:
+    """One of the other connections. No call of it waits."""
+
+    def __init__(self, port, habit, selector):
+        self.habit, self.selector = habit, selector
+        self.rest, self.missing, self.has_sent = habit.sends, habit.reply, False
+        self.socket = socket.socket()
+        self.socket.setblocking(False)
+        # (So that no ports stay in use when connections are renewed.)
+        self.socket.setsockopt(socket.SOL_SOCKET, socket.SO_LINGER, struct.pack("ii", 1, 0))
+        if habit.then == "never reads":
+            self.socket.setsockopt(socket.SOL_SOCKET, socket.SO_RCVBUF, 4096)
+        self.socket.connect_ex(("127.0.0.1", port))
+        selector.register(self.socket, selectors.EVENT_WRITE, self)
+
+    def go_on(self, events):
+        """Does what it does when it is reported. Returns whether the connection goes on."""
+        try:
+            return self.write() if events & selectors.EVENT_WRITE else self.read()
+        except BlockingIOError:
+            return True
+        except OSError:
+            return False
+
+    def write(self):
+        if self.socket.getsockopt(socket.SOL_SOCKET, socket.SO_ERROR):
+            return False
+        if self.rest:
+            self.rest = self.rest[self.socket.send(self.rest) :]
+        if not self.rest:
+            self.has_sent = True
+            if self.habit.then == "never reads":
+                self.rest = self.habit.sends
+            else:
+                self.selector.modify(self.socket, selectors.EVENT_READ, self)
+        return True
+
+    def read(self):
+        count = len(self.socket.recv(65536))
+        self.missing -= count
+        if count == 0 or self.habit.then == "stays" or self.missing > 0:
+            return count > 0
+        if self.habit.then == "ends":
+            return False
+        self.rest, self.missing = self.habit.sends, self.habit.reply
+        self.selector.modify(self.socket, selectors.EVENT_WRITE, self)
+        return True
+
+    def end(self):
+        self.selector.unregister(self.socket)
+        self.socket.close()
+
+
+def keep_open(port, count, habit, is_ready):
+    """Keeps so many connections open, without end, and says once each has sent its bytes for the first time."""
+    selector = selectors.DefaultSelector()
+    for _ in range(count):
+        Other(port, habit, selector)
+    ready = 0
+    while True:
+        for key, events in selector.select():
+            other, had_sent = key.data, key.data.has_sent
+            goes_on = other.go_on(events)
+            ready += other.has_sent and not had_sent
+            if ready >= count:
+                is_ready.set()
+            if not goes_on:
+                other.end()
+                Other(port, habit, selector)
+
+
+@contextlib.contextmanager
+def others(port, count, habit):
+    """Such connections beside what is done meanwhile."""
+    of = multiprocessing.get_context("fork")
+    is_ready = of.Event()
+    process = of.Process(target=keep_open, args=(port, count, habit, is_ready), daemon=True)
+    process.start()
+    try:
+        is_ready.wait(3)
+        yield
+        if not process.is_alive():
+            fail("the process of the other clients has ended")
+    finally:
+        process.kill()
+        process.join()
 
 
 def ask(client, message=QUESTION):
@@ -26,149 +160,115 @@ def ask(client, message=QUESTION):
     return bool(reply)
 
 
-def answered_in(port, longest, where):
-    """Asks over a new connection. Returns how long the answer took, which has to be at most so many seconds."""
+def answered_in(port, longest=LONGEST):
+    """Asks over a new connection, and over another if that has ended. Returns how long the answer took, or this time at most."""
     begin = time.monotonic()
-    with Client(port) as client:
-        if not ask(client):
-            fail(f"{where}: a client was not answered")
-    took = time.monotonic() - begin
-    if took > longest:
-        fail(f"{where}: a client was answered after {took:.2f} s, in place of {longest} s")
+    while (passed := time.monotonic() - begin) < longest:
+        try:
+            with Client(port, longest - passed) as client:
+                if ask(client):
+                    return time.monotonic() - begin
+        except (TimeoutError, ConnectionResetError):
+            continue
+    return longest
+
+
+def tries(port):
+    """How long the answers to one client took."""
+    took = []
+    while len(took) < TRIES and sum(took) < WHOLE:
+        took.append(answered_in(port))
+        time.sleep(PAUSE)
     return took
 
 
-def try_idle(start):
-    """A client waits beside a connection that is idle, after a reply and without one."""
-    with start(MANY, "--timeout", 60) as server:
-        with Client(server.port) as idle:
-            ask(idle)
-            first = answered_in(server.port, 0.5, "beside an idle connection")
-        with Client(server.port) as idle:
-            ask(idle)
-            time.sleep(2)
-            later = answered_in(server.port, 0.5, "beside a connection that is idle for 2 s")
-        with Client(server.port):
-            silent = answered_in(server.port, 1.5, "beside a connection on which nothing is sent")
-    print(f"    beside an idle connection {first:.2f} s, {later:.2f} later, and beside a silent one {silent:.2f} s")
+def row(name, took, median_limit=0.1, worst_limit=0.5):
+    """Prints what is found of a case. Returns whether it is over a limit."""
+    median, worst = statistics.median(took), max(took)
+    is_over = median >= median_limit or worst >= worst_limit
+    told = f"    {name:32}{median:9.4f} {worst:9.4f}{'  over' if is_over else ''}"
+    print(told + (f"  ({len(took)} tries)" if len(took) not in (1, TRIES) else ""), flush=True)
+    return is_over
 
 
-def try_busy(start, together):
-    """Eight clients ask without end for half a minute, so many requests together, and connect again if they have to. Each is
-    answered in every 10 s."""
-    with start(MANY) as server:
+def try_case(start, name, count, habit, options):
+    """A client asks beside others."""
+    with start(MANY, *options) as server:
+        if habit.sends == ASKED_LARGE:
+            with Client(server.port) as client:
+                ask(client, LARGE)
+        with others(server.port, count, habit):
+            return row(name, tries(server.port))
+
+
+def try_together(start, name):
+    """One client opens a hundred connections at once, and asks once on each."""
+    with start(MANY) as server, contextlib.ExitStack() as stack:
         begin = time.monotonic()
-        with concurrent.futures.ThreadPoolExecutor(8) as pool:
-            gaps = list(pool.map(lambda _: longest_gap(server.port, begin + 30, together), range(8)))
-    if max(gaps) > 10:
-        fail(f"of eight clients that ask without end one was not answered for {max(gaps):.1f} s")
-    print(f"    of eight clients that ask {together} at a time without end each was answered every {max(gaps):.1f} s")
+        clients = [stack.enter_context(Client(server.port)) for _ in range(100)]
+        for client in clients:
+            client.socket.sendall(ASKED)
+        if any(client.reply() != QUESTION.reply() for client in clients):
+            fail("one of a hundred connections was not answered")
+        return row(name, [time.monotonic() - begin], 1, 1)
 
 
-def longest_gap(port, end, together):
-    """Asks without end up to a moment. Returns the longest time without an answer."""
-    answered, longest = time.monotonic(), 0
-    while time.monotonic() < end:
-        with Client(port) as client:
-            while time.monotonic() < end and ask_together(client, together):
-                now = time.monotonic()
-                longest, answered = max(longest, now - answered), now
-    return max(longest, time.monotonic() - answered)
+def try_crowd(start, name):
+    """A thousand clients connect at once, and each is answered."""
+    with start(MANY) as server, concurrent.futures.ThreadPoolExecutor(1000) as pool:
+        return row(name, list(pool.map(lambda _: answered_in(server.port), range(1000))), 5, LONGEST)
 
 
-def ask_together(client, together):
-    """Asks so many times, and half a time more that the next call completes. Returns whether an answer came."""
-    if together == 1:
-        return ask(client)
-    half = len(QUESTION.request()) // 2
-    try:
-        client.socket.sendall((together * QUESTION.request() + QUESTION.request())[:-half])
-        if client.reply() == b"":
-            return False
-        for _ in range(together - 1):
-            client.reply()
-        client.socket.sendall(QUESTION.request()[-half:])
-        client.reply()
-    except (ConnectionResetError, BrokenPipeError):
-        return False
-    return True
-
-
-def try_slow(start):
-    """A client that is slow is ended at its deadline, and the next is served: one that sends a byte each second, one that sends 33
-    lines, and one that reads nothing."""
-    with start(MANY, "--timeout", 3) as server:
-        edit = put("hosts", 1, "site", "abc", "#" * LARGEST, 200, '{"already":false,"rev":2}')
+def try_slow(start, name):
+    """A client that is slow is ended at its deadline: one that sends a byte now and then, one that sends 33 lines, and one that
+    reads nothing."""
+    with start(MANY, "--timeout", 2) as server:
         with Client(server.port) as client:
-            ask(client, edit)
-        for name, hold in (("sends a byte each second", trickle), ("sends 33 lines", lines), ("reads nothing", flood)):
-            with Client(server.port) as slow:
-                holder = threading.Thread(target=hold, args=(slow.socket,), daemon=True)
-                holder.start()
-                time.sleep(0.5)
-                took = answered_in(server.port, 4, f"beside a client that {name}")
-                if took < 2:
-                    fail(f"a client that {name} was ended after {took + 0.5:.1f} s")
-                print(f"    beside a client that {name}, with a limit of 3 s, another was answered after {took + 0.5:.1f} s")
+            ask(client, LARGE)
+        for word, sends in (("byte by byte", trickle), ("33 lines", lines), ("reads nothing", flood)):
+            begin = time.monotonic()
+            with Client(server.port) as slow, contextlib.suppress(ConnectionResetError, BrokenPipeError):
+                sends(slow.socket)
+            took = time.monotonic() - begin
+            if not 1.9 < took < 2.9:
+                fail(f"{name}, {word}: with a limit of 2 s a connection was ended after {took:.2f} s")
+    return False
 
 
 def trickle(connection):
-    """Sends a byte each second."""
-    for byte in QUESTION.request():
-        try:
-            connection.sendall(bytes([byte]))
-        except OSError:
+    """Sends a byte now and then, until the connection ends."""
+    connection.settimeout(0.3)
+    for byte in ASKED:
+        connection.sendall(bytes([byte]))
+        with contextlib.suppress(TimeoutError):
+            connection.recv(1)
             return
-        time.sleep(1)
 
 
 def lines(connection):
     """Sends a head with too many lines, and not its end."""
     connection.sendall(LINES)
+    connection.recv(1)
 
 
 def flood(connection):
-    """Asks for more than the system keeps for a client that reads nothing."""
+    """Asks for more than the system keeps for a client that reads nothing, until the connection ends."""
     connection.setsockopt(socket.SOL_SOCKET, socket.SO_RCVBUF, 4096)
-    request = b"GET /v1/file?name=hosts HTTP/1.1\r\n\r\n"
-    try:
-        connection.sendall(1000 * request)
-    except OSError:
-        return
+    while True:
+        connection.sendall(1000 * ASKED_LARGE)
 
 
-def try_crowd(start):
-    """A thousand clients connect at once, and each is answered."""
-    with start(MANY) as server:
-        begin = time.monotonic()
-        with concurrent.futures.ThreadPoolExecutor(1000) as pool:
-            took = list(pool.map(lambda _: answered_in(server.port, 60, "one of 1,000 clients"), range(1000)))
-    print(f"    1,000 clients at once were answered within {max(took):.1f} s")
-
-
-def try_alone(start):
-    """One client makes a thousand requests on one connection, for longer than it could if another waited."""
-    with start(1) as server, Client(server.port) as client:
-        alone(client)
-    with start(MANY) as server, Client(server.port) as client:
-        alone(client)
-
-
-def alone(client):
-    """Makes a thousand requests on one connection."""
-    for place in range(1000):
-        if not ask(client, HISTORY):
-            fail(f"a client alone was answered {place} times on one connection")
-        time.sleep(0.002)
-
-
-def try_waiting(start):
-    """Tries all of these."""
+def try_waiting(start, only=""):
+    """Tries all of these, or those that have a word in their name."""
     soft, hard = resource.getrlimit(resource.RLIMIT_NOFILE)
     resource.setrlimit(resource.RLIMIT_NOFILE, (min(hard, max(soft, 4096)), hard))
-    try_idle(start)
-    try_alone(start)
-    try_slow(start)
-    try_crowd(start)
-    for together in (1, 32):
-        try_busy(start, together)
+    print(f"    {'beside':32}{'median':>9} {'worst':>9}")
+    over = [case[0] for case in CASES if only in case[0] and try_case(start, *case)]
+    whole = (
+        ("100 of one session, together", try_together),
+        ("1000 clients at once", try_crowd),
+        ("a slow client", try_slow),
+    )
+    over += [name for name, trial in whole if only in name and trial(start, name)]
+    if over:
+        fail(f"over the limits: {'; '.join(over)}")

@@ -5,7 +5,7 @@ _exportdesk()
     local command=${COMP_WORDS[1]} count=0 is_value=no place
     COMPREPLY=()
     if [ "$COMP_CWORD" -eq 1 ]; then
-        choices='try split check clients compare test init ask show exports who put impact audit log cat proposal files report write serve --help --version'
+        choices='try split check clients compare test init ask show exports who put impact audit log cat proposal files report write copy serve --help --version'
         mapfile -t COMPREPLY < <(compgen -W "$choices" -- "$word")
         return
     fi
@@ -82,7 +82,7 @@ _exportdesk()
         try:0 | split:0 | split:1 | check:0 | clients:0 | compare:0 | compare:1 | test:0 | \
             test:1 | init:0 | ask:0 | show:0 | exports:0 | who:0 | put:0 | put:2 | \
             impact:0 | impact:2 | audit:0 | audit:1 | audit:3 | log:0 | cat:0 | proposal:0 | \
-            files:0 | report:0 | write:0 | serve:0)
+            files:0 | report:0 | write:0 | copy:0 | copy:1 | serve:0)
             mapfile -t COMPREPLY < <(compgen -f -- "$word")
             ;;
         try:1 | ask:1 | show:1) ;;

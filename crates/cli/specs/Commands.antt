@@ -1,11 +1,12 @@
 -- What the program answers to the words of a command, and how it ends. (this project's own)
 use Rattle.std.specs.Prelude.{◌≡◌, ◌≢◌, ◌⊎◌, ℕ, List, [], ◌∷◌, take, Option, Some, None, IfSome, Result, Ok, Err, IsErrAnd, codes}
 use Rattle.std.specs.Io.BufRead.{take_through}
+use Rattle.std.specs.Io.KnownBytes.{Consumes}
 use Rattle.clap.specs.Words.{Row}
 use Rattle.clap.specs.declared.error.ErrorKind.{ErrorKind}
 use Rattle.clap.specs.declared.error.ErrorKind.TheVariants.{DisplayHelp, DisplayVersion, OutOfMemory}
 use Rattle.cli_output.specs.Failure.{IsMissing, IsUnreadLine}
-use Rattle.cli_output.specs.Printed.{status_of, text_of}
+use Rattle.cli_output.specs.Printed.{PrintsAtFour, status_of, text_of}
 use Rattle.cli_output.specs.declared.failure.Failure.{Failure}
 use Rattle.cli_output.specs.declared.failure.Failure.TheVariants.{FirstLine, Memory, Usage}
 use Rattle.cli_output.specs.declared.failure.ReadFailure.TheVariants.{Text}
@@ -14,7 +15,7 @@ use Rattle.cli_output.specs.declared.printed.Printed.{Printed}
 use Rattle.cli_words.specs.Commands.{AskForHelp, command_found, faults_of}
 use Rattle.cli_words.specs.LineWords.{IsBadWord, words_of}
 use Rattle.cli_words.specs.declared.commands.Subcommand.{Subcommand}
-use Rattle.cli_words.specs.declared.commands.Subcommand.TheVariants.{Ask, Audit, Cat, Check, Clients, Compare, Exports, Files, Impact, Init, Log, Proposal, Put, Report, Serve, Show, Split, Test, Try, Who, Write}
+use Rattle.cli_words.specs.declared.commands.Subcommand.TheVariants.{Ask, Audit, Cat, Check, Clients, Compare, Copy, Exports, Files, Impact, Init, Log, Proposal, Put, Report, Serve, Show, Split, Test, Try, Who, Write}
 use Rattle.cli_files.specs.Input.{first_line}
 use Rattle.cli_texts.specs.CheckCommand.{AnswersCheck}
 use Rattle.cli_texts.specs.ClientsCommand.{AnswersClients}
@@ -28,6 +29,7 @@ use Rattle.cli_report.specs.ReportCommand.{AnswersReport}
 use Rattle.cli_edits.specs.InitCommand.{AnswersInit}
 use Rattle.cli_edits.specs.PutCommand.{AnswersPut}
 use Rattle.cli_serve.specs.ServeCommand.{AnswersServe}
+use Rattle.cli_write.specs.CopyCommand.{AnswersCopy}
 use Rattle.cli_write.specs.WriteCommand.{AnswersWrite}
 
 -- an error of clap is help, with the status 0, for the two kinds that are asked for, and else a failure; out of memory says nothing
@@ -66,6 +68,7 @@ AnswersGiven Proposal rows known result = AnswersProposal rows result
 AnswersGiven Files rows known result = AnswersFiles rows result
 AnswersGiven Report rows known result = AnswersReport rows result
 AnswersGiven Write rows known result = AnswersWrite rows result
+AnswersGiven Copy rows known result = AnswersCopy rows result
 AnswersGiven Serve rows known result = AnswersServe rows result
 
 -- the answer to what clap finds: that to the command, or that there is none
@@ -82,11 +85,12 @@ abbrev pub AnswersLine : Result (List ℕ) TextFault → Option (List ℕ) → R
 AnswersLine (Ok line) rest result = (result ≡ Err Memory) ⊎ AnswersCommand (words_of line) rest result
 AnswersLine (Err fault) rest result = result ≡ Err (FirstLine (Text fault))
 
--- the answer to the first line of an input; what stands behind that line is left to the reader
+-- the answer to the first line of an input, over all that stands behind that line
 pub record AnswersInput (known : Option (List ℕ)) (result : Result Printed Failure) : Type 0 where
   pub line : List ℕ
   pub first : IfSome known (λ given. line ≡ take_through 10 (take 16777218 given))
   pub rest : Option (List ℕ)
+  pub left : Consumes known rest line
   pub answers : AnswersLine (first_line line) rest result
 
 abbrev pub AnswersFirstLine : Option (List ℕ) → Result Printed Failure → Type 0
@@ -97,9 +101,11 @@ abbrev pub AnswersProgram : List (List ℕ) → Option (List ℕ) → Result Pri
 AnswersProgram [] known result = AnswersFirstLine known result
 AnswersProgram (word ∷ words) known result = AnswersCommand (word ∷ words) known result
 
--- a run: some answer to the words, whose status is returned, and of which just this is printed; or the status 4
+-- A run: some answer to the words, whose status is returned, and of which just this is printed; or the status 4, at which nothing else is
+-- printed than a front of that answer or of the line that memory ran out.
 pub record Runs (words : List (List ℕ)) (known : Option (List ℕ)) (exit : ℕ) (Prints : List ℕ → Type 0) : Type 0 where
   pub answer : Result Printed Failure
   pub answers : AnswersProgram words known answer
   pub status : (exit ≡ status_of answer) ⊎ (exit ≡ 4)
   pub prints : exit ≢ 4 → Prints (text_of answer)
+  pub at_four : exit ≡ 4 → PrintsAtFour answer Prints

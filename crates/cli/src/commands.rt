@@ -31,6 +31,7 @@ use cli_words::commands::Subcommand;
 use cli_words::line::command_line;
 use cli_words::line_words::{command_words, words_of};
 use cli_words::words::found_command;
+use cli_write::copy_command::run_copy;
 use cli_write::write_command::run_write;
 use std::alloc::Global;
 use std::convert::AsSlice;
@@ -130,6 +131,7 @@ fn run_command<I: BufRead>(
         Subcommand::Files => run_files(rt, words),
         Subcommand::Report => run_report(rt, words),
         Subcommand::Write => run_write(rt, words),
+        Subcommand::Copy => run_copy(rt, words),
         Subcommand::Serve => start_service(rt, words, service),
     }
 }

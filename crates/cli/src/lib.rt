@@ -17,7 +17,7 @@ mod commands;
 
 ghost use Rattle.std.specs.Prelude.{◌≡◌, ◌≢◌, ◌⊎◌, map};
 ghost use Rattle.std.specs.Io.KnownBytes.{Appends};
-ghost use Rattle.cli_output.specs.Printed.{status_of, text_of};
+ghost use Rattle.cli_output.specs.Printed.{PrintsAtFour, status_of, text_of};
 ghost use Rattle.cli.specs.Commands.{Runs};
 
 use crate::commands::{run_first_line, run_words};
@@ -60,18 +60,23 @@ fn finish<O: Write, E: Write>(
 ) -> u8
     ensures status { (result ≡ status_of answer) ⊎ (result ≡ 4) }
     ensures printed { result ≢ 4 → Appends (O.contents out.old) (O.contents out.new) (text_of answer) }
+    ensures at_four { result ≡ 4 → PrintsAtFour answer (Appends (O.contents out.old) (O.contents out.new)) }
 {
     let status = report(rt.alloc(), origin, answer, out, err);
     if let Some(service) = service {
-        end(rt, service, status == 0, err);
+        if !end(rt, service, status == 0, err) {
+            return 4;
+        }
     }
     status
 }
 
-/// Runs a service, if its line is printed, and ends it.
-fn end<E: Write>(rt: &HostRuntime, mut service: Service, is_printed: bool, err: &mut E) {
+/// Runs a service, if its line is printed, and ends it. Tells whether it served all that it was to serve.
+fn end<E: Write>(rt: &HostRuntime, mut service: Service, is_printed: bool, err: &mut E) -> bool {
+    let mut has_served = true;
     if is_printed {
-        service.run(rt, err);
+        has_served = service.run(rt, err);
     }
     service.close(rt);
+    has_served
 }

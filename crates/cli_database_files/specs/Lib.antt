@@ -1,1 +1,6 @@
 pub mod Copy
+pub mod Copying
+pub mod DatabaseFile
+pub mod Kept
+pub mod LogFile
+pub mod OneFile

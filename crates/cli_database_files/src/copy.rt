@@ -1,20 +1,22 @@
 //! A copy of a database in memory, which questions read: so they change nothing, and need no right to write.
 
-ghost use Rattle.std.specs.Prelude.{◌≡◌, ℕ, codes, false, IfErr, IfOk, IfSome, IsTrue, List};
-ghost use Rattle.sqlite_disk.specs.Memory.{memory_is_usable};
+ghost use Rattle.std.specs.Prelude.{◌≡◌, ℕ, codes, false, IfErr, IfOk, IfSome, List};
 ghost use Rattle.sqlite.specs.Files.{file_state};
 ghost use Rattle.cli_output.specs.Failure.{IsUnread};
 ghost use Rattle.cli_database_files.specs.Copy.{AreUsable, IsUnopened, copy_unopened, is_out_of_memory};
 
-use crate::database_file::{CANNOT_OPEN, is_plain, lock};
+use crate::copying::Copying;
+use crate::database_file::{BUSY, CANNOT_OPEN, is_plain, lock};
 use crate::obstacles::is_settled;
 use cli_output::failure::{Failure, ReadFailure};
 use os::RangeLock;
 use sqlite::{Connection, Error, ErrorCode, FileStore, Options};
-use sqlite_disk::{Disk, Files, Memory};
+use sqlite_disk::{Files, Memory};
 use std::alloc::Global;
-use std::io::Read;
 use std::{fs, io};
+
+/// How often a copy is begun while the log is written from its front on.
+const MOST_TRIES: u32 = 100;
 
 /// A connection to a copy of a database in memory.
 pub type Copied = Connection<FileStore<Memory>>;
@@ -103,9 +105,26 @@ pub fn unread(alloc: Global, path: &str, error: io::Error) -> Failure
     }
 }
 
-/// Copies the files while nothing else writes them.
+/// Copies the files: under the lock that SQLite's readers share or, if another has DB alone, beside it. If there is no log beside another,
+/// or it is written from its front on meanwhile, it begins again, up to a bound.
 fn copy_locked(rt: &HostRuntime, path: &str) -> io::Result<Result<Files<Memory>, Error>>
     ensures { IfOk result (λ copied. IfOk copied AreUsable) }
+{
+    for _ in 0..MOST_TRIES {
+        match copy_once(rt, path) {
+            Ok(Ok(Some(files))) => return Ok(Ok(files)),
+            Ok(Ok(None)) => {}
+            Ok(Err(error)) => return Ok(Err(error)),
+            Err(error) => return Err(error),
+        }
+    }
+    Ok(Err(BUSY))
+}
+
+/// Copies the files once. Gives none if there is no log beside another, if it was written from its front on meanwhile, or if other files took
+/// their names.
+fn copy_once(rt: &HostRuntime, path: &str) -> io::Result<Result<Option<Files<Memory>>, Error>>
+    ensures { IfOk result (λ copied. IfOk copied (λ files. IfSome files AreUsable)) }
 {
     // As SQLite does, the log is looked for where a link leads.
     let real = fs::canonicalize(rt, path)?;
@@ -113,13 +132,14 @@ fn copy_locked(rt: &HostRuntime, path: &str) -> io::Result<Result<Files<Memory>,
         return Ok(Err(CANNOT_OPEN));
     }
     let file = fs::open(rt, real.as_str())?;
-    if let Err(error) = lock(&file, RangeLock::Shared) {
-        return Ok(Err(error));
+    match lock(&file, RangeLock::Shared) {
+        Ok(()) => copy_files_of(rt, real.as_str(), &file, false),
+        Err(BUSY) => copy_files_of(rt, real.as_str(), &file, true),
+        Err(error) => Ok(Err(error)),
     }
-    copy_under_lock(rt, real.as_str(), &file)
 }
 
-/// Copies the database file, which is open, and its log.
+/// Copies the database file, which is open and locked, and its log.
 pub fn copy_under_lock(
     rt: &HostRuntime,
     real: &str,
@@ -127,44 +147,69 @@ pub fn copy_under_lock(
 ) -> io::Result<Result<Files<Memory>, Error>>
     ensures { IfOk result (λ copied. IfOk copied AreUsable) }
 {
-    let journal = format!(in rt.alloc(); "{real}-journal")?;
-    if !is_settled(rt, journal.as_str())? {
-        return Ok(Err(CANNOT_OPEN));
-    }
-    let log = format!(in rt.alloc(); "{real}-wal")?;
-    // An unreadable DB is reported as such; an unreadable log only as CannotOpen.
-    let log = match copy_log(rt, log.as_str()) {
-        Ok(Some(log)) => log,
-        Err(error) if error.kind() == io::ErrorKind::OutOfMemory => return Err(error),
-        Ok(None) | Err(_) => return Ok(Err(CANNOT_OPEN)),
-    };
-    let db = copy_of(rt.alloc(), file)?;
-    Ok(Ok(Files { log, db }))
-}
-
-/// Copies a log, an empty one if there is none. If something else has its name, nothing is copied.
-fn copy_log(rt: &HostRuntime, path: &str) -> io::Result<Option<Memory>>
-    ensures { IfOk result (λ log. IfSome log (λ copy. IsTrue (memory_is_usable copy))) }
-{
-    match fs::symlink_metadata(rt, path) {
-        Ok(found) if found.is_file() => {
-            let file = fs::open(rt, path)?;
-            Ok(Some(copy_of(rt.alloc(), &file)?))
-        }
-        Ok(_) => Ok(None),
-        Err(error) if error.kind() == io::ErrorKind::NotFound => Ok(Some(Memory::new(rt.alloc()))),
+    match copy_files_of(rt, real, file, false) {
+        Ok(Ok(Some(files))) => Ok(Ok(files)),
+        Ok(Ok(None)) => Ok(Err(BUSY)),
+        Ok(Err(error)) => Ok(Err(error)),
         Err(error) => Err(error),
     }
 }
 
-/// Copies a file into memory.
-fn copy_of(alloc: Global, file: &fs::File) -> io::Result<Memory>
-    ensures { IfOk result (λ copy. IsTrue (memory_is_usable copy)) }
+/// Copies the database file, which is open, and its log. Beside another that may write both, only a log with a header is copied.
+fn copy_files_of(
+    rt: &HostRuntime,
+    real: &str,
+    file: &fs::File,
+    beside: bool,
+) -> io::Result<Result<Option<Files<Memory>>, Error>>
+    ensures { IfOk result (λ copied. IfOk copied (λ files. IfSome files AreUsable)) }
 {
-    let mut bytes = Vec::new(alloc);
-    let mut reader = file;
-    reader.read_to_end(&mut bytes)?;
-    let mut copy = Memory::new(alloc);
-    copy.write_at(0, bytes.as_slice())?;
-    Ok(copy)
+    let journal = format!(in rt.alloc(); "{real}-journal")?;
+    if !is_settled(rt, journal.as_str())? {
+        return Ok(Err(CANNOT_OPEN));
+    }
+    let log_path = format!(in rt.alloc(); "{real}-wal")?;
+    // An unreadable DB is reported as such; an unreadable log only as CannotOpen.
+    let begun = match begin(rt, log_path.as_str()) {
+        Ok(Some(begun)) => begun,
+        Err(error) if error.kind() == io::ErrorKind::OutOfMemory => return Err(error),
+        Ok(None) | Err(_) => return Ok(Err(CANNOT_OPEN)),
+    };
+    if beside && !begun.has_header() {
+        return Ok(Ok(None));
+    }
+    let copied = copy_rest(rt, begun, file, real, log_path.as_str())?;
+    Ok(Ok(copied))
+}
+
+/// Begins to copy a database whose log has this path, or has none. If something else has its name, it does not begin.
+fn begin(rt: &HostRuntime, log_path: &str) -> io::Result<Option<Copying>> {
+    match fs::symlink_metadata(rt, log_path) {
+        Ok(found) if found.is_file() => {
+            let log = fs::open(rt, log_path)?;
+            Ok(Some(Copying::begin(rt.alloc(), Some(log))?))
+        }
+        Ok(_) => Ok(None),
+        Err(error) if error.kind() == io::ErrorKind::NotFound => {
+            Ok(Some(Copying::begin(rt.alloc(), None)?))
+        }
+        Err(error) => Err(error),
+    }
+}
+
+/// Takes the steps that are left of a copy.
+fn copy_rest(
+    rt: &HostRuntime,
+    begun: Copying,
+    file: &fs::File,
+    real: &str,
+    log_path: &str,
+) -> io::Result<Option<Files<Memory>>>
+    ensures { IfOk result (λ copied. IfSome copied AreUsable) }
+{
+    let mut copying = begun;
+    copying.read_db(file)?;
+    copying.read_log()?;
+    copying.read_log_again()?;
+    copying.end(rt, file, real, log_path)
 }

@@ -1,7 +1,7 @@
 //! What stands in the way of the files of a database.
 
 use crate::database_file::real_path;
-use crate::log_file::has_no_page;
+use crate::log_file::{has_no_page, log_len};
 use std::io::Read;
 use std::os::unix::fs::MetadataExt;
 use std::{fmt, fs, io};
@@ -78,7 +78,9 @@ pub fn find_obstacle_to_make(rt: &HostRuntime, db: &str) -> io::Result<Option<Ob
 fn find_left_log(rt: &HostRuntime, db: &str) -> io::Result<Option<Obstacle>> {
     let real = real_path(rt, db)?;
     let log = format!(in rt.alloc(); "{real}-wal")?;
-    if has_no_page(rt, log.as_str()) {
+    if let Some(len) = log_len(rt, log.as_str())
+        && has_no_page(len)
+    {
         return Ok(None);
     }
     match fs::symlink_metadata(rt, real.as_str()) {

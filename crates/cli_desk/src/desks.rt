@@ -18,6 +18,7 @@ ghost use Rattle.desk_core.specs.Edit.{asked};
 ghost use Rattle.desk_store.specs.Desk.{HasGoodDisk};
 ghost use Rattle.desk_store.specs.Open.{OpensAt};
 ghost use Rattle.desk_service.specs.declared.refused.Refused.TheVariants as refused;
+ghost use Rattle.cli_database_files.specs.DatabaseFile.{plain_path};
 ghost use Rattle.cli_desk.specs.Desks.{HasNoCopiedDesk, HasNoDesk, HasNoDeskOn, IsCopied, OpensDesk, PutsOver};
 ghost use Rattle.cli_desk.specs.RefusalLines.{IsRefused};
 
@@ -34,7 +35,7 @@ use desk_core::Edit;
 use desk_policy::PolicyView;
 use desk_service::{Replies, put};
 use desk_store::{Desk, DeskError};
-use sqlite::{Alter, Connection, FileFrom, FileStore, Start};
+use sqlite::{Alter, Connection, Error, FileFrom, FileStore, Leftover, Start};
 use sqlite_disk::Memory;
 use std::alloc::Global;
 use std::fs::OpenOptions;
@@ -57,7 +58,7 @@ pub fn open_copied_desk(rt: &HostRuntime, db: &str) -> Result<CopiedDesk, Result
 
 /// Opens a desk on the database of a connection to a copy; or prints why there is none. An error of the copy's disk is reported as out
 /// of memory.
-fn desk_on_copy(
+pub fn desk_on_copy(
     alloc: Global,
     db: &str,
     conn: Copied,
@@ -127,7 +128,28 @@ fn is_empty_file(rt: &HostRuntime, path: &str) -> io::Result<bool> {
     Ok(file.metadata()?.len() <= 1)
 }
 
-/// Opens a connection to the database DB, at this path of SQLite's; else prints why it is not opened, and a log that was made for it
+/// What SQLite says if it does not open files, with those that it had opened.
+type NotOpened<S> = (Error, Option<Leftover<FileFrom<S>>>);
+
+/// Opens a connection to the database that this word names, at the path that stands for the word to SQLite. It does nothing else.
+fn open_named<S: Start>(
+    rt: &HostRuntime,
+    db: &str,
+    path: &str,
+    start: S,
+) -> Result<FilesFrom<S>, NotOpened<S>>
+    requires { path.now ≡ plain_path db.now }
+    ensures settled { IfOk result (λ conn. (file_state conn).in_transaction ≡ false) }
+    ensures opened { IfOk result (λ conn. HasCleanDisk (file_state conn) → Opens (file_state conn)) }
+    ensures found { IfOk result (λ conn. HasCleanDisk (file_state conn) → FindsIn (image_at S.Start) (file_state conn)) }
+{
+    match Connection::open_from(rt, path, false, start) {
+        Ok(conn) => Ok(conn),
+        Err(left) => Err(left),
+    }
+}
+
+/// Opens a connection to the database DB, at its path of SQLite's; else prints why it is not opened, and a log that was made for it
 /// goes.
 pub fn open_connection<S: Start>(
     rt: &HostRuntime,
@@ -136,12 +158,13 @@ pub fn open_connection<S: Start>(
     log: &Option<String>,
     start: S,
 ) -> Result<FilesFrom<S>, Result<Printed, Failure>>
+    requires { path.now ≡ plain_path db.now }
     ensures settled { IfOk result (λ conn. (file_state conn).in_transaction ≡ false) }
     ensures opened { IfOk result (λ conn. HasCleanDisk (file_state conn) → Opens (file_state conn)) }
     ensures found { IfOk result (λ conn. HasCleanDisk (file_state conn) → FindsIn (image_at S.Start) (file_state conn)) }
     ensures refused { IfErr result (IsRefused refused.Store) }
 {
-    match Connection::open_from(rt, path, false, start) {
+    match open_named(rt, db, path, start) {
         Ok(conn) => Ok(conn),
         Err((error, left)) => {
             if left.is_some() {
@@ -153,7 +176,7 @@ pub fn open_connection<S: Start>(
     }
 }
 
-/// Opens a desk on the database DB, at this path of SQLite's; else prints why there is none.
+/// Opens a desk on the database DB, at its path of SQLite's; else prints why there is none.
 pub fn open_desk<S: Start>(
     rt: &HostRuntime,
     db: &str,
@@ -161,6 +184,7 @@ pub fn open_desk<S: Start>(
     log: &Option<String>,
     start: S,
 ) -> Result<Desk<FileStore<FileFrom<S>>, View>, Result<Printed, Failure>>
+    requires { path.now ≡ plain_path db.now }
     ensures opened { IfOk result (OpensDesk over_files (image_at S.Start)) }
     ensures refused { IfErr result (HasNoDesk db.now) }
 {

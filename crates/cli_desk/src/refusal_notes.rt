@@ -3,7 +3,7 @@
 ghost use Rattle.std.specs.Prelude.{◌≡◌};
 ghost use Rattle.desk_service.specs.declared.refused.Refused.TheVariants as refused;
 ghost use Rattle.cli_desk.specs.RefusalLines.{IsRefused};
-ghost use Rattle.cli_desk.specs.RefusalNotes.{IsRefusedBy, copy_error};
+ghost use Rattle.cli_desk.specs.RefusalNotes.{IsRefusedBy, IsWithoutKey, copy_error};
 
 use crate::refusal_lines::refused;
 use cli_database_files::copy::is_out_of_memory;
@@ -169,11 +169,34 @@ fn advice_text(task: Task) -> &'static str {
     }
 }
 
+/// An edit without its key. What writes a note is given this, so no note can repeat a key.
+#[derive(Clone, Copy)]
+pub struct KeylessEdit<'a> {
+    pub file: &'a str,
+    pub base: u32,
+    pub caller: &'a str,
+    pub text: &'a str,
+}
+
+impl<'a> KeylessEdit<'a> {
+    /// Returns an edit without its key.
+    pub fn of(edit: &Edit<'a>) -> KeylessEdit<'a>
+        ensures { IsWithoutKey edit.now result }
+    {
+        KeylessEdit {
+            file: edit.file,
+            base: edit.base,
+            caller: edit.caller,
+            text: edit.text,
+        }
+    }
+}
+
 /// Says why an edit, whose text is that of the file of this path, is refused; of the fault of a site nothing.
 pub fn refusal_note(
     alloc: Global,
     path: &str,
-    edit: &Edit<'_>,
+    edit: KeylessEdit<'_>,
     refusal: &Refusal,
 ) -> Result<String, AllocError> {
     let name = edit.file;
@@ -201,7 +224,7 @@ pub fn refusal_note(
 }
 
 /// Says what the newest revision is, if an edit follows another one.
-fn stale_note(alloc: Global, edit: &Edit<'_>, newest: u32) -> Result<String, AllocError> {
+fn stale_note(alloc: Global, edit: KeylessEdit<'_>, newest: u32) -> Result<String, AllocError> {
     let name = edit.file;
     let base = edit.base;
     if newest == 0 {

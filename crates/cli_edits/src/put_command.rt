@@ -9,6 +9,7 @@ ghost use Rattle.sqlite.specs.Held.{state};
 ghost use Rattle.desk_core.specs.Edit.{asked};
 ghost use Rattle.desk_service.specs.declared.refused.Refused.TheVariants as refused;
 ghost use Rattle.cli_words.specs.Words.{rows_in};
+ghost use Rattle.cli_database_files.specs.DatabaseFile.{plain_path};
 ghost use Rattle.cli_desk.specs.RefusalLines.{IsRefused};
 ghost use Rattle.cli_edits.specs.PutCommand.{AnswersEdit, AnswersPut, HasReplies, IsKey, IsKeyIn, PrintsPut, PrintsReply, PutsFrom, key_fault, line_of};
 
@@ -19,7 +20,7 @@ use cli_database_files::log_file::{log_to_make, remove_log};
 use cli_desk::View;
 use cli_desk::desks::{FilesFrom, check_file, open_connection, put_over};
 use cli_desk::refusal_lines::refused;
-use cli_desk::refusal_notes::{refusal_note, refused_by_desk};
+use cli_desk::refusal_notes::{KeylessEdit, refusal_note, refused_by_desk};
 use cli_desk::site_notes::{NewText, edit_fault_note};
 use cli_files::files::{is_input, read_if_given};
 use cli_output::failure::Failure;
@@ -161,7 +162,7 @@ fn line_of(alloc: Global, words: &str, rev: u64) -> Result<String, AllocError>
     format!(in alloc; "{words}{rev}\n")
 }
 
-/// Opens the database at a path, and puts an edit into it. Beside the answer is the connection, if there is one.
+/// Opens the database DB, at its path of SQLite's, and puts an edit into it. Beside the answer is the connection, if there is one.
 fn open_files<S: Start>(
     rt: &HostRuntime,
     named: Named<'_>,
@@ -171,6 +172,7 @@ fn open_files<S: Start>(
     log: &Option<String>,
     start: S,
 ) -> (Result<Printed, Failure>, Option<FilesFrom<S>>)
+    requires { path.now ≡ plain_path named.db.now }
     ensures { PutsFrom over_files (image_at S.Start) (asked edit.now) replies result.0 result.1 }
 {
     match open_connection(rt, named.db, path, log, start) {
@@ -196,7 +198,7 @@ fn over_connection<S: Alter + Drop>(
     let put: Result<(_, Desk<S, View>), _> = put_over(alloc, conn, edit, replies);
     match put {
         Ok((reply, desk)) => {
-            let answer = reply_printed(alloc, named, &desk, edit, reply);
+            let answer = reply_printed(alloc, named, &desk, KeylessEdit::of(edit), reply);
             (answer, desk.into_connection())
         }
         Err((error, conn)) => (refused_by_desk(alloc, named.db, error), conn),
@@ -208,7 +210,7 @@ fn reply_printed<S: Alter + Drop>(
     alloc: Global,
     named: Named<'_>,
     desk: &Desk<S, View>,
-    edit: &Edit<'_>,
+    edit: KeylessEdit<'_>,
     reply: Result<String, DeskError>,
 ) -> Result<Printed, Failure>
     ensures { PrintsReply reply result }
@@ -242,7 +244,7 @@ fn edit_refused<S: Alter + Drop>(
     alloc: Global,
     path: &str,
     desk: &Desk<S, View>,
-    edit: &Edit<'_>,
+    edit: KeylessEdit<'_>,
     refusal: Refusal,
 ) -> Result<Printed, Failure>
     ensures { IsRefused (refused.Edit refusal) result }

@@ -9,7 +9,7 @@ use Rattle.desk_text.specs.declared.reading.LineFault.{LineFault}
 use Rattle.desk_expect.specs.Rules.{rule_name, rule_number, rule_sentence}
 use Rattle.desk_expect.specs.declared.rules.PlacedFault.{PlacedFault}
 use Rattle.desk_expect.specs.declared.rules.Rule.{Rule}
-use Rattle.desk_check.specs.FindingPrints.{marked_line}
+use Rattle.desk_check.specs.FindingPrints.{marked_line, shown_word}
 use Rattle.desk_shown.specs.ShownText.{shown_text}
 use Rattle.cli_output.specs.Printed.{Prints}
 use Rattle.cli_output.specs.declared.printed.Printed.{Printed}
@@ -33,9 +33,9 @@ position_text path line place = shown_text path ++ 58 ∷ decimal place.line ++ 
 abbrev pub rule_text : Rule → List ℕ
 rule_text rule = codes "fault " ++ decimal (rule_number rule) ++ 32 ∷ rule_name rule ++ codes ": "
 
--- the slice at fault, in quotes
+-- the slice at fault, in quotes, as a word
 abbrev pub slice_text : List ℕ → Place → List ℕ
-slice_text line place = codes "\"" ++ shown_text (slice_range line place.start place.end) ++ codes "\""
+slice_text line place = codes "\"" ++ shown_word (slice_range line place.start place.end) ++ codes "\""
 
 -- what is said of it
 abbrev pub sentence_text : Rule → List ℕ

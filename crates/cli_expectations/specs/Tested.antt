@@ -11,7 +11,9 @@ use Rattle.desk_expect.specs.declared.expectation.Expectation.{Expectation}
 use Rattle.desk_expect.specs.declared.report.TestReport.{TestReport}
 use Rattle.desk_expect.specs.declared.rules.PlacedFault.{PlacedFault}
 use Rattle.desk_server_prints.specs.LeftOutNote.{TellsLeftOut}
+use Rattle.desk_shown.specs.ShownText.{shown_text}
 use Rattle.cli_output.specs.Printed.{Prints}
+use Rattle.cli_output.specs.Shown.{shown_lines}
 use Rattle.cli_output.specs.declared.printed.Printed.{Printed}
 use Rattle.cli_expectations.specs.BreachesJson.{breaches_json}
 use Rattle.cli_expectations.specs.FaultPrints.{PrintsFault}
@@ -27,10 +29,10 @@ pub record Expected : Type 0 where
 abbrev pub expected_of : ExpectationsFile → Expected
 expected_of file = record { path = file.path.now; text = file.text.now; json = file.json }
 
--- what is broken of so many expectations of a file, as JSON or as text
+-- What is broken of so many expectations of a file: as JSON, or as text, as it is shown, with the name of the file.
 abbrev pub shown_broken : Bool → Content → List ℕ → ℕ → List BrokenValue → List ℕ
 shown_broken true content file count broken = breaches_json content file broken
-shown_broken false content file count broken = report_text content file count broken
+shown_broken false content file count broken = shown_lines (report_text content (shown_text file) count broken)
 
 -- the report has each of these expectations that is broken, with where and for whom, and how many there are
 pub record IsShownReport (content : Content) (file : List ℕ) (json : Bool) (expectations : List Expectation) (report : TestReport) : Type 0 where
@@ -51,7 +53,7 @@ pub record PrintsKept (content : Content) (file : List ℕ) (json : Bool) (expec
   pub report : TestReport
   pub is : IsShownReport content file json expectations report
   pub prints : Prints (if report.broken == 0 then 0 else 1) (string_bytes report.text) printed
-  pub beside : SaysBeside content file expectations (string_bytes printed.note)
+  pub beside : SaysBeside content (shown_text file) expectations (string_bytes printed.note)
 
 -- the text has expectations, with these tables, and which of them are broken is printed
 pub record PrintsRead (tables : SiteTables) (content : Content) (expected : Expected) (printed : Printed) : Type 0 where

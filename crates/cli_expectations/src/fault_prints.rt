@@ -7,7 +7,7 @@ ghost use Rattle.cli_expectations.specs.FaultPrints as spec;
 ghost use Rattle.cli_expectations.specs.FaultPrints.{PrintsFault};
 
 use cli_output::printed::Printed;
-use desk_check::{push_marked_line, push_shown};
+use desk_check::{push_marked_line, push_shown, push_word};
 use desk_expect::{PlacedFault, Rule};
 use desk_findings::{line_at, lines_of};
 use desk_text::{LineFault, Place};
@@ -105,7 +105,7 @@ fn push_slice(line: &str, place: Place, text: &mut String) -> Result<(), AllocEr
     ensures { OnOk result (string_bytes text.new ≡ string_bytes text.old ++ spec.slice_text line.now place) }
 {
     text.push('"')?;
-    push_shown(&line[place.start..place.end], text)?;
+    push_word(&line[place.start..place.end], text)?;
     text.push('"')
 }
 

@@ -1,6 +1,6 @@
 //! Whether a policy keeps what a text expects of it.
 
-ghost use Rattle.std.specs.Prelude.{◌≡◌, IfOk, true};
+ghost use Rattle.std.specs.Prelude.{◌≡◌, IfOk, false, true};
 ghost use Rattle.std.specs.String.{string_bytes};
 ghost use Rattle.desk_expect.specs.Outside.{outside_in, outside_text};
 ghost use Rattle.cli_expectations.specs.Tested.{IsShownReport, PrintsKept, PrintsTested, SaysBeside, expected_of};
@@ -9,6 +9,7 @@ use crate::breaches_json::breaches_json;
 use crate::expectations_file::ExpectationsFile;
 use crate::fault_prints::print_fault;
 use cli_output::printed::Printed;
+use cli_output::shown::{shown_lines, shown_name};
 use desk_expect::{
     Expectation, TestReport, find_broken, find_outside, outside_text, read_expectations,
     test_report,
@@ -47,7 +48,9 @@ fn print_kept(
 ) -> Result<Printed, AllocError>
     ensures { IfOk result (PrintsKept index.now file.now json expectations.now) }
 {
-    let note = beside_note(alloc, index, file, expectations)?;
+    let name = shown_name(alloc, file)?;
+    let shown = name.as_str();
+    let note = beside_note(alloc, index, shown, expectations)?;
     let report = shown_report(alloc, index, file, json, expectations)?;
     Ok(Printed {
         status: if report.broken == 0 { 0 } else { 1 },
@@ -98,8 +101,28 @@ fn shown_report(
     if json {
         json_report(alloc, index, file, expectations)
     } else {
-        test_report(alloc, index, file, expectations)
+        text_report(alloc, index, file, expectations)
     }
+}
+
+/// Reports them as text, as it is shown, with the name of the file.
+fn text_report(
+    alloc: Global,
+    index: &Index,
+    file: &str,
+    expectations: &[Expectation],
+) -> Result<TestReport, AllocError>
+    ensures { IfOk result (IsShownReport index.now file.now false expectations.now) }
+{
+    let name = shown_name(alloc, file)?;
+    let path = name.as_str();
+    let report = test_report(alloc, index, path, expectations)?;
+    let lines = report.text.as_str();
+    let text = shown_lines(alloc, lines)?;
+    Ok(TestReport {
+        text,
+        broken: report.broken,
+    })
 }
 
 /// Reports the same as JSON.

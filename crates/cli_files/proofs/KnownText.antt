@@ -1,10 +1,10 @@
--- The text of the bytes that a reader is known to have, for `files::read_text`.
+-- The text of the bytes that a reader is known to have, for `files::text_by`.
 use Rattle.std.proofs.Common.{◌≡◌, ◌<◌, ◌≤◌, ◌⊎◌, ℕ, Bool, true, false, true≢false, codes, List, [], length, take, Option, Some, None, IfSome, Result, Ok, Err, String, nat_lt, refl, sym, subst, ap, ◌∙◌, arith, inl, inr}
 use Rattle.std.proofs.lemmas.Bool.Decides.{nat_tests}
 use Rattle.std.proofs.lemmas.List.{length-take-le, take_all}
 use Rattle.std.proofs.lemmas.Slice.Eq.{bytes_eq-Decides}
 use Rattle.std.specs.Str.{bytes_eq}
-use Rattle.cli_files.specs.Files.{IsNoText, ReadsText, TakesText}
+use Rattle.cli_files.specs.Files.{IsNoText, ReadsNamed, ReadsText, TakesText}
 use Rattle.cli_output.specs.Failure.{IsUnread}
 use Rattle.cli_files.specs.Input.{longest_input, text_of}
 use Rattle.cli_output.specs.declared.failure.Failure.{Failure}
@@ -55,3 +55,19 @@ module _ {A : Type 0} where
   pub unread_text : (argument : List ℕ) (word : List ℕ) (known : Option (List ℕ)) (failure : Failure) → IsUnread argument word failure → ReadsText {A = A} argument word known (Err failure)
   unread_text argument word None failure unread = record { bytes = []; contents = λ dash. tt; text = no_text argument word (text_of []) failure unread }
   unread_text argument word (Some given) failure unread = record { bytes = given; contents = λ dash. refl; text = no_text argument word (text_of given) failure unread }
+
+  -- the text of the bytes that were read of a named file
+  pub named_text : (argument : List ℕ) (word : List ℕ) (known : Option (List ℕ)) (bytes : List ℕ) (result : Result (String A) Failure) → IfSome known (λ given. bytes ≡ take 16777217 given) → TakesText argument word (text_of bytes) result → ReadsNamed argument word known result
+  named_text argument word None bytes result read taken = record { bytes = bytes; contents = tt; text = taken }
+  named_text argument word (Some given) bytes result read taken = record {
+    bytes = given;
+    contents = refl;
+    text =
+        subst (λ (text : Result (List ℕ) TextFault). TakesText argument word text result)
+        (ap text_of read ∙ text_of_front given) taken;
+  }
+
+  -- the failure where no byte of a named file matters
+  pub unread_named : (argument : List ℕ) (word : List ℕ) (known : Option (List ℕ)) (failure : Failure) → IsUnread argument word failure → ReadsNamed {A = A} argument word known (Err failure)
+  unread_named argument word None failure unread = record { bytes = []; contents = tt; text = no_text argument word (text_of []) failure unread }
+  unread_named argument word (Some given) failure unread = record { bytes = given; contents = refl; text = no_text argument word (text_of given) failure unread }

@@ -34,6 +34,13 @@ module _ {A : Type 0} where
     pub contents : IsContents word known bytes
     pub text : TakesText argument word (text_of bytes) result
 
+module _ {A : Type 0} where
+  -- the text of a file that has these bytes, if a contract can name them, or why there is none
+  pub record ReadsNamed (argument : List ℕ) (word : List ℕ) (known : Option (List ℕ)) (result : Result (String A) Failure) : Type 0 where
+    pub bytes : List ℕ
+    pub contents : IfSome known (λ given. bytes ≡ given)
+    pub text : TakesText argument word (text_of bytes) result
+
 -- behind a file an input has what it had, unless that file was standard input
 abbrev pub Leaves : Option (List ℕ) → Option (List ℕ) → Option (List ℕ) → Type 0
 Leaves word known left = word ≢ Some (codes "-") → left ≡ known

@@ -1,6 +1,7 @@
 -- The texts and lines of bytes that come from outside: of files, and of standard input. (this project's own)
-use Rattle.std.specs.Prelude.{ℕ, ◌+◌, ◌==◌, ◌||◌, nat_le, nat_lt, Bool, List, length, take, count_by, Result, Ok, Err, if◌then◌else◌}
+use Rattle.std.specs.Prelude.{◌∷◌, [], Option, Some, None, ℕ, ◌+◌, ◌==◌, ◌||◌, nat_le, nat_lt, Bool, List, length, take, count_by, Result, Ok, Err, if◌then◌else◌}
 use Rattle.std.specs.Io.BufRead.{ends_with_byte, strip_last}
+use Rattle.std.specs.Io.KnownBytes.{Consumes, IsAtEnd, Keeps}
 use Rattle.std.specs.List.{after_last}
 use Rattle.std.specs.Str.{is_utf8}
 use Rattle.std.specs.Str.Lossy.{utf8_valid_len}
@@ -41,3 +42,8 @@ without_line_end line = if ends_with_byte 10 line then strip_last 13 (strip_last
 -- the first line of standard input without its line end, if it is not too long
 abbrev pub first_line : List ℕ → Result (List ℕ) TextFault
 first_line line = if nat_lt longest_input (length (without_line_end line)) then Err TooLong else Ok (without_line_end line)
+
+-- an input gave its next byte and has the others left, or has none
+abbrev pub GivesByte : Option (List ℕ) → Option (List ℕ) → Option ℕ → Type 0
+GivesByte old new (Some byte) = Consumes old new (byte ∷ [])
+GivesByte old new None = Keeps old new × IsAtEnd new

@@ -5,13 +5,14 @@ ghost use Rattle.std.specs.String.{string_bytes};
 ghost use Rattle.cli_files.specs.Files as spec;
 ghost use Rattle.std.specs.Option.{option_map};
 ghost use Rattle.cli_output.specs.Failure.{IsUnread};
-ghost use Rattle.cli_files.specs.Files.{Leaves, ReadsIfGiven, ReadsText};
+ghost use Rattle.cli_files.specs.Files.{Leaves, ReadsIfGiven, ReadsNamed, ReadsText};
 
-use crate::input::{LONGEST_INPUT, read_bytes, text_of};
+use crate::input::{read_bytes, text_of};
+use crate::opening::Opens;
 use cli_output::failure::{Failure, ReadFailure};
 use std::alloc::Global;
+use std::io;
 use std::io::BufRead;
-use std::{fs, io};
 
 /// Tests whether a word names standard input.
 pub fn is_input(word: &str) -> bool
@@ -31,10 +32,26 @@ pub fn read_text<I: BufRead>(
     ensures short { IfOk result (λ text. length (string_bytes text) ≤ 16777216) }
     ensures untouched { word.now ≢ codes "-" → input.new ≡ input.old }
 {
-    let bytes = read_file(rt, argument, word, input)?;
+    text_by(rt, rt.alloc(), argument, word, input)
+}
+
+/// Reads the text of the file that a word names, by what opens it.
+fn text_by<S: Opens, I: BufRead>(
+    system: &S,
+    alloc: Global,
+    argument: &'static str,
+    word: &str,
+    input: &mut I,
+) -> Result<String, Failure>
+    ensures text { ReadsText argument.now word.now (I.remaining input.old) result }
+    ensures named { word.now ≢ codes "-" → ReadsNamed argument.now word.now (S.holds system.now word.now) result }
+    ensures short { IfOk result (λ text. length (string_bytes text) ≤ 16777216) }
+    ensures untouched { word.now ≢ codes "-" → input.new ≡ input.old }
+{
+    let bytes = read_file(system, alloc, argument, word, input)?;
     match text_of(bytes) {
         Ok(text) => Ok(text),
-        Err(fault) => Err(Failure::of_file(rt.alloc(), argument, word, ReadFailure::Text(fault))),
+        Err(fault) => Err(Failure::of_file(alloc, argument, word, ReadFailure::Text(fault))),
     }
 }
 
@@ -56,47 +73,43 @@ pub fn read_if_given<I: BufRead>(
 }
 
 /// Reads the bytes of a file.
-fn read_file<I: BufRead>(
-    rt: &HostRuntime,
+fn read_file<S: Opens, I: BufRead>(
+    system: &S,
+    alloc: Global,
     argument: &'static str,
     word: &str,
     input: &mut I,
 ) -> Result<Vec<u8>, Failure>
     ensures read { word.now ≡ codes "-" → IfSome (I.remaining input.old)
         (λ given. IfOk result (λ bytes. bytes.items ≡ take 16777217 given)) }
+    ensures named { word.now ≢ codes "-" → IfSome (S.holds system.now word.now)
+        (λ given. IfOk result (λ bytes. bytes.items ≡ take 16777217 given)) }
     ensures unread { IfErr result (IsUnread argument.now word.now) }
     ensures untouched { word.now ≢ codes "-" → input.new ≡ input.old }
 {
-    match open_and_read(rt, word, input) {
+    match open_and_read(system, alloc, word, input) {
         Ok(bytes) => Ok(bytes),
-        Err(error) => Err(Failure::of_file(
-            rt.alloc(),
-            argument,
-            word,
-            ReadFailure::of_error(error)?,
-        )),
+        Err(error) => Err(Failure::of_file(alloc, argument, word, ReadFailure::of_error(error)?)),
     }
 }
 
 /// Reads the file that a word names; `-` is standard input.
-fn open_and_read<I: BufRead>(rt: &HostRuntime, word: &str, input: &mut I) -> io::Result<Vec<u8>>
+fn open_and_read<S: Opens, I: BufRead>(
+    system: &S,
+    alloc: Global,
+    word: &str,
+    input: &mut I,
+) -> io::Result<Vec<u8>>
     ensures read { word.now ≡ codes "-" → IfSome (I.remaining input.old)
+        (λ given. IfOk result (λ bytes. bytes.items ≡ take 16777217 given)) }
+    ensures named { word.now ≢ codes "-" → IfSome (S.holds system.now word.now)
         (λ given. IfOk result (λ bytes. bytes.items ≡ take 16777217 given)) }
     ensures untouched { word.now ≢ codes "-" → input.new ≡ input.old }
 {
     if word == "-" {
-        return read_bytes(rt.alloc(), input, 0);
+        return read_bytes(alloc, input, 0);
     }
-    let file = fs::open(rt, word)?;
-    let room = room_for(&file);
-    read_bytes(rt.alloc(), file, room)
-}
-
-/// Returns how many bytes to make room for before a file is read: its length, up to the most of a text, and one byte more, in
-/// which its end is found.
-fn room_for(file: &fs::File) -> usize {
-    match file.metadata() {
-        Ok(found) => found.len().min(LONGEST_INPUT as u64) as usize + 1,
-        Err(_) => 0,
-    }
+    let file = system.open(word)?;
+    let room = system.room_for(&file);
+    read_bytes(alloc, file, room)
 }

@@ -1,16 +1,18 @@
 //! Bytes from outside, read as far as a limit reaches, and taken as a text or as a line: those of a file, or of standard input.
 
-ghost use Rattle.std.specs.Prelude.{◌≡◌, ◌≤◌, ◌==◌, IfOk, IfSome, length, take};
+ghost use Rattle.std.specs.Prelude.{◌≡◌, ◌≤◌, ◌==◌, IfOk, IfSome, OnErr, length, take};
 ghost use Rattle.std.specs.Io.BufRead.{strip_last, take_through};
+ghost use Rattle.std.specs.Io.KnownBytes.{Consumes, Keeps};
 ghost use Rattle.std.specs.List.{after_last};
 ghost use Rattle.std.specs.Result.{result_map_both};
 ghost use Rattle.std.specs.String.{string_bytes};
 ghost use Rattle.cli_files.specs.Input as spec;
+ghost use Rattle.cli_files.specs.Input.{GivesByte};
 
 use cli_output::failure::TextFault;
 use std::alloc::Global;
 use std::io;
-use std::io::{BufRead, Read};
+use std::io::{BufRead, ErrorKind, Read};
 
 /// The most bytes of a file, and of the first line of standard input without its line end.
 pub const LONGEST_INPUT: usize = 16_777_216;
@@ -26,15 +28,52 @@ pub fn read_bytes<R: Read + Drop>(alloc: Global, reader: R, room: usize) -> io::
     Ok(bytes)
 }
 
-/// Reads the first line that a reader gives, with its line end, and stops behind the most bytes of a text and CR LF.
+/// Reads the first line that a reader gives, with its line end, and stops behind the most bytes of a text and CR LF. All that
+/// follows is left to the reader.
+#[tactic(auto, using(crate::proofs::KnownBytes::ended_line, crate::proofs::KnownBytes::unended_line, crate::proofs::KnownBytes::line_at_limit, crate::proofs::KnownBytes::pushed))]
 pub fn read_line<I: BufRead>(alloc: Global, input: &mut I) -> io::Result<Vec<u8>>
-    ensures { IfSome (I.remaining input.old)
+    ensures line { IfSome (I.remaining input.old)
         (λ given. IfOk result (λ line. line.items ≡ take_through 10 (take 16777218 given))) }
+    ensures rest { IfOk result (λ line. Consumes (I.remaining input.old) (I.remaining input.new) line.items) }
 {
     let mut bytes = Vec::new(alloc);
-    let mut input = input.take(LONGEST_INPUT as u64 + 2);
-    input.read_until(b'\n', &mut bytes)?;
+    while bytes.len() < LONGEST_INPUT + 2 {
+        let Some(byte) = read_byte(input)? else {
+            return Ok(bytes);
+        };
+        bytes.push(byte)?;
+        if byte == b'\n' {
+            return Ok(bytes);
+        }
+    }
     Ok(bytes)
+}
+
+/// Reads one byte, if there is one. A read that is interrupted is made again.
+#[tactic(auto, using(crate::proofs::KnownBytes::given_byte))]
+fn read_byte<I: BufRead>(input: &mut I) -> io::Result<Option<u8>>
+    ensures { IfOk result (GivesByte (I.remaining input.old) (I.remaining input.new)) }
+{
+    for _ in 0..usize::MAX {
+        match try_byte(input) {
+            Err(error) if error.kind() == ErrorKind::Interrupted => {}
+            read => return read,
+        }
+    }
+    Err(io::Error::from(ErrorKind::Interrupted))
+}
+
+/// Reads one byte, if there is one.
+fn try_byte<I: BufRead>(input: &mut I) -> io::Result<Option<u8>>
+    ensures read { IfOk result (GivesByte (I.remaining input.old) (I.remaining input.new)) }
+    ensures kept { OnErr result (Keeps (I.remaining input.old) (I.remaining input.new)) }
+{
+    let mut room = [0; 1];
+    match input.read(&mut room) {
+        Ok(0) => Ok(None),
+        Ok(_) => Ok(Some(room[0])),
+        Err(error) => Err(error),
+    }
 }
 
 /// Takes the first line of these bytes, without its line end.

@@ -10,4 +10,5 @@
 
 pub mod files;
 pub mod input;
+mod opening;
 pub mod site_folder;

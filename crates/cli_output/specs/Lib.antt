@@ -1,2 +1,3 @@
 pub mod Failure
 pub mod Printed
+pub mod Shown

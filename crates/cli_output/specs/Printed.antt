@@ -1,5 +1,5 @@
 -- What a command prints on standard output, and its exit status. (this project's own)
-use Rattle.std.specs.Prelude.{◌≡◌, ℕ, List, [], Result, Ok, Err}
+use Rattle.std.specs.Prelude.{◌≡◌, ◌⊎◌, ℕ, List, [], ◌∷◌, ◌++◌, Result, Ok, Err, codes}
 use Rattle.std.specs.String.{string_bytes}
 use Rattle.cli_output.specs.declared.failure.Failure.{Failure}
 use Rattle.cli_output.specs.declared.failure.Failure.TheVariants.{Memory}
@@ -25,3 +25,19 @@ status_of (Err failure) = 2
 abbrev pub text_of : Result Printed Failure → List ℕ
 text_of (Ok printed) = string_bytes printed.text
 text_of (Err failure) = []
+
+-- the line that says that memory ran out
+abbrev pub memory_line : List ℕ
+memory_line = codes "refused 203 Memory" ++ 10 ∷ []
+
+-- the first bytes of a text are printed, up to the whole
+pub record PrintsFront (text : List ℕ) (Prints : List ℕ → Type 0) : Type 0 where
+  pub front : List ℕ
+  pub rest : List ℕ
+  pub text_is : text ≡ front ++ rest
+  pub prints : Prints front
+
+-- What stands on standard output at the exit status 4: the answer, or that memory ran out; of either less than the whole if the print
+-- failed.
+abbrev pub PrintsAtFour : Result Printed Failure → (List ℕ → Type 0) → Type 0
+PrintsAtFour answer Prints = PrintsFront (text_of answer) Prints ⊎ PrintsFront memory_line Prints

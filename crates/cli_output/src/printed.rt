@@ -1,13 +1,16 @@
 //! How a command ends: what it prints, and its exit status.
 
-ghost use Rattle.std.specs.Prelude.{◌≡◌, ◌≢◌, ◌⊎◌, OnOk};
+ghost use Rattle.std.specs.Prelude.{◌≡◌, ◌≢◌, ◌⊎◌, IfOk, OnOk};
 ghost use Rattle.std.specs.Io.KnownBytes.{Appends};
 ghost use Rattle.cli_output.specs.Printed as spec;
+ghost use Rattle.cli_output.specs.Printed.{PrintsAtFour, PrintsFront};
+ghost use Rattle.cli_output.specs.Shown.{shown_lines};
 
 use crate::failure::{Failure, Origin, message};
-use std::alloc::Global;
+use crate::shown::shown_lines;
+use std::alloc::{AllocError, Global};
 use std::io;
-use std::io::Write;
+use std::io::{ErrorKind, Write};
 
 /// What a command prints, in whole lines, and its exit status.
 #[derive(Drop)]
@@ -20,7 +23,8 @@ pub struct Printed {
     pub note: String,
 }
 
-/// Prints what a command answers, or why it has no answer, and returns the exit status.
+/// Prints what a command answers, or why it has no answer, and returns the exit status. At the status 4 nothing else is printed than the
+/// answer, or that memory ran out, or a front of one of these if the print fails.
 pub fn report<O: Write, E: Write>(
     alloc: Global,
     origin: Origin,
@@ -30,26 +34,45 @@ pub fn report<O: Write, E: Write>(
 ) -> u8
     ensures status { (result ≡ spec.status_of answer) ⊎ (result ≡ 4) }
     ensures printed { result ≢ 4 → Appends (O.contents out.old) (O.contents out.new) (spec.text_of answer) }
+    ensures at_four { result ≡ 4 → PrintsAtFour answer (Appends (O.contents out.old) (O.contents out.new)) }
 {
     match answer {
-        Ok(printed) => {
-            let _ = err.write_all(printed.note.as_bytes());
-            print(printed.text.as_str(), printed.status, out, err)
-        }
+        Ok(printed) => match say(alloc, printed.note.as_str(), err) {
+            Ok(_) => print(printed.text.as_str(), printed.status, out, err),
+            Err(_) => print_memory(out, err),
+        },
         Err(Failure::Memory) => print_memory(out, err),
-        Err(failure) => match message(alloc, origin, &failure) {
-            Ok(text) => {
-                let _ = err.write_all(text.as_bytes());
-                2
-            }
+        Err(failure) => match say_failure(alloc, origin, &failure, err) {
+            Ok(_) => 2,
             Err(_) => print_memory(out, err),
         },
     }
 }
 
+/// Says why a command has no answer on standard error.
+fn say_failure<E: Write>(
+    alloc: Global,
+    origin: Origin,
+    failure: &Failure,
+    err: &mut E,
+) -> Result<io::Result<()>, AllocError> {
+    let text = message(alloc, origin, failure)?;
+    say(alloc, text.as_str(), err)
+}
+
+/// Says lines on standard error as they are shown, with each control character by its code; an error of the writer is given in the
+/// result.
+pub fn say<E: Write>(alloc: Global, lines: &str, err: &mut E) -> Result<io::Result<()>, AllocError>
+    ensures { IfOk result (λ said. OnOk said (Appends (E.contents err.old) (E.contents err.new) (shown_lines lines.now))) }
+{
+    let shown = shown_lines(alloc, lines)?;
+    Ok(write(shown.as_bytes(), err))
+}
+
 /// Prints that memory ran out, and returns the status.
 pub fn print_memory<O: Write, E: Write>(out: &mut O, err: &mut E) -> u8
-    ensures { result ≡ 4 }
+    ensures status { result ≡ 4 }
+    ensures printed { PrintsFront spec.memory_line (Appends (O.contents out.old) (O.contents out.new)) }
 {
     print("refused 203 Memory\n", 4, out, err)
 }
@@ -58,8 +81,9 @@ pub fn print_memory<O: Write, E: Write>(out: &mut O, err: &mut E) -> u8
 fn print<O: Write, E: Write>(text: &str, status: u8, out: &mut O, err: &mut E) -> u8
     ensures status { (result ≡ status) ⊎ (result ≡ 4) }
     ensures printed { result ≢ 4 → Appends (O.contents out.old) (O.contents out.new) text.now }
+    ensures front { PrintsFront text.now (Appends (O.contents out.old) (O.contents out.new)) }
 {
-    match write(text, out) {
+    match write(text.as_bytes(), out) {
         Ok(()) => status,
         Err(error) => {
             let _ = writeln!(err, "exportdesk: standard output: {error}");
@@ -68,10 +92,25 @@ fn print<O: Write, E: Write>(text: &str, status: u8, out: &mut O, err: &mut E) -
     }
 }
 
-/// Writes a text and flushes the writer.
-fn write<O: Write>(text: &str, out: &mut O) -> io::Result<()>
-    ensures { OnOk result (Appends (O.contents out.old) (O.contents out.new) text.now) }
+/// Writes a text and flushes the writer; if that fails, a front of the text is written.
+fn write<O: Write>(text: &[u8], out: &mut O) -> io::Result<()>
+    ensures whole { OnOk result (Appends (O.contents out.old) (O.contents out.new) text.now) }
+    ensures front { PrintsFront text.now (Appends (O.contents out.old) (O.contents out.new)) }
 {
-    out.write_all(text.as_bytes())?;
-    out.flush()
+    let mut rest = text;
+    for _ in 0..u64::MAX {
+        if rest.is_empty() {
+            return out.flush();
+        }
+        match out.write(rest) {
+            Ok(0) => return Err(io::Error::from(ErrorKind::WriteZero)),
+            Ok(count) => rest = &rest[count..],
+            Err(error) => {
+                if error.kind() != ErrorKind::Interrupted {
+                    return Err(error);
+                }
+            }
+        }
+    }
+    Err(io::Error::from(ErrorKind::Interrupted))
 }

@@ -15,6 +15,7 @@ use Rattle.desk_service.specs.Sites.{WholeSite}
 use Rattle.desk_service.specs.declared.refused.Refused.TheVariants as refused
 use Rattle.cli_output.specs.Failure.{IsUnread}
 use Rattle.cli_output.specs.Printed.{Prints}
+use Rattle.cli_output.specs.Shown.{shown_lines}
 use Rattle.cli_output.specs.declared.failure.Failure.{Failure}
 use Rattle.cli_output.specs.declared.printed.Printed.{Printed}
 use Rattle.cli_verdict.specs.Ranges.{PrintsRanges}
@@ -75,11 +76,11 @@ PrintsSite site (Breaches expected) printed = PrintsTested site.tables site.cont
 PrintsSite site (Mounts question) printed = (tried : Tried) × Answers site.tables site.content question tried × PrintsTried tried printed
 PrintsSite site (Ranges path mountd) printed = PrintsRanges mountd site.content path printed
 
--- a report of what would change is printed: status 0 if nothing changes for a client, else 1
+-- a report of what would change is printed as it is shown: status 0 if nothing changes for a client, else 1
 pub record PrintsChanges (asked : Asked) (foreseen : Foreseen) (printed : Printed) : Type 0 where
   pub report : Report
   pub is : IsReport foreseen.before (content_after foreseen) asked.all report
-  pub prints : Prints (if report.mattering == 0 then 0 else 1) (string_bytes report.text) printed
+  pub prints : Prints (if report.mattering == 0 then 0 else 1) (shown_lines (string_bytes report.text)) printed
 
 -- An answer is printed: a verdict as `try` does; a text as it is, of a revision or of a proposal; lists of revisions, of ranges and of
 -- files in lines; what would change as a report; what is wanted of a site; and a refusal as its line.

@@ -1,5 +1,4 @@
-//! The commands that ask a database: what may be mounted, what its files say, which files there are, what a text would change, and
-//! whether its site keeps what is expected of it.
+//! The commands that ask a database: `ask`, `show`, `exports`, `who`, `log`, `cat`, `proposal`, `files`, `impact` and `audit`.
 //!
 //! Its promise: each answers by the history that a copy of the database holds, and stores nothing: of version 1, the copy alone
 //! is migrated. What is asked, and the answers as data, are desk_service's; this crate parses the words and prints the answers.

@@ -22,6 +22,7 @@ use cli_desk::refusal_lines::refused;
 use cli_expectations::tested::print_tested;
 use cli_output::failure::Failure;
 use cli_output::printed::Printed;
+use cli_output::shown::shown_lines;
 use cli_verdict::{print_ranges, print_tried, printed_verdict, tried_by};
 use desk_core::Foresight;
 use desk_impact::{Report, impact_report, lines_report};
@@ -136,8 +137,8 @@ fn print_proposal(alloc: Global, name: &str, proposal: &ProposalText) -> Result<
     })
 }
 
-/// Prints what would change. Standard error says who proposes the text, or that it would be proposed, and what mountd(8) would grant
-/// more.
+/// Prints what would change, as it is shown. Standard error says who proposes the text, or that it would be proposed, and what
+/// mountd(8) would grant more.
 fn print_changes(
     alloc: Global,
     desk: &CopiedDesk,
@@ -151,9 +152,10 @@ fn print_changes(
     let mut note = foreseen_note(alloc, asked.question, foreseen)?;
     note.push_str(news.as_str())?;
     let report = report_of(alloc, foreseen, asked.all)?;
+    let text = shown_lines(alloc, report.text.as_str())?;
     Ok(Printed {
         status: if report.mattering == 0 { 0 } else { 1 },
-        text: report.text,
+        text,
         note,
     })
 }

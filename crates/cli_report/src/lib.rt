@@ -1,4 +1,4 @@
-//! The command that prints the page of a report.
+//! The command `report`: it prints the page of a report.
 //!
 //! Its promise: the page is that of the newest revisions and of the proposals that a copy of the database holds, with the word that names
 //! it. Nothing is stored: of version 1, the copy alone is migrated.

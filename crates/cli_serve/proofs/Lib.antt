@@ -1,2 +1,2 @@
-pub mod NoMessages
+pub mod Runs
 pub mod ServeAnswers

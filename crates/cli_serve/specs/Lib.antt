@@ -1,3 +1,4 @@
+pub mod Kept
 pub mod Limits
 pub mod Loopback
 pub mod PrivateLimits

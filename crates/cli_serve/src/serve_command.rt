@@ -10,10 +10,11 @@ ghost use Rattle.cli_serve.specs.PrivateServe.{Starts};
 ghost use Rattle.cli_serve.specs.ServeCommand.{IsBadLimit, IsUnbound, ReadsAsked, RefusesServe, StartsServe, limit_number, listening_line};
 
 use crate::loopback::loopback;
-use crate::serving::serve_on;
+use crate::serving::Serving;
 use clap::ArgMatches;
 use cli_database_files::database_file::plain_path;
 use cli_database_files::log_file::{log_to_make, remove_log};
+use cli_database_files::names::Names;
 use cli_desk::View;
 use cli_desk::desks::{check_file, open_desk};
 use cli_output::failure::Failure;
@@ -21,14 +22,18 @@ use cli_output::printed::Printed;
 use cli_words::values::{read_count, read_port};
 use cli_words::words::{given, required};
 use desk_store::Desk;
+use mio::net::TcpListener;
 use sqlite::{FileFrom, FileStore, Wary};
 use std::alloc::{AllocError, Global};
 use std::io;
 use std::io::{ErrorKind, Write};
-use std::net::TcpListener;
+use std::os::fd::RawFd;
 
 /// How long a message, its reply, and the time between two may take, in seconds, if the words do not say it.
 const DEFAULT_SECONDS: u32 = 5;
+
+/// The descriptor of standard error.
+const STANDARD_ERROR: RawFd = 2;
 
 /// What `serve` is asked.
 #[derive(Clone, Copy)]
@@ -53,7 +58,7 @@ pub struct Started {
 #[derive(Drop)]
 pub struct Service {
     desk: Desk<FileStore<FileFrom<Wary>>, View>,
-    listener: TcpListener,
+    serving: Serving,
     /// How many connections are served.
     pub connections: u32,
     /// How long a message, its reply, and the time between two may take, in seconds; 0 for no limit.
@@ -63,16 +68,25 @@ pub struct Service {
 }
 
 impl Service {
-    /// Serves its connections, one after another. What is to be reported meanwhile goes to `err`.
-    pub fn run<E: Write>(&mut self, rt: &HostRuntime, err: &mut E) {
-        let limit = u64::from(self.seconds) * 1000;
-        let connections = self.connections;
-        serve_on(rt, &mut self.desk, &self.listener, connections, limit, err);
+    /// Serves its connections, beside one another. What is to be reported meanwhile goes to `err`, which is standard error. Tells whether it
+    /// served them all: it ends if an edit was made in files that were moved, removed or replaced.
+    pub fn run<E: Write>(&mut self, rt: &HostRuntime, err: &mut E) -> bool {
+        self.serving.run(rt, &mut self.desk, err);
+        if !self.serving.has_lost() {
+            return true;
+        }
+        let _ = err.write_all(
+            b"exportdesk: DB or its log (DB-wal) was moved, removed or replaced: it is served no longer\n",
+        );
+        false
     }
 
-    /// Ends. A log that was made for nothing goes before the lock goes with the desk: after that, another process may write it.
+    /// Ends. A log that was made for nothing goes before the lock goes with the desk: after that, another process may write it. What stands
+    /// at its name once the files lost theirs is not its own.
     pub fn close(self, rt: &HostRuntime) {
-        remove_log(rt, &self.log);
+        if !self.serving.has_lost() {
+            remove_log(rt, &self.log);
+        }
         drop(self);
     }
 }
@@ -145,8 +159,11 @@ fn start_on(rt: &HostRuntime, asked: Asked<'_>) -> Result<Started, Result<Printe
     let Ok(log) = log_to_make(rt, asked.db) else {
         return Err(Err(Failure::Memory));
     };
+    let Ok(names) = Names::of(rt, asked.db) else {
+        return Err(Err(Failure::Memory));
+    };
     match open_desk(rt, asked.db, path.as_str(), &log, Wary) {
-        Ok(desk) => listen(rt, desk, asked, log, line),
+        Ok(desk) => listen(rt, desk, asked, log, line, names),
         Err(answer) => Err(answer),
     }
 }
@@ -165,12 +182,13 @@ fn listen(
     asked: Asked<'_>,
     log: Option<String>,
     line: String,
+    names: Names,
 ) -> Result<Started, Result<Printed, Failure>>
     requires { string_bytes line ≡ listening_line asked.port }
     ensures { Starts asked.entry result }
 {
-    match TcpListener::bind(rt, loopback(asked.port)) {
-        Ok(listener) => Ok(Started {
+    match serving(rt, asked, names) {
+        Ok(serving) => Ok(Started {
             printed: Printed {
                 status: 0,
                 text: line,
@@ -178,7 +196,7 @@ fn listen(
             },
             service: Service {
                 desk,
-                listener,
+                serving,
                 connections: asked.connections,
                 seconds: asked.seconds,
                 log,
@@ -190,6 +208,17 @@ fn listen(
             Err(Err(unbound(asked.port, error)))
         }
     }
+}
+
+/// Binds the port, and makes ready to serve.
+fn serving(rt: &HostRuntime, asked: Asked<'_>, names: Names) -> io::Result<Serving> {
+    let listener = TcpListener::bind(rt, loopback(asked.port))?;
+    let limit = u64::from(asked.seconds) * 1000;
+    let mut serving = Serving::new(rt, listener, asked.connections, limit, Some(STANDARD_ERROR))?;
+    let mut names = names;
+    names.note_log(rt);
+    serving.watch(names);
+    Ok(serving)
 }
 
 /// Returns the failure to bind a port.

@@ -11,6 +11,7 @@ use Rattle.desk_server_notes.specs.NewsNote.{TellsNews}
 use Rattle.desk_findings.specs.declared.check_text.WholeSources.{WholeSources}
 use Rattle.cli_output.specs.declared.failure.Failure.{Failure}
 use Rattle.cli_output.specs.Printed.{Prints}
+use Rattle.cli_output.specs.Shown.{shown_lines}
 use Rattle.cli_output.specs.declared.printed.Printed.{Printed}
 use Rattle.cli_words.specs.Words.{After, ByWord, is_set}
 use Rattle.cli_texts.specs.TwoFiles.{two_files, two_list, whole_first, whole_second}
@@ -20,14 +21,14 @@ use Rattle.cli_texts.specs.TableFiles.{ReadsSources}
 use Rattle.cli_texts.specs.WholeTables.{Writes, policy_of}
 use Rattle.cli_texts.specs.declared.two_files.TwoSources.{TwoSources}
 
--- What changes from a policy to the one that an exports text is read as is printed; the status is 0 if nothing matters to a client.
--- Beside it stands what mountd(8) grants more than before.
+-- What changes from a policy to the one that an exports text is read as is printed as it is shown; the status is 0 if nothing matters to
+-- a client. Beside it stands what mountd(8) grants more than before.
 pub record PrintsChanges (before : Content) (read : Result Content SiteFault) (all : Bool) (printed : Printed) : Type 0 where
   pub after : Content
   pub written : Writes read after
   pub report : Report
   pub is_report : IsReport before after all report
-  pub prints : Prints (if report.mattering == 0 then 0 else 1) (string_bytes report.text) printed
+  pub prints : Prints (if report.mattering == 0 then 0 else 1) (shown_lines (string_bytes report.text)) printed
   pub beside : TellsNews before after (string_bytes printed.note)
 
 -- OLD is read as a policy, and what changes from it to NEW is printed, or the fault of NEW

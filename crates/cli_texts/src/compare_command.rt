@@ -17,6 +17,7 @@ use crate::whole_tables::view_of;
 use clap::ArgMatches;
 use cli_output::failure::Failure;
 use cli_output::printed::Printed;
+use cli_output::shown::shown_lines;
 use cli_words::words::{is_set, required};
 use desk_findings::{WholeSources, read_sources};
 use desk_impact::impact_report;
@@ -116,7 +117,7 @@ fn compare_with(
     }
 }
 
-/// Prints what changes from a policy to that of NEW. Standard error says what mountd(8) grants more than before.
+/// Prints what changes from a policy to that of NEW, as it is shown. Standard error says what mountd(8) grants more than before.
 fn print_changes(
     alloc: Global,
     before: &View,
@@ -132,9 +133,10 @@ fn print_changes(
     let after = view_of(alloc, sources, tables, filesystems)?;
     let note = news_note(alloc, before, &after)?;
     let report = impact_report(alloc, before, &after, all)?;
+    let text = shown_lines(alloc, report.text.as_str())?;
     Ok(Printed {
         status: if report.mattering == 0 { 0 } else { 1 },
-        text: report.text,
+        text,
         note,
     })
 }

@@ -18,6 +18,7 @@ use Rattle.desk_server_prints.specs.LeftOutNote.{TellsLeftOut}
 use Rattle.desk_server_prints.specs.Wider.{wider_line, wider_note}
 use Rattle.desk_why.specs.WhyPrints.{why_text}
 use Rattle.cli_output.specs.Printed.{Prints}
+use Rattle.cli_output.specs.Shown.{shown_lines}
 use Rattle.cli_output.specs.declared.printed.Printed.{Printed}
 use Rattle.cli_verdict.specs.declared.asking.Asking.{Asking}
 use Rattle.cli_verdict.specs.declared.asking.Asking.TheVariants.{Reasons, Server, Verdict}
@@ -55,10 +56,10 @@ answer_above reasons content own verdict =
 abbrev pub answer_on : Content → Option Cred → Result Grant Denial → Answer
 answer_on content own verdict = answer_above [] content own verdict
 
--- the reasons of the verdict by a policy, if they are asked, with the names that these tables know; and else nothing
+-- the reasons of the verdict by a policy, as they are shown, if they are asked, with the names that these tables know; and else nothing
 abbrev pub reasons_if : Asking → SiteTables → Content → ℕ → List (List ℕ) → List ℕ
 reasons_if Verdict tables content address path = []
-reasons_if Reasons tables content address path = why_text tables.netgroups tables.hosts content address path
+reasons_if Reasons tables content address path = shown_lines (why_text tables.netgroups tables.hosts content address path)
 reasons_if Server tables content address path = []
 
 abbrev pub reasons_text : SiteTables → Content → MountQuestion → List ℕ

@@ -1,4 +1,4 @@
-//! The verdict on one mount, and why, as commands print it.
+//! The verdict on one mount, or on a directory for every client, by either rule, as commands print it, and why.
 //!
 //! Its promise: [`try_text`] decides by an exports text as the definition does, or returns the text's first fault, and [`tried_by`]
 //! decides so by a policy in force. Both print the verdict, as whom the client acts if its credential is given, and why if that is

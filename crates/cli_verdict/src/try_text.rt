@@ -11,6 +11,7 @@ ghost use Rattle.cli_verdict.specs.TryText.{Answers, AnswersHere, AnswersThere, 
 
 use crate::asking::Asking;
 use cli_output::printed::Printed;
+use cli_output::shown::shown_lines;
 use desk_exports::Profile;
 use desk_index::Index;
 use desk_policy::{
@@ -168,7 +169,7 @@ fn tried_there(
     })
 }
 
-/// Writes why, if that is asked, and else nothing.
+/// Writes why, as it is shown, if that is asked, and else nothing.
 fn reasons_text<V: PolicyView>(
     alloc: Global,
     view: &V,
@@ -185,7 +186,8 @@ fn reasons_text<V: PolicyView>(
                 address: question.address,
                 path: question.path,
             };
-            why_text(alloc, view, asked)
+            let reasons = why_text(alloc, view, asked)?;
+            shown_lines(alloc, reasons.as_str())
         }
         Asking::Verdict | Asking::Server => Ok(String::new(alloc)),
     }

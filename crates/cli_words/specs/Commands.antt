@@ -10,7 +10,7 @@ use Rattle.cli_words.specs.declared.arguments.Kind.{Kind}
 use Rattle.cli_words.specs.declared.arguments.Kind.TheVariants as kind
 use Rattle.cli_words.specs.declared.commands.CommandRow as code
 use Rattle.cli_words.specs.declared.commands.Subcommand.{Subcommand}
-use Rattle.cli_words.specs.declared.commands.Subcommand.TheVariants.{Ask, Audit, Cat, Check, Clients, Compare, Exports, Files, Impact, Init, Log, Proposal, Put, Report, Serve, Show, Split, Test, Try, Who, Write}
+use Rattle.cli_words.specs.declared.commands.Subcommand.TheVariants.{Ask, Audit, Cat, Check, Clients, Compare, Copy, Exports, Files, Impact, Init, Log, Proposal, Put, Report, Serve, Show, Split, Test, Try, Who, Write}
 
 -- a word that is required, and taken as it is
 abbrev pub word : List ℕ → Rule
@@ -78,6 +78,7 @@ commands =
     ∷ row Files (codes "files") (word (codes "DB") ∷ []) false []
     ∷ row Report (codes "report") (word (codes "DB") ∷ []) false []
     ∷ row Write (codes "write") (word (codes "DB") ∷ word (codes "DIR") ∷ []) false []
+    ∷ row Copy (codes "copy") (word (codes "DB") ∷ word (codes "FILE") ∷ []) false []
     ∷ row Serve (codes "serve") (word (codes "DB") ∷ []) false (required_option (codes "port") ∷ required_option (codes "connections") ∷ option (codes "timeout") ∷ [])
     ∷ []
 

@@ -32,6 +32,7 @@ pub enum Subcommand {
     Files,
     Report,
     Write,
+    Copy,
     Serve,
 }
 
@@ -150,7 +151,7 @@ pub static TABLES: [Argument; 5] = [
 ];
 
 /// The commands, in the order of the help.
-pub static COMMANDS: [CommandRow; 21] = [
+pub static COMMANDS: [CommandRow; 22] = [
     CommandRow {
         command: Subcommand::Try,
         name: "try",
@@ -445,6 +446,20 @@ pub static COMMANDS: [CommandRow; 21] = [
                 name: "DIR",
                 kind: Kind::Word,
                 help: "The folder, which has to be there",
+            },
+        ],
+        tables: false,
+        options: &[],
+    },
+    CommandRow {
+        command: Subcommand::Copy,
+        name: "copy",
+        words: &[
+            DB,
+            Argument {
+                name: "FILE",
+                kind: Kind::Word,
+                help: "The file of the copy, which must not be there",
             },
         ],
         tables: false,

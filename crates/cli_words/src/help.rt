@@ -207,14 +207,22 @@ pub(crate) fn help_of(command: Subcommand) -> Help {
              told by a line `written NAME`. A text that init could not read is refused, and nothing is written.",
             ),
         },
+        Subcommand::Copy => Help {
+            about: "Copies a database into one new file, as its backup",
+            usage: None,
+            end: Some(
+                "FILE holds all that DB held at that moment, with the log DB-wal taken in, and is made for its owner alone.\n\
+             It must not be there yet, nor anything named FILE-wal or FILE-journal. DB may be in use by serve or put\n\
+             meanwhile. Once FILE is written and synced, it prints `copied`.",
+            ),
+        },
         Subcommand::Serve => Help {
             about: "Answers questions and takes edits over HTTP on the loopback address",
             usage: None,
             end: Some(
-                "It prints `listening 127.0.0.1:N`, and then serves one connection after another, until it has\n\
-             served M of them. While it runs, every other command on DB is refused: ask and edit over HTTP\n\
-             instead, as docs/HTTP.md says. There is no TLS, and a question needs no key: whoever reaches the\n\
-             port may ask.",
+                "It prints `listening 127.0.0.1:N`, and then serves up to 256 connections at once, until M of them\n\
+             have ended. While it runs, every other command on DB is refused: ask and edit over HTTP instead, as\n\
+             docs/HTTP.md says. There is no TLS, and a question needs no key: whoever reaches the port may ask.",
             ),
         },
     }

@@ -1,4 +1,4 @@
-//! The words of a command: the command line that `clap` parses, what it finds, and what words mean that are more than texts.
+//! The table of the commands: the command line that `clap` parses, what it finds, and what words mean that are more than texts.
 //!
 //! Its promise: [`line::command_line`] has just the commands of the table in `specs/Commands.antt`, a row each;
 //! [`words::found_command`] gives the command that `clap` found, and its words by their names; [`values`] gives what words

@@ -1,3 +1,4 @@
+pub mod CheckedCopy
 pub mod CommandAnswers
 pub mod Gathering
 pub mod TooLong

@@ -1,3 +1,5 @@
+pub mod CheckedCopy
+pub mod CopyCommand
 pub mod PrivateTexts
 pub mod Replacing
 pub mod TextsBack

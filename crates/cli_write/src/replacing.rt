@@ -2,6 +2,7 @@
 //! and then takes its name. So whoever opens it finds the old text or the new one, whole.
 
 ghost use Rattle.std.specs.Prelude.{◌≡◌, ◌++◌, IfErr, MatchResult, OnOk, map};
+ghost use Rattle.std.specs.Io.KnownBytes.{Appends};
 ghost use Rattle.std.specs.String.{string_bytes};
 ghost use Rattle.cli_write.specs.Replacing.{IsUnwritten, IsUnwrittenIn, MayTell, TellsWritten, name_in, path_in, written_line};
 
@@ -135,7 +136,7 @@ fn replace(rt: &HostRuntime, path: &str, text: &str, old: Option<&Metadata>) -> 
 
 /// Makes the path of the new file: `/etc/.exports.123456789.new` beside `/etc/exports`. The number is that of the clock, so that what
 /// an interrupted run left is in no other's way, nor are two runs at once in each other's.
-fn new_path(rt: &HostRuntime, path: &str) -> io::Result<String> {
+pub(crate) fn new_path(rt: &HostRuntime, path: &str) -> io::Result<String> {
     let number = nanoseconds(rt)?;
     let new = match path.rsplit_once('/') {
         Some((folder, name)) => format!(in rt.alloc(); "{folder}/.{name}.{number}.new")?,
@@ -174,14 +175,35 @@ fn create_new(rt: &HostRuntime, new: &str, gets_permissions: bool) -> io::Result
         .open(rt, new)
 }
 
-/// Writes a text into a file, gives it the owner, the group and the permissions of an old one, and syncs it.
-fn fill(file: &mut File, text: &str, old: Option<&Metadata>) -> io::Result<()> {
+/// A new file that gets a text, as this is finished once the text is in it. Neither step can write.
+trait NewFile: Write {
+    /// Gives it the owner, the group and the permissions of an old one.
+    fn give_access(&self, old: &Metadata) -> io::Result<()>;
+
+    /// Syncs it.
+    fn sync(&self) -> io::Result<()>;
+}
+
+impl NewFile for File {
+    fn give_access(&self, old: &Metadata) -> io::Result<()> {
+        give_owner(self, old)?;
+        self.set_permissions(old.permissions())
+    }
+
+    fn sync(&self) -> io::Result<()> {
+        self.sync_all()
+    }
+}
+
+/// Writes a text into a new file, and nothing behind it, gives it the owner, the group and the permissions of an old one, and syncs it.
+fn fill<F: NewFile>(file: &mut F, text: &str, old: Option<&Metadata>) -> io::Result<()>
+    ensures { OnOk result (Appends (F.Write.contents file.old) (F.Write.contents file.new) text.now) }
+{
     file.write_all(text.as_bytes())?;
     if let Some(old) = old {
-        give_owner(file, old)?;
-        file.set_permissions(old.permissions())?;
+        file.give_access(old)?;
     }
-    file.sync_all()
+    file.sync()
 }
 
 /// Gives a file the owner and the group of an old one. To another owner only root can give it: whoever may not, gives it the group
@@ -211,7 +233,7 @@ fn take_path(rt: &HostRuntime, new: &str, path: &str) -> io::Result<()> {
 
 /// Syncs the folder of a file, which has its name. Not every file system can, and a folder may be unreadable; then the name waits for
 /// the system.
-fn sync_folder(rt: &HostRuntime, path: &str) {
+pub(crate) fn sync_folder(rt: &HostRuntime, path: &str) {
     let folder = match path.rsplit_once('/') {
         Some(("", _)) => "/",
         Some((folder, _)) => folder,

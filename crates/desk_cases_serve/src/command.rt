@@ -1,19 +1,58 @@
-//! The command itself: a peer connects once its line is printed, and is served.
+//! The command itself: a peer connects once its line is printed, and is served; and then one does whose edit was stored before, while the log
+//! of the database has lost its name.
 
-use crate::peers::{Peer, check_peer, connect};
-use crate::trials::STAYS;
-use std::io;
+use crate::peers::{Peer, Receives, Then, check_peer, connect};
+use crate::trials::STORED;
 use std::io::{ErrorKind, Write};
 use std::net::{Ipv4Addr, SocketAddr, TcpListener, TcpStream};
+use std::{fs, io, str};
 
-/// The peer: its connection ends by the limit of time alone, since nobody else waits.
-const PEER: Peer = STAYS;
+/// An edit of the hosts of the sample site.
+const EDIT_HOSTS: &[u8] =
+    b"PUT /v1/file?name=hosts&base=1 HTTP/1.1\r\nX-Custodian: site\r\nX-Key: abc\r\nContent-Length: 95\r\n\r\n\
+    131.104.48.17 grumpy.example grumpy\n131.104.48.20 sneezy\n131.104.48.21 doc\n131.104.48.22 dopey\n";
+
+/// A run of the command: its peer, whether the log has lost its name by then, the status, and what is reported.
+#[derive(Clone, Copy)]
+struct Run {
+    peer: Peer,
+    is_log_lost: bool,
+    status: u8,
+    reports: &'static str,
+}
+
+/// The runs, one after another on one database. The first connection ends by the limit of time alone, since nobody else waits.
+const RUNS: [Run; 2] = [
+    Run {
+        peer: Peer {
+            sends: EDIT_HOSTS,
+            filler: 0,
+            then: Then::Waits,
+            receives: Receives::Whole(STORED),
+        },
+        is_log_lost: false,
+        status: 0,
+        reports: "",
+    },
+    Run {
+        peer: Peer {
+            sends: EDIT_HOSTS,
+            filler: 0,
+            then: Then::Waits,
+            receives: Receives::Whole(b""),
+        },
+        is_log_lost: true,
+        status: 4,
+        reports: "exportdesk: DB or its log (DB-wal) was moved, removed or replaced: it is served no longer\n",
+    },
+];
 
 /// The standard output of a service: a peer connects once a line was printed and flushed.
 #[derive(Drop)]
 struct Output<'a> {
     rt: &'a HostRuntime,
     port: u16,
+    run: Run,
     text: Vec<u8>,
     peer: Option<TcpStream>,
     /// Whether the port is refused at another address of this machine.
@@ -24,7 +63,10 @@ impl Output<'_> {
     /// Has the peer connect, once the port is known to be bound, and tries another address of the machine. (Linux answers there if
     /// all addresses are bound.)
     fn connect(&mut self) -> io::Result<()> {
-        self.peer = connect(self.rt, address(1, self.port), &PEER)?;
+        if self.run.is_log_lost {
+            fs::rename(self.rt, "asked.db-wal", "asked.log")?;
+        }
+        self.peer = connect(self.rt, address(1, self.port), &self.run.peer)?;
         self.is_refused_elsewhere = match TcpStream::connect(self.rt, address(2, self.port)) {
             Ok(_) => false,
             Err(error) => error.kind() == ErrorKind::ConnectionRefused,
@@ -55,18 +97,9 @@ fn free_port(rt: &HostRuntime) -> io::Result<u16> {
     Ok(listener.local_addr()?.port())
 }
 
-/// Runs `serve` on a new database of the sample site, for one connection, with a limit of a second. Returns what is wrong.
+/// Runs `serve` on a new database of the sample site, each time for one connection, with a limit of a second. Returns what is wrong.
 pub fn try_command(rt: &HostRuntime) -> io::Result<String> {
     let mut wrong = String::new(rt.alloc());
-    let port = free_port(rt)?;
-    let mut out = Output {
-        rt,
-        port,
-        text: Vec::new(rt.alloc()),
-        peer: None,
-        is_refused_elsewhere: false,
-    };
-    let mut err = Vec::new(rt.alloc());
     let mut made = Vec::new(rt.alloc());
     let mut said = Vec::new(rt.alloc());
     let mut input: &[u8] = b"";
@@ -74,6 +107,25 @@ pub fn try_command(rt: &HostRuntime) -> io::Result<String> {
     if cli::run(rt, init.as_slice(), &mut input, &mut made, &mut said) != 0 {
         wrong.push_str("no database is made\n")?;
     }
+    for run in RUNS {
+        try_run(rt, run, &mut wrong)?;
+    }
+    Ok(wrong)
+}
+
+/// Runs it once. Adds what is wrong.
+fn try_run(rt: &HostRuntime, run: Run, wrong: &mut String) -> io::Result<()> {
+    let port = free_port(rt)?;
+    let mut out = Output {
+        rt,
+        port,
+        run,
+        text: Vec::new(rt.alloc()),
+        peer: None,
+        is_refused_elsewhere: false,
+    };
+    let mut err = Vec::new(rt.alloc());
+    let mut input: &[u8] = b"";
     let number = format!(in rt.alloc(); "{port}")?;
     let words = [
         "serve",
@@ -86,11 +138,14 @@ pub fn try_command(rt: &HostRuntime) -> io::Result<String> {
         "1",
     ];
     let status = cli::run(rt, words.as_slice(), &mut input, &mut out, &mut err);
-    if status != 0 || !err.as_slice().is_empty() {
+    if status != run.status {
         write!(wrong, "it ends with status {status}\n")?;
     }
-    check_output(rt, &mut out, &mut wrong)?;
-    Ok(wrong)
+    if err.as_slice() != run.reports.as_bytes() {
+        let text = str::from_utf8(err.as_slice()).unwrap_or("bytes that are not UTF-8");
+        write!(wrong, "standard error gets {text:?}\n")?;
+    }
+    check_output(rt, &mut out, wrong)
 }
 
 /// Compares what is printed, and what the peer receives, with what is wanted. Adds what differs.
@@ -103,8 +158,9 @@ fn check_output(rt: &HostRuntime, out: &mut Output<'_>, wrong: &mut String) -> i
     if !out.is_refused_elsewhere {
         wrong.push_str("127.0.0.2 is not refused\n")?;
     }
+    let run = out.run;
     match &mut out.peer {
-        Some(peer) => Ok(check_peer(rt.alloc(), &PEER, peer, wrong)?),
+        Some(peer) => Ok(check_peer(rt.alloc(), &run.peer, peer, wrong)?),
         None => Ok(wrong.push_str("no peer connects\n")?),
     }
 }

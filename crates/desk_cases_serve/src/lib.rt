@@ -1,30 +1,54 @@
-//! Tries connections on loopback: peers connect and write, the desk serves so many connections, one after another, and then what
-//! each peer received, what was reported and what the desk holds is compared. Then the command is tried. Replies over memory are
-//! in the worked cases over HTTP.
+//! Tries connections on loopback: peers connect and write, the desk serves so many connections, beside one another, and then what
+//! each peer received, what was reported and what the desk holds is compared. Then peers write, read and end between the turns of a
+//! service. Then the command is tried. Replies over memory are in the worked cases over HTTP.
 #![tactic(auto)]
 
 mod command;
 mod desks;
 mod peers;
 mod trials;
+mod turns;
 
+use crate::trials::Trial;
 use std::io;
 
 /// Prints for each trial whether it passed, and what is wrong if it failed. Tells whether no trial failed.
 pub fn try_all(rt: &HostRuntime) -> io::Result<bool> {
-    let (mut passed, mut failed) = (0u64, 0u64);
-    for trial in &trials::TRIALS {
-        let wrong = trials::try_one(rt, trial)?;
-        if report(rt, trial.name, wrong.as_str())? {
-            passed = passed.saturating_add(1);
-        } else {
-            failed = failed.saturating_add(1);
-        }
-    }
+    let mut failed = try_trials(rt, trials::TRIALS.as_slice())?;
+    failed = failed.saturating_add(try_trials(rt, trials::MORE_TRIALS.as_slice())?);
+    failed = failed.saturating_add(try_turns(rt)?);
+    let count = trials::TRIALS
+        .len()
+        .saturating_add(trials::MORE_TRIALS.len());
+    let passed = count.saturating_add(turns::count()).saturating_sub(failed);
     println!(rt; "{passed} passed, {failed} failed")?;
     let wrong = command::try_command(rt)?;
     let is_served = report(rt, "the command, on 127.0.0.1 alone", wrong.as_str())?;
     Ok(is_served && failed == 0)
+}
+
+/// Tries peers that connect and write before the desk serves them. Returns how many trials failed.
+fn try_trials(rt: &HostRuntime, all: &[Trial]) -> io::Result<usize> {
+    let mut failed = 0usize;
+    for trial in all {
+        let wrong = trials::try_one(rt, trial)?;
+        if !report(rt, trial.name, wrong.as_str())? {
+            failed = failed.saturating_add(1);
+        }
+    }
+    Ok(failed)
+}
+
+/// Tries what peers do between turns. Returns how many trials failed.
+fn try_turns(rt: &HostRuntime) -> io::Result<usize> {
+    let mut failed = 0usize;
+    for index in 0..turns::count() {
+        let (name, wrong) = turns::try_turns(rt, index)?;
+        if !report(rt, name, wrong)? {
+            failed = failed.saturating_add(1);
+        }
+    }
+    Ok(failed)
 }
 
 /// Prints whether a trial passed, and what is wrong if it failed. Tells whether it passed.

@@ -7,18 +7,19 @@ use desk_cases_store::Fresh;
 use desk_index::Index;
 use desk_policy::{PolicyView, Site};
 use desk_store::Desk;
+use mio::net::TcpListener;
 use sqlite::{Alter, MemStore};
 use std::alloc::AllocError;
-use std::net::{Ipv4Addr, SocketAddr, TcpListener, TcpStream};
+use std::net::{Ipv4Addr, SocketAddr, TcpStream};
 use std::{io, str};
 
 /// An edit.
-const EDIT: &[u8] =
+pub const EDIT: &[u8] =
     b"PUT /v1/file?name=hosts&base=1 HTTP/1.1\r\nX-Custodian: site\r\nX-Key: abc\r\nContent-Length: 20\r\n\r\n\
     127.0.0.1 localhost\n";
 
 /// Its reply.
-const STORED: &[u8] =
+pub const STORED: &[u8] =
     b"HTTP/1.1 200 OK\r\ncontent-type: application/json\r\ncontent-length: 25\r\n\r\n\
     {\"already\":false,\"rev\":2}";
 
@@ -41,14 +42,14 @@ const EDIT_REPLIES: &[u8] =
     {\"current\":2,\"error\":\"Stale\",\"number\":7}";
 
 /// A question on the revisions.
-const QUESTION: &[u8] = b"GET /v1/revisions?name=hosts HTTP/1.1\r\n\r\n";
+pub const QUESTION: &[u8] = b"GET /v1/revisions?name=hosts HTTP/1.1\r\n\r\n";
 
 /// Its reply before the edit, and afterwards.
-const ONE_REVISION: &[u8] =
+pub const ONE_REVISION: &[u8] =
     b"HTTP/1.1 200 OK\r\ncontent-type: application/json\r\ncontent-length: 56\r\n\r\n\
     {\"name\":\"hosts\",\"revisions\":[{\"author\":\"site\",\"rev\":1}]}";
 
-const TWO_REVISIONS: &[u8] =
+pub const TWO_REVISIONS: &[u8] =
     b"HTTP/1.1 200 OK\r\ncontent-type: application/json\r\ncontent-length: 82\r\n\r\n\
     {\"name\":\"hosts\",\"revisions\":[{\"author\":\"site\",\"rev\":1},{\"author\":\"site\",\"rev\":2}]}";
 
@@ -101,23 +102,34 @@ const WRONG_KEY_REPLIES: &[u8] =
     {\"error\":\"UnknownCaller\",\"number\":1}";
 
 /// One edit with a wrong key, and its reply.
-const WRONG_KEY: &[u8] =
+pub const WRONG_KEY: &[u8] =
     b"PUT /v1/file?name=hosts&base=1 HTTP/1.1\r\nX-Custodian: site\r\nX-Key: abd\r\nContent-Length: 20\r\n\r\n\
     127.0.0.1 localhost\n";
 
-const BAD_KEY: &[u8] =
+pub const BAD_KEY: &[u8] =
     b"HTTP/1.1 403 Forbidden\r\ncontent-type: application/json\r\ncontent-length: 29\r\n\r\n\
     {\"error\":\"BadKey\",\"number\":2}";
 
+/// The head of an edit with a wrong key and a body that is as long as a body may be.
+const LONG_WRONG_KEY: &[u8] =
+    b"PUT /v1/file?name=hosts&base=1 HTTP/1.1\r\nX-Custodian: site\r\nX-Key: abd\r\nContent-Length: 65536\r\n\r\n";
+
+/// The replies to it, and to what stands behind its body, which has no head.
+const BAD_KEY_AND_HEAD: &[u8] =
+    b"HTTP/1.1 403 Forbidden\r\ncontent-type: application/json\r\ncontent-length: 29\r\n\r\n\
+    {\"error\":\"BadKey\",\"number\":2}\
+    HTTP/1.1 400 Bad Request\r\ncontent-type: application/json\r\ncontent-length: 32\r\n\
+    connection: close\r\n\r\n\
+    {\"error\":\"BadHead\",\"number\":101}";
+
 /// Peers that connect one after another, how many connections are served then, with a limit of so many milliseconds, and what is
-/// reported and what the desk holds afterwards. An accept waits for a peer, or fails if there is none.
+/// reported and what the desk holds afterwards.
 #[derive(Clone, Copy)]
 pub struct Trial {
     pub name: &'static str,
     peers: &'static [Peer],
     connections: u32,
     limit: u64,
-    waits: bool,
     reports: &'static str,
     holds: &'static str,
 }
@@ -215,7 +227,7 @@ const WAITS_IN_HEAD: Peer = Peer {
 };
 
 /// One that asks, and then keeps its connection open without a byte, and one that never sends any.
-pub const STAYS: Peer = Peer {
+const STAYS: Peer = Peer {
     sends: QUESTION,
     filler: 0,
     then: Then::Waits,
@@ -244,19 +256,31 @@ const TRIES_A_KEY: Peer = Peer {
     receives: Receives::Whole(BAD_KEY),
 };
 
+/// One that writes more than is kept of what a peer sends: such an edit, and behind it what has no head.
+const FILLS_THE_ROOM: Peer = Peer {
+    sends: LONG_WRONG_KEY,
+    filler: 80_000,
+    then: Then::EndsWriting,
+    receives: Receives::Whole(BAD_KEY_AND_HEAD),
+};
+
 /// How many milliseconds a message may take, mostly.
 const LIMIT: u64 = 30_000;
 
-/// More than a program of the gate may take: with this limit nobody is served behind a connection that does not make room.
-const LONG_LIMIT: u64 = 600_000;
+/// How many a message, its reply and idleness may take where a peer is too slow.
+const SHORT_LIMIT: u64 = 200;
 
-pub const TRIALS: [Trial; 13] = [
+/// The shortest limit, and the longest.
+const SHORTEST_LIMIT: u64 = 1;
+
+const LONGEST_LIMIT: u64 = u64::MAX;
+
+pub const TRIALS: [Trial; 12] = [
     Trial {
         name: "three edits, of which the last closes",
         peers: &[CLOSED_BY_DESK],
         connections: 1,
         limit: LIMIT,
-        waits: true,
         reports: "",
         holds: EDITED,
     },
@@ -265,7 +289,6 @@ pub const TRIALS: [Trial; 13] = [
         peers: &[ASKS_NOTHING, EDITOR],
         connections: 2,
         limit: LIMIT,
-        waits: true,
         reports: "",
         holds: EDITED,
     },
@@ -274,7 +297,6 @@ pub const TRIALS: [Trial; 13] = [
         peers: &[READS_NOTHING, ASKS_LATER],
         connections: 2,
         limit: LIMIT,
-        waits: true,
         reports: "",
         holds: EDITED,
     },
@@ -283,7 +305,6 @@ pub const TRIALS: [Trial; 13] = [
         peers: &[ONE_EDIT, ASKS_LATER, NOT_SERVED],
         connections: 2,
         limit: LIMIT,
-        waits: true,
         reports: "",
         holds: EDITED,
     },
@@ -292,7 +313,6 @@ pub const TRIALS: [Trial; 13] = [
         peers: &[LARGE, ASKS_FIRST],
         connections: 2,
         limit: LIMIT,
-        waits: true,
         reports: "",
         holds: AS_MADE,
     },
@@ -301,7 +321,6 @@ pub const TRIALS: [Trial; 13] = [
         peers: &[ENDS_IN_HEAD, ENDS_IN_BODY],
         connections: 2,
         limit: LIMIT,
-        waits: true,
         reports: "",
         holds: AS_MADE,
     },
@@ -309,8 +328,7 @@ pub const TRIALS: [Trial; 13] = [
         name: "a peer that waits too long, and one behind it",
         peers: &[WAITS_IN_HEAD, EDITOR],
         connections: 2,
-        limit: 200,
-        waits: true,
+        limit: SHORT_LIMIT,
         reports: "",
         holds: EDITED,
     },
@@ -318,8 +336,7 @@ pub const TRIALS: [Trial; 13] = [
         name: "a peer that stays after its reply, and one behind it",
         peers: &[STAYS, EDITOR],
         connections: 2,
-        limit: LONG_LIMIT,
-        waits: true,
+        limit: SHORT_LIMIT,
         reports: "",
         holds: EDITED,
     },
@@ -327,8 +344,7 @@ pub const TRIALS: [Trial; 13] = [
         name: "a peer that says nothing, one that stays, and one behind them",
         peers: &[SAYS_NOTHING, STAYS, EDITOR],
         connections: 3,
-        limit: LONG_LIMIT,
-        waits: true,
+        limit: SHORT_LIMIT,
         reports: "",
         holds: EDITED,
     },
@@ -336,8 +352,7 @@ pub const TRIALS: [Trial; 13] = [
         name: "two peers that stay, and a third that is not served",
         peers: &[STAYS, STAYS, NOT_SERVED],
         connections: 2,
-        limit: 200,
-        waits: true,
+        limit: SHORT_LIMIT,
         reports: "",
         holds: AS_MADE,
     },
@@ -346,7 +361,6 @@ pub const TRIALS: [Trial; 13] = [
         peers: &[TRIES_KEYS, ASKS_FIRST, TRIES_A_KEY],
         connections: 3,
         limit: LIMIT,
-        waits: true,
         reports: "exportdesk: 3 edits refused\nexportdesk: 1 edit refused\n",
         holds: AS_MADE,
     },
@@ -355,18 +369,44 @@ pub const TRIALS: [Trial; 13] = [
         peers: &[NOT_SERVED],
         connections: 0,
         limit: LIMIT,
-        waits: true,
         reports: "",
         holds: AS_MADE,
     },
+];
+
+/// More of them: one value cannot have so many bytes.
+pub const MORE_TRIALS: [Trial; 4] = [
     Trial {
-        name: "accepts that fail",
-        peers: &[],
-        connections: 3,
+        name: "two peers with a wrong key each",
+        peers: &[TRIES_A_KEY, TRIES_A_KEY],
+        connections: 2,
         limit: LIMIT,
-        waits: false,
-        reports: "",
+        reports: "exportdesk: 1 edit refused\nexportdesk: 1 edit refused\n",
         holds: AS_MADE,
+    },
+    Trial {
+        name: "a peer that fills the room with an edit that is refused, and one behind it",
+        peers: &[FILLS_THE_ROOM, EDITOR],
+        connections: 2,
+        limit: LIMIT,
+        reports: "exportdesk: 1 edit refused\n",
+        holds: EDITED,
+    },
+    Trial {
+        name: "the shortest limit, and messages that came before it",
+        peers: &[ONE_EDIT, ASKS_LATER],
+        connections: 2,
+        limit: SHORTEST_LIMIT,
+        reports: "",
+        holds: EDITED,
+    },
+    Trial {
+        name: "the longest limit",
+        peers: &[CLOSED_BY_DESK, ASKS_LATER],
+        connections: 2,
+        limit: LONGEST_LIMIT,
+        reports: "",
+        holds: EDITED,
     },
 ];
 
@@ -422,17 +462,9 @@ fn served<S: Alter + Drop, V: PolicyView + Drop>(
     wrong: &mut String,
 ) -> io::Result<Vec<Option<TcpStream>>> {
     let listener = TcpListener::bind(rt, SocketAddr::from((Ipv4Addr::LOCALHOST, 0)))?;
-    listener.set_nonblocking(!trial.waits)?;
     let streams = connected(rt, listener.local_addr()?, trial.peers)?;
     let mut err = Vec::new(rt.alloc());
-    serve_on(
-        rt,
-        desk,
-        &listener,
-        trial.connections,
-        trial.limit,
-        &mut err,
-    );
+    serve_on(rt, desk, listener, trial.connections, trial.limit, &mut err)?;
     check_reports(trial, err.as_slice(), wrong)?;
     Ok(streams)
 }

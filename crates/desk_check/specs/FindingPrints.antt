@@ -4,7 +4,7 @@ use Rattle.std.specs.Fmt.{decimal}
 use Rattle.std.specs.Fmt.Cut.{floor_char_boundary}
 use Rattle.std.specs.List.{flat_map}
 use Rattle.std.specs.Option.{option_copied, option_map}
-use Rattle.std.specs.Str.{IsCharBoundary}
+use Rattle.std.specs.Str.{IsCharBoundary, chars}
 use Rattle.desk_text.specs.Address as addresses
 use Rattle.desk_text.specs.Address.{addr_text}
 use Rattle.desk_text.specs.Path.{path_text}
@@ -24,10 +24,33 @@ use Rattle.desk_check.specs.Hints.{hint}
 use Rattle.desk_shown.specs.ShownText.{blanks, carets, shown_line, shown_text}
 use Rattle.desk_check.specs.declared.finding_prints.Excerpt.{Excerpt}
 
--- what the sentence is about: the slice in quotes, or the file as a whole
+-- how many bytes of a line are shown before the beginning of a slice, and from it on: of a line of at most 200 all
+abbrev pub reach : List ℕ → ℕ
+reach line = if nat_lt 200 (length line) then 100 else 200
+
+-- the part of a line that is shown with a slice that begins there: it is cut where a character begins
+abbrev pub excerpt : List ℕ → ℕ → Excerpt
+excerpt line start = record {
+  start = floor_char_boundary line (start - reach line);
+  end = if nat_lt (start + reach line) (length line) then floor_char_boundary line (start + reach line) else length line;
+}
+
+-- how many characters of a word are cut off, as `.. (and 300 more characters)`
+abbrev pub more_text : ℕ → List ℕ
+more_text count = codes ".. (and " ++ decimal count ++ codes " more characters)"
+
+-- this part of a word, from its beginning on, and how many characters are cut off behind it
+abbrev pub cut_text : List ℕ → Excerpt → List ℕ
+cut_text word part = shown_text (slice_range word part.start part.end) ++ more_text (length (chars (slice_range word part.end (length word))))
+
+-- a word; or of one of more than 200 characters its beginning, as an excerpt of a line has it, and how many characters are cut off
+abbrev pub shown_word : List ℕ → List ℕ
+shown_word word = if nat_lt 200 (length (chars word)) then cut_text word (excerpt word 0) else shown_text word
+
+-- what the sentence is about: the slice in quotes, as a word, or the file as a whole
 abbrev pub subject : List ℕ → Option Place → List ℕ
 subject source None = codes "the file"
-subject source (Some place) = codes "\"" ++ shown_text (slice_at source (Some place)) ++ codes "\""
+subject source (Some place) = codes "\"" ++ shown_word (slice_at source (Some place)) ++ codes "\""
 
 -- the earlier line of a netgroup, if there is one
 abbrev pub other_text : Option ℕ → List ℕ
@@ -108,17 +131,6 @@ matter_text matter = kind_word matter ++ codes " " ++ decimal (number_of matter)
 -- the first line of a finding, as `exports:12:6: fault 5 UnknownOption: "-maprot" is not an option of exports(5)`
 abbrev pub headline : Finding → List ℕ
 headline finding = position_text finding ++ matter_text finding.matter ++ message_of finding ++ codes "\n"
-
--- how many bytes of a line are shown before the beginning of a slice, and from it on: of a line of at most 200 all
-abbrev pub reach : List ℕ → ℕ
-reach line = if nat_lt 200 (length line) then 100 else 200
-
--- the part of a line that is shown with a slice that begins there: it is cut where a character begins
-abbrev pub excerpt : List ℕ → ℕ → Excerpt
-excerpt line start = record {
-  start = floor_char_boundary line (start - reach line);
-  end = if nat_lt (start + reach line) (length line) then floor_char_boundary line (start + reach line) else length line;
-}
 
 -- such a part is text, with the byte where the slice begins within it or at its end
 pub record IsAround (line : List ℕ) (start : ℕ) (part : Excerpt) : Type 0 where

@@ -1,9 +1,9 @@
 //! How findings are printed, in the form that editors and CI take:
 //! `exports:12:6: fault 5 UnknownOption: "-maprot" is not an option of exports(5)`.
 
-ghost use Rattle.std.specs.Prelude.{◌≡◌, ◌++◌, ◌≤◌, [], IfOk, OnOk, Some, if◌then◌else◌};
+ghost use Rattle.std.specs.Prelude.{◌≡◌, ◌++◌, ◌≤◌, [], IfOk, OnOk, Some, if◌then◌else◌, length};
 ghost use Rattle.std.specs.Option.{option_copied, option_map};
-ghost use Rattle.std.specs.Str.{IsCharBoundary};
+ghost use Rattle.std.specs.Str.{IsCharBoundary, chars};
 ghost use Rattle.std.specs.String.{string_bytes};
 ghost use Rattle.desk_text.specs.Address.{addr_text, number_of};
 ghost use Rattle.desk_text.specs.Place.{LiesWithin};
@@ -18,7 +18,7 @@ use desk_shown::{push_blanks, push_carets, push_shown, push_shown_line};
 use desk_text::{Addr, Path, Place};
 use std::alloc::{AllocError, Global};
 
-/// How many bytes a line may have that is shown whole.
+/// How many bytes a line may have that is shown whole, and how many characters a word.
 const WHOLE_LENGTH: usize = 200;
 
 /// How many bytes of a longer line are shown before the beginning of a slice, and from it on.
@@ -289,8 +289,8 @@ fn push_remedy(line: u32, remedy: &str, text: &mut String) -> Result<(), AllocEr
     )
 }
 
-/// Adds what the sentence is about: the slice in quotes, of which an empty one reads `"" is not a name`, or the file as a
-/// whole, as in `the file needs a line among the custodians`.
+/// Adds what the sentence is about: the slice in quotes, as a word, of which an empty one reads `"" is not a name`, or the file
+/// as a whole, as in `the file needs a line among the custodians`.
 fn push_subject(finding: &Finding, text: &mut String) -> Result<(), AllocError>
     requires { HasSlice finding.now }
     ensures { OnOk result (string_bytes text.new
@@ -300,8 +300,42 @@ fn push_subject(finding: &Finding, text: &mut String) -> Result<(), AllocError>
         return text.push_str("the file");
     }
     text.push('"')?;
-    push_shown(finding.slice(), text)?;
+    push_word(finding.slice(), text)?;
     text.push('"')
+}
+
+/// Adds a word, or of one of more than 200 characters its beginning and how many characters are cut off.
+pub fn push_word(word: &str, text: &mut String) -> Result<(), AllocError>
+    ensures { OnOk result (string_bytes text.new ≡ string_bytes text.old ++ spec.shown_word word.now) }
+{
+    if count_characters(word) > WHOLE_LENGTH {
+        push_cut(word, text)
+    } else {
+        push_shown(word, text)
+    }
+}
+
+/// Adds the beginning of a word, as an excerpt of a line has it, and how many characters are cut off.
+fn push_cut(word: &str, text: &mut String) -> Result<(), AllocError>
+    ensures { OnOk result (string_bytes text.new ≡ string_bytes text.old ++ spec.cut_text word.now (spec.excerpt word.now 0)) }
+{
+    let part = excerpt_of(word, 0);
+    push_shown(&word[part.start..part.end], text)?;
+    push_more(count_characters(&word[part.end..word.len()]), text)
+}
+
+/// Adds how many characters are cut off.
+fn push_more(count: usize, text: &mut String) -> Result<(), AllocError>
+    ensures { OnOk result (string_bytes text.new ≡ string_bytes text.old ++ spec.more_text count) }
+{
+    write!(text, ".. (and {count} more characters)")
+}
+
+/// Counts the characters of a text.
+fn count_characters(text: &str) -> usize
+    ensures { result ≡ length (chars text.now) }
+{
+    text.chars().count()
 }
 
 /// Adds the earlier line of a netgroup, if there is one.

@@ -22,6 +22,6 @@ mod told_site;
 pub use check_report::{CheckForm, Checked, passes, report_found};
 pub use desk_shown::push_shown;
 pub use finding_json::{add_number, add_text, findings_json, push_json};
-pub use finding_prints::{finding_text, findings_text, push_marked_line, push_message};
+pub use finding_prints::{finding_text, findings_text, push_marked_line, push_message, push_word};
 pub use told_fault::{tell_fault, tell_split_fault};
 pub use told_site::tell_site_fault;

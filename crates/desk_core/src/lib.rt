@@ -1,4 +1,5 @@
-//! Edits of a site's files: who may change which file, and what an edit does. (this project's own)
+//! Edits of a site's files: who may change which file, what an edit is answered, and what it puts in force or leaves as a
+//! proposal. (this project's own)
 //!
 //! Its promise: an edit takes effect exactly if its caller is listed with the key's digest and keeps the file, it names
 //! the file's newest revision, it is within the limits, the site with its text is consistent, and if the file is guarded,

@@ -1,4 +1,4 @@
-//! Which lines decide in place of one that never does.
+//! Which lines decide for the clients of a line that decides nothing.
 //!
 //! Its promise: [`deciding_lines`] lists, for each line of a file system that matches somebody but decides nothing, just the lines that
 //! decide for its clients: those that some verdict names, at an address that the line matches. Lines for the same clients share one

@@ -1,19 +1,16 @@
 -- How a connection goes on, and how it ends.
-use Rattle.std.proofs.Common.{◌≡◌, ℕ, ◌+◌, ◌<◌, ◌⊎◌, inl, inr, Bool, true, false, List, [], ◌∷◌, ◌++◌, length, take, drop, Option, refl, sym, ap, ◌∙◌, subst, arith, append_assoc, append-nil, length-append}
+use Rattle.std.proofs.Common.{◌≡◌, ℕ, ◌+◌, ◌<◌, ◌⊎◌, inl, inr, Bool, true, false, List, [], ◌∷◌, ◌++◌, length, take, Option, Some, refl, sym, ap, ◌∙◌, subst, append_assoc, append-nil, length-append}
 use Rattle.std.specs.List.{flat_map}
 use Rattle.std.specs.Io.KnownBytes.{Consumes, Appends, Keeps, IsAtEnd}
 use Rattle.std.proofs.lemmas.List.{length_push}
 use Rattle.std.proofs.lemmas.List.Concat.{flat_map-append}
 use Rattle.std.proofs.lemmas.List.Elements.{All-push, All-nil}
-use Rattle.httparse.specs.declared.spans.HeaderSpan.{HeaderSpan}
-use Rattle.desk_http_messages.specs.declared.framing.Extent.{Extent}
 use Rattle.desk_http_messages.specs.declared.requests.StreamFault.{StreamFault}
 use Rattle.desk_http_messages.specs.declared.requests.End.{End}
 use Rattle.desk_http_messages.specs.declared.requests.End.TheVariants.{Input, Closed, Bad, ReadFault, WriteFault, Memory}
 use Rattle.desk_http_messages.specs.declared.requests.Served.{Served}
 use Rattle.desk_http_messages.specs.Head.{ends_stream}
-use Rattle.desk_http_messages.specs.Stream.{Message, IsMessage, print_message, Splits, GoesOn, ClosesAfter, HasFault, HasNoHead, EndsSo, IsOpen, IsUnfaulted, IsUnfinished}
-use Rattle.desk_http_messages.specs.Front.{IsMessageAt}
+use Rattle.desk_http_messages.specs.Stream.{Message, IsMessage, print_message, Splits, GoesOn, ClosesAfter, HasFault}
 use Rattle.desk_core.specs.History.{Exchange, history_after, history_through, standing_of}
 use Rattle.desk_store.specs.Desk.{History, pending_after}
 use Rattle.desk_store.specs.Laws.{pending_through}
@@ -21,9 +18,10 @@ use Rattle.desk_http_messages.specs.Asked.{asked_by}
 use Rattle.desk_http_messages.specs.Replies.{Reply, print_reply, fault_reply, joined}
 use Rattle.desk_http.specs.Answering.{Answered, ArePrinted, Replies, Serves}
 use Rattle.desk_http.specs.Serving.{IsReplyTo, AnswersAll, AnswersBefore, AnswersInPart, CutReply, SessionOf}
-use Rattle.desk_http.specs.PrivateAnswering.{AnswersAsked, AnswersMessage}
+use Rattle.desk_http.specs.Connection.{IsLast, Place, ReadMoves}
+use Rattle.desk_http.specs.PrivateAnswering.{AnswersMessage}
 use Rattle.desk_http.specs.PrivateServing.{EndsBy, Refuses}
-use Rattle.desk_http.proofs.KnownBytes.{Appends-append, Appends-keeps, Appends-none, Consumes-append, Consumes-none, Consumes-keeps}
+use Rattle.desk_http.proofs.KnownBytes.{Appends-append, Appends-keeps, Appends-none, Consumes-append, Consumes-none}
 use Rattle.desk_http.proofs.Progress.{Progress}
 
 pub joined-push : (texts : List (List ℕ)) (text : List ℕ) → joined (texts ++ text ∷ []) ≡ joined texts ++ text
@@ -96,7 +94,7 @@ module _ {S : Type 0} (good : S → Type 0) (stands : S → History → History 
   }
 
   -- one message was served
-  Serves-one : (old new : S) (m : Message) (text : List ℕ) → AnswersMessage good stands old m text new → Serves good stands old (m ∷ []) (text ∷ []) new
+  pub Serves-one : (old new : S) (m : Message) (text : List ℕ) → AnswersMessage good stands old m text new → Serves good stands old (m ∷ []) (text ∷ []) new
   Serves-one old new m text answers = record {
     printed = ((answers.0, answers.2), tt);
     disk = answers.1.disk;
@@ -104,11 +102,6 @@ module _ {S : Type 0} (good : S → Type 0) (stands : S → History → History 
         let it = answers.1.step clean history pending at in
         (it.0, Replies-one history m text answers.0 it.0 it.1 answers.2, it.2);
   }
-
-  -- what was served goes on by one message
-  pub Serves-push : (old mid new : S) (messages : List Message) (texts : List (List ℕ)) (m : Message) (text : List ℕ) → Serves good stands old messages texts mid → AnswersMessage good stands mid m text new → Serves good stands old (messages ++ m ∷ []) (texts ++ text ∷ []) new
-  Serves-push old mid new messages texts m text run answers =
-      Serves-append old mid new messages (m ∷ []) texts (text ∷ []) run (Serves-one mid new m text answers)
 
   module _ (old new : S) (left left' held held' : Option (List ℕ)) (waiting : List ℕ) (replied written : ℕ) (p : Progress good stands old new left left' held held' waiting replied written) where
     -- more bytes came
@@ -129,21 +122,18 @@ module _ {S : Type 0} (good : S → Type 0) (stands : S → History → History 
     Progress-more left'' bytes now is c = subst (λ b. Progress good stands old new left left'' held held' b replied written) (sym is) (Progress-read left'' bytes c)
 
     -- a message was answered, and the stream goes on
-    pub Progress-next : (headers : List HeaderSpan) (e : Extent) (at : IsMessageAt waiting headers e) (held'' : Option (List ℕ)) (text : List ℕ) (newer : S) → AnswersAsked good stands new (asked_by at.message) e.ends text newer → e.ends ≡ false → Appends held' held'' text → Progress good stands old newer left left' held held'' (drop (e.head.len + e.body) waiting) (replied + 1) (written + length text)
-    Progress-next headers e at held'' text newer answers on sent =
-        let m = at.message in
-        let answered : AnswersMessage good stands new m text newer = subst (λ b. AnswersAsked good stands new (asked_by m) b text newer) at.ends answers in
-        record {
-          messages = p.messages ++ m ∷ [];
-          texts = p.texts ++ text ∷ [];
-          read = subst (Consumes left left') (ap (λ l. flat_map print_message p.messages ++ l) at.at_front ∙ sym (printed-push p.messages m (drop (e.head.len + e.body) waiting))) p.read;
-          sent = subst (Appends held held'') (sym (joined-push p.texts text)) (Appends-append held held' held'' _ text p.sent sent);
-          each = All-push IsMessage p.messages m p.each at.valid;
-          goes_on = All-push (λ (k : Message). ends_stream k.head ≡ false) p.messages m p.goes_on (sym at.ends ∙ on);
-          run = Serves-push old new newer p.messages p.texts m text p.run answered;
-          replied_is = ap (λ n. n + 1) p.replied_is ∙ sym (length_push p.texts text);
-          written_is = ap (λ n. n + length text) p.written_is ∙ sym (ap length (joined-push p.texts text) ∙ length-append (joined p.texts) text);
-        }
+    pub Progress-next : (m : Message) (rest text : List ℕ) → IsMessage m → waiting ≡ print_message m ++ rest → ends_stream m.head ≡ false → (newer : S) → Serves good stands new (m ∷ []) (text ∷ []) newer → (held'' : Option (List ℕ)) → Appends held' held'' text → Progress good stands old newer left left' held held'' rest (replied + 1) (written + length text)
+    Progress-next m rest text valid front on newer one held'' sent = record {
+      messages = p.messages ++ m ∷ [];
+      texts = p.texts ++ text ∷ [];
+      read = subst (Consumes left left') (ap (λ l. flat_map print_message p.messages ++ l) front ∙ sym (printed-push p.messages m rest)) p.read;
+      sent = subst (Appends held held'') (sym (joined-push p.texts text)) (Appends-append held held' held'' _ text p.sent sent);
+      each = All-push IsMessage p.messages m p.each valid;
+      goes_on = All-push (λ (k : Message). ends_stream k.head ≡ false) p.messages m p.goes_on on;
+      run = Serves-append old new newer p.messages (m ∷ []) p.texts (text ∷ []) p.run one;
+      replied_is = ap (λ n. n + 1) p.replied_is ∙ sym (length_push p.texts text);
+      written_is = ap (λ n. n + length text) p.written_is ∙ sym (ap length (joined-push p.texts text) ∙ length-append (joined p.texts) text);
+    }
 
     -- the bytes so far, with more behind them, are the messages and a rest
     pub splits_more : (more : List ℕ) → Splits ((flat_map print_message p.messages ++ waiting) ++ more) p.messages (waiting ++ more)
@@ -153,19 +143,19 @@ module _ {S : Type 0} (good : S → Type 0) (stands : S → History → History 
     splits_now = record { whole = refl; each = p.each }
 
     -- a read failed
-    pub before : IsOpen waiting → IsUnfaulted waiting → (HasNoHead waiting → IsUnfinished waiting) → (left'' : Option (List ℕ)) → Keeps left' left'' → AnswersBefore good stands old new left left'' held held' replied written
-    before is_open unfaulted unfinished left'' kept = record {
+    before : IsLast waiting ReadFault → (held'' : Option (List ℕ)) → Keeps held' held'' → AnswersBefore good stands old new left left' held held'' replied written
+    before last held'' kept = record {
       received = flat_map print_message p.messages ++ waiting;
       messages = p.messages;
       rest = waiting;
       texts = p.texts;
-      read = Consumes-keeps left left' left'' _ p.read kept;
-      sent = p.sent;
+      read = p.read;
+      sent = Appends-keeps held held' held'' _ p.sent kept;
       splits = splits_now;
       goes_on = p.goes_on;
-      is_open = is_open;
-      unfaulted = unfaulted;
-      unfinished = unfinished;
+      is_open = last.0;
+      unfaulted = last.1;
+      unfinished = last.2;
       run = p.run;
       replied_is = p.replied_is;
       written_is = p.written_is;
@@ -244,23 +234,20 @@ module _ {S : Type 0} (good : S → Type 0) (stands : S → History → History 
 
   module _ (old new : S) (left left' held held' : Option (List ℕ)) (waiting : List ℕ) (replied written : ℕ) (p : Progress good stands old new left left' held held' waiting replied written) where
     -- the last request asked to end the stream
-    pub closed : (headers : List HeaderSpan) (e : Extent) (at : IsMessageAt waiting headers e) (held'' : Option (List ℕ)) (text : List ℕ) (newer : S) → AnswersAsked good stands new (asked_by at.message) e.ends text newer → e.ends ≡ true → Appends held' held'' text → AnswersAll good stands Closed old newer left left' held held'' (replied + 1) (written + length text)
-    closed headers e at held'' text newer answers last sent =
-        let m = at.message in
-        let rest = drop (e.head.len + e.body) waiting in
+    pub closed : (m : Message) (rest text : List ℕ) → IsMessage m → waiting ≡ print_message m ++ rest → ends_stream m.head ≡ true → (newer : S) → Serves good stands new (m ∷ []) (text ∷ []) newer → (held'' : Option (List ℕ)) → Appends held' held'' text → AnswersAll good stands Closed old newer left left' held held'' (replied + 1) (written + length text)
+    closed m rest text valid front last newer one held'' sent =
         let messages = p.messages ++ m ∷ [] in
         let texts = p.texts ++ text ∷ [] in
         let received = flat_map print_message p.messages ++ waiting in
-        let answered : AnswersMessage good stands new m text newer = subst (λ b. AnswersAsked good stands new (asked_by m) b text newer) at.ends answers in
-        let whole : received ≡ flat_map print_message messages ++ rest = ap (λ l. flat_map print_message p.messages ++ l) at.at_front ∙ sym (printed-push p.messages m rest) in
+        let whole : received ≡ flat_map print_message messages ++ rest = ap (λ l. flat_map print_message p.messages ++ l) front ∙ sym (printed-push p.messages m rest) in
         let reply : (bytes behind : List ℕ) → bytes ≡ flat_map print_message messages ++ behind → IsReplyTo good stands old bytes texts Closed newer
         = λ bytes behind is. record {
           messages = messages;
           rest = behind;
           replies = texts;
-          splits = record { whole = is; each = All-push IsMessage p.messages m p.each at.valid };
-          ends = (p.messages, m, refl, p.goes_on, sym at.ends ∙ last);
-          run = Serves-push old new newer p.messages p.texts m text p.run answered;
+          splits = record { whole = is; each = All-push IsMessage p.messages m p.each valid };
+          ends = (p.messages, m, refl, p.goes_on, last);
+          run = Serves-append old new newer p.messages (m ∷ []) p.texts (text ∷ []) p.run one;
           texts_are = sym (append-nil texts);
         } in
         record {
@@ -275,12 +262,9 @@ module _ {S : Type 0} (good : S → Type 0) (stands : S → History → History 
         }
 
     -- a write of a reply failed
-    pub reply_cut : (headers : List HeaderSpan) (e : Extent) (at : IsMessageAt waiting headers e) (held'' : Option (List ℕ)) (text : List ℕ) (newer : S) (part : ℕ) → AnswersAsked good stands new (asked_by at.message) e.ends text newer → Appends held' held'' (take part text) → part < length text → AnswersInPart good stands old newer left left' held held'' replied (written + part)
-    reply_cut headers e at held'' text newer part answers sent short =
-        let m = at.message in
-        let rest = drop (e.head.len + e.body) waiting in
+    pub reply_cut : (m : Message) (rest text : List ℕ) → IsMessage m → waiting ≡ print_message m ++ rest → (newer : S) → Serves good stands new (m ∷ []) (text ∷ []) newer → (held'' : Option (List ℕ)) (part : ℕ) → Appends held' held'' (take part text) → part < length text → AnswersInPart good stands old newer left left' held held'' replied (written + part)
+    reply_cut m rest text valid front newer one held'' part sent short =
         let messages = p.messages ++ m ∷ [] in
-        let answered : AnswersMessage good stands new m text newer = subst (λ b. AnswersAsked good stands new (asked_by m) b text newer) at.ends answers in
         let last : (b : Bool) → ends_stream m.head ≡ b → GoesOn messages ⊎ ClosesAfter messages
         = elim [ true ↦ λ e. inr (p.messages, m, refl, p.goes_on, e) | false ↦ λ e. inl (All-push (λ (k : Message). ends_stream k.head ≡ false) p.messages m p.goes_on e) ] in
         record {
@@ -291,8 +275,8 @@ module _ {S : Type 0} (good : S → Type 0) (stands : S → History → History 
           cut = text;
           part = part;
           read = p.read;
-          splits = record { whole = ap (λ l. flat_map print_message p.messages ++ l) at.at_front ∙ sym (printed-push p.messages m rest); each = All-push IsMessage p.messages m p.each at.valid };
-          answers = inl (Serves-push old new newer p.messages p.texts m text p.run answered, last (ends_stream m.head) refl);
+          splits = record { whole = ap (λ l. flat_map print_message p.messages ++ l) front ∙ sym (printed-push p.messages m rest); each = All-push IsMessage p.messages m p.each valid };
+          answers = inl (Serves-append old new newer p.messages (m ∷ []) p.texts (text ∷ []) p.run one, last (ends_stream m.head) refl);
           sent = Appends-append held held' held'' _ _ p.sent sent;
           shorter = short;
           replied_is = p.replied_is;
@@ -321,15 +305,23 @@ module _ {S : Type 0} (good : S → Type 0) (stands : S → History → History 
   run_of WriteFault old new left left' held held' replied written did = run_of_cut old new did.messages did.rest did.whole did.cut left' did.answers
   run_of Memory old new left left' held held' replied written did = ([], [], subst (λ desk. Serves good stands old [] [] desk) (sym did.0) (Serves-none old))
 
-  -- the input ended
+  -- a read ended the stream
   pub ended_by : (old new : S) (left left' held held' : Option (List ℕ)) (waiting : List ℕ) (replied written : ℕ) → Progress good stands old new left left' held held' waiting replied written
-      → (end : End) → EndsSo [] waiting end → IsAtEnd left' → (held'' : Option (List ℕ)) (served : Served) → EndsBy end held' held'' replied written served
+      → (end : End) → IsLast waiting end → (IsAtEnd left' ⊎ (end ≡ ReadFault)) → (held'' : Option (List ℕ)) (served : Served) → EndsBy end held' held'' replied written served
       → SessionOf good stands served.end old new left left' held held'' served.replies served.written
-  ended_by old new left left' held held' waiting replied written p Input ends at held'' served (is, kept) =
-      told_by served replied written Input is old new left left' held held'' (at_input old new left left' held held' waiting replied written p ends.1 at held'' kept)
-  ended_by old new left left' held held' waiting replied written p Closed ends at held'' served by = absurd (omega (arith, ap length ends.2 ∙ length_push ends.0 ends.1))
-  ended_by old new left left' held held' waiting replied written p (Bad fault) ends at held'' served by =
-      refused old new left left' held held' waiting replied written p fault ends.1 (inl at) held'' served by
-  ended_by old new left left' held held' waiting replied written p ReadFault ends at held'' served by = absurd ends
-  ended_by old new left left' held held' waiting replied written p WriteFault ends at held'' served by = absurd ends
-  ended_by old new left left' held held' waiting replied written p Memory ends at held'' served by = absurd ends
+  ended_by old new left left' held held' waiting replied written p Input last (inl at) held'' served (is, kept) =
+      told_by served replied written Input is old new left left' held held'' (at_input old new left left' held held' waiting replied written p last.1 at held'' kept)
+  ended_by old new left left' held held' waiting replied written p Input last (inr e) held'' served by = absurd (cc)
+  ended_by old new left left' held held' waiting replied written p Closed last at held'' served by = absurd last
+  ended_by old new left left' held held' waiting replied written p (Bad fault) last (inl at) held'' served by =
+      refused old new left left' held held' waiting replied written p fault last.1 (inl at) held'' served by
+  ended_by old new left left' held held' waiting replied written p (Bad fault) last (inr e) held'' served by = absurd (cc)
+  ended_by old new left left' held held' waiting replied written p ReadFault last at held'' served (is, kept) =
+      told_by served replied written ReadFault is old new left left' held held'' (before old new left left' held held' waiting replied written p last held'' kept)
+  ended_by old new left left' held held' waiting replied written p WriteFault last at held'' served by = absurd last
+  ended_by old new left left' held held' waiting replied written p Memory last at held'' served by = absurd last
+
+-- the bytes with which a read has ended a stream
+pub read_last : (p q : Place) (bytes : List ℕ) (end : End) → ReadMoves p bytes (Some end) q → IsLast (p.waiting ++ bytes) end
+read_last p q bytes end (inl (between, brings, ends)) = subst (λ b. IsLast b end) brings.2 ends.1
+read_last p q bytes end (inr (all, none, fault, ends)) = subst (λ b. IsLast b end) (sym (ap (λ l. p.waiting ++ l) none ∙ append-nil p.waiting)) ends.1

@@ -1,5 +1,5 @@
 -- What the definitions of this crate come to. (this project's own)
-use Rattle.std.specs.Prelude.{◌≡◌, ℕ, Bool, true, false, List, [], ◌∷◌, ◌++◌, Contains, None, Option, Some, codes, if◌then◌else◌, is_none, take}
+use Rattle.std.specs.Prelude.{◌≡◌, ◌≢◌, ℕ, Bool, true, false, List, [], ◌∷◌, ◌++◌, Contains, None, Option, Some, codes, if◌then◌else◌, is_none, take}
 use Rattle.std.specs.Fmt.{decimal}
 use Rattle.std.specs.List.{cons_option, flat_map}
 use Rattle.std.specs.Str.{bytes_eq}
@@ -11,7 +11,12 @@ use Rattle.desk_store.specs.Desk.{HasGoodDisk, History, Shown, StandsAt}
 use Rattle.desk_store.specs.Laws.{pending_through}
 use Rattle.desk_http_messages.specs.Asked.{asked_by}
 use Rattle.desk_http_messages.specs.Stream.{Message}
+use Rattle.desk_http_messages.specs.declared.requests.End.{End}
+use Rattle.desk_http_messages.specs.declared.requests.End.TheVariants.{ReadFault}
+use Rattle.desk_http.specs.declared.connection.State.TheVariants.{Ended}
 use Rattle.desk_http.specs.Answering.{Serves, edit_asked}
+use Rattle.desk_http.specs.Connection.{AtDesk, DeskGoes, Event, Goes, Interleaves, IsServed, IsStreamOf, Moves, Place, answered, fresh, happened, own, replies, written}
+use Rattle.desk_http.specs.Serving.{IsReplyTo}
 
 -- a desk after some messages and then others is one after all of them
 abbrev pub RunsFollow : (S V : Type 0) → Ghosts S → Type 0
@@ -79,3 +84,29 @@ RepliesAreARun S V g =
     (old new : Shown S V) (messages : List Message) (texts : List (List ℕ)) (history pending : History)
     → Serves (HasGoodDisk g) (StandsAt g) old messages texts new → HasGoodDisk g new → StandsAt g old history pending
     → (made : List Exchange) × IsRunOf history messages texts made × StandsAt g new (history_through history made) (pending_through history pending made)
+
+-- In whatever pieces a stream comes, in at most 1,000,000 reads with that which tells its end, and each within the room that is left: a
+-- connection that is stepped through it writes what `serve` writes, the replies to the stream.
+abbrev pub SteppingServes : (S V : Type 0) → Ghosts S → Type 0
+SteppingServes S V g =
+    (old new : Shown S V) (events : List Event) (p : Place) (end : End) (stream : List ℕ)
+    → Goes fresh events p → DeskGoes (HasGoodDisk g) (StandsAt g) old events new
+    → p.state ≡ Ended end → end ≢ ReadFault → IsStreamOf events stream
+    → IsReplyTo (HasGoodDisk g) (StandsAt g) old stream (written events) end new
+
+-- Of several connections, the desk is one after a run over the messages of all, in the order in which they were answered; and each came
+-- to what it comes to alone: what is written to it are the replies to its own messages, in their order.
+abbrev pub InterleavingsServe : (S V : Type 0) → Ghosts S → Type 0
+InterleavingsServe S V g =
+    (old new : Shown S V) (events : List (ℕ × Event)) (places : ℕ → Place)
+    → Interleaves (HasGoodDisk g) (StandsAt g) old events places new
+    → Serves (HasGoodDisk g) (StandsAt g) old (answered (happened events)) (replies (happened events)) new
+    × ((i : ℕ) → IsServed (own i events) (places i))
+
+-- connections beside one another go on by an event of one of them, while the others stay at their places
+abbrev pub InterleavingsGoOn : (S V : Type 0) → Ghosts S → Type 0
+InterleavingsGoOn S V g =
+    (old mid new : Shown S V) (events : List (ℕ × Event)) (places others : ℕ → Place) (i : ℕ) (e : Event)
+    → Interleaves (HasGoodDisk g) (StandsAt g) old events places mid
+    → AtDesk (HasGoodDisk g) (StandsAt g) mid e new → Moves (places i) e (others i) → ((j : ℕ) → j ≢ i → others j ≡ places j)
+    → Interleaves (HasGoodDisk g) (StandsAt g) old (events ++ (i, e) ∷ []) others new

@@ -2,6 +2,8 @@ pub mod Replies
 pub mod Questions
 pub mod Edits
 pub mod Answering
+pub mod Stepping
+pub mod Connection
 pub mod Serving
 pub mod Laws
 pub mod PrivateAnswering

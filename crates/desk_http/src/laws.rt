@@ -1,6 +1,6 @@
 //! What the definitions of this crate come to, each as a function that does nothing of its own.
 
-ghost use Rattle.desk_http.specs.Laws.{RepliesAreARun, RunsFollow};
+ghost use Rattle.desk_http.specs.Laws.{InterleavingsGoOn, InterleavingsServe, RepliesAreARun, RunsFollow, SteppingServes};
 
 use desk_policy::PolicyView;
 use sqlite::Alter;
@@ -15,4 +15,19 @@ pub fn runs_follow<S: Alter + Drop, V: PolicyView + Drop>()
 /// behind a connection.
 pub fn replies_are_a_run<S: Alter + Drop, V: PolicyView + Drop>()
     ensures { RepliesAreARun S V S.Store }
+{}
+
+/// A connection that is stepped through a stream, in whatever pieces this comes, writes the replies to it.
+pub fn stepping_serves<S: Alter + Drop, V: PolicyView + Drop>()
+    ensures { SteppingServes S V S.Store }
+{}
+
+/// Connections that are served beside one another are each served as alone, by a desk that answers the messages of all.
+pub fn interleavings_serve<S: Alter + Drop, V: PolicyView + Drop>()
+    ensures { InterleavingsServe S V S.Store }
+{}
+
+/// Connections beside one another go on by an event of one of them.
+pub fn interleavings_go_on<S: Alter + Drop, V: PolicyView + Drop>()
+    ensures { InterleavingsGoOn S V S.Store }
 {}

@@ -1,4 +1,5 @@
-//! The service of a desk over HTTP/1.1: questions and edits, answered with JSON. (this project's own, over RFC 9110 and RFC 9112)
+//! The service of a desk over a connection of HTTP/1.1, one message after another: questions and edits, answered with JSON.
+//! (this project's own, over RFC 9110 and RFC 9112)
 //!
 //! Its promise: the bytes written are the replies to the bytes read, however they are cut, and the desk stands at the history
 //! after them. What is answered is desk_service's; this crate prints it.
@@ -9,11 +10,17 @@
 #![tactic(auto)]
 
 pub mod answering;
+pub mod connection;
 pub mod edits;
 pub mod laws;
 pub mod questions;
 pub mod replies;
 pub mod serving;
+pub mod stepping;
 
-pub use laws::{replies_are_a_run, runs_follow};
+pub use connection::{Connection, State};
+pub use laws::{
+    interleavings_go_on, interleavings_serve, replies_are_a_run, runs_follow, stepping_serves,
+};
 pub use serving::serve;
+pub use stepping::{ReplyText, Step, take_step};

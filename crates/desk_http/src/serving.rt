@@ -1,34 +1,23 @@
-//! One connection.
+//! The service of one connection over a reader and a writer.
 
-ghost use Rattle.std.specs.Prelude.{◌≡◌, ◌⊎◌, ◌↔◌, ℕ, ◌+◌, ◌<◌, ◌≤◌, ◌^◌, List, [], IfErr, IfOk, OnErr, OnOk, true, false, All, length, take};
+ghost use Rattle.std.specs.Prelude.{◌≡◌, ◌⊎◌, ◌↔◌, ℕ, ◌+◌, ◌<◌, ◌≤◌, ◌^◌, List, IfErr, IfOk, OnErr, OnOk, true, false, length, take};
 ghost use Rattle.std.specs.Io.KnownBytes.{Appends};
-ghost use Rattle.httparse.specs.Spans.{IsHeaderWithin};
 ghost use Rattle.desk_store.specs.Desk.{HasGoodDisk, StandsAt};
-ghost use Rattle.desk_http_messages.specs.Asked.{asked_of};
-ghost use Rattle.desk_http_messages.specs.Front.{end_of};
 ghost use Rattle.desk_http_messages.specs.Stream.{Message};
 ghost use Rattle.desk_http.specs.Answering.{Serves};
+ghost use Rattle.desk_http.specs.Connection.{IsReadEnd, fresh};
 ghost use Rattle.desk_http.specs.Serving.{SessionOf};
-ghost use Rattle.desk_http.specs.PrivateAnswering.{AnswersAsked};
+ghost use Rattle.desk_http.specs.Stepping.{text_bytes};
 ghost use Rattle.desk_http.specs.PrivateServing.{EndsBy, Refuses};
 
-use crate::answering::answer;
-use desk_http_messages::{
-    Buffer, End, Front, Outcome, Pending, Request, Served, Sink, Source, StreamFault, fault_text,
-    look_at, memory_text, read_on, request_at, write_whole,
-};
+use crate::connection::Connection;
+use crate::stepping::{ReplyText, Step};
+use desk_http_messages::{End, Served, Sink, Source, StreamFault, fault_text, write_whole};
 use desk_http_requests::Routes;
 use desk_policy::PolicyView;
 use desk_store::Desk;
-use httparse::spans::{EMPTY_HEADER_SPAN, HeaderSpan};
 use sqlite::Alter;
 use std::alloc::Global;
-
-/// The most reads of one connection.
-pub const MAX_READS: u32 = 1_000_000;
-
-/// The most lines of a head.
-const HEADER_LINES: usize = 32;
 
 /// Answers the requests of one connection, in order, until it ends. If there is no memory for its one buffer or its routes,
 /// nothing is read. Each reply is written as one text, in as many calls as the writer needs.
@@ -61,22 +50,22 @@ pub fn serve<S: Alter + Drop, V: PolicyView + Drop, R: Source, W: Sink>(
     let Ok(routes) = Routes::new(alloc) else {
         return ended(0, 0, End::Memory);
     };
-    let Ok(mut buffer) = Buffer::new(alloc) else {
+    let Ok(mut connection) = Connection::new(alloc) else {
         return ended(0, 0, End::Memory);
     };
-    serve_stream(alloc, &routes, &mut buffer, desk, reader, writer)
+    serve_stream(alloc, &routes, &mut connection, desk, reader, writer)
 }
 
-/// Answers the requests of one connection with its buffer, in which no bytes wait yet.
+/// Answers the requests of one connection, of which nothing was read yet: step by step, with a read whenever its bytes wait.
 fn serve_stream<S: Alter + Drop, V: PolicyView + Drop, R: Source, W: Sink>(
     alloc: Global,
     routes: &Routes,
-    buffer: &mut Buffer,
+    connection: &mut Connection,
     desk: &mut Desk<S, V>,
     reader: &mut R,
     writer: &mut W,
 ) -> Served
-    requires empty { buffer.old ≡ [] }
+    requires fresh { connection.old ≡ fresh }
     requires reader_good { R.has_failed reader.old ≡ false }
     requires writer_good { W.has_failed writer.old ≡ false }
     requires few_reads { R.reads reader.old ≤ 2 ^ 63 }
@@ -89,38 +78,29 @@ fn serve_stream<S: Alter + Drop, V: PolicyView + Drop, R: Source, W: Sink>(
     ensures read_failed { R.has_failed reader.new ≡ true → result.end ≡ End.ReadFault }
     ensures write_fault { (result.end ≡ End.WriteFault) ↔ (W.has_failed writer.new ≡ true) }
 {
-    let mut headers = [EMPTY_HEADER_SPAN; HEADER_LINES];
-    let mut reads = 0u32;
     let mut replies = 0u64;
     let mut written = 0u128;
     loop {
-        let bytes = buffer.waiting();
-        match look_at(bytes, &mut headers) {
-            Front::Message(extent) => {
-                let request = request_at(bytes, &headers, &extent);
-                match reply_to(alloc, routes, desk, writer, &request, extent.ends) {
+        match connection.step(alloc, routes, desk) {
+            Step::Reply(text, ends) => {
+                let told = write_reply(writer, &text);
+                drop(text);
+                match told {
                     Ok(count) => {
                         replies += 1;
                         written += count as u128;
                     }
                     Err(part) => return ended(replies, written + part as u128, End::WriteFault),
                 }
-                buffer.consume(extent.head.len + extent.body);
-                if extent.ends {
+                if ends {
                     return ended(replies, written, End::Closed);
                 }
             }
-            Front::Fault(fault) => return refuse(writer, fault, replies, written),
-            Front::Open(pending) => {
-                let (made, outcome) = read_on(buffer, reader, pending, MAX_READS - reads);
-                reads += made;
-                match outcome {
-                    Outcome::More => {}
-                    Outcome::AtEnd => return end_input(writer, pending, replies, written),
-                    Outcome::Failed => return ended(replies, written, End::ReadFault),
-                    Outcome::Bound => return ended(replies, written, End::ReadFault),
-                }
-            }
+            Step::Fault(fault) => return refuse(writer, fault, replies, written),
+            Step::Waits(_) => match connection.read_from(reader) {
+                None => {}
+                Some(end) => return end_input(writer, end, replies, written),
+            },
         }
     }
 }
@@ -136,55 +116,33 @@ fn ended(replies: u64, written: u128, end: End) -> Served
     }
 }
 
-/// Answers a request and writes the reply: how long it is, or how much of it was written.
-fn reply_to<S: Alter + Drop, V: PolicyView + Drop, W: Sink>(
-    alloc: Global,
-    routes: &Routes,
-    desk: &mut Desk<S, V>,
-    writer: &mut W,
-    request: &Request<'_>,
-    ends: bool,
-) -> Result<usize, usize>
-    requires headers { All (IsHeaderWithin (length request.now.head.now)) request.now.headers.now }
+/// Writes a reply: how long it is, or how much of it was written.
+fn write_reply<W: Sink>(writer: &mut W, text: &ReplyText) -> Result<usize, usize>
     requires good { W.has_failed writer.old ≡ false }
-    ensures ok { IfOk result (λ n. (text : List ℕ)
-        × AnswersAsked (HasGoodDisk S.Store) (StandsAt S.Store) desk.old (asked_of request.now) ends text desk.new
-        × Appends (W.held writer.old) (W.held writer.new) text × (n ≡ length text)) }
+    ensures ok { IfOk result (λ n. Appends (W.held writer.old) (W.held writer.new) (text_bytes text.now) × (n ≡ length (text_bytes text.now))) }
     ensures still_good { OnOk result (W.has_failed writer.new ≡ false) }
-    ensures cut { IfErr result (λ n. (text : List ℕ)
-        × AnswersAsked (HasGoodDisk S.Store) (StandsAt S.Store) desk.old (asked_of request.now) ends text desk.new
-        × Appends (W.held writer.old) (W.held writer.new) (take n text) × (n < length text)) }
+    ensures cut { IfErr result (λ n. Appends (W.held writer.old) (W.held writer.new) (take n (text_bytes text.now)) × (n < length (text_bytes text.now))) }
     ensures failed { OnErr result (W.has_failed writer.new ≡ true) }
 {
-    match answer(alloc, routes, desk, request, ends) {
-        Ok(text) => {
-            let bytes = text.as_bytes();
-            match write_whole(writer, bytes) {
-                Ok(()) => Ok(bytes.len()),
-                Err(part) => Err(part),
-            }
-        }
-        Err(_) => {
-            let bytes = memory_text(ends);
-            match write_whole(writer, bytes) {
-                Ok(()) => Ok(bytes.len()),
-                Err(part) => Err(part),
-            }
-        }
+    let bytes = text.as_bytes();
+    match write_whole(writer, bytes) {
+        Ok(()) => Ok(bytes.len()),
+        Err(part) => Err(part),
     }
 }
 
-/// Ends a connection whose input has ended while its bytes waited so: with the reply to a fault, if that is one.
-fn end_input<W: Sink>(writer: &mut W, pending: Pending, replies: u64, written: u128) -> Served
+/// Ends a connection that a read has ended so: with the reply to a fault, if that is one.
+fn end_input<W: Sink>(writer: &mut W, end: End, replies: u64, written: u128) -> Served
+    requires by_read { IsReadEnd end }
     requires good { W.has_failed writer.old ≡ false }
     requires few { replies + 1 < 2 ^ 64 }
     requires short { written + 1024 < 2 ^ 128 }
-    ensures ends { EndsBy (end_of pending) (W.held writer.old) (W.held writer.new) replies written result }
-    ensures read { result.end ≡ End.ReadFault → ⊥ }
+    ensures ends { EndsBy end (W.held writer.old) (W.held writer.new) replies written result }
+    ensures read { (result.end ≡ End.ReadFault) ↔ (end ≡ End.ReadFault) }
     ensures memory { result.end ≡ End.Memory → ⊥ }
     ensures write_fault { (result.end ≡ End.WriteFault) ↔ (W.has_failed writer.new ≡ true) }
 {
-    match pending.end() {
+    match end {
         End::Bad(fault) => refuse(writer, fault, replies, written),
         end => ended(replies, written, end),
     }

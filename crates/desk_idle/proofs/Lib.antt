@@ -8,6 +8,7 @@ pub mod Looking
 pub mod Steady
 pub mod OneKey
 pub mod Looks
+pub mod Heaviest
 pub mod Known
 pub mod Skipping
 pub mod Together

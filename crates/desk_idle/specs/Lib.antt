@@ -2,3 +2,4 @@ pub mod Idle
 pub mod Laws
 pub mod Listed
 pub mod PrivateMarks
+pub mod Selections

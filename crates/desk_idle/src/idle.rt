@@ -6,9 +6,11 @@ ghost use Rattle.desk_policy.specs.declared.row.Row.{Row};
 ghost use Rattle.desk_idle.specs.Idle.{AreIdle, IsReason};
 ghost use Rattle.desk_idle.specs.Laws.{WriteDirectories};
 ghost use Rattle.desk_idle.specs.PrivateMarks.{AreAllMarks, IsKnown, IsLeastAmong, IsLeastMatch, decides};
+ghost use Rattle.desk_idle.specs.Selections.{AreSelections};
 
 use crate::marks::{Mark, marks_of};
 use crate::selecting::first_selected;
+use crate::selections::{Selection, selections_of};
 use desk_exports::Clients;
 use desk_index::Index;
 use desk_policy::{PolicyView, Row, RowAddrs};
@@ -43,8 +45,23 @@ pub fn idle_lines(alloc: Global, index: &Index, fs: FsId) -> Result<Vec<Idle>, A
     requires { WriteDirectories index.now fs.0 }
     ensures { IfOk result (λ found. AreIdle index.now fs.0 found.items) }
 {
+    let selections = selections_of(alloc, index, fs)?;
+    idle_lines_by(alloc, index, fs, selections.as_slice())
+}
+
+/// Lists them, given what is selected wherever that may change.
+pub fn idle_lines_by<'a>(
+    alloc: Global,
+    index: &'a Index,
+    fs: FsId,
+    selections: &[Selection<'a>],
+) -> Result<Vec<Idle>, AllocError>
+    requires lines { WriteDirectories index.now fs.0 }
+    requires selections { AreSelections (rows_of index.now fs.0) selections.now }
+    ensures { IfOk result (λ found. AreIdle index.now fs.0 found.items) }
+{
     let _lists = index.policy().rows_by_filesystem();
-    let marks = marks_of(alloc, index, fs)?;
+    let marks = marks_of(alloc, index, fs, selections)?;
     idle_by(alloc, index, fs, &marks)
 }
 

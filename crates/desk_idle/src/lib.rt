@@ -16,12 +16,14 @@ pub mod laws;
 pub mod listed;
 mod marks;
 mod selecting;
+pub mod selections;
 pub mod writing;
 
-pub use idle::{Idle, Reason, idle_lines};
+pub use idle::{Idle, Reason, idle_lines, idle_lines_by};
 pub use laws::{
     idle_lines_are_listed_before, idle_lines_change_nothing, lines_decide_by_what_they_bring,
     read_lines_write_directories,
 };
 pub use listed::Listed;
+pub use selections::{Selection, selections_of};
 pub use writing::write_directories;

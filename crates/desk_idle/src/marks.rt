@@ -14,16 +14,17 @@ ghost use Rattle.desk_index.specs.Keys.{numbers};
 ghost use Rattle.desk_idle.specs.Laws.{brings};
 ghost use Rattle.desk_idle.specs.PrivateMarks as spec;
 ghost use Rattle.desk_idle.specs.PrivateMarks.{AreAllMarks, AreMarks, HaveLooked, Look, looks_among, looks_by};
+ghost use Rattle.desk_idle.specs.Selections.{AreSelections, IsSelection};
 
 use crate::listed::Listed;
 use crate::selecting::add_lines;
+use crate::selections::Selection;
 use desk_exports::Clients;
 use desk_index::{Index, Probes, row_numbered, rows_numbered};
 use desk_policy::laws::lines_are_selected_by_keys;
 use desk_policy::{PolicyView, Row};
 use desk_tables::FsId;
 use desk_text::Addr;
-use desk_who::starts_among;
 use std::alloc::{AllocError, Global};
 use std::collections::{BTreeMap, BTreeSet};
 
@@ -39,27 +40,20 @@ pub(crate) struct Mark {
 }
 
 /// Marks the lines of a file system, by their numbers.
-pub(crate) fn marks_of(
+pub(crate) fn marks_of<'a>(
     alloc: Global,
-    index: &Index,
+    index: &'a Index,
     fs: FsId,
+    selections: &[Selection<'a>],
 ) -> Result<BTreeMap<u32, Mark>, AllocError>
-    requires { AreAscending (rows_of index.now fs.0) }
+    requires ascending { AreAscending (rows_of index.now fs.0) }
+    requires selections { AreSelections (rows_of index.now fs.0) selections.now }
     ensures { IfOk result (AreAllMarks (rows_of index.now fs.0)) }
 {
-    let starts = starts_among(alloc, index.policy().rows(fs))?;
     let mut marks = BTreeMap::new(alloc);
     let mut lists = BTreeSet::new(alloc);
-    mark_at(
-        alloc,
-        index,
-        fs,
-        Addr::from_number(0),
-        &mut marks,
-        &mut lists,
-    )?;
-    for start in starts.as_slice() {
-        mark_at(alloc, index, fs, *start, &mut marks, &mut lists)?;
+    for selection in selections {
+        mark_at(alloc, index, fs, *selection, &mut marks, &mut lists)?;
     }
     Ok(marks)
 }
@@ -69,25 +63,27 @@ fn mark_at<'a>(
     alloc: Global,
     index: &'a Index,
     fs: FsId,
-    address: Addr,
+    selection: Selection<'a>,
     marks: &mut BTreeMap<u32, Mark>,
     lists: &mut BTreeSet<&'a [u32]>,
 ) -> Result<(), AllocError>
-    requires { AreAscending (rows_of index.now fs.0) }
+    requires ascending { AreAscending (rows_of index.now fs.0) }
+    requires selection { IsSelection (rows_of index.now fs.0) selection }
     ensures { OnOk result ((before : List ℕ) → HaveLooked (rows_of index.now fs.0) before marks.old lists.old
-        → HaveLooked (rows_of index.now fs.0) (before ++ number_of address ∷ []) marks.new lists.new) }
+        → HaveLooked (rows_of index.now fs.0) (before ++ number_of selection.entry.address ∷ []) marks.new lists.new) }
 {
     lines_are_selected_by_keys();
+    let address = selection.address;
     let _number = address.number();
     let _probes = Probes::new(index);
-    let rows = index.policy().rows(fs);
-    let Some(found) = index.selected(fs, address) else {
+    let Some(group) = selection.group else {
         return Ok(());
     };
-    if are_known(marks, rows, found.lines()) {
+    let rows = index.policy().rows(fs);
+    if are_known(marks, rows, group.lines) {
         return Ok(());
     }
-    mark_lines(alloc, rows, found.lines(), address, marks, lists)
+    mark_lines(alloc, rows, group.lines, address, marks, lists)
 }
 
 /// Marks the lines that are selected at an address, unless they were looked at together elsewhere.

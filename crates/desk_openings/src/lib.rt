@@ -1,4 +1,4 @@
-//! Where mountd(8) grants what this desk denies, at each place of a site.
+//! Where mountd(8) grants what this desk denies, place by place, for the report.
 //!
 //! Its promise: [`openings_of_site`] lists, place by place, just the addresses of clients to whom the server grants a mount that this desk
 //! denies, each with the line by which it does, and with the line that the denial names.

@@ -1,4 +1,4 @@
-//! What the summary of an auditor's report tells of a whole site, as data, before anything of it is cut or written.
+//! What a report tells of a site as a whole, as data: the lines that stand out, the key figures and the flavours.
 //!
 //! Its promise: [`lines_of_site`] lists the lines of all file systems, each with to how many addresses it grants something and why it
 //! stands out. Of these [`findings_of_site`] lists those that stand out, in the order in which to look at them, [`figures_of_site`]

@@ -1,5 +1,4 @@
-//! The summary of the page of a report: the header, the key figures, the lines that stand out, the security flavours and the file
-//! systems; and how the sections of the page begin and end.
+//! The header and the summary of the page, its table of file systems, and how its sections begin and end.
 //!
 //! Its promise: each function adds just the text that its definition says, over plain data that it is given. Every row is printed: of
 //! many lines that stand out the first stand in the open, and all others are folded; of what a cell names, and does not list, the number

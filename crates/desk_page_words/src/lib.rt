@@ -1,5 +1,4 @@
-//! Words of the page of a report that more than one of its parts says: the badges of classes, the marks of levels, how many addresses are
-//! of which class, and why a line stands out.
+//! What several parts of the page say alike: badges, levels, counts by class, and why a line stands out.
 //!
 //! Its promise: each function adds just the text that its definition says. Of the lines that decide in place of another one the first are
 //! named, and of the others the number is said.

@@ -1,5 +1,4 @@
-//! The policy of a site: the lines in force, which of them are selected for a client, and who may mount what.
-//! (exports(5))
+//! The policy of a site: the lines in force, their contradictions, who may mount what, and as whom a client acts. (exports(5))
 //!
 //! Its promise: [`parse`] reads the policy that the texts of a site write, each exports file by its own profile, or reports
 //! the first faulty file, its first faulty line and the first rule that the line breaks. [`compile`] puts that policy in force

@@ -1,4 +1,5 @@
-//! What is said of lines that break no rule, beside the warnings of words.
+//! What is said of lines that break no rule: those that decide nothing, networks of every address, those where mountd(8) decides
+//! otherwise, and opinions.
 //!
 //! Its promise: [`find_remarks`] lists of a policy that does not contradict itself just the lines that decide nothing, each with the
 //! reason, and the networks of prefix 0; and, if they are asked for, opinions: the lines that let everybody write, and those that

@@ -6,10 +6,10 @@ ghost use Rattle.desk_tables.specs.FileSystems.{fs_of};
 ghost use Rattle.desk_idle.specs.Laws.{WriteDirectories};
 ghost use Rattle.desk_remarks.specs.Said.{IsSaidIn, IsSaidOf};
 
-use desk_idle::{Idle, idle_lines};
+use desk_idle::{Idle, idle_lines_by, selections_of};
 use desk_index::Index;
 use desk_policy::PolicyView;
-use desk_server::{RepeatedClient, WiderGrant, repeated_clients, wider_grants};
+use desk_server::{RepeatedClient, WiderGrant, repeated_clients, wider_grants_by};
 use desk_tables::{FsId, Mount};
 use desk_text::{Path, Sequence};
 use std::alloc::{AllocError, Global};
@@ -60,8 +60,11 @@ fn said_of<'i>(alloc: Global, index: &'i Index, fs: FsId) -> Result<Said<'i>, Al
     requires { WriteDirectories index.now fs.0 }
     ensures { IfOk result (IsSaidOf index.now fs.0) }
 {
-    let idle = idle_lines(alloc, index, fs)?;
-    let wider = wider_grants(alloc, index, fs)?;
+    // Both ask what is selected at the same addresses.
+    let selections = selections_of(alloc, index, fs)?;
+    let idle = idle_lines_by(alloc, index, fs, selections.as_slice())?;
+    let wider = wider_grants_by(alloc, index, fs, selections.as_slice())?;
+    drop(selections);
     let repeated = repeated_clients(alloc, index, fs)?;
     Ok(Said {
         idle: Sequence::from_vec(idle),

@@ -1,4 +1,5 @@
-//! What an auditor's report tells of a site, as data, before anything of it is cut or written.
+//! What a report tells of a site, as data: what clients may at the most, what each line grants and why it stands out, and which
+//! places are granted alike.
 //!
 //! Its promise: [`systems_of_site`] lists, by file system, each place with all verdicts at it, the most that clients may on it, and to
 //! how many addresses each line grants something; [`classes_of_site`] the most that they may at all. [`classes_from`] lists what the

@@ -1,5 +1,4 @@
-//! What the part of the report page on one file system tells of places: the groups of its directories, and what a proposal would change
-//! at them; as parts for the page, given the data.
+//! The groups of directories on the page, and what a proposal would change at them.
 //!
 //! Its promise: [`listed_groups`] puts the places of a file system into groups of those that are granted alike, each with its table and
 //! its maps; the first hundred are listed, and of the others the directories are counted. [`changes_of`] lists what lines that are proposed

@@ -13,12 +13,12 @@ use Rattle.desk_policy.specs.Weights.{is_at_most, weight_of}
 use Rattle.desk_policy.specs.declared.row.Row.{Row}
 use Rattle.desk_index.specs.Lighter.{AreHeaviestBelow, IsHeaviestBelow, is_weight, weighing}
 use Rattle.desk_index.specs.declared.lighter.Weighed.{Weighed}
+use Rattle.desk_idle.proofs.Heaviest.{few_by, filter_from, filter_has, none_has, some_numbered, weight_is}
 use Rattle.desk_idle.proofs.Looks.{none_passes}
 use Rattle.desk_idle.proofs.Removal.{selected-some, weighs}
 use Rattle.desk_server.specs.Server.{asked, for_everybody, granting, is_everybody, is_named, named, or_others, server_verdict_by}
-use Rattle.desk_server.proofs.Lighter.{few_by, found_has, some_numbered, weight_is}
-use Rattle.desk_server.proofs.Lists.{none_has}
-use Rattle.desk_server.proofs.Widening.{everybody_weight, filter_from, filter_has, named_weight, or_either, selected_from}
+use Rattle.desk_server.proofs.Lighter.{found_has}
+use Rattle.desk_server.proofs.Widening.{everybody_weight, named_weight, or_either, selected_from}
 
 -- ---- lists
 

@@ -1,55 +1,35 @@
 -- The first of the heaviest lines that widen what is selected, group by group of lighter lines.
-use Rattle.std.proofs.Common.{◌≡◌, ◌∙◌, ℕ, suc, ◌+◌, ◌<◌, ◌≤◌, ◌++◌, Bool, true, List, [], ◌∷◌, Option, Some, None, ap, arith, drop, get_or, inl, inr, length, not, refl, subst, sym, take}
+use Rattle.std.proofs.Common.{◌≡◌, ◌∙◌, ℕ, suc, ◌+◌, ◌<◌, ◌≤◌, ◌++◌, Bool, true, List, [], ◌∷◌, Some, None, ap, arith, drop, get_or, inl, inr, length, not, refl, subst, sym, take}
 use Rattle.std.specs.Prelude.{find, slice_get}
-use Rattle.std.specs.List.{All, AllByRecursion, Contains, list_all, list_any}
+use Rattle.std.specs.List.{All, AllByRecursion, Contains, list_any}
 use Rattle.std.specs.Option.{option_map}
-use Rattle.std.proofs.lemmas.Bool.{and_from, and_parts, cases_Bool, cases_lt, cond-true, cond-false, eq-eqb, eqb-true, le-leb, not-true, or_cases, true≢false}
+use Rattle.std.proofs.lemmas.Bool.{and_parts, cases_Bool, cases_lt, cond-true, cond-false, eq-eqb, not-true, or_cases, true≢false}
 use Rattle.std.proofs.lemmas.List.{append_assoc, get_or_default, take-append-drop}
-use Rattle.std.proofs.lemmas.List.Elements.{All-contains, All-contains_itself, All-filter}
+use Rattle.std.proofs.lemmas.List.Elements.{All-contains_itself, All-filter}
 use Rattle.std.proofs.lemmas.List.Folds.{list_any_at}
 use Rattle.std.proofs.lemmas.List.Kept.{AllPairs-filter}
-use Rattle.std.proofs.lemmas.Option.{cond_some}
-use Rattle.desk_text.specs.AddrSet.{is_among}
-use Rattle.desk_text.specs.Network.{covers}
-use Rattle.desk_exports.specs.declared.entry.Clients.{Clients}
-use Rattle.desk_exports.specs.declared.entry.Clients.TheVariants as clients
+use Rattle.desk_text.specs.Address.{number_of}
 use Rattle.desk_policy.specs.Keys.{HasBlock}
 use Rattle.desk_policy.specs.Policy.{AreAscending}
 use Rattle.desk_policy.specs.Listings.{written}
 use Rattle.desk_policy.specs.Verdict.{is_directory_among}
-use Rattle.desk_policy.specs.Weights.{is_at_most, is_greatest, name_weight, selected, weight_by, weight_of}
+use Rattle.desk_policy.specs.Weights.{is_greatest, selected, weight_of}
 use Rattle.desk_policy.specs.declared.row.Row.{Row}
 use Rattle.desk_index.specs.Keys.{numbers}
 use Rattle.desk_index.specs.Lighter.{AreHeaviestBelow, IsHeaviestBelow, is_weight, weighing}
 use Rattle.desk_index.specs.declared.lighter.Weighed.{Weighed}
 use Rattle.desk_idle.specs.Idle.{first_selected}
 use Rattle.desk_idle.specs.Laws.{brings}
-use Rattle.desk_idle.proofs.Bringing.{Lacks, each_lacks, selected_has, witness}
+use Rattle.desk_idle.specs.Selections.{IsSelection}
+use Rattle.desk_idle.specs.declared.selections.Selection.{Selection}
+use Rattle.desk_idle.proofs.Bringing.{Lacks, each_lacks, witness}
 use Rattle.desk_idle.proofs.Directories.{Path}
 use Rattle.desk_idle.proofs.Front.{front}
+use Rattle.desk_idle.proofs.Heaviest.{are_numbers, at_most_all, filter_from, filter_has, none_heavier, none_there, weight_is}
 use Rattle.desk_idle.proofs.Lists.{in_middle}
 use Rattle.desk_idle.proofs.Looks.{first_or, none_passes}
-use Rattle.desk_idle.proofs.OneKey.{weighs}
-use Rattle.desk_idle.proofs.Removal.{selected-some}
 use Rattle.desk_server.specs.PrivateWider.{WidenBelow, Widened}
 use Rattle.desk_server.specs.WiderGrants.{Widens, WidensFirst}
-use Rattle.desk_server.proofs.Lists.{none_has}
-use Rattle.desk_server.proofs.Widening.{filter_from, filter_has}
-
--- ---- weights
-
-some_same : (a b : ℕ) → Some a ≡ Some b → a ≡ b
-some_same a b e = cc
-
-pub few_by : (who : Clients) (addresses : List ℕ) (address own : ℕ) → HasBlock who → weight_by who addresses address ≡ Some own → own < 35
-few_by (clients.Hosts names) addresses address own block e = let s = cond_some (is_among address addresses) name_weight own e in let same : 34 ≡ own = s.1 in omega arith
-few_by (clients.Net net noted) addresses address own block e = let s = cond_some (covers net address) (net.prefix + 1) own e in let same = s.1 in let few = block.prefix in omega arith
-few_by (clients.Net6 value) addresses address own block e = let wrong : None ≡ Some own = e in cc
-few_by clients.World addresses address own block e = let same : 0 ≡ own = some_same 0 own e in omega arith
-
-pub weight_is : (o : Option ℕ) (weight : ℕ) → is_weight weight o ≡ true → o ≡ Some weight
-weight_is None weight e = absurd (true≢false (sym e))
-weight_is (Some own) weight e = ap (λ (n : ℕ). Some n) (eqb-true own weight e)
 
 -- ---- the first that passes
 
@@ -171,67 +151,20 @@ brings_nothing chosen row has brought =
     ]
 
 module _ (rows : List Row) (address : ℕ) (greatest : ℕ) (most : (row : Row) (own : ℕ) → Contains rows row → weight_of row address ≡ Some own → own ≤ greatest) where
-  at_most_all : (rs before : List Row) → before ++ rs ≡ rows → list_all (λ (other : Row). is_at_most (weight_of other address) greatest) rs ≡ true
-  at_most_all [] before e = refl
-  at_most_all (r ∷ rs) before e =
-      let has : Contains rows r = subst (λ (xs : List Row). Contains xs r) e (in_middle before r rs) in
-      and_from _ _ (at_most_by (weight_of r address) (λ own is. most r own has is)) (at_most_all rs (before ++ r ∷ []) (append_assoc before (r ∷ []) rs ∙ e))
-    where
-      at_most_by : (o : Option ℕ) → ((own : ℕ) → o ≡ Some own → own ≤ greatest) → is_at_most o greatest ≡ true
-      at_most_by None few = refl
-      at_most_by (Some own) few = le-leb own greatest (few own refl)
-
   -- lines of the greatest weight are selected, and bring nothing more
   pub greatest_bring_nothing : (row : Row) → Contains rows row → weight_of row address ≡ Some greatest → brings (selected rows address) row ≡ true → ⊥
   unfolding selected
   greatest_bring_nothing row has weighs =
       brings_nothing (selected rows address) row
-      (filter_has (λ (other : Row). is_greatest rows address (weight_of other address)) rows row has (ap (is_greatest rows address) weighs ∙ at_most_all rows [] refl))
+      (filter_has (λ (other : Row). is_greatest rows address (weight_of other address)) rows row has (ap (is_greatest rows address) weighs ∙ at_most_all rows address greatest most rows [] refl))
 
--- some line has one of these numbers
-pub some_numbered : (rs : List Row) (lines : List ℕ) → lines ≡ numbers rs → 0 < length lines → (row : Row) × Contains rs row
-some_numbered [] lines e some = absurd (let few = ap length e in omega arith)
-some_numbered (row ∷ rs) lines e some = (row, (0, omega arith, refl))
-
--- the heaviest lines of all are the selected ones
 module _ (rows : List Row) (address : ℕ) (blocks : All (λ (row : Row). HasBlock row.entry.clients) rows) where
-  few : (row : Row) (own : ℕ) → Contains rows row → weight_of row address ≡ Some own → own < 35
-  few row own has weighs = few_by row.entry.clients row.addrs address own (All-contains (λ (r : Row). HasBlock r.entry.clients) rows row blocks has) weighs
-
-  none_selected : AreHeaviestBelow rows address 35 None → selected rows address ≡ []
-  none_selected none = none_has (selected rows address) (λ row chosen.
-      let w = weighs rows address row chosen in
-      let has = selected_has rows address row chosen in
-      none row w.weight has w.is (few row w.weight has w.is))
-
-  pub none_first : AreHeaviestBelow rows address 35 None → first_selected rows address ≡ None
-  none_first none = ap (λ (rs : List Row). option_map (λ (row : Row). row.entry.line) (slice_get rs 0)) (none_selected none)
-
   module _ (group : Weighed) (is : IsHeaviestBelow rows address 35 group) where
-    most : (row : Row) (own : ℕ) → Contains rows row → weight_of row address ≡ Some own → own ≤ group.weight
-    most row own has weighs = is.most row own has weighs (few row own has weighs)
-
-    pub are_selected : selected rows address ≡ weighing rows address group.weight
-    are_selected =
-        let one = some_numbered (weighing rows address group.weight) group.lines.now is.lines is.some in
-        let own = filter_from (λ (r : Row). is_weight group.weight (weight_of r address)) rows one.0 one.1 in
-        selected-some rows address group.weight
-        (list_any_at (λ (r : Row). is_weight group.weight (weight_of r address)) rows own.0.0 one.0 own.0.1 (ap (λ (r : Row). is_weight group.weight (weight_of r address)) own.0.2 ∙ own.1))
-        (at_most_all rows address group.weight most rows [] refl)
-
-    pub all_weigh : (row : Row) → Contains (selected rows address) row → weight_of row address ≡ Some group.weight
-    all_weigh row chosen =
-        let own = filter_from (λ (r : Row). is_weight group.weight (weight_of r address)) rows row (subst (λ (rs : List Row). Contains rs row) are_selected chosen) in
-        weight_is (weight_of row address) group.weight own.1
-
-    pub are_numbers : group.lines.now ≡ numbers (selected rows address)
-    are_numbers = is.lines ∙ ap numbers (sym are_selected)
-
     -- the first of the numbers is that of the first line
     pub first_is : (line : ℕ) → Some line ≡ slice_get group.lines.now 0 → first_selected rows address ≡ Some line
     first_is line e =
         let chosen = selected rows address in
-        let f = front chosen chosen group.lines.now line are_numbers (All-contains_itself chosen) e in
+        let f = front chosen chosen group.lines.now line (are_numbers rows address blocks group is) (All-contains_itself chosen) e in
         ap (λ (rs : List Row). option_map (λ (row : Row). row.entry.line) (slice_get rs 0)) f.are ∙ ap (λ (n : ℕ). Some n) f.number
 
     -- what widens them is lighter
@@ -240,10 +173,15 @@ module _ (rows : List Row) (address : ℕ) (blocks : All (λ (row : Row). HasBlo
         elim (cases_lt own group.weight) [
           | inl lt ↦ lt
           | inr le ↦
-              let up = most row own w.has w.matches in
+              let up = none_heavier rows address blocks group is row own w.has w.matches in
               let same : own ≡ group.weight = omega arith in
-              absurd (greatest_bring_nothing rows address group.weight most row w.has (w.matches ∙ ap (λ (n : ℕ). Some n) same) w.brought)
+              absurd (greatest_bring_nothing rows address group.weight (none_heavier rows address blocks group is) row w.has (w.matches ∙ ap (λ (n : ℕ). Some n) same) w.brought)
         ]
+
+-- where no line matches, none is the first
+pub none_at : (rows : List Row) → All (λ (row : Row). HasBlock row.entry.clients) rows → (selection : Selection) → IsSelection rows selection → selection.group ≡ None
+    → first_selected rows (number_of selection.address) ≡ None
+none_at rows blocks selection is none = ap (λ (rs : List Row). option_map (λ (row : Row). row.entry.line) (slice_get rs 0)) (none_there rows blocks selection is none)
 
 -- the lines of one weight are lines of the file system
 pub weighing_has : (rows : List Row) (address weight : ℕ) → All (Contains rows) (weighing rows address weight)

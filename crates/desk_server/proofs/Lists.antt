@@ -9,11 +9,6 @@ use Rattle.desk_idle.proofs.Looks.{first_or}
 pub no_element : {X : Type 0} (x : X) → Contains [] x → ⊥
 no_element x has = (let lt = has.1 in omega arith)
 
--- what has no element is empty
-pub none_has : {X : Type 0} (xs : List X) → ((x : X) → Contains xs x → ⊥) → xs ≡ []
-none_has [] h = refl
-none_has (x ∷ xs) h = absurd (h x (0, omega arith, refl))
-
 -- a list of one element
 pub only_element : {X : Type 0} (xs : List X) (x : X) → 1 ≤ length xs → length xs < 2 → x ≡ get_or xs 0 x → xs ≡ x ∷ []
 only_element [] x some few e = absurd (omega arith)

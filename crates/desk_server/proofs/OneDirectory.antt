@@ -13,6 +13,7 @@ use Rattle.desk_idle.proofs.Directories.{Path}
 use Rattle.desk_idle.proofs.Lists.{in_middle}
 use Rattle.desk_server.specs.PrivateWider.{ListAlike, ListsOnly, Widened}
 use Rattle.desk_server.specs.WiderGrants.{AreWiderGrants}
+use Rattle.desk_server.specs.declared.wider.WiderGrant.{WiderGrant}
 use Rattle.desk_server.proofs.Asking.{selects}
 use Rattle.desk_server.proofs.Lighter.{brings_nothing}
 use Rattle.desk_server.proofs.Widening.{wider_widens}
@@ -45,3 +46,6 @@ none_wider content fs is alike = record {
   all = λ line address at. absurd (none_widened (rows_of content fs) alike address (wider_widens content fs is address line at));
   ascending = λ i j d lt within. absurd (omega arith);
 }
+
+pub none_of_alike : (content : Content) (fs : ℕ) → WriteDirectories content fs → (rows : List Row) → rows ≡ rows_of content fs → ListAlike rows → (found : List WiderGrant) → found ≡ [] → AreWiderGrants content fs found
+none_of_alike content fs is rows same alike found none = subst (λ (all : List WiderGrant). AreWiderGrants content fs all) (sym none) (none_wider content fs is (subst ListAlike same alike))

@@ -1,5 +1,5 @@
 -- What is known of lines from looks at addresses, one after another.
-use Rattle.std.proofs.Common.{◌≡◌, ◌⊎◌, ◌∙◌, ℕ, suc, ◌<◌, ◌^◌, ◌&&◌, ◌++◌, Bool, true, false, cond, eqb, List, [], ◌∷◌, Option, Some, None, ap, arith, get_or, inl, inr, length, nat_cmp, refl, subst, sym, take}
+use Rattle.std.proofs.Common.{◌≡◌, ◌⊎◌, ◌∙◌, ℕ, zero, suc, ◌<◌, ◌^◌, ◌&&◌, ◌++◌, Bool, true, false, cond, eqb, List, [], ◌∷◌, Option, Some, None, ap, arith, get_or, inl, inr, length, nat_cmp, refl, subst, sym, take}
 use Rattle.std.specs.Prelude.{nat_lt}
 use Rattle.std.specs.BTreeMap.{BTreeMap, is_at}
 use Rattle.std.specs.BTreeMap as tree
@@ -8,7 +8,7 @@ use Rattle.std.specs.List.Sorted.{IsStrictlyIncreasing}
 use Rattle.std.specs.Map.{lookup}
 use Rattle.std.specs.Option.{is_some}
 use Rattle.std.proofs.lemmas.Bool.{and_right, cases_Bool, cases_eq, cond-true, cond-false, eq-eqb, eqb-true, ltb-true, ne_eqb, or_cases, or_left, or_right, true≢false}
-use Rattle.std.proofs.lemmas.List.{get_or-take, length-take}
+use Rattle.std.proofs.lemmas.List.{get_or-map, get_or-take, length-map, length-take}
 use Rattle.std.proofs.lemmas.List.Folds.{list_any-append}
 use Rattle.std.proofs.lemmas.List.Kept.{AllPairs-from_increasing}
 use Rattle.std.proofs.lemmas.Option.{cond_some}
@@ -22,6 +22,8 @@ use Rattle.desk_policy.specs.Weights.{name_weight, selected, weight_by, weight_o
 use Rattle.desk_policy.specs.declared.row.Row.{Row}
 use Rattle.desk_idle.specs.Idle.{first_selected}
 use Rattle.desk_idle.specs.PrivateMarks.{has_one_key}
+use Rattle.desk_idle.specs.Selections.{addresses_of}
+use Rattle.desk_idle.specs.declared.selections.Selection.{Selection}
 use Rattle.desk_idle.proofs.Bringing.{one_line, selected_has}
 use Rattle.desk_server.specs.PrivateWider.{AreTold, AreUpTo, IsFoundAmong, IsFoundAt, IsLook, IsSeen, IsTold, IsWide, Widened, is_kept}
 use Rattle.desk_server.specs.declared.wider.WiderGrant.{WiderGrant}
@@ -204,3 +206,17 @@ rise_up_to numbers i rise within other among =
           let is : get_or numbers k 0 ≡ other = sym (get_or-take i numbers k 0 small) ∙ p.2 in
           omega arith
     ]
+
+-- so are the addresses that are looked at
+starts_up_to : (starts : List ℕ) (i : ℕ) → IsStrictlyIncreasing starts → i < length (0 ∷ starts) → AreUpTo (take i (0 ∷ starts)) (get_or (0 ∷ starts) i 0)
+starts_up_to starts zero rise within = none_up_to 0
+starts_up_to starts (suc i) rise within = rise_up_to starts i rise (omega arith)
+
+pub up_to_next : (selections : List Selection) (starts : List ℕ) (i : ℕ) (d : Selection) → i < length selections → addresses_of selections ≡ 0 ∷ starts → IsStrictlyIncreasing starts
+    → AreUpTo (take i (addresses_of selections)) (number_of (get_or selections i d).address)
+up_to_next selections starts i d within are rise =
+    let numbers = addresses_of selections in
+    let few : length numbers ≡ length selections = length-map selections (λ (s : Selection). number_of s.address) in
+    let longer = ap length are in
+    subst (AreUpTo (take i numbers)) (get_or-map (λ (s : Selection). number_of s.address) selections i d 0 within)
+    (subst (λ (ns : List ℕ). AreUpTo (take i ns) (get_or ns i 0)) (sym are) (starts_up_to starts i rise (omega arith)))

@@ -4,7 +4,6 @@ use Rattle.std.specs.Prelude.{filter, find, slice_get}
 use Rattle.std.specs.List.{Contains, list_all, list_any}
 use Rattle.std.specs.Option.{option_map}
 use Rattle.std.proofs.lemmas.Bool.{and_from, and_parts, cases_Bool, cond-true, cond-false, eqb-true, false_from_ne_true, le-leb, ltb-false, ltb-true, lt-ltb, not-true, or_cases, or_left, or_right, true≢false}
-use Rattle.std.proofs.lemmas.List.Elements.{All-contains, All-contains_itself, All-filter, Contains-append_right, filter_passes}
 use Rattle.std.proofs.lemmas.List.Folds.{list_any_at}
 use Rattle.desk_tables.specs.FileSystems.{fs_of}
 use Rattle.desk_tables.specs.declared.filesystems.FsId.{FsId}
@@ -19,32 +18,15 @@ use Rattle.desk_idle.specs.Idle.{first_selected}
 use Rattle.desk_idle.specs.Laws.{WriteDirectories, brings}
 use Rattle.desk_idle.proofs.Bringing.{Lacks, all_lack, brings_by, each_lacks, elsewhere, lists_is, none_lists, own_dirs, selected_kept, verdict_is, witness}
 use Rattle.desk_idle.proofs.Directories.{Path, is_new}
+use Rattle.desk_idle.proofs.Heaviest.{filter_from, filter_has}
 use Rattle.desk_idle.proofs.Lists.{in_middle}
-use Rattle.desk_idle.proofs.Looks.{first_or, none_found, none_passes}
+use Rattle.desk_idle.proofs.Looks.{none_found, none_passes}
 use Rattle.desk_idle.proofs.Matching.{selects}
 use Rattle.desk_server.specs.PrivateWider.{Widened}
 use Rattle.desk_server.specs.Server.{asked, for_everybody, granting, is_everybody, is_named, named, or_others, server_verdict_among, server_verdict_by, server_verdict_in, server_verdict_of}
 use Rattle.desk_server.specs.WiderGrants.{IsWiderAt}
 
 -- ---- lists
-
-pub filter_has : {X : Type 0} (p : X → Bool) (xs : List X) (x : X) → Contains xs x → p x ≡ true → Contains (filter p xs) x
-filter_has p [] x has passes = absurd (let b = has.1 in omega arith)
-filter_has {X = X} p (y ∷ ys) x has passes =
-    elim (first_or y ys x has) [
-      | inl here ↦
-          subst (λ (zs : List X). Contains zs x) (sym (cond-true (p y) (y ∷ filter p ys) (filter p ys) (ap p here ∙ passes)))
-          (subst (λ (z : X). Contains (z ∷ filter p ys) x) (sym here) (in_middle [] x (filter p ys)))
-      | inr later ↦
-          let rest = filter_has p ys x later passes in
-          elim (cases_Bool (p y)) [
-            | inl first ↦ subst (λ (zs : List X). Contains zs x) (sym (cond-true (p y) (y ∷ filter p ys) (filter p ys) first)) (Contains-append_right (y ∷ []) (filter p ys) x rest)
-            | inr later_on ↦ subst (λ (zs : List X). Contains zs x) (sym (cond-false (p y) (y ∷ filter p ys) (filter p ys) later_on)) rest
-          ]
-    ]
-
-pub filter_from : {X : Type 0} (p : X → Bool) (xs : List X) (x : X) → Contains (filter p xs) x → Contains xs x × (p x ≡ true)
-filter_from p xs x has = (All-contains (Contains xs) (filter p xs) x (All-filter p (Contains xs) xs (All-contains_itself xs)) has, All-contains (λ y. p y ≡ true) (filter p xs) x (filter_passes p xs) has)
 
 -- no element passes
 pub fails : {X : Type 0} (p : X → Bool) (xs : List X) (x : X) → list_any p xs ≡ false → Contains xs x → p x ≡ true → ⊥

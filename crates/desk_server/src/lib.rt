@@ -26,4 +26,4 @@ pub use laws::{
     verdicts_differ_where_the_server_grants_more,
 };
 pub use repeated::{RepeatedClient, repeated_clients};
-pub use wider::{WiderGrant, wider_grants};
+pub use wider::{WiderGrant, wider_grants, wider_grants_by};

@@ -10,17 +10,18 @@ ghost use Rattle.std.specs.Ordering.{nat_cmp};
 ghost use Rattle.desk_text.specs.Address.{number_of};
 ghost use Rattle.desk_policy.specs.Policy.{AreAscending, Content, rows_of};
 ghost use Rattle.desk_idle.specs.Laws.{WriteDirectories};
+ghost use Rattle.desk_idle.specs.Selections.{AreSelections, IsSelection};
 ghost use Rattle.desk_server.specs.PrivateWider.{AreAllTold, AreTold, AreUpTo, IsFinding, is_kept};
 ghost use Rattle.desk_server.specs.WiderGrants.{AreWiderGrants};
 
 use crate::alike::list_alike;
 use crate::looking::look_at;
+use desk_idle::{Selection, selections_of};
 use desk_index::{Index, Probes};
 use desk_policy::laws::lines_are_selected_by_keys;
 use desk_policy::{PolicyView, Row};
 use desk_tables::FsId;
 use desk_text::{Addr, Path};
-use desk_who::starts_among;
 use std::alloc::{AllocError, Global};
 use std::collections::BTreeMap;
 
@@ -50,12 +51,44 @@ pub fn wider_grants<'a>(
     requires { WriteDirectories index.now fs.0 }
     ensures { IfOk result (λ found. AreWiderGrants index.now fs.0 found.items) }
 {
-    let _lists = index.policy().rows_by_filesystem();
     // Where all lines list the same, none lists more than the selected ones.
     if list_alike(index.policy().rows(fs)) {
         return Ok(Vec::new(alloc));
     }
-    let known = known_of(alloc, index, fs)?;
+    let selections = selections_of(alloc, index, fs)?;
+    wider_among(alloc, index, fs, selections.as_slice())
+}
+
+/// Lists them, given what is selected wherever that may change.
+pub fn wider_grants_by<'a>(
+    alloc: Global,
+    index: &'a Index,
+    fs: FsId,
+    selections: &[Selection<'a>],
+) -> Result<Vec<WiderGrant<'a>>, AllocError>
+    requires lines { WriteDirectories index.now fs.0 }
+    requires selections { AreSelections (rows_of index.now fs.0) selections.now }
+    ensures { IfOk result (λ found. AreWiderGrants index.now fs.0 found.items) }
+{
+    if list_alike(index.policy().rows(fs)) {
+        return Ok(Vec::new(alloc));
+    }
+    wider_among(alloc, index, fs, selections)
+}
+
+/// Lists them, whether or not all lines list the same.
+fn wider_among<'a>(
+    alloc: Global,
+    index: &'a Index,
+    fs: FsId,
+    selections: &[Selection<'a>],
+) -> Result<Vec<WiderGrant<'a>>, AllocError>
+    requires lines { WriteDirectories index.now fs.0 }
+    requires selections { AreSelections (rows_of index.now fs.0) selections.now }
+    ensures { IfOk result (λ found. AreWiderGrants index.now fs.0 found.items) }
+{
+    let _lists = index.policy().rows_by_filesystem();
+    let known = known_of(alloc, index, fs, selections)?;
     findings(alloc, index, fs, &known)
 }
 
@@ -95,15 +128,15 @@ fn known_of<'a>(
     alloc: Global,
     index: &'a Index,
     fs: FsId,
+    selections: &[Selection<'a>],
 ) -> Result<BTreeMap<u32, Option<WiderGrant<'a>>>, AllocError>
-    requires { AreAscending (rows_of index.now fs.0) }
+    requires ascending { AreAscending (rows_of index.now fs.0) }
+    requires selections { AreSelections (rows_of index.now fs.0) selections.now }
     ensures { IfOk result (AreAllTold (rows_of index.now fs.0)) }
 {
-    let starts = starts_among(alloc, index.policy().rows(fs))?;
     let mut known = BTreeMap::new(alloc);
-    look(alloc, index, fs, Addr::from_number(0), &mut known)?;
-    for start in starts.as_slice() {
-        look(alloc, index, fs, *start, &mut known)?;
+    for selection in selections {
+        look(alloc, index, fs, *selection, &mut known)?;
     }
     Ok(known)
 }
@@ -113,18 +146,19 @@ fn look<'a>(
     alloc: Global,
     index: &'a Index,
     fs: FsId,
-    address: Addr,
+    selection: Selection<'a>,
     known: &mut BTreeMap<u32, Option<WiderGrant<'a>>>,
 ) -> Result<(), AllocError>
-    requires { AreAscending (rows_of index.now fs.0) }
-    ensures { OnOk result ((before : List ℕ) → AreUpTo before (number_of address) → AreTold (rows_of index.now fs.0) before known.old
-        → AreTold (rows_of index.now fs.0) (before ++ number_of address ∷ []) known.new) }
+    requires ascending { AreAscending (rows_of index.now fs.0) }
+    requires selection { IsSelection (rows_of index.now fs.0) selection }
+    ensures { OnOk result ((before : List ℕ) → AreUpTo before (number_of selection.entry.address) → AreTold (rows_of index.now fs.0) before known.old
+        → AreTold (rows_of index.now fs.0) (before ++ number_of selection.entry.address ∷ []) known.new) }
 {
     lines_are_selected_by_keys();
+    let address = selection.address;
     let _number = address.number();
     let _probes = Probes::new(index);
-    // The heaviest lines of all are the selected ones.
-    let Some(group) = index.heaviest_below(fs, address, 35) else {
+    let Some(group) = selection.group else {
         return Ok(());
     };
     let Some(line) = group.lines.first() else {

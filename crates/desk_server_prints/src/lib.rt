@@ -1,4 +1,4 @@
-//! What is said of mountd(8) beside an answer by this desk's rule.
+//! What standard error says of mountd(8) beside an answer: what it grants otherwise, and which lines it may leave out.
 //!
 //! Its promise: [`left_out_note`] names of each file system the first line that has a client of an earlier one, so that mountd may leave
 //! it out; nothing if there is none, and then mountd puts all lines in force (law `nothing_repeated_is_loaded` of desk_server).

@@ -17,4 +17,5 @@ returns-else-is_empty g c =
       answers = some_words g.S.AsSlice.items c.args.words.now (g.I.Read.remaining c.args.input.now) c.run_words-answer.result some c.run_words-answer.ensures;
       status = c.finish-else-is_empty.ensures.status;
       prints = c.finish-else-is_empty.ensures.printed;
+      at_four = c.finish-else-is_empty.ensures.at_four;
     }

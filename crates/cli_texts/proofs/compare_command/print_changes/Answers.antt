@@ -1,5 +1,6 @@
 -- What changes to the policy of NEW is reported.
-use Rattle.std.proofs.Common.{refl, rules}
+use Rattle.std.proofs.Common.{◌∙◌, ap, rules}
+use Rattle.cli_output.specs.Shown.{shown_lines}
 use Rattle.cli_texts.proofs.compare_command.print_changes.Goals as goal
 
 pub returns : goal.returns
@@ -8,6 +9,6 @@ returns c = record {
   written = c.in_ok-after.ensures;
   report = c.in_ok-report.report;
   is_report = c.in_ok-report.ensures;
-  prints = record { status_is = search rules; text_is = refl };
+  prints = record { status_is = search rules; text_is = c.in_ok-text.ensures ∙ ap shown_lines c.as_str.ensures.value };
   beside = c.in_ok-note.ensures;
 }

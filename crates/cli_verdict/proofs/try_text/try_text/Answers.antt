@@ -17,6 +17,7 @@ use Rattle.desk_server.specs.Server.{server_verdict_of}
 use Rattle.desk_server_prints.specs.LeftOutNote.{TellsLeftOut}
 use Rattle.desk_server_prints.specs.Wider.{wider_line, wider_note}
 use Rattle.desk_why.specs.WhyPrints.{line_named, lines_text, why_in}
+use Rattle.cli_output.specs.Shown.{shown_lines}
 use Rattle.cli_verdict.specs.TryText.{AnswersBy, AnswersHere, AnswersThere, MountQuestion, Tries, answer_above, answer_on, mount_question_of, reasons_if, reasons_text}
 use Rattle.cli_verdict.specs.declared.asking.Asking.{Asking}
 use Rattle.cli_verdict.specs.declared.asking.Asking.TheVariants.{Reasons, Server, Verdict}
@@ -33,7 +34,7 @@ module _ (tables : SiteTables) (question : MountQuestion) where
   reasons_alike : (content : Content) → verdict_of (with_warnings content []) question.address question.path ≡ verdict_of content question.address question.path → (asking : Asking)
       → reasons_if asking tables (with_warnings content []) question.address question.path ≡ reasons_if asking tables content question.address question.path
   reasons_alike content same Verdict = refl
-  reasons_alike content same Reasons = lines_alike content same (fs_of content.table question.path)
+  reasons_alike content same Reasons = ap shown_lines (lines_alike content same (fs_of content.table question.path))
   reasons_alike content same Server = refl
 
   -- the server reads no warnings

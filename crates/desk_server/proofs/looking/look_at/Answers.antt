@@ -10,8 +10,9 @@ use Rattle.desk_index.specs.Keys.{HasNoHostBits, numbers}
 use Rattle.desk_index.specs.Lighter.{IsHeaviestBelow}
 use Rattle.desk_index.specs.declared.lighter.Weighed.{Weighed}
 use Rattle.desk_index.proofs.RowsByNumber.{selected_among}
+use Rattle.desk_idle.proofs.Heaviest.{are_numbers}
 use Rattle.desk_server.specs.PrivateWider.{WidenBelow}
-use Rattle.desk_server.proofs.Lighter.{all_listed, are_numbers, below_selected, none_left, none_names}
+use Rattle.desk_server.proofs.Lighter.{all_listed, below_selected, none_left, none_names}
 use Rattle.desk_server.proofs.looking.look_at.Goals as goal
 
 all_among : (rows items : List Row) (address : ℕ) → items ≡ rows → All (Contains items) (selected rows address)

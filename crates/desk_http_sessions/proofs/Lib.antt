@@ -1,0 +1,3 @@
+pub mod ExchangeLemmas
+pub mod FollowLemmas
+pub mod GivenLemmas

@@ -1,0 +1,4 @@
+pub mod Laws
+pub mod PrivateSession
+pub mod Session
+pub mod Wire

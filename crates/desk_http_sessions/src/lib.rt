@@ -1,0 +1,20 @@
+//! A peer that is served beside others: its connection, the reply that it has not taken yet, and a wire of which no call waits.
+//!
+//! Its promise: whatever a wire gives at once, what was sent to a peer and what waits to be sent are the replies to what came from it,
+//! each once and whole, in their order. The law `interleavings_serve` of desk_http says what these are beside other peers.
+//!
+//! ```text
+//! session.receive(&mut room);                       // Received::Bytes(false)
+//! session.answer(alloc, &routes, &mut desk);        // true: a reply waits
+//! session.send();                                   // Sent::Part: the peer takes no more for now
+//! ```
+#![tactic(auto)]
+
+mod given;
+pub mod laws;
+pub mod session;
+pub mod wire;
+
+pub use laws::exchanges_follow;
+pub use session::{Received, Sent, Session};
+pub use wire::Wire;
