@@ -1,1 +1,2 @@
 pub mod ClapAnswers
+pub mod ProgramWords

@@ -14,6 +14,8 @@
 #![tactic(auto)]
 
 mod commands;
+mod program;
+mod words;
 
 ghost use Rattle.std.specs.Prelude.{◌≡◌, ◌≢◌, ◌⊎◌, map};
 ghost use Rattle.std.specs.Io.KnownBytes.{Appends};
@@ -21,6 +23,7 @@ ghost use Rattle.cli_output.specs.Printed.{PrintsAtFour, status_of, text_of};
 ghost use Rattle.cli.specs.Commands.{Runs};
 
 use crate::commands::{run_first_line, run_words};
+pub use crate::program::run_process;
 use cli_output::failure::{Failure, Origin};
 pub use cli_output::printed::print_memory;
 use cli_output::printed::{Printed, report};
