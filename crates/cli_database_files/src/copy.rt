@@ -4,8 +4,9 @@ ghost use Rattle.std.specs.Prelude.{◌≡◌, ℕ, codes, false, IfErr, IfOk, I
 ghost use Rattle.sqlite.specs.Files.{file_state};
 ghost use Rattle.cli_output.specs.Failure.{IsUnread};
 ghost use Rattle.cli_database_files.specs.Copy.{AreUsable, IsUnopened, copy_unopened, is_out_of_memory};
+ghost use Rattle.cli_database_files.specs.Copying.{IsCopyFrom};
 
-use crate::copying::Copying;
+use crate::copying::{Copying, Source};
 use crate::database_file::{BUSY, CANNOT_OPEN, is_plain, lock};
 use crate::obstacles::is_settled;
 use cli_output::failure::{Failure, ReadFailure};
@@ -183,7 +184,7 @@ fn copy_files_of(
 }
 
 /// Begins to copy a database whose log has this path, or has none. If something else has its name, it does not begin.
-fn begin(rt: &HostRuntime, log_path: &str) -> io::Result<Option<Copying>> {
+fn begin(rt: &HostRuntime, log_path: &str) -> io::Result<Option<Copying<fs::File>>> {
     match fs::symlink_metadata(rt, log_path) {
         Ok(found) if found.is_file() => {
             let log = fs::open(rt, log_path)?;
@@ -198,18 +199,19 @@ fn begin(rt: &HostRuntime, log_path: &str) -> io::Result<Option<Copying>> {
 }
 
 /// Takes the steps that are left of a copy.
-fn copy_rest(
+fn copy_rest<D: Source, L: Source + Drop>(
     rt: &HostRuntime,
-    begun: Copying,
-    file: &fs::File,
-    real: &str,
+    begun: Copying<L>,
+    db: &D,
+    db_path: &str,
     log_path: &str,
 ) -> io::Result<Option<Files<Memory>>>
-    ensures { IfOk result (λ copied. IfSome copied AreUsable) }
+    ensures usable { IfOk result (λ copied. IfSome copied AreUsable) }
+    ensures copied { IfOk result (λ copied. IfSome copied (IsCopyFrom D.Source.gives L.Source.gives db.now begun.log begun.before.items)) }
 {
     let mut copying = begun;
-    copying.read_db(file)?;
+    copying.read_db(db)?;
     copying.read_log()?;
     copying.read_log_again()?;
-    copying.end(rt, file, real, log_path)
+    copying.end(rt, db, db_path, log_path)
 }

@@ -10,10 +10,10 @@
 //! 4. Where nobody can write, since SQLite's lock is shared, a log without a header, or none at all, is one without a commit. Where
 //!    somebody may, such a log is about to be made, so nothing is copied.
 
-ghost use Rattle.std.specs.Prelude.{IfOk, IfSome, IsTrue};
+ghost use Rattle.std.specs.Prelude.{◌≡◌, ℕ, IfOk, IfSome, IsTrue, List, OnOk};
 ghost use Rattle.sqlite_disk.specs.Memory.{memory_is_usable};
 ghost use Rattle.cli_database_files.specs.Copy.{AreUsable};
-ghost use Rattle.cli_database_files.specs.Copying.{HasBytes, IsCopyOf};
+ghost use Rattle.cli_database_files.specs.Copying.{HasBytes, IsCopyOf, LogGives, everything, header_len};
 
 use crate::kept::{HEADER_LEN, kept};
 use sqlite_disk::{Disk, Files, Memory};
@@ -22,12 +22,48 @@ use std::io::{Read, Seek, SeekFrom};
 use std::os::unix::fs::MetadataExt;
 use std::{fs, io};
 
+/// A file of a database, as it is read: from its front on, up to a number of bytes or to its end.
+pub trait Source {
+    // Reading the file so can give these bytes. Another process may write it, so two readings can give others.
+    ghost gives: { Self → ℕ → List ℕ → Type 0 };
+
+    /// Reads the file from its front on, but no more than this many bytes.
+    fn read_front(&self, alloc: Global, most: u64) -> io::Result<Vec<u8>>
+        ensures { IfOk result (λ bytes. gives self.now most bytes.items) };
+
+    /// Tests whether a path leads to this file.
+    fn is_at(&self, rt: &HostRuntime, path: &str) -> io::Result<bool>;
+}
+
+impl Source for fs::File {
+    ghost gives = { λ file most bytes. Unit {0} };
+
+    fn read_front(&self, alloc: Global, most: u64) -> io::Result<Vec<u8>> {
+        let mut reader = self;
+        reader.seek(SeekFrom::Start(0))?;
+        let mut bytes = Vec::new(alloc);
+        reader.take(most).read_to_end(&mut bytes)?;
+        Ok(bytes)
+    }
+
+    fn is_at(&self, rt: &HostRuntime, path: &str) -> io::Result<bool> {
+        match fs::symlink_metadata(rt, path) {
+            Ok(named) => {
+                let found = self.metadata()?;
+                Ok(named.dev() == found.dev() && named.ino() == found.ino())
+            }
+            Err(error) if error.kind() == io::ErrorKind::NotFound => Ok(false),
+            Err(error) => Err(error),
+        }
+    }
+}
+
 /// What was read so far of a database that is copied.
 #[derive(Drop)]
-pub struct Copying {
+pub struct Copying<L> {
     alloc: Global,
     /// The log, if there was one.
-    log: Option<fs::File>,
+    pub log: Option<L>,
     /// The header that the log had at first, as far as it had one.
     pub before: Vec<u8>,
     /// The bytes of DB.
@@ -38,13 +74,13 @@ pub struct Copying {
     pub second: Vec<u8>,
 }
 
-impl Copying {
+impl<L: Source + Drop> Copying<L> {
     /// Begins to copy a database whose log is this one, if there is one: reads the header of the log.
-    pub fn begin(alloc: Global, log: Option<fs::File>) -> io::Result<Copying> {
-        let before = match &log {
-            Some(log) => header_of(alloc, log)?,
-            None => Vec::new(alloc),
-        };
+    pub fn begin(alloc: Global, log: Option<L>) -> io::Result<Copying<L>>
+        ensures log { IfOk result (λ begun. begun.log ≡ log) }
+        ensures before { IfOk result (λ begun. LogGives L.Source.gives log header_len begun.before.items) }
+    {
+        let before = read_if_any(alloc, &log, HEADER_LEN as u64)?;
         Ok(Copying {
             alloc,
             log,
@@ -56,43 +92,51 @@ impl Copying {
     }
 
     /// Reads DB.
-    pub fn read_db(&mut self, db: &fs::File) -> io::Result<()> {
-        self.db_bytes = bytes_of(self.alloc, db)?;
+    pub fn read_db<D: Source>(&mut self, db: &D) -> io::Result<()>
+        ensures given { OnOk result (D.Source.gives db.now everything self.new.db_bytes.items) }
+        ensures log { OnOk result (self.new.log ≡ self.old.log) }
+        ensures before { OnOk result (self.new.before ≡ self.old.before) }
+    {
+        self.db_bytes = db.read_front(self.alloc, u64::MAX)?;
         Ok(())
     }
 
     /// Reads the log, for the first time.
-    pub fn read_log(&mut self) -> io::Result<()> {
-        if let Some(log) = &self.log {
-            self.first = bytes_of(self.alloc, log)?;
-        }
+    pub fn read_log(&mut self) -> io::Result<()>
+        ensures given { OnOk result (LogGives L.Source.gives self.old.log everything self.new.first.items) }
+        ensures log { OnOk result (self.new.log ≡ self.old.log) }
+        ensures before { OnOk result (self.new.before ≡ self.old.before) }
+        ensures db { OnOk result (self.new.db_bytes ≡ self.old.db_bytes) }
+    {
+        self.first = read_if_any(self.alloc, &self.log, u64::MAX)?;
         Ok(())
     }
 
     /// Reads the log again.
-    pub fn read_log_again(&mut self) -> io::Result<()> {
-        if let Some(log) = &self.log {
-            self.second = bytes_of(self.alloc, log)?;
-        }
+    pub fn read_log_again(&mut self) -> io::Result<()>
+        ensures given { OnOk result (LogGives L.Source.gives self.old.log everything self.new.second.items) }
+        ensures log { OnOk result (self.new.log ≡ self.old.log) }
+        ensures before { OnOk result (self.new.before ≡ self.old.before) }
+        ensures db { OnOk result (self.new.db_bytes ≡ self.old.db_bytes) }
+        ensures first { OnOk result (self.new.first ≡ self.old.first) }
+    {
+        self.second = read_if_any(self.alloc, &self.log, u64::MAX)?;
         Ok(())
     }
 
     /// Ends: gives the copy of DB and of what stays of the log; none if the log was written from its front on meanwhile, or if the names
     /// lead to other files.
-    pub fn end(
+    pub fn end<D: Source>(
         self,
         rt: &HostRuntime,
-        db: &fs::File,
+        db: &D,
         db_path: &str,
         log_path: &str,
     ) -> io::Result<Option<Files<Memory>>>
         ensures usable { IfOk result (λ copied. IfSome copied AreUsable) }
-        ensures copied { IfOk result (λ copied. IfSome copied (IsCopyOf self)) }
+        ensures copied { IfOk result (λ copied. IfSome copied (IsCopyOf L.Source.gives self)) }
     {
-        let after = match &self.log {
-            Some(log) => header_of(self.alloc, log)?,
-            None => Vec::new(self.alloc),
-        };
+        let after = read_if_any(self.alloc, &self.log, HEADER_LEN as u64)?;
         let Some(log_bytes) = kept(
             self.before.as_slice(),
             self.first.as_slice(),
@@ -101,7 +145,7 @@ impl Copying {
         ) else {
             return Ok(None);
         };
-        if !leads_to(rt, db_path, Some(db))? || !leads_to(rt, log_path, self.log.as_ref())? {
+        if !db.is_at(rt, db_path)? || !is_log_at(rt, log_path, &self.log)? {
             return Ok(None);
         }
         let log = in_memory(self.alloc, log_bytes)?;
@@ -115,34 +159,30 @@ impl Copying {
     }
 }
 
-/// Returns the front of a log, as far as it has the length of a header.
-fn header_of(alloc: Global, log: &fs::File) -> io::Result<Vec<u8>> {
-    let mut reader = log;
-    reader.seek(SeekFrom::Start(0))?;
-    let mut bytes = Vec::new(alloc);
-    reader.take(HEADER_LEN as u64).read_to_end(&mut bytes)?;
-    Ok(bytes)
+/// Reads a log, if there is one, from its front on, but no more than this many bytes.
+fn read_if_any<L: Source>(alloc: Global, log: &Option<L>, most: u64) -> io::Result<Vec<u8>>
+    ensures { IfOk result (λ bytes. LogGives L.Source.gives log.now most bytes.items) }
+{
+    match log {
+        Some(log) => log.read_front(alloc, most),
+        None => Ok(Vec::new(alloc)),
+    }
 }
 
-/// Returns the bytes of a file, read from its front to its end.
-fn bytes_of(alloc: Global, file: &fs::File) -> io::Result<Vec<u8>> {
-    let mut reader = file;
-    reader.seek(SeekFrom::Start(0))?;
-    let mut bytes = Vec::new(alloc);
-    reader.read_to_end(&mut bytes)?;
-    Ok(bytes)
+/// Tests whether a path leads to this log, or to nothing if there is none.
+fn is_log_at<L: Source>(rt: &HostRuntime, path: &str, log: &Option<L>) -> io::Result<bool> {
+    match log {
+        Some(log) => log.is_at(rt, path),
+        None => is_free(rt, path),
+    }
 }
 
-/// Tests whether a path leads to this file, or to nothing if there is none.
-fn leads_to(rt: &HostRuntime, path: &str, file: Option<&fs::File>) -> io::Result<bool> {
-    match (fs::symlink_metadata(rt, path), file) {
-        (Ok(named), Some(file)) => {
-            let found = file.metadata()?;
-            Ok(named.dev() == found.dev() && named.ino() == found.ino())
-        }
-        (Ok(_), None) => Ok(false),
-        (Err(error), file) if error.kind() == io::ErrorKind::NotFound => Ok(file.is_none()),
-        (Err(error), _) => Err(error),
+/// Tests whether nothing stands at a path.
+fn is_free(rt: &HostRuntime, path: &str) -> io::Result<bool> {
+    match fs::symlink_metadata(rt, path) {
+        Ok(_) => Ok(false),
+        Err(error) if error.kind() == io::ErrorKind::NotFound => Ok(true),
+        Err(error) => Err(error),
     }
 }
 
