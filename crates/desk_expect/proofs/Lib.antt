@@ -1,5 +1,6 @@
 pub mod Denied
 pub mod Dots
+pub mod FaultWords
 pub mod Gathered
 pub mod Held
 pub mod Holding

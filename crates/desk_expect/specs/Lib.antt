@@ -1,6 +1,7 @@
 pub mod Action
 pub mod Audience
 pub mod Expectation
+pub mod Faults
 pub mod Form
 pub mod Judging
 pub mod Laws
@@ -8,6 +9,7 @@ pub mod Meaning
 pub mod Names
 pub mod Outside
 pub mod PrivateAudience
+pub mod PrivateFaults
 pub mod PrivateMeaning
 pub mod PrivateReading
 pub mod PrivateReport

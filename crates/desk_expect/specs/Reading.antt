@@ -15,6 +15,7 @@ use Rattle.desk_tables.specs.declared.hosts.HostRow.{HostRow}
 use Rattle.desk_netgroup.specs.declared.group_line.GroupLine.{GroupLine}
 use Rattle.desk_expect.specs.Action.{action_of}
 use Rattle.desk_expect.specs.Expectation.{IsExpectationOf, Promise}
+use Rattle.desk_expect.specs.Faults.{IsAtWord, word_at_fault}
 use Rattle.desk_expect.specs.Form as form
 use Rattle.desk_expect.specs.Rules.{breaks, rules, subject_of}
 use Rattle.desk_expect.specs.Scope.{read_scope}
@@ -83,7 +84,8 @@ pub record AreExpectationsIn (netgroups : List GroupLine) (hosts : List HostRow)
   pub read : read_promises netgroups hosts text ≡ Ok promises
   pub are : AreExpectationsOf netgroups hosts promises expectations
 
--- the fault is that of the text, and it is reported at a place of the text, on a physical line of the faulty line
+-- The fault is that of the text. It is reported at a place of the text, on a physical line of the faulty line: that of the word at
+-- fault, if each quote of the line closes.
 pub record IsFaultIn (netgroups : List GroupLine) (hosts : List HostRow) (text : List ℕ) (placed : PlacedFault) : Type 0 where
   pub read : read_promises netgroups hosts text ≡ Err placed.fault
   pub line : LogicalLine
@@ -91,6 +93,7 @@ pub record IsFaultIn (netgroups : List GroupLine) (hosts : List HostRow) (text :
   pub number : placed.fault.line ≡ line.number
   pub own : IsOfLine line placed.place
   pub lies : LiesIn text placed.place
+  pub word : (words : List (List ℕ)) → line_values line ≡ Ok words → IsAtWord line (word_at_fault netgroups hosts words placed.fault.rule) placed.place
 
 -- What was read is what the text expects, or its fault; out of memory says nothing.
 abbrev pub ReadsExpectations : List GroupLine → List HostRow → List ℕ → Result (List Expectation) (ReadError PlacedFault) → Type 0

@@ -1,11 +1,17 @@
 //! The place of the slice at fault of a line.
 
-ghost use Rattle.std.specs.Prelude.{◌≡◌, ℕ, IfOk, List};
-ghost use Rattle.std.specs.List.{IsAmong};
+ghost use Rattle.std.specs.Prelude.{◌≡◌, ℕ, IfOk, List, Ok, is_none};
+ghost use Rattle.std.specs.List.{IsAmong, position_or_len};
 ghost use Rattle.desk_text.specs.Lines.{logical_lines};
 ghost use Rattle.desk_text.specs.Place.{IsOfLine, LiesIn};
+ghost use Rattle.desk_expect.specs.Faults as spec;
+ghost use Rattle.desk_expect.specs.Faults.{IsAtWord};
+ghost use Rattle.desk_expect.specs.Form.{IsFormOf};
+ghost use Rattle.desk_expect.specs.PrivateFaults.{IsFirst, first_among, test_of};
+ghost use Rattle.desk_expect.specs.Reading as reading;
+ghost use Rattle.desk_expect.specs.Scope.{read_scope};
 
-use crate::form::{Form, form_of, index_of, named};
+use crate::form::{Form, form_of, has_subject, index_of, named};
 use crate::meaning::is_unknown;
 use crate::names::is_bad_address;
 use crate::reading::line_values;
@@ -27,6 +33,8 @@ pub(crate) fn make_fault(
     ensures fault { IfOk result (λ made. made.fault ≡ record { line = line.now.number; rule = rule }) }
     ensures lies { IfOk result (λ made. (text : List ℕ) → IsAmong (logical_lines text) line.now → LiesIn text made.place) }
     ensures own { IfOk result (λ made. (text : List ℕ) → IsAmong (logical_lines text) line.now → IsOfLine line.now made.place) }
+    ensures word { IfOk result (λ made. (words : List (List ℕ)) → reading.line_values line.now ≡ Ok words → IsFirst netgroups.now hosts.now words rule
+        → IsAtWord line.now (spec.word_at_fault netgroups.now hosts.now words rule) made.place) }
 {
     let index = word_at_fault(alloc, netgroups, hosts, line, rule)?;
     let place = place_of(alloc, line, index)?;
@@ -43,6 +51,7 @@ pub(crate) fn make_fault(
 fn place_of(alloc: Global, line: &Line, index: usize) -> Result<Place, AllocError>
     ensures lies { IfOk result (λ place. (text : List ℕ) → IsAmong (logical_lines text) line.now → LiesIn text place) }
     ensures own { IfOk result (λ place. (text : List ℕ) → IsAmong (logical_lines text) line.now → IsOfLine line.now place) }
+    ensures word { IfOk result (IsAtWord line.now index) }
 {
     match words(alloc, line) {
         Ok(words) => match words.get(index) {
@@ -65,39 +74,52 @@ fn open_quote(line: &Line) -> Place
     }
 }
 
-/// Finds the word that breaks a rule. (Of a quote that does not close any will do.)
+/// Finds the word of a line that breaks a rule. (Of a quote that does not close any will do.)
 fn word_at_fault(
     alloc: Global,
     netgroups: &Netgroups,
     hosts: &Hosts,
     line: &Line,
     rule: Rule,
-) -> Result<usize, AllocError> {
-    let values = match line_values(alloc, line) {
-        Ok(values) => values,
-        Err(ReadError::Fault(_)) => return Ok(0),
-        Err(ReadError::Memory) => return Err(AllocError),
-    };
-    let words = values.as_slice();
-    let Some(form) = form_of(words) else {
-        return Ok(word_out_of_form(words));
-    };
-    word_in_form(alloc, netgroups, hosts, words, &form, rule)
+) -> Result<usize, AllocError>
+    ensures { IfOk result (λ index. (words : List (List ℕ)) → reading.line_values line.now ≡ Ok words → IsFirst netgroups.now hosts.now words rule
+        → index ≡ spec.word_at_fault netgroups.now hosts.now words rule) }
+{
+    match ReadError::split(line_values(alloc, line))? {
+        Ok(values) => word_among(alloc, netgroups, hosts, values.as_slice(), rule),
+        Err(_) => Ok(0),
+    }
+}
+
+/// Finds the word that breaks a rule among these.
+fn word_among(
+    alloc: Global,
+    netgroups: &Netgroups,
+    hosts: &Hosts,
+    words: &[Text],
+    rule: Rule,
+) -> Result<usize, AllocError>
+    ensures { IfOk result (λ index. IsFirst netgroups.now hosts.now words.now rule → index ≡ spec.word_at_fault netgroups.now hosts.now words.now rule) }
+{
+    match form_of(words) {
+        Some(form) => word_in_form(alloc, netgroups, hosts, words, &form, rule),
+        None => Ok(word_out_of_form(words)),
+    }
 }
 
 /// Finds the word at which a line stops having the form of one: a `may` or `but` with nothing before it, a `but` with nothing
 /// after it, or the last word, after which more has to stand.
-fn word_out_of_form(words: &[Text]) -> usize {
-    let last = words.len().saturating_sub(1);
+fn word_out_of_form(words: &[Text]) -> usize
+    ensures { result ≡ spec.word_out_of_form words.now }
+{
     let may = index_of(words, "may");
-    if may == words.len() {
-        return last;
+    if may < words.len() {
+        let subject = &words[..may];
+        if !has_subject(subject) {
+            return index_of(subject, "but");
+        }
     }
-    let but = index_of(&words[..may], "but");
-    if may == 0 || but == 0 || but + 1 == may {
-        return but;
-    }
-    last
+    words.len().saturating_sub(1)
 }
 
 /// Finds the word that breaks a rule in a line with the form of one.
@@ -108,18 +130,24 @@ fn word_in_form(
     words: &[Text],
     form: &Form<'_>,
     rule: Rule,
-) -> Result<usize, AllocError> {
-    let first_dir = words.len().saturating_sub(form.dirs.len());
+) -> Result<usize, AllocError>
+    requires { IsFormOf words.now form.now }
+    ensures { IfOk result (λ index. index ≡ spec.word_at_fault netgroups.now hosts.now words.now rule) }
+{
+    let first_dir = words.len() - form.dirs.len();
     match rule {
+        Rule::Form => Ok(word_out_of_form(words)),
         Rule::BadAction => Ok(first_dir.saturating_sub(1)),
-        Rule::BadPath => Ok(first_dir.saturating_add(bad_dir(alloc, form.dirs)?)),
+        Rule::BadPath => Ok(first_dir + bad_dir(alloc, form.dirs)?),
         Rule::BadAddress | Rule::UnknownName => name_at_fault(alloc, netgroups, hosts, form, rule),
-        Rule::OpenQuote | Rule::Form | Rule::Nobody => Ok(0),
+        Rule::OpenQuote | Rule::Nobody => Ok(0),
     }
 }
 
-/// Finds the first directory that cannot be read.
-fn bad_dir(alloc: Global, dirs: &[Text]) -> Result<usize, AllocError> {
+/// Finds the first directory that cannot be read, or how many there are.
+fn bad_dir(alloc: Global, dirs: &[Text]) -> Result<usize, AllocError>
+    ensures { IfOk result (λ place. place ≡ position_or_len (λ dir. is_none (read_scope dir)) dirs.now) }
+{
     for (place, dir) in dirs.iter().enumerate() {
         let scope = Scope::read(alloc, dir.as_str())?;
         let is_bad = scope.is_none();
@@ -128,7 +156,7 @@ fn bad_dir(alloc: Global, dirs: &[Text]) -> Result<usize, AllocError> {
             return Ok(place);
         }
     }
-    Ok(0)
+    Ok(dirs.len())
 }
 
 /// Finds the first name that breaks a rule, by its place among the words.
@@ -138,30 +166,33 @@ fn name_at_fault(
     hosts: &Hosts,
     form: &Form<'_>,
     rule: Rule,
-) -> Result<usize, AllocError> {
-    if let Some(place) = first_at_fault(alloc, netgroups, hosts, named(form.whom), rule)? {
+) -> Result<usize, AllocError>
+    ensures { IfOk result (λ index. index ≡ first_among (test_of netgroups.now hosts.now rule) form.now.whom.now form.now.but.now) }
+{
+    let names = named(form.whom);
+    let place = first_at_fault(alloc, netgroups, hosts, names, rule)?;
+    if place < names.len() {
         return Ok(place);
     }
-    let after_but = form.whom.len().saturating_add(1);
-    match first_at_fault(alloc, netgroups, hosts, form.but, rule)? {
-        Some(place) => Ok(after_but.saturating_add(place)),
-        None => Ok(0),
-    }
+    Ok(form.whom.len() + 1 + first_at_fault(alloc, netgroups, hosts, form.but, rule)?)
 }
 
+/// Finds the first of names that breaks a rule, or how many there are.
 fn first_at_fault(
     alloc: Global,
     netgroups: &Netgroups,
     hosts: &Hosts,
     names: &[Text],
     rule: Rule,
-) -> Result<Option<usize>, AllocError> {
-    for place in 0..names.len() {
-        if is_at_fault(alloc, netgroups, hosts, names[place].as_str(), rule)? {
-            return Ok(Some(place));
+) -> Result<usize, AllocError>
+    ensures { IfOk result (λ place. place ≡ position_or_len (test_of netgroups.now hosts.now rule) names.now) }
+{
+    for (place, name) in names.iter().enumerate() {
+        if is_at_fault(alloc, netgroups, hosts, name.as_str(), rule)? {
+            return Ok(place);
         }
     }
-    Ok(None)
+    Ok(names.len())
 }
 
 /// Tests whether a name breaks a rule: it is a bad address, or not known.
@@ -171,7 +202,9 @@ fn is_at_fault(
     hosts: &Hosts,
     name: &str,
     rule: Rule,
-) -> Result<bool, AllocError> {
+) -> Result<bool, AllocError>
+    ensures { IfOk result (λ bad. bad ≡ test_of netgroups.now hosts.now rule name.now) }
+{
     match rule {
         Rule::BadAddress => Ok(is_bad_address(name)),
         _ => is_unknown(alloc, netgroups, hosts, name),

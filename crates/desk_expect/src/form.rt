@@ -62,7 +62,7 @@ pub(crate) fn named(whom: &[Text]) -> &[Text]
 }
 
 /// Tests whether something stands before `but`, and something after it, if it stands among the words before `may`.
-fn has_subject(subject: &[Text]) -> bool
+pub(crate) fn has_subject(subject: &[Text]) -> bool
     ensures { result ≡ spec.has_subject subject.now }
 {
     let but = index_of(subject, "but");

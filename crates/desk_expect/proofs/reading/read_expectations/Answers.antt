@@ -3,6 +3,9 @@ use Rattle.std.specs.List.{IsAmong}
 use Rattle.desk_text.specs.Lines.{LogicalLine, logical_lines}
 use Rattle.desk_text.specs.Reading.{read_lines}
 use Rattle.desk_expect.specs.Reading.{answered, line_answer}
+use Rattle.desk_expect.specs.Faults.{IsAtWord, word_at_fault}
+use Rattle.desk_expect.specs.declared.rules.Rule.{Rule}
+use Rattle.desk_expect.proofs.FaultWords.{first_of}
 use Rattle.desk_expect.proofs.Gathered.{faulty_line, one_more, told_expectation, told_rule}
 use Rattle.desk_expect.proofs.reading.read_expectations.Goals as goal
 
@@ -26,6 +29,9 @@ returns-in-Err c =
       number = ap (λ f. f.line) c.in_ok-make_fault-in-Err.ensures.fault;
       own = c.in_ok-make_fault-in-Err.ensures.own c.args.text.now among;
       lies = c.in_ok-make_fault-in-Err.ensures.lies c.args.text.now among;
+      word = λ words cut.
+          subst (λ (rule : Rule). IsAtWord line (word_at_fault netgroups hosts words rule) made.place) (sym (ap (λ f. f.rule) c.in_ok-make_fault-in-Err.ensures.fault))
+          (c.in_ok-make_fault-in-Err.ensures.word words cut (first_of netgroups hosts line words c.in-Err.rule cut bad));
     }
 
 pub loop-line-preserved : goal.loop-line-preserved
