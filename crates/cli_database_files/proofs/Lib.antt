@@ -1,2 +1,1 @@
-pub mod CopyLemmas
 pub mod OneFile
