@@ -1,6 +1,6 @@
 //! The place of the slice at fault of a line.
 
-ghost use Rattle.std.specs.Prelude.{◌≡◌, ℕ, IfOk, List, Ok, is_none};
+ghost use Rattle.std.specs.Prelude.{◌≡◌, ◌≤◌, ℕ, IfOk, List, Ok, is_none, length};
 ghost use Rattle.std.specs.List.{IsAmong, position_or_len};
 ghost use Rattle.desk_text.specs.Lines.{logical_lines};
 ghost use Rattle.desk_text.specs.Place.{IsOfLine, LiesIn};
@@ -146,7 +146,8 @@ fn word_in_form(
 
 /// Finds the first directory that cannot be read, or how many there are.
 fn bad_dir(alloc: Global, dirs: &[Text]) -> Result<usize, AllocError>
-    ensures { IfOk result (λ place. place ≡ position_or_len (λ dir. is_none (read_scope dir)) dirs.now) }
+    ensures first { IfOk result (λ place. place ≡ position_or_len (λ dir. is_none (read_scope dir)) dirs.now) }
+    ensures bound { IfOk result (λ place. place ≤ length dirs.now) }
 {
     for (place, dir) in dirs.iter().enumerate() {
         let scope = Scope::read(alloc, dir.as_str())?;
@@ -185,7 +186,8 @@ fn first_at_fault(
     names: &[Text],
     rule: Rule,
 ) -> Result<usize, AllocError>
-    ensures { IfOk result (λ place. place ≡ position_or_len (test_of netgroups.now hosts.now rule) names.now) }
+    ensures first { IfOk result (λ place. place ≡ position_or_len (test_of netgroups.now hosts.now rule) names.now) }
+    ensures bound { IfOk result (λ place. place ≤ length names.now) }
 {
     for (place, name) in names.iter().enumerate() {
         if is_at_fault(alloc, netgroups, hosts, name.as_str(), rule)? {
