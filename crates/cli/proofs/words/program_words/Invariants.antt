@@ -3,4 +3,4 @@ use Rattle.std.proofs.Common.{◌≡◌, IfSome, drop, map, take}
 use Rattle.cli.proofs.words.program_words.Given as goal
 
 abbrev pub invariant-loop-before : goal.invariant-loop-before
-invariant-loop-before g l = IfSome (g.A.Arguments.arguments l.system.now) (λ all. map (λ word. word.items) l.words.items ≡ take l.counter (drop 1 all))
+invariant-loop-before g l = IfSome (g.A.Arguments.arguments l.system) (λ all. map (λ word. word.items) l.words.items ≡ take l.before (drop 1 all))
