@@ -1,6 +1,5 @@
 pub mod Consistent
 pub mod Faultless
-pub mod FirstNames
 pub mod FoundFaults
 pub mod FoundSlices
 pub mod OneFaults
