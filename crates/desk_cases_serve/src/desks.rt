@@ -105,3 +105,18 @@ fn tell_text<S: Alter + Drop, V: PolicyView + Drop>(
         Err(_) => found.push_str("a look was refused"),
     }
 }
+
+/// Tests whether a revision of a file has this text.
+pub fn has_text<S: Alter + Drop, V: PolicyView + Drop>(
+    alloc: Global,
+    desk: &mut Desk<S, V>,
+    file: &str,
+    rev: u32,
+    text: &str,
+) -> bool {
+    match desk.revision(alloc, file, rev) {
+        Ok(Some(revision)) => revision.body.as_str() == text,
+        Ok(None) => false,
+        Err(_) => false,
+    }
+}

@@ -1,7 +1,7 @@
 //! Trials of several connections, turn by turn and without a limit of time: what one peer does, or does not do, while another is
 //! answered.
 
-use crate::desks::site;
+use crate::desks::{has_text, site};
 use crate::trials::{BAD_KEY, EDIT, ONE_REVISION, QUESTION, STORED, TWO_REVISIONS, WRONG_KEY};
 use cli_database_files::names::Names;
 use cli_serve::Serving;
@@ -338,11 +338,8 @@ fn in_pieces<S: Fresh, V: PolicyView + Drop>(
             return Ok(wrong);
         }
         rev = rev.saturating_add(1);
-        let is_stored = match house.desk.revision(house.rt.alloc(), "netgroup", rev) {
-            Ok(Some(revision)) => revision.body.as_str() == body.as_str(),
-            _ => false,
-        };
-        if !is_stored {
+        let alloc = house.rt.alloc();
+        if !has_text(alloc, &mut house.desk, "netgroup", rev, body.as_str()) {
             return Ok("what is stored is not what was put");
         }
     }
