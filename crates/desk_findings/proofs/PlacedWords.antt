@@ -1,5 +1,5 @@
 -- Where words stand, by the crates that read their lines, and the line of a number.
-use Rattle.std.proofs.Common.{◌≡◌, ◌<◌, ◌≤◌, ◌∷◌, ◌++◌, ◌∙◌, [], ℕ, Bool, true, false, ltb, List, Option, Some, None, Result, Ok, Err, IfSome, ap, arith, get_or, inl, inr, length, refl, subst, sym}
+use Rattle.std.proofs.Common.{◌≡◌, ◌<◌, ◌∷◌, ◌++◌, ◌∙◌, [], ℕ, Bool, true, false, ltb, List, Option, Some, None, Result, Ok, Err, IfSome, ap, arith, get_or, inl, inr, length, subst, sym}
 use Rattle.std.specs.Prelude.{slice_get}
 use Rattle.std.specs.List.{All, AllZip, IsAmong}
 use Rattle.std.specs.List.Sorted.{IsPartitionPoint, IsPartitionedBy}
@@ -146,7 +146,7 @@ at_place lines up number place point line has same =
 -- ---- a place at a word is on its line
 
 pub on_numbered : (text : List ℕ) (number : ℕ) (kind : Among) (index : ℕ) (at : Option Place) → IsToldOn text number kind index at → IfSome at (IsOnNumbered text number)
-on_numbered text number kind index None no = tt
+on_numbered text number kind index None absent = tt
 on_numbered text number kind index (Some place) told = record { line = told.line; among = told.among; same = told.same; on = told.on }
 
 -- ---- what is told at the place of an index, or where there is none
@@ -177,3 +177,8 @@ pub read_as : {T X F : Type 0} (view : T → X) (answer : Result T (ReadError F)
 read_as view (Ok own) spelled value is reads = (let same : own ≡ value = cc in reads ∙ ap (λ v. Ok (view v)) same)
 read_as view (Err (Fault fault)) spelled value is reads = absurd (cc)
 read_as view (Err Memory) spelled value is reads = absurd (cc)
+
+pub read_not : {T X F : Type 0} (view : T → X) (answer : Result T (ReadError F)) (spelled : Result X F) (fault : F) → split_answer answer ≡ Ok (Err fault) → ReadsAs view answer spelled → spelled ≡ Err fault
+read_not view (Ok own) spelled fault is reads = absurd (cc)
+read_not view (Err (Fault own)) spelled fault is reads = (let same : own ≡ fault = cc in reads ∙ ap (λ f. Err f) same)
+read_not view (Err Memory) spelled fault is reads = absurd (cc)

@@ -1,5 +1,5 @@
 -- The first name that is not listed.
-use Rattle.std.proofs.Common.{◌≡◌, ◌∙◌, ◌<◌, ℕ, List, ap, arith, get_or, is_none, length, rules, sym, tests, true}
+use Rattle.std.proofs.Common.{◌≡◌, ◌∙◌, ◌<◌, ℕ, List, ap, arith, get_or, is_none, length, rules, tests, true}
 use Rattle.desk_tables.specs.Custodians.{digest_of}
 use Rattle.desk_findings.proofs.FirstNames.{here}
 use Rattle.desk_findings.proofs.check_site.unlisted_place.Goals as goal
