@@ -32,15 +32,15 @@ client_at : (line : LogicalLine) (index : ℕ) (place : Option Place) → IsAtIn
 client_at line index (Some place) = tt
 client_at line index None = λ place. tt
 
-pub clients_at : (line : LogicalLine) (places : List Place) → AreOfWords line Clients places
-clients_at line places index = client_at line index (slice_get places index)
+pub clients_at : (line : LogicalLine) (kind : Among) (places : List Place) → kind ≡ Clients → AreOfWords line kind places
+clients_at line kind places is = subst (λ (k : Among). AreOfWords line k places) (sym is) (λ index. client_at line index (slice_get places index))
 
 member_at : (line : LogicalLine) (index : ℕ) (place : Option Place) → IsAtIndex line Members index place
 member_at line index (Some place) = tt
 member_at line index None = λ place. tt
 
-pub members_at : (line : LogicalLine) (places : List Place) → AreOfWords line Members places
-members_at line places index = member_at line index (slice_get places index)
+pub members_at : (line : LogicalLine) (kind : Among) (places : List Place) → kind ≡ Members → AreOfWords line kind places
+members_at line kind places is = subst (λ (k : Among). AreOfWords line k places) (sym is) (λ index. member_at line index (slice_get places index))
 
 -- ---- the places of all words
 
