@@ -1,8 +1,8 @@
-//! What the exit status 4 says of an answer, as a function that does nothing.
+//! What the status 4 of an answer says, as a function that does nothing.
 
 ghost use Rattle.cli.specs.Laws.{FourIsRefused};
 
-/// An answer whose status is 4 is the line of a refusal: `201 Store`, `202 Schema` or `203 Memory`.
+/// An answer whose own status is 4 is the line of a refusal: `201 Store`, `202 Schema` or `203 Memory`.
 #[tactic(auto, using(crate::proofs::AtFour::four_is_refused))]
 pub fn four_is_refused()
     ensures { FourIsRefused }
