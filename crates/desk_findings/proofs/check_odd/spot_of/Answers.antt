@@ -9,7 +9,6 @@ use Rattle.desk_findings.specs.CheckOdd.{IsSpot}
 use Rattle.desk_findings.specs.PrivateCheckOdd.{AreWordsIn, AreWordsOn}
 use Rattle.desk_findings.specs.declared.check_odd.Among.{Among}
 use Rattle.desk_findings.specs.declared.check_odd.PlacedWords.{PlacedWords}
-use Rattle.desk_findings.specs.declared.check_odd.Spot.{Spot}
 use Rattle.desk_findings.proofs.PlacedWords.{told_anyhow, told_at}
 use Rattle.desk_findings.proofs.check_odd.spot_of.Goals as goal
 
