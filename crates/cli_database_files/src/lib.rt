@@ -15,6 +15,7 @@ pub mod copying;
 pub mod database_file;
 pub mod kept;
 pub mod log_file;
+pub mod named;
 pub mod names;
 pub mod new_files;
 pub mod obstacles;
