@@ -57,11 +57,11 @@ def proved():
     return done.stdout.strip()
 
 
-def timed_run(words, statuses=(0,), out=subprocess.PIPE, of_processor=False):
+def timed_run(words, statuses=(0,), out=subprocess.PIPE, of_processor=False, messages=None):
     """The time in seconds, or that of the processor alone, the peak memory in MB, and what is printed of one run that
     has to end with one of these statuses."""
     begin = time.monotonic()
-    child = subprocess.Popen(words, stdout=out, text=True)
+    child = subprocess.Popen(words, stdout=out, stderr=messages, text=True)
     answer = child.stdout.read() if child.stdout else ""
     _, status, usage = os.wait4(child.pid, 0)
     elapsed = usage.ru_utime + usage.ru_stime if of_processor else time.monotonic() - begin

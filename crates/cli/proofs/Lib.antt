@@ -1,2 +1,3 @@
+pub mod AtFour
 pub mod ClapAnswers
 pub mod ProgramWords

@@ -14,6 +14,7 @@
 #![tactic(auto)]
 
 mod commands;
+mod laws;
 mod program;
 mod words;
 
@@ -23,6 +24,7 @@ ghost use Rattle.cli_output.specs.Printed.{PrintsAtFour, status_of, text_of};
 ghost use Rattle.cli.specs.Commands.{Runs};
 
 use crate::commands::{run_first_line, run_words};
+pub use crate::laws::four_is_refused;
 pub use crate::program::run_process;
 use cli_output::failure::{Failure, Origin};
 pub use cli_output::printed::print_memory;

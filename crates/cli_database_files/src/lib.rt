@@ -15,9 +15,8 @@ pub mod copying;
 pub mod database_file;
 pub mod kept;
 pub mod log_file;
+pub mod named;
 pub mod names;
 pub mod new_files;
 pub mod obstacles;
 pub mod one_file;
-#[cfg(test)]
-mod tests;

@@ -48,9 +48,17 @@ impl Names {
     }
 
     /// Tells whether the files that were noted stand there.
-    pub fn are_same(&self, rt: &HostRuntime) -> bool {
+    fn are_same(&self, rt: &HostRuntime) -> bool {
         is_same(self.db_mark, mark_at(rt, self.db.as_str()))
             && is_same(self.log_mark, mark_at(rt, self.log.as_str()))
+    }
+}
+
+/// Tells whether the files that were noted stand at these names, if there are any.
+pub fn have_files(rt: &HostRuntime, names: &Option<Names>) -> bool {
+    match names {
+        Some(names) => names.are_same(rt),
+        None => true,
     }
 }
 

@@ -29,13 +29,14 @@ use crate::refusal_notes::{
 use cli_database_files::copy::{Copied, Unopened, open_copy, unread};
 use cli_database_files::database_file::{CANNOT_OPEN, is_plain};
 use cli_database_files::log_file::remove_log;
+use cli_database_files::named::{FilesFrom, Named, NotOpened, open_from};
 use cli_output::failure::Failure;
 use cli_output::printed::Printed;
 use desk_core::Edit;
 use desk_policy::PolicyView;
 use desk_service::{Replies, put};
 use desk_store::{Desk, DeskError};
-use sqlite::{Alter, Connection, Error, FileFrom, FileStore, Leftover, Start};
+use sqlite::{Alter, Connection, Error, FileFrom, FileStore, Start};
 use sqlite_disk::Memory;
 use std::alloc::Global;
 use std::fs::OpenOptions;
@@ -75,9 +76,6 @@ pub fn desk_on_copy(
         }
     }
 }
-
-/// A connection to files, where `S` stands for what they held.
-pub type FilesFrom<S> = Connection<FileStore<FileFrom<S>>>;
 
 /// Looks at the file of a database before SQLite opens it for edits. Prints why it is not opened, if that shows: it is not a regular
 /// file with one name, it cannot be read or written, or it is empty.
@@ -128,9 +126,6 @@ fn is_empty_file(rt: &HostRuntime, path: &str) -> io::Result<bool> {
     Ok(file.metadata()?.len() <= 1)
 }
 
-/// What SQLite says if it does not open files, with those that it had opened.
-type NotOpened<S> = (Error, Option<Leftover<FileFrom<S>>>);
-
 /// Opens a connection to the database that this word names, at the path that stands for the word to SQLite. It does nothing else.
 fn open_named<S: Start>(
     rt: &HostRuntime,
@@ -143,7 +138,7 @@ fn open_named<S: Start>(
     ensures opened { IfOk result (λ conn. HasCleanDisk (file_state conn) → Opens (file_state conn)) }
     ensures found { IfOk result (λ conn. HasCleanDisk (file_state conn) → FindsIn (image_at S.Start) (file_state conn)) }
 {
-    match Connection::open_from(rt, path, false, start) {
+    match open_from(rt, path, start) {
         Ok(conn) => Ok(conn),
         Err(left) => Err(left),
     }
@@ -183,7 +178,7 @@ pub fn open_desk<S: Start>(
     path: &str,
     log: &Option<String>,
     start: S,
-) -> Result<Desk<FileStore<FileFrom<S>>, View>, Result<Printed, Failure>>
+) -> Result<Desk<FileStore<Named<FileFrom<S>>>, View>, Result<Printed, Failure>>
     requires { path.now ≡ plain_path db.now }
     ensures opened { IfOk result (OpensDesk over_files (image_at S.Start)) }
     ensures refused { IfErr result (HasNoDesk db.now) }

@@ -1,12 +1,12 @@
 -- Bytes that a reader is known to have, for `input::read_bytes` and `input::read_line`.
-use Rattle.std.proofs.Common.{◌≡◌, ◌≢◌, ◌+◌, ◌-◌, ◌<◌, ◌≤◌, ℕ, All, List, [], ◌∷◌, ◌++◌, append-nil, append_assoc, arith, length, take, subst, take_all, Option, Some, None, IfOk, IfSome, Result, Ok, Err, ◌∙◌, ap, sym}
+use Rattle.std.proofs.Common.{◌≡◌, ◌≢◌, ◌+◌, ◌-◌, ◌<◌, ◌≤◌, ℕ, All, List, [], ◌∷◌, ◌++◌, append-nil, append_assoc, arith, length, take, subst, take_all, Option, Some, None, IfOk, IfSome, Result, Ok, Err, ◌∙◌, ap, sym, Bor}
 use Rattle.std.proofs.BufReadLemmas.{take_through-append}
 use Rattle.std.proofs.Math.Seq.{take-append-add}
 use Rattle.std.proofs.lemmas.List.{length_push}
 use Rattle.std.specs.Io.BufRead.{take_through}
 use Rattle.std.specs.Io.KnownBytes.{Consumes, IsAtEnd, Keeps}
 use Rattle.std.specs.Option.{option_map}
-use Rattle.std.proofs.KnownBytes.{Consumes-kept, Consumes-trans, Keeps-trans}
+use Rattle.std.proofs.KnownBytes.{Consumes-trans, Keeps-trans}
 use Rattle.cli_files.specs.Input.{GivesByte}
 
 -- what f gives of the first n bytes was read
@@ -53,10 +53,16 @@ line_at_limit (Some given) (Some rest) line n taken others full =
     let sum : n ≡ length line + 0 = omega (arith, full) in
     whole given line n others (ap (take n) taken ∙ ap (λ k. take k (line ++ rest)) sum ∙ take-append-add line rest 0 ∙ append-nil line)
 
+-- what is left at the end was left before a read that took nothing
+end_before : (a b : Option (List ℕ)) → Keeps a b → IsAtEnd b → IsAtEnd a
+end_before None b kept end = tt
+end_before (Some x) None kept end = absurd kept
+end_before (Some x) (Some y) kept end = sym kept ∙ end
+
 -- what is given behind a read that took nothing
 pub given_byte : {E : Type 0} (a b c : Option (List ℕ)) (read : Result (Option ℕ) E) → Keeps a b → IfOk read (GivesByte b c) → IfOk read (GivesByte a c)
 given_byte a b c (Err e) kept given = tt
-given_byte a b c (Ok None) kept given = (Keeps-trans a b c kept given.0, given.1)
+given_byte a b c (Ok None) kept given = (Keeps-trans a b c kept given.0, end_before a b kept given.1)
 given_byte a b c (Ok (Some byte)) kept given = kept_byte a b c byte kept given
   where
     kept_byte : (a b c : Option (List ℕ)) (byte : ℕ) → Keeps a b → Consumes b c (byte ∷ []) → Consumes a c (byte ∷ [])
@@ -72,5 +78,12 @@ ended_line known mid left front line byte taken next is end others short =
     line_with_end known left front line 16777218 (pushed known mid left front line byte taken next is) whole_line others short
 
 -- bytes without a line end, behind which nothing is left, are the first line
-pub unended_line : (known mid left : Option (List ℕ)) (line : List ℕ) → Consumes known mid line → Keeps mid left × IsAtEnd left → All (λ b. b ≢ 10) line → length line ≤ 16777218 → IfSome known (λ given. line ≡ take_through 10 (take 16777218 given))
-unended_line known mid left line taken end others short = line_at_end known left line 16777218 (Consumes-kept known mid left line taken end.0) end.1 others short
+pub unended_line : (known mid left : Option (List ℕ)) (line : List ℕ) → Consumes known mid line → Keeps mid left × IsAtEnd mid → All (λ b. b ≢ 10) line → length line ≤ 16777218 → IfSome known (λ given. line ≡ take_through 10 (take 16777218 given))
+unended_line known mid left line taken end others short = line_at_end known mid line 16777218 taken end.1 others short
+
+-- a reader that shows no bytes is at its end
+pub shows_none : {E : Type 0} (old new : Option (List ℕ)) (shown : Result (Bor (List ℕ)) E) (bytes : Bor (List ℕ)) → shown ≡ Ok bytes → length bytes.now < 1 → Keeps old new
+    → IfSome old (λ xs. IfOk shown (λ s. length s.now ≡ 0 → xs ≡ [])) → GivesByte old new None
+shows_none None new shown bytes is short kept none = (tt, tt)
+shows_none {E} (Some xs) new shown bytes is short kept none =
+    (kept, subst (λ (r : Result (Bor (List ℕ)) E). IfOk r (λ s. length s.now ≡ 0 → xs ≡ [])) is none (omega (arith, short)))

@@ -46,4 +46,4 @@ first_line line = if nat_lt longest_input (length (without_line_end line)) then 
 -- an input gave its next byte and has the others left, or has none
 abbrev pub GivesByte : Option (List ℕ) → Option (List ℕ) → Option ℕ → Type 0
 GivesByte old new (Some byte) = Consumes old new (byte ∷ [])
-GivesByte old new None = Keeps old new × IsAtEnd new
+GivesByte old new None = Keeps old new × IsAtEnd old

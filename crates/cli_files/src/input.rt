@@ -63,17 +63,18 @@ fn read_byte<I: BufRead>(input: &mut I) -> io::Result<Option<u8>>
     Err(io::Error::from(ErrorKind::Interrupted))
 }
 
-/// Reads one byte, if there is one.
+/// Reads one byte, if there is one, from what the reader has read ahead.
 fn try_byte<I: BufRead>(input: &mut I) -> io::Result<Option<u8>>
     ensures read { IfOk result (GivesByte (I.remaining input.old) (I.remaining input.new)) }
     ensures kept { OnErr result (Keeps (I.remaining input.old) (I.remaining input.new)) }
 {
-    let mut room = [0; 1];
-    match input.read(&mut room) {
-        Ok(0) => Ok(None),
-        Ok(_) => Ok(Some(room[0])),
-        Err(error) => Err(error),
-    }
+    let byte = match input.fill_buf() {
+        Ok([]) => return Ok(None),
+        Ok([byte, ..]) => *byte,
+        Err(error) => return Err(error),
+    };
+    input.consume(1);
+    Ok(Some(byte))
 }
 
 /// Takes the first line of these bytes, without its line end.

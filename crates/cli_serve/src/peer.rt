@@ -10,7 +10,7 @@ use crate::kept::is_kept;
 use crate::limits::{Phase, begun, end_of, has_come, with_bytes};
 use crate::refusals::is_refusal;
 use crate::socket::Socket;
-use cli_database_files::names::Names;
+use cli_database_files::names::{Names, have_files};
 use desk_http::runs_follow;
 use desk_http_messages::buffer::CAPACITY;
 use desk_http_requests::Routes;
@@ -44,14 +44,6 @@ impl Terms<'_> {
     /// Returns what moment it is.
     fn now(&self) -> u64 {
         self.clock.now(self.rt, self.asked)
-    }
-
-    /// Tells whether the files of the database have their names.
-    fn has_files(&self) -> bool {
-        match self.names {
-            Some(names) => names.are_same(self.rt),
-            None => true,
-        }
     }
 }
 
@@ -276,7 +268,7 @@ impl Peer {
         let is_answered = self.session.answer(terms.rt.alloc(), terms.routes, desk);
         if is_answered {
             left.answers = left.answers.saturating_sub(1);
-            if is_kept(self.session.unsent()) && !terms.has_files() {
+            if is_kept(self.session.unsent()) && !have_files(terms.rt, terms.names) {
                 self.lose();
             } else {
                 self.reply(terms);

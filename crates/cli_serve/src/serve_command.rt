@@ -14,6 +14,7 @@ use crate::serving::Serving;
 use clap::ArgMatches;
 use cli_database_files::database_file::plain_path;
 use cli_database_files::log_file::{log_to_make, remove_log};
+use cli_database_files::named::Named;
 use cli_database_files::names::Names;
 use cli_desk::View;
 use cli_desk::desks::{check_file, open_desk};
@@ -57,7 +58,7 @@ pub struct Started {
 /// A service whose desk is open and whose port is bound. Nothing is accepted yet.
 #[derive(Drop)]
 pub struct Service {
-    desk: Desk<FileStore<FileFrom<Wary>>, View>,
+    desk: Desk<FileStore<Named<FileFrom<Wary>>>, View>,
     serving: Serving,
     /// How many connections are served.
     pub connections: u32,
@@ -84,7 +85,7 @@ impl Service {
     /// Ends. A log that was made for nothing goes before the lock goes with the desk: after that, another process may write it. What stands
     /// at its name once the files lost theirs is not its own.
     pub fn close(self, rt: &HostRuntime) {
-        if !self.serving.has_lost() {
+        if self.serving.has_files(rt) {
             remove_log(rt, &self.log);
         }
         drop(self);
@@ -178,7 +179,7 @@ fn listening_line(alloc: Global, port: u16) -> Result<String, AllocError>
 /// Binds the port for a desk.
 fn listen(
     rt: &HostRuntime,
-    desk: Desk<FileStore<FileFrom<Wary>>, View>,
+    desk: Desk<FileStore<Named<FileFrom<Wary>>>, View>,
     asked: Asked<'_>,
     log: Option<String>,
     line: String,

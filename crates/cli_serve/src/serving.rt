@@ -11,7 +11,7 @@ use crate::notes::Notes;
 use crate::peer::{Peer, Terms};
 use crate::readiness::{LISTENER, Readiness};
 use crate::socket::Socket;
-use cli_database_files::names::Names;
+use cli_database_files::names::{Names, have_files};
 use desk_http::runs_follow;
 use desk_http_messages::buffer::CAPACITY;
 use desk_http_requests::Routes;
@@ -132,6 +132,11 @@ impl Serving {
     /// Tells whether a reply that says that an edit is kept was not sent, since the files of the database lost their names.
     pub fn has_lost(&self) -> bool {
         self.has_lost
+    }
+
+    /// Tells whether the names that are watched lead to the files of the database. Without any, they do.
+    pub fn has_files(&self, rt: &HostRuntime) -> bool {
+        have_files(rt, &self.names)
     }
 
     /// Tells whether all connections were accepted and have ended, or an edit was lost with the names of the files of the database.

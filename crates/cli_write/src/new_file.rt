@@ -2,9 +2,8 @@
 //!
 //! Nothing that is there is written over, nor becomes the log of the new database; and the new file does not become that of another one.
 
-use crate::replacing::{new_path, sync_folder};
+use crate::replacing::{fill, new_path, sync_folder};
 use std::fs::OpenOptions;
-use std::io::Write;
 use std::os::unix::fs::OpenOptionsExt;
 use std::{fmt, fs, io};
 
@@ -88,7 +87,7 @@ fn is_there(rt: &HostRuntime, path: &str) -> io::Result<bool> {
 /// Makes a new file with these bytes, which is synced; or removes it, if it cannot be finished.
 fn write_new(rt: &HostRuntime, new: &str, bytes: &[u8]) -> io::Result<()> {
     let mut file = create_new(rt, new)?;
-    match fill(&mut file, bytes) {
+    match fill(&mut file, bytes, None) {
         Ok(()) => Ok(()),
         Err(error) => {
             let _ = fs::remove_file(rt, new);
@@ -104,12 +103,6 @@ fn create_new(rt: &HostRuntime, path: &str) -> io::Result<fs::File> {
         .create_new(true)
         .mode(0o600)
         .open(rt, path)
-}
-
-/// Writes bytes into a file, and syncs it.
-fn fill(file: &mut fs::File, bytes: &[u8]) -> io::Result<()> {
-    file.write_all(bytes)?;
-    file.sync_all()
 }
 
 /// Gives a file the path, if nothing has it; or removes the file. An empty file holds the path until then, so that nothing which is made

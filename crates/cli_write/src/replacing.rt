@@ -156,7 +156,7 @@ fn nanoseconds(rt: &HostRuntime) -> io::Result<u32> {
 /// Makes a new file with a text, which is synced; or removes it, if it cannot be finished.
 fn make_new(rt: &HostRuntime, new: &str, text: &str, old: Option<&Metadata>) -> io::Result<()> {
     let mut file = create_new(rt, new, old.is_some())?;
-    match fill(&mut file, text, old) {
+    match fill(&mut file, text.as_bytes(), old) {
         Ok(()) => Ok(()),
         Err(error) => {
             let _ = fs::remove_file(rt, new);
@@ -175,8 +175,8 @@ fn create_new(rt: &HostRuntime, new: &str, gets_permissions: bool) -> io::Result
         .open(rt, new)
 }
 
-/// A new file that gets a text, as this is finished once the text is in it. Neither step can write.
-trait NewFile: Write {
+/// A new file, as it is finished once its bytes are in it. Neither step can write.
+pub(crate) trait NewFile: Write {
     /// Gives it the owner, the group and the permissions of an old one.
     fn give_access(&self, old: &Metadata) -> io::Result<()>;
 
@@ -195,11 +195,12 @@ impl NewFile for File {
     }
 }
 
-/// Writes a text into a new file, and nothing behind it, gives it the owner, the group and the permissions of an old one, and syncs it.
-fn fill<F: NewFile>(file: &mut F, text: &str, old: Option<&Metadata>) -> io::Result<()>
-    ensures { OnOk result (Appends (F.Write.contents file.old) (F.Write.contents file.new) text.now) }
+/// Writes bytes into a new file, and nothing behind them, gives it the owner, the group and the permissions of an old one, if there is
+/// one, and syncs it.
+pub(crate) fn fill<F: NewFile>(file: &mut F, bytes: &[u8], old: Option<&Metadata>) -> io::Result<()>
+    ensures { OnOk result (Appends (F.Write.contents file.old) (F.Write.contents file.new) bytes.now) }
 {
-    file.write_all(text.as_bytes())?;
+    file.write_all(bytes)?;
     if let Some(old) = old {
         file.give_access(old)?;
     }

@@ -1,5 +1,5 @@
-//! The command itself: a peer connects once its line is printed, and is served; and then one does whose edit was stored before, while the log
-//! of the database has lost its name.
+//! The command itself: a peer connects once its line is printed, and is served; then one does whose edit was stored before, while the log of
+//! the database has lost its name; and then one whose edit is new, while that is so.
 
 use crate::peers::{Peer, Receives, Then, check_peer, connect};
 use crate::trials::STORED;
@@ -12,6 +12,16 @@ const EDIT_HOSTS: &[u8] =
     b"PUT /v1/file?name=hosts&base=1 HTTP/1.1\r\nX-Custodian: site\r\nX-Key: abc\r\nContent-Length: 95\r\n\r\n\
     131.104.48.17 grumpy.example grumpy\n131.104.48.20 sneezy\n131.104.48.21 doc\n131.104.48.22 dopey\n";
 
+/// An edit of the networks of the sample site.
+const EDIT_NETWORKS: &[u8] =
+    b"PUT /v1/file?name=networks&base=1 HTTP/1.1\r\nX-Custodian: site\r\nX-Key: abc\r\nContent-Length: 47\r\n\r\n\
+    cis-net 131.104.48\ncis-mask 255.255.255\n# held\n";
+
+/// The reply to an edit that is not stored.
+const NOT_STORED: &[u8] =
+    b"HTTP/1.1 503 Service Unavailable\r\ncontent-type: application/json\r\ncontent-length: 30\r\n\r\n\
+    {\"error\":\"Store\",\"number\":201}";
+
 /// A run of the command: its peer, whether the log has lost its name by then, the status, and what is reported.
 #[derive(Clone, Copy)]
 struct Run {
@@ -22,7 +32,7 @@ struct Run {
 }
 
 /// The runs, one after another on one database. The first connection ends by the limit of time alone, since nobody else waits.
-const RUNS: [Run; 2] = [
+const RUNS: [Run; 3] = [
     Run {
         peer: Peer {
             sends: EDIT_HOSTS,
@@ -45,7 +55,21 @@ const RUNS: [Run; 2] = [
         status: 4,
         reports: "exportdesk: DB or its log (DB-wal) was moved, removed or replaced: it is served no longer\n",
     },
+    Run {
+        peer: Peer {
+            sends: EDIT_NETWORKS,
+            filler: 0,
+            then: Then::Waits,
+            receives: Receives::Whole(NOT_STORED),
+        },
+        is_log_lost: true,
+        status: 0,
+        reports: "",
+    },
 ];
+
+/// What is stored after the runs.
+const NETWORKS: &str = "rev 1 site\n";
 
 /// The standard output of a service: a peer connects once a line was printed and flushed.
 #[derive(Drop)]
@@ -109,6 +133,16 @@ pub fn try_command(rt: &HostRuntime) -> io::Result<String> {
     }
     for run in RUNS {
         try_run(rt, run, &mut wrong)?;
+        if run.is_log_lost {
+            fs::rename(rt, "asked.log", "asked.db-wal")?;
+        }
+    }
+    let mut stored = Vec::new(rt.alloc());
+    let log = ["log", "asked.db", "networks"];
+    if cli::run(rt, log.as_slice(), &mut input, &mut stored, &mut said) != 0
+        || stored.as_slice() != NETWORKS.as_bytes()
+    {
+        wrong.push_str("an edit is stored whose reply says that it is not\n")?;
     }
     Ok(wrong)
 }

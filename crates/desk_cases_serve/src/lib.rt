@@ -1,9 +1,11 @@
 //! Tries connections on loopback: peers connect and write, the desk serves so many connections, beside one another, and then what
 //! each peer received, what was reported and what the desk holds is compared. Then peers write, read and end between the turns of a
-//! service. Then the command is tried. Replies over memory are in the worked cases over HTTP.
+//! service. Then the command is tried, and copies of a database that is written meanwhile. Replies over memory are in the worked cases over
+//! HTTP.
 #![tactic(auto)]
 
 mod command;
+mod copies;
 mod desks;
 mod peers;
 mod trials;
@@ -24,7 +26,13 @@ pub fn try_all(rt: &HostRuntime) -> io::Result<bool> {
     println!(rt; "{passed} passed, {failed} failed")?;
     let wrong = command::try_command(rt)?;
     let is_served = report(rt, "the command, on 127.0.0.1 alone", wrong.as_str())?;
-    Ok(is_served && failed == 0)
+    let wrong = copies::try_copies(rt)?;
+    let is_copied = report(
+        rt,
+        "copies of a database that is written meanwhile",
+        wrong.as_str(),
+    )?;
+    Ok(is_served && is_copied && failed == 0)
 }
 
 /// Tries peers that connect and write before the desk serves them. Returns how many trials failed.

@@ -69,9 +69,10 @@ answers : {X F : Type 0} (r : Result X F) → ((fault : F) → r ≡ Err fault �
 answers (Ok x) never = (x, refl)
 answers (Err fault) never = absurd (never fault refl)
 
-no_unlisted : (mounts : List Mount) → All IsOddFaultless (map odd_of_unlisted mounts) → mounts ≡ []
-no_unlisted [] each = refl
-no_unlisted (mount ∷ mounts) each = absurd (let bad : true ≡ false = All-head IsOddFaultless (odd_of_unlisted mount) (map odd_of_unlisted mounts) each in cc)
+no_unlisted : (custodians : List Custodian) (mounts : List Mount) → All IsOddFaultless (map (odd_of_unlisted custodians) mounts) → mounts ≡ []
+no_unlisted custodians [] each = refl
+no_unlisted custodians (mount ∷ mounts) each =
+    absurd (let bad : true ≡ false = All-head IsOddFaultless (odd_of_unlisted custodians mount) (map (odd_of_unlisted custodians) mounts) each in cc)
 
 -- the tables of these answers
 abbrev tables_from : Result (List HostRow) TableFault → Result (List NetworkName) TableFault → Result (List User) TableFault → Result (List Group) TableFault → Result (List GroupLine) GroupFault → Result SiteTables SiteFault
@@ -147,8 +148,8 @@ module _ (of_tables : tables.FirstOfFaultsIsReported) (of_netgroup : netgroup.Fi
 
   listed : (source : Source) (custodians : List Custodian) (table : List Mount) (all : List Told) → TellUnlisted source custodians table all → All IsToldFaultless all → unlisted_line custodians table ≡ None
   listed source custodians table all tells each =
-      let given = in_order IsToldFaultless IsOddFaultless source (map odd_of_unlisted (filter (has_unlisted custodians) table)) all (λ spot on e. e) tells each in
-      ap (λ (mounts : List Mount). least (map (λ (mount : Mount). mount.line) mounts)) (no_unlisted (filter (has_unlisted custodians) table) given)
+      let given = in_order IsToldFaultless IsOddFaultless source (map (odd_of_unlisted custodians) (filter (has_unlisted custodians) table)) all (λ spot on e. e) tells each in
+      ap (λ (mounts : List Mount). least (map (λ (mount : Mount). mount.line) mounts)) (no_unlisted custodians (filter (has_unlisted custodians) table) given)
 
   site_listed : (opinions : Bool) (sources : SiteSources) (gathered : Gathered) (custodians : List Custodian) (table : List Mount) (line : Option ℕ) → read_custodians sources.custodians.text.now ≡ Ok custodians
       → read_filesystems sources.filesystems.text.now ≡ Ok table → unlisted_line custodians table ≡ line → site.GathersIfListed line opinions sources custodians table gathered → HasNoFault gathered.findings

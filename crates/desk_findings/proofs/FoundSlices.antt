@@ -29,6 +29,7 @@ use Rattle.desk_policy.specs.declared.per_table.PerTable.{PerTable}
 use Rattle.desk_exports.specs.Files.{whole_answer}
 use Rattle.desk_tables.specs.FileSystemsText.{read_filesystems}
 use Rattle.desk_findings.specs.CheckFaults.{TellTables, Tells, tell_group, tell_line, tell_table}
+use Rattle.desk_findings.proofs.PlacedWords.{on_numbered}
 use Rattle.desk_findings.specs.CheckOdd.{IsOnNumbered, IsSpot, OddLine, TellInOrder, odd_of_spot, tell_spot}
 use Rattle.desk_findings.specs.CheckSite as site
 use Rattle.desk_findings.specs.CheckText.{Finds, Gathers, GathersBy, GathersExports, GathersTables, GathersWith, TellOddities, tables_of}
@@ -85,7 +86,7 @@ spot_at source number (Some place) what directory on = on.on.lies.within
 
 pub odds_within : (source : Source) (given : List OddLine) (all : List Told) → TellInOrder source given all → All Within all
 odds_within source given all tells =
-    tells_within odd_of_spot (IsSpot source.text.now) (tell_spot source) tells.odds all (λ spot on. spot_at source spot.line spot.place spot.matter (option_copied spot.directory) on) tells.tell
+    tells_within odd_of_spot (IsSpot source.text.now) (tell_spot source) tells.odds all (λ spot on. spot_at source spot.line spot.place spot.matter (option_copied spot.directory) (on_numbered source.text.now spot.line spot.among spot.index spot.place on)) tells.tell
 
 oddities_within : (opinions : Bool) (sources : WholeSources) (table : List Mount) (site_tables : SiteTables) (entries : List (FsId × Entry)) (all : List Told) → TellOddities opinions sources table site_tables entries all → All Within all
 oddities_within opinions sources table site_tables entries all tells =

@@ -1,5 +1,6 @@
 pub mod Consistent
 pub mod Faultless
+pub mod FirstNames
 pub mod FoundFaults
 pub mod FoundSlices
 pub mod OneFaults

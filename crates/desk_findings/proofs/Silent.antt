@@ -36,6 +36,8 @@ use Rattle.desk_remarks.specs.Said.{IsSaidIn, IsSaidOf}
 use Rattle.desk_remarks.specs.Unwarned.{is_unwarned}
 use Rattle.desk_remarks.specs.declared.remark.LineRemark.{LineRemark}
 use Rattle.desk_remarks.specs.declared.said.Said.{Said}
+use Rattle.desk_findings.proofs.PlacedWords.{on_numbered}
+use Rattle.desk_findings.specs.declared.check_odd.Among.TheVariants.{Clients}
 use Rattle.desk_findings.specs.CheckOdd.{IsOnNumbered, IsSpot, OddLine, TellInOrder, odd_of_contradiction, odd_of_remark, odd_of_spot, odd_of_warning, odds_of, tell_spot}
 use Rattle.desk_findings.specs.CheckText.{GathersBy, GathersOdd, GathersWith, TellInconsistencies}
 use Rattle.desk_findings.specs.Finding.{is_fault}
@@ -114,7 +116,7 @@ in_order P Q source given all step tells each =
 
 spot_off : (says : Matter → Bool) (source : Source) (rows : List Row) (spot : Spot) → IsSpot source.text.now spot → IsToldOff says source.text.now rows (tell_spot source spot) → IsOddOff says rows (odd_of_spot spot)
 spot_off says source rows spot on off row has is same =
-    off row has is (subst (λ (line : ℕ). IfSome spot.place (IsOnNumbered source.text.now line)) (sym same) on)
+    off row has is (subst (λ (line : ℕ). IfSome spot.place (IsOnNumbered source.text.now line)) (sym same) (on_numbered source.text.now spot.line spot.among spot.index spot.place on))
 
 -- ---- contradictions
 
@@ -169,20 +171,20 @@ no_repeated rows (one ∷ repeated) are each =
 -- ---- what is told of an exports text
 
 module _ (opinions : Bool) (source : Source) (content : Content) (warnings : List Warning) (all : List Told) (tells : TellInconsistencies opinions source content warnings all) where
-  odds_hold : (Q : OddLine → Type 0) → All Q (odds_of tells.clashes warnings tells.remarks ++ odd_words opinions source.text.now) → All Q (odds_of tells.clashes warnings tells.remarks)
-  odds_hold Q each = first_part Q (odds_of tells.clashes warnings tells.remarks) (odd_words opinions source.text.now) each
+  odds_hold : (Q : OddLine → Type 0) → All Q (odds_of Clients tells.clashes warnings tells.remarks ++ odd_words opinions source.text.now) → All Q (odds_of Clients tells.clashes warnings tells.remarks)
+  odds_hold Q each = first_part Q (odds_of Clients tells.clashes warnings tells.remarks) (odd_words opinions source.text.now) each
 
   pub clashes_none : All IsToldFaultless all → tells.clashes ≡ []
   clashes_none each =
-      let given = in_order IsToldFaultless IsOddFaultless source (odds_of tells.clashes warnings tells.remarks ++ odd_words opinions source.text.now) all (λ spot on e. e) tells.tell each in
-      no_clashes tells.clashes (first_part IsOddFaultless (map odd_of_contradiction tells.clashes) (map odd_of_warning warnings ++ map odd_of_remark tells.remarks) (odds_hold IsOddFaultless given))
+      let given = in_order IsToldFaultless IsOddFaultless source (odds_of Clients tells.clashes warnings tells.remarks ++ odd_words opinions source.text.now) all (λ spot on e. e) tells.tell each in
+      no_clashes tells.clashes (first_part IsOddFaultless (map odd_of_contradiction tells.clashes) (map (odd_of_warning Clients) warnings ++ map odd_of_remark tells.remarks) (odds_hold IsOddFaultless given))
 
   remarks_off : (says : Matter → Bool) (rows : List Row) → All (IsToldOff says source.text.now rows) all → All (IsRemarkOff says rows) tells.remarks
   remarks_off says rows each =
-      let given = in_order (IsToldOff says source.text.now rows) (IsOddOff says rows) source (odds_of tells.clashes warnings tells.remarks ++ odd_words opinions source.text.now) all (spot_off says source rows) tells.tell each in
+      let given = in_order (IsToldOff says source.text.now rows) (IsOddOff says rows) source (odds_of Clients tells.clashes warnings tells.remarks ++ odd_words opinions source.text.now) all (spot_off says source rows) tells.tell each in
       of_mapped (IsOddOff says rows) odd_of_remark tells.remarks
-      (second_part (IsOddOff says rows) (map odd_of_warning warnings) (map odd_of_remark tells.remarks)
-      (second_part (IsOddOff says rows) (map odd_of_contradiction tells.clashes) (map odd_of_warning warnings ++ map odd_of_remark tells.remarks) (odds_hold (IsOddOff says rows) given)))
+      (second_part (IsOddOff says rows) (map (odd_of_warning Clients) warnings) (map odd_of_remark tells.remarks)
+      (second_part (IsOddOff says rows) (map odd_of_contradiction tells.clashes) (map (odd_of_warning Clients) warnings ++ map odd_of_remark tells.remarks) (odds_hold (IsOddOff says rows) given)))
 
   module _ (consistent : HasNoContradiction content) (fs : ℕ) (path : List (List ℕ)) (home : fs_of content.table path ≡ Some fs) where
     says_off : (says : Matter → Bool) → All (IsToldOff says source.text.now (rows_of content fs)) all → Says (IsRemarkOff says (rows_of content fs)) content fs

@@ -1,6 +1,7 @@
 -- What `check` finds in the folder of a site's files. (this project's own)
-use Rattle.std.specs.Prelude.{◌≡◌, ℕ, ◌++◌, Bool, false, List, Option, None, Some, Result, Ok, Err, filter, map}
-use Rattle.desk_tables.specs.Custodians.{custodian_faults, read_custodians}
+use Rattle.std.specs.Prelude.{◌≡◌, ℕ, ◌+◌, ◌++◌, Bool, false, List, Option, None, Some, Result, Ok, Err, filter, is_none, map, if◌then◌else◌}
+use Rattle.std.specs.List.{position_or_len}
+use Rattle.desk_tables.specs.Custodians.{custodian_faults, digest_of, read_custodians}
 use Rattle.desk_tables.specs.Faults.{IsOnLine, IsOnLineOrWhole}
 use Rattle.desk_tables.specs.FileSystemsText.{filesystem_faults, read_filesystems}
 use Rattle.desk_tables.specs.Rules.{TableFault}
@@ -10,7 +11,7 @@ use Rattle.desk_tables.specs.declared.rules.TableRule.TheVariants as table_rule
 use Rattle.desk_policy.specs.Unlisted.{has_unlisted, unlisted_line}
 use Rattle.desk_policy.specs.declared.site_fault.SiteRule.TheVariants as site_rule
 use Rattle.desk_findings.specs.CheckFaults.{TellTables, Tells, tell_table}
-use Rattle.desk_findings.specs.CheckOdd.{OddLine, TellInOrder, odd_line}
+use Rattle.desk_findings.specs.CheckOdd.{OddLine, TellInOrder, odd_word}
 use Rattle.desk_findings.specs.CheckText.{Finds, Gathers}
 use Rattle.desk_findings.specs.Told.{Told}
 use Rattle.desk_findings.specs.declared.check_faults.Source.{Source}
@@ -37,13 +38,22 @@ pub record TellHeads (sources : SiteSources) (all : List Told) : Type 0 where
   pub tell_tables : TellTables sources.whole.tables tables
   pub are : all ≡ custodians ++ (filesystems ++ tables)
 
--- the line of a mount point names a custodian who is not listed
-abbrev pub odd_of_unlisted : Mount → OddLine
-odd_of_unlisted mount = odd_line mount.line (matter.Fault (site_rule.Table table_rule.Custodian) None)
+-- the index of a line's first custodian among its words: they stand behind the mount point, and behind the mark of a guarded one
+abbrev pub first_custodian : Mount → ℕ
+first_custodian mount = if mount.guarded then 2 else 1
+
+-- how many custodians of the mount point stand before the first who is not listed
+abbrev pub listed_before : List Custodian → Mount → ℕ
+listed_before custodians mount = position_or_len (λ name. is_none (digest_of custodians name)) mount.custodians
+
+-- the line of a mount point names a custodian who is not listed: it is told at the first such name
+abbrev pub odd_of_unlisted : List Custodian → Mount → OddLine
+odd_of_unlisted custodians mount =
+    odd_word mount.line (matter.Fault (site_rule.Table table_rule.Custodian) None) (first_custodian mount + listed_before custodians mount)
 
 -- the lines of file systems that name a custodian who is not listed
 abbrev pub TellUnlisted : Source → List Custodian → List Mount → List Told → Type 0
-TellUnlisted source custodians table all = TellInOrder source (map odd_of_unlisted (filter (has_unlisted custodians) table)) all
+TellUnlisted source custodians table all = TellInOrder source (map (odd_of_unlisted custodians) (filter (has_unlisted custodians) table)) all
 
 -- those, and then the faults of the tables after the file systems
 pub record TellUnlistedFirst (sources : SiteSources) (custodians : List Custodian) (table : List Mount) (all : List Told) : Type 0 where

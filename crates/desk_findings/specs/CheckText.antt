@@ -25,6 +25,7 @@ use Rattle.desk_findings.specs.CheckOdd.{AreContradictionsIn, TellInOrder, TellO
 use Rattle.desk_findings.specs.OddWords.{odd_words}
 use Rattle.desk_findings.specs.Told.{Told, told}
 use Rattle.desk_findings.specs.declared.check_faults.Source.{Source}
+use Rattle.desk_findings.specs.declared.check_odd.Among.TheVariants.{Clients, Members}
 use Rattle.desk_findings.specs.declared.check_text.Gathered.{Gathered}
 use Rattle.desk_findings.specs.declared.check_text.WholeSources.{WholeSources}
 
@@ -40,7 +41,7 @@ TellLineFaults source table site_tables all =
 
 -- the warnings of a netgroup file
 abbrev pub TellNetgroupWarnings : Source → SiteTables → List Told → Type 0
-TellNetgroupWarnings source site_tables all = TellOdds source [] (netgroup_warnings site_tables.netgroups site_tables.hosts) [] all
+TellNetgroupWarnings source site_tables all = TellOdds Members source [] (netgroup_warnings site_tables.netgroups site_tables.hosts) [] all
 
 -- the contradictions of the lines of each file system, these warnings of an exports text, what is said of its lines, with opinions or
 -- without, and the words that mountd(8) may read otherwise
@@ -49,7 +50,7 @@ pub record TellInconsistencies (opinions : Bool) (source : Source) (content : Co
   pub are_clashes : AreContradictionsIn content.rows clashes
   pub remarks : List LineRemark
   pub are_remarks : AreRemarks opinions content warnings remarks
-  pub tell : TellInOrder source (odds_of clashes warnings remarks ++ odd_words opinions source.text.now) all
+  pub tell : TellInOrder source (odds_of Clients clashes warnings remarks ++ odd_words opinions source.text.now) all
 
 -- the warnings of the netgroup file, and then the contradictions, the warnings and the remarks of an exports text of these entries
 pub record TellOddities (opinions : Bool) (sources : WholeSources) (table : List Mount) (site_tables : SiteTables) (entries : List (FsId × Entry)) (all : List Told) : Type 0 where

@@ -1,15 +1,17 @@
 //! What `check` finds in texts without a fault: lines that contradict an earlier one, words that are odd, and what is said of lines.
 
-ghost use Rattle.std.specs.Prelude.{◌≡◌, ℕ, ◌++◌, All, IfOk, IfSome, List, OnOk, map};
+ghost use Rattle.std.specs.Prelude.{◌≡◌, ℕ, ◌++◌, All, IfOk, IfSome, List, OnOk, Some, map, slice_get};
 ghost use Rattle.std.specs.Option.{option_copied};
-ghost use Rattle.std.specs.List.{IsAmong};
+ghost use Rattle.std.specs.List.{AllZip, IsAmong};
 ghost use Rattle.std.specs.List.Sorted.{IsNonDecreasingBy, IsPermutation};
-ghost use Rattle.desk_text.specs.Lines.{IsReadable, LogicalLine, logical_lines};
+ghost use Rattle.desk_text.specs.Lines.{AreNumberedUp, IsReadable, LogicalLine, logical_lines};
+ghost use Rattle.desk_text.specs.Views.{word_of};
 ghost use Rattle.desk_policy.specs.Policy.{AreAscending};
 ghost use Rattle.desk_findings.specs.CheckFaults.{Adds};
-ghost use Rattle.desk_findings.specs.CheckOdd.{AreContradictionsIn, IsOn, IsSpot, TellInOrder, TellOdds, odd_at, odd_of_contradiction, odd_of_remark, odd_of_spot, odd_of_warning, odds_of, tell_spot};
-ghost use Rattle.desk_findings.specs.PrivateCheckOdd.{AreWordsIn};
+ghost use Rattle.desk_findings.specs.CheckOdd.{AreContradictionsIn, IsOfWord, IsOn, IsSpot, TellInOrder, TellOdds, odd_at, odd_of_contradiction, odd_of_remark, odd_of_spot, odd_of_warning, odds_of, tell_spot};
+ghost use Rattle.desk_findings.specs.PrivateCheckOdd.{AreOfWords, AreWordsIn};
 ghost use Rattle.desk_findings.specs.Told.{told};
+ghost use Rattle.desk_findings.specs.declared.check_odd.Among.TheVariants.{Words};
 
 use crate::check_faults::{Front, Source, finding_behind, lines_of};
 use crate::finding::{Finding, Matter};
@@ -42,12 +44,14 @@ pub struct Odd<'r> {
     pub directory: Option<&'r Path>,
 }
 
-/// What is odd about the line of this number, at its place.
+/// What is odd about the line of this number, at the place of the word that it is told at; none if the text has no such line.
 #[derive(Clone, Copy)]
 pub struct Spot<'r> {
     pub line: u32,
     pub place: Option<Place>,
     pub matter: Matter,
+    pub among: Among,
+    pub index: usize,
     pub directory: Option<&'r Path>,
 }
 
@@ -71,7 +75,7 @@ pub fn push_odds<'a>(
     found: &mut Sequence<Finding<'a>>,
 ) -> Result<(), AllocError>
     requires { IsReadable source.text.now }
-    ensures { OnOk result (Adds (TellOdds source.entry contradictions.now warnings.now remarks.now) found.old found.new) }
+    ensures { OnOk result (Adds (TellOdds among source.entry contradictions.now warnings.now remarks.now) found.old found.new) }
 {
     let odds = odds_of(alloc, among, contradictions, warnings, remarks)?;
     push_in_order(alloc, source, odds, found)?;
@@ -131,7 +135,7 @@ pub fn odds_of<'r>(
     warnings: &[Warning],
     remarks: &'r [LineRemark],
 ) -> Result<Vec<Odd<'r>>, AllocError>
-    ensures { IfOk result (λ odds. map odd_at odds.items ≡ odds_of contradictions.now warnings.now remarks.now) }
+    ensures { IfOk result (λ odds. map odd_at odds.items ≡ odds_of among contradictions.now warnings.now remarks.now) }
 {
     let mut odds = odds_of_contradictions(alloc, contradictions)?;
     add_warnings(among, warnings, &mut odds)?;
@@ -145,7 +149,7 @@ fn add_warnings(
     warnings: &[Warning],
     odds: &mut Vec<Odd<'_>>,
 ) -> Result<(), AllocError>
-    ensures { OnOk result (map odd_at odds.new.items ≡ map odd_at odds.old.items ++ map odd_of_warning warnings.now) }
+    ensures { OnOk result (map odd_at odds.new.items ≡ map odd_at odds.old.items ++ map (odd_of_warning among) warnings.now) }
 {
     for warning in warnings {
         odds.push(Odd {
@@ -214,7 +218,7 @@ fn spots_of<'r>(alloc: Global, text: &str, odds: &[Odd<'r>]) -> Result<Vec<Spot<
     let mut spots = Vec::new(alloc);
     let mut last = PlacedWords {
         line: 0,
-        among: Among::Words,
+        among: Among::Clients,
         places: Vec::new(alloc),
     };
     for odd in odds {
@@ -232,7 +236,8 @@ fn spot_of<'r>(
     odd: Odd<'r>,
     last: &mut PlacedWords,
 ) -> Result<Spot<'r>, AllocError>
-    requires { AreWordsIn lines.now last.old }
+    requires numbered { AreNumberedUp lines.now }
+    requires last { AreWordsIn lines.now last.old }
     ensures same { IfOk result (λ spot. odd_of_spot spot ≡ odd_at odd.entry) }
     ensures place { IfOk result (λ spot. (text : List ℕ) → lines.now ≡ logical_lines text → IsSpot text spot) }
     ensures last { OnOk result (AreWordsIn lines.now last.new) }
@@ -255,7 +260,8 @@ fn place_words(
     last: &mut PlacedWords,
 ) -> Result<(), AllocError>
     ensures line { OnOk result (last.new.line ≡ line.now.number) }
-    ensures places { OnOk result ((lines : List LogicalLine) → IsAmong lines line.now → AreWordsIn lines last.old → AreWordsIn lines last.new) }
+    ensures among { OnOk result (last.new.among ≡ among) }
+    ensures places { OnOk result ((lines : List LogicalLine) → AreNumberedUp lines → IsAmong lines line.now → AreWordsIn lines last.old → AreWordsIn lines last.new) }
 {
     if last.line == line.number() && last.among == among {
         return Ok(());
@@ -271,10 +277,21 @@ fn place_words(
 
 /// Finds the line of this number.
 fn line_numbered<'a, 't>(lines: &'a [Line<'t>], number: u32) -> Option<&'a Line<'t>>
+    requires { AreNumberedUp lines.now }
     ensures number { IfSome result (λ line. line.now.number ≡ number) }
     ensures member { IfSome result (λ line. IsAmong lines.now line.now) }
+    ensures found { (line : LogicalLine) → IsAmong lines.now line → line.number ≡ number → option_copied result ≡ Some line }
 {
     let at = lines.partition_point(|line| line.number() < number);
+    line_at(lines, at, number)
+}
+
+/// Lends the line at a place of these, if it has this number.
+fn line_at<'a, 't>(lines: &'a [Line<'t>], at: usize, number: u32) -> Option<&'a Line<'t>>
+    ensures number { IfSome result (λ line. line.now.number ≡ number) }
+    ensures member { IfSome result (λ line. IsAmong lines.now line.now) }
+    ensures found { (line : LogicalLine) → slice_get lines.now at ≡ Some line → line.number ≡ number → option_copied result ≡ Some line }
+{
     match lines.get(at) {
         Some(line) => {
             if line.number() == number {
@@ -289,7 +306,8 @@ fn line_numbered<'a, 't>(lines: &'a [Line<'t>], number: u32) -> Option<&'a Line<
 
 /// Lists the places of these words of a line.
 fn word_places(alloc: Global, line: &Line, among: Among) -> Result<Vec<Place>, AllocError>
-    ensures { IfOk result (λ places. (text : List ℕ) → IsAmong (logical_lines text) line.now → All (IsOn text line.now) places.items) }
+    ensures on { IfOk result (λ places. (text : List ℕ) → IsAmong (logical_lines text) line.now → All (IsOn text line.now) places.items) }
+    ensures words { IfOk result (λ places. AreOfWords line.now among places.items) }
 {
     match among {
         Among::Words => all_places(alloc, line),
@@ -300,19 +318,23 @@ fn word_places(alloc: Global, line: &Line, among: Among) -> Result<Vec<Place>, A
 
 /// Lists the places of all words of a line. There are none if a quote does not close.
 fn all_places(alloc: Global, line: &Line) -> Result<Vec<Place>, AllocError>
-    ensures { IfOk result (λ places. (text : List ℕ) → IsAmong (logical_lines text) line.now → All (IsOn text line.now) places.items) }
+    ensures on { IfOk result (λ places. (text : List ℕ) → IsAmong (logical_lines text) line.now → All (IsOn text line.now) places.items) }
+    ensures words { IfOk result (λ places. AreOfWords line.now Words places.items) }
 {
-    let Ok(words) = ReadError::split(words(alloc, line))? else {
-        return Ok(Vec::new(alloc));
-    };
-    let places = places_of(alloc, line, words.as_slice());
-    drop(words);
-    places
+    match ReadError::split(words(alloc, line))? {
+        Ok(words) => {
+            let places = places_of(alloc, line, words.as_slice());
+            drop(words);
+            places
+        }
+        Err(_) => Ok(Vec::new(alloc)),
+    }
 }
 
 /// Lists the places of words of a line.
 fn places_of(alloc: Global, line: &Line, words: &[Word]) -> Result<Vec<Place>, AllocError>
-    ensures { IfOk result (λ places. (text : List ℕ) → IsAmong (logical_lines text) line.now → All (IsOn text line.now) places.items) }
+    ensures on { IfOk result (λ places. (text : List ℕ) → IsAmong (logical_lines text) line.now → All (IsOn text line.now) places.items) }
+    ensures words { IfOk result (λ places. AllZip (λ word place. IsOfWord line.now place word) (map word_of words.now) places.items) }
 {
     let mut places = Vec::new(alloc);
     for word in words {
@@ -323,12 +345,14 @@ fn places_of(alloc: Global, line: &Line, words: &[Word]) -> Result<Vec<Place>, A
 
 /// Makes the spot of what is odd at this place.
 fn spot_at<'r>(odd: Odd<'r>, place: Option<Place>) -> Spot<'r>
-    ensures { result ≡ record { line = odd.entry.line; place = place; matter = odd.entry.matter; directory = odd.entry.directory } }
+    ensures { result ≡ record { line = odd.entry.line; place = place; matter = odd.entry.matter; among = odd.entry.among; index = odd.entry.index; directory = odd.entry.directory } }
 {
     Spot {
         line: odd.line,
         place,
         matter: odd.matter,
+        among: odd.among,
+        index: odd.index,
         directory: odd.directory,
     }
 }

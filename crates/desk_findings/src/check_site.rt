@@ -1,11 +1,11 @@
 //! What `check` finds in the folder of a site's files.
 
-ghost use Rattle.std.specs.Prelude.{◌≡◌, IfOk, OnOk, filter, if◌then◌else◌, is_some, map};
+ghost use Rattle.std.specs.Prelude.{◌≡◌, ◌<◌, ◌^◌, IfOk, IfSome, OnOk, filter, is_some, map};
 ghost use Rattle.desk_text.specs.Lines.{IsReadable};
 ghost use Rattle.desk_policy.specs.Unlisted.{has_unlisted};
 ghost use Rattle.desk_findings.specs.CheckFaults.{Adds, AreReadable};
 ghost use Rattle.desk_findings.specs.CheckOdd.{odd_at};
-ghost use Rattle.desk_findings.specs.CheckSite.{GathersHeads, GathersListed, GathersSite, GathersUnlisted, GathersWithCustodians, TellCustodians, TellFileSystems, TellUnlisted, odd_of_unlisted};
+ghost use Rattle.desk_findings.specs.CheckSite.{GathersHeads, GathersListed, GathersSite, GathersUnlisted, GathersWithCustodians, TellCustodians, TellFileSystems, TellUnlisted, first_custodian, listed_before, odd_of_unlisted};
 ghost use Rattle.desk_findings.specs.Finding.{HaveSlices};
 
 use crate::check_faults::{Source, push_table_faults, push_tables};
@@ -181,7 +181,7 @@ fn unlisted<'r>(
     custodians: &Custodians,
     mounts: &[Mount],
 ) -> Result<Vec<Odd<'r>>, AllocError>
-    ensures { IfOk result (λ odds. map odd_at odds.items ≡ map odd_of_unlisted (filter (has_unlisted custodians.now) mounts.now)) }
+    ensures { IfOk result (λ odds. map odd_at odds.items ≡ map (odd_of_unlisted custodians.now) (filter (has_unlisted custodians.now) mounts.now)) }
 {
     let mut odds = Vec::new(alloc);
     for mount in mounts {
@@ -190,7 +190,7 @@ fn unlisted<'r>(
                 line: mount.line,
                 matter: Matter::Fault(SiteRule::Table(TableRule::Custodian), None),
                 among: Among::Words,
-                index: first_custodian(mount).saturating_add(place),
+                index: first_custodian(mount) + place,
                 directory: None,
             })?;
         }
@@ -200,7 +200,9 @@ fn unlisted<'r>(
 
 /// Finds the first custodian of a mount point who is not listed.
 fn unlisted_place(custodians: &Custodians, mount: &Mount) -> Option<usize>
-    ensures { is_some result ≡ has_unlisted custodians.now mount.now }
+    ensures found { is_some result ≡ has_unlisted custodians.now mount.now }
+    ensures place { IfSome result (λ place. place ≡ listed_before custodians.now mount.now) }
+    ensures fits { IfSome result (λ place. place < 2 ^ 63) }
 {
     for (place, name) in mount.custodians.as_slice().iter().enumerate() {
         if custodians.digest_of(name.as_str()).is_none() {
@@ -213,7 +215,7 @@ fn unlisted_place(custodians: &Custodians, mount: &Mount) -> Option<usize>
 /// Returns the index of a line's first custodian among its words: they stand behind the mount point, and behind the mark of a
 /// guarded one.
 fn first_custodian(mount: &Mount) -> usize
-    ensures { result ≡ (if mount.now.guarded then 2 else 1) }
+    ensures { result ≡ first_custodian mount.now }
 {
     if mount.guarded { 2 } else { 1 }
 }

@@ -1,13 +1,11 @@
 //! The words of an exports text that mountd(8) may read otherwise, and the lines of NFSv4.
 
 ghost use Rattle.std.specs.Prelude.{◌≡◌, ◌++◌, ◌&&◌, IfOk, Ok, OnOk, map};
-ghost use Rattle.std.specs.List.{flat_map};
 ghost use Rattle.desk_text.specs.Lines.{IsReadable};
 ghost use Rattle.desk_text.specs.Views.{word_of};
 ghost use Rattle.desk_findings.specs.CheckOdd.{odd_at};
 ghost use Rattle.desk_findings.specs.OddWords as spec;
-ghost use Rattle.desk_findings.specs.OddWords.{has_backslash, odd_if, odd_words, odd_words_of};
-ghost use Rattle.desk_remarks.specs.declared.remark.Remark.TheVariants.{Backslash};
+ghost use Rattle.desk_findings.specs.OddWords.{has_backslash, odd_backslashes, odd_if, odd_words, odd_words_of};
 
 use crate::check_odd::{Among, Odd};
 use crate::finding::Matter;
@@ -68,8 +66,7 @@ fn add_words(
 
 /// Adds the words of the line of this number that have a backslash.
 fn add_backslashes(number: u32, words: &[Word], odds: &mut Vec<Odd<'_>>) -> Result<(), AllocError>
-    ensures { OnOk result (map odd_at odds.new.items
-        ≡ map odd_at odds.old.items ++ flat_map (λ word. odd_if (has_backslash word.raw.now) number Backslash) words.now) }
+    ensures { OnOk result (map odd_at odds.new.items ≡ map odd_at odds.old.items ++ odd_backslashes number (map word_of words.now)) }
 {
     for (index, word) in words.iter().enumerate() {
         add_if(
@@ -91,7 +88,7 @@ fn add_if(
     index: usize,
     odds: &mut Vec<Odd<'_>>,
 ) -> Result<(), AllocError>
-    ensures { OnOk result (map odd_at odds.new.items ≡ map odd_at odds.old.items ++ odd_if made number remark) }
+    ensures { OnOk result (map odd_at odds.new.items ≡ map odd_at odds.old.items ++ odd_if made number remark index) }
 {
     if made {
         odds.push(Odd {

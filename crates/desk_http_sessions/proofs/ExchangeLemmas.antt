@@ -1,5 +1,5 @@
 -- What a call of a session did, as an exchange.
-use Rattle.std.proofs.Common.{◌≡◌, ◌⊎◌, inl, inr, refl, sym, ap, ◌∙◌, subst, ℕ, ◌<◌, ◌≤◌, List, [], ◌∷◌, ◌++◌, Option, None, Some, append_assoc, append-nil, length, arith, Bool, true, false}
+use Rattle.std.proofs.Common.{◌≡◌, ◌⊎◌, inl, inr, refl, sym, ap, ◌∙◌, subst, ℕ, ◌<◌, ◌≤◌, List, [], ◌∷◌, ◌++◌, Option, None, Some, append-nil, length, arith, Bool, true, false}
 use Rattle.std.proofs.Math.Nat.{le-min}
 use Rattle.std.proofs.lemmas.List.{length-take, length-take-le}
 use Rattle.std.specs.Prelude.{Ok, drop, min, take}
@@ -11,7 +11,7 @@ use Rattle.desk_http_messages.specs.Replies.{joined, last_texts}
 use Rattle.desk_http.specs.declared.connection.State.TheVariants.{Ended}
 use Rattle.desk_http.specs.declared.stepping.Step.{Step}
 use Rattle.desk_http.specs.declared.stepping.Step.TheVariants.{Fault, Reply, Waits}
-use Rattle.desk_http.specs.Connection.{AtDesk, Came, Ends, Event, Goes, Looked, Moves, Place, ReadMoves, Refused, Replied, StepMoves, bytes_in, came, has_last, is_last, text_in, written}
+use Rattle.desk_http.specs.Connection.{AtDesk, Came, Ends, Event, Looked, Moves, Place, ReadMoves, Refused, Replied, StepMoves, bytes_in, has_ended, has_last, text_in}
 use Rattle.desk_http.specs.Stepping.{text_bytes}
 use Rattle.desk_http.proofs.KnownBytes.{Appends-keeps, Appends-none, Consumes-keeps, Consumes-none, Keeps-same}
 use Rattle.desk_http_sessions.specs.PrivateSession.{TakesIn, step_texts}
@@ -25,6 +25,11 @@ pub step_event : {S : Type 0} (good : S → Type 0) (stands : S → History → 
 step_event good stands p q old (Reply text ends) new moves = (Replied moves.0 (text_bytes text), moves.2, moves.3, refl, refl, refl)
 step_event good stands p q old (Fault fault) new moves = (Refused fault, moves.0, moves.1, refl, refl, refl)
 step_event good stands p q old (Waits pending) new moves = (Looked, moves.0, moves.1, refl, refl, refl)
+
+-- a read that ends a stream has ended it
+pub ends : (p q : Place) (found : List ℕ) (end : End) → ReadMoves p found (Some end) q → has_ended q.state ≡ true
+ends p q found end (inl moves) = ap has_ended moves.2.3
+ends p q found end (inr moves) = ap has_ended moves.3.3
 
 -- nothing was consumed
 Consumes-nothing : (a b : Option (List ℕ)) → Keeps a b → Consumes a b []

@@ -1,12 +1,12 @@
 //! A session: the service of one peer, in calls that do not wait.
 
-ghost use Rattle.std.specs.Prelude.{◌≡◌, ◌≢◌, ◌<◌, ◌≤◌, ℕ, ◌+◌, IfOk, List, [], ◌∷◌, drop, false, length, nat_lt, true};
+ghost use Rattle.std.specs.Prelude.{◌≡◌, ◌≢◌, ◌<◌, ◌≤◌, ℕ, ◌+◌, IfOk, List, [], ◌∷◌, drop, false, is_some, length, nat_lt, not, true};
 ghost use Rattle.desk_store.specs.Desk.{HasGoodDisk, StandsAt};
 ghost use Rattle.desk_http_messages.specs.Replies.{joined, last_texts};
 ghost use Rattle.desk_http_messages.specs.Stream.{Message};
 ghost use Rattle.desk_http.specs.Answering.{Serves};
-ghost use Rattle.desk_http.specs.Connection.{AtDesk, Event, fresh, has_ended, is_waiting};
-ghost use Rattle.desk_http_sessions.specs.Session.{AreReads, Exchanges};
+ghost use Rattle.desk_http.specs.Connection.{AtDesk, Event, fresh, has_ended, is_waiting, state_after};
+ghost use Rattle.desk_http_sessions.specs.Session.{AreReads, Exchanges, IsReceived, IsSent};
 ghost use Rattle.desk_http_sessions.specs.PrivateSession.{IsWithin, TakesIn, step_texts, unsent_of};
 
 use crate::given::{Given, Over};
@@ -99,7 +99,8 @@ fn sent_with(reply: &Option<ReplyText>, sent: usize, count: usize) -> usize
 
 /// Returns the reply with which a step ends, if it has one.
 fn reply_in(step: Step) -> Option<ReplyText>
-    ensures { unsent_of result 0 ≡ joined (step_texts step) }
+    ensures texts { unsent_of result 0 ≡ joined (step_texts step) }
+    ensures some { is_some result ≡ not (is_waiting (state_after step)) }
 {
     match step {
         Step::Reply(text, _) => Some(text),
@@ -160,7 +161,9 @@ impl<W: Wire + Drop> Session<W> {
     }
 
     /// Returns how many bytes the reply has that is being sent. It is kept whole until all of it is sent.
-    pub fn held(&self) -> usize {
+    pub fn held(&self) -> usize
+        ensures { length self.now.unsent ≤ result }
+    {
         match &self.reply {
             None => 0,
             Some(text) => text.as_bytes().len(),
@@ -200,6 +203,7 @@ impl<W: Wire + Drop> Session<W> {
         requires taken { self.old.unsent ≡ [] }
         ensures exchanges { (e : Event) × Exchanges W.left W.held self.old (e ∷ []) self.new × AtDesk (HasGoodDisk S.Store) (StandsAt S.Store) desk.old e desk.new }
         ensures wire { self.new.wire ≡ self.old.wire }
+        ensures waits { result ≡ not (is_waiting self.new.place.state) }
         ensures run { (messages : List Message) × (texts : List (List ℕ)) × Serves (HasGoodDisk S.Store) (StandsAt S.Store) desk.old messages texts desk.new }
     {
         let step = self.connection.step(alloc, routes, desk);
@@ -214,6 +218,7 @@ impl<W: Wire + Drop> Session<W> {
         requires taken { self.old.unsent ≡ [] }
         requires room { 0 < length room.old }
         ensures exchanges { (events : List Event) × Exchanges W.left W.held self.old events self.new × AreReads events }
+        ensures came_to { IsReceived self.old.place result self.new.place }
     {
         let most = self.connection.room().min(room.len());
         let room = &mut room[..most];
@@ -235,8 +240,7 @@ impl<W: Wire + Drop> Session<W> {
     pub fn send(&mut self) -> Sent
         ensures exchanges { Exchanges W.left W.held self.old [] self.new }
         ensures place { self.new.place ≡ self.old.place }
-        ensures all { result ≡ Sent.All → self.new.unsent ≡ [] }
-        ensures part { result ≡ Sent.Part → self.new.unsent ≢ [] }
+        ensures came_to { IsSent self.old.unsent result self.new.unsent }
     {
         match self.wire.send(unsent_of(&self.reply, self.sent)) {
             Ok(Some(count)) => self.go_on(count),
@@ -251,8 +255,7 @@ impl<W: Wire + Drop> Session<W> {
         ensures unsent { self.new.unsent ≡ drop count self.old.unsent }
         ensures place { self.new.place ≡ self.old.place }
         ensures wire { self.new.wire ≡ self.old.wire }
-        ensures all { result ≡ Sent.All → self.new.unsent ≡ [] }
-        ensures part { result ≡ Sent.Part → self.new.unsent ≢ [] }
+        ensures came_to { IsSent self.old.unsent result self.new.unsent }
     {
         self.sent = sent_with(&self.reply, self.sent, count);
         if !self.unsent().is_empty() {

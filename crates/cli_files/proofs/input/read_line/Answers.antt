@@ -1,5 +1,5 @@
 -- The bytes that were taken are the first line: behind its line end, at the end of the input, and at the limit.
-use Rattle.std.proofs.Common.{◌≡◌, ◌<◌, arith, length, subst}
+use Rattle.std.proofs.Common.{arith, subst}
 use Rattle.cli_files.specs.Input.{GivesByte}
 use Rattle.cli_files.proofs.KnownBytes.{ended_line, line_at_limit, unended_line}
 use Rattle.cli_files.proofs.input.read_line.Goals as goal

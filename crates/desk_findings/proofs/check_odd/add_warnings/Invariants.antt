@@ -4,4 +4,4 @@ use Rattle.desk_findings.specs.CheckOdd.{odd_at, odd_of_warning}
 use Rattle.desk_findings.proofs.check_odd.add_warnings.Given as goal
 
 abbrev pub invariant-loop-warning : goal.invariant-loop-warning
-invariant-loop-warning l = map odd_at l.odds.items ≡ map odd_at l.initial.odds.items ++ map odd_of_warning (take l.warning-index l.warnings)
+invariant-loop-warning l = map odd_at l.odds.items ≡ map odd_at l.initial.odds.items ++ map (odd_of_warning l.among) (take l.warning-index l.warnings)

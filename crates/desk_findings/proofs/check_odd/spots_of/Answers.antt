@@ -28,3 +28,6 @@ loop-odd-preserved c =
           (All-push (IsSpot c.args.text.now) c.loop-odd.spots.items spot c.loop-odd.invariant.places (c.in_ok-spot_of.ensures.place c.args.text.now (lines ∙ c.in_ok-lines.ensures.lines)));
       last = subst (λ (these : List LogicalLine). AreWordsIn these c.spot_of.new.last) lines c.in_ok-spot_of.ensures.last;
     }
+
+pub spot_of-requires-clause-last : goal.spot_of-requires-clause-last
+spot_of-requires-clause-last c = subst (λ (these : List LogicalLine). AreWordsIn these c.loop-odd.last) (sym c.as_slice.ensures.value) c.loop-odd.invariant.last

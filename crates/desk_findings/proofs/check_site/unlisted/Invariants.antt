@@ -6,4 +6,4 @@ use Rattle.desk_findings.specs.CheckSite.{odd_of_unlisted}
 use Rattle.desk_findings.proofs.check_site.unlisted.Given as goal
 
 abbrev pub invariant-loop-mount : goal.invariant-loop-mount
-invariant-loop-mount l = map odd_at l.odds.items ≡ map odd_of_unlisted (filter (has_unlisted l.custodians) (take l.mount-index l.mounts))
+invariant-loop-mount l = map odd_at l.odds.items ≡ map (odd_of_unlisted l.custodians) (filter (has_unlisted l.custodians) (take l.mount-index l.mounts))

@@ -16,6 +16,6 @@ returns-clause-exchanges g c =
     let taken = ap (λ (k : Kept g.row.W.Denot). k.unsent) c.self.view_is ∙ c.requires.taken in (
       step.0,
       subst (λ (k : Kept g.row.W.Denot). Exchanges g.W.Wire.left g.W.Wire.held k (step.0 ∷ []) new) c.self.view_is
-          (answered g.W.Wire.left g.W.Wire.held old new step.0 step.1 step.4 step.5 taken (c.reply_in.ensures ∙ ap joined (sym step.3)) refl),
+          (answered g.W.Wire.left g.W.Wire.held old new step.0 step.1 step.4 step.5 taken (c.reply_in.ensures.texts ∙ ap joined (sym step.3)) refl),
       step.2,
     )

@@ -1,11 +1,11 @@
 -- What came is an exchange.
-use Rattle.std.proofs.Common.{◌∷◌, [], ◌∙◌, ◌<◌, ◌≤◌, ap, refl, subst, List, ℕ, Option, Ok, length, take}
+use Rattle.std.proofs.Common.{◌≡◌, ◌∷◌, [], ◌∙◌, ◌+◌, ◌<◌, ◌≤◌, ap, false, refl, subst, List, ℕ, Option, Ok, length, take}
 use Rattle.std.specs.Prelude.{IfSome}
-use Rattle.desk_http.specs.Connection.{Came, Event, is_waiting}
+use Rattle.desk_http.specs.Connection.{Came, Event, has_ended, is_waiting}
 use Rattle.desk_http_sessions.specs.PrivateSession.{unsent_of}
 use Rattle.desk_http_sessions.specs.Session.{AreReads, Exchanges, Kept}
 use Rattle.desk_http_sessions.specs.Wire.{Receives}
-use Rattle.desk_http_sessions.proofs.ExchangeLemmas.{Appends-same, ended, goes_on, idle, roomy}
+use Rattle.desk_http_sessions.proofs.ExchangeLemmas.{Appends-same, ended, ends, goes_on, idle, roomy}
 use Rattle.desk_http_sessions.proofs.session.Session.receive.Goals as goal
 
 pub returns-in-None : goal.returns-in-None
@@ -29,6 +29,8 @@ returns-in-None g c =
             (goes_on left held old new count buf within room taken c.in-Ok-Some.ensures.held read c.in-None.ensures taken),
         (tt, tt),
       );
+      came_to = subst (λ (k : Kept g.row.W.Denot). (new.place.reads ≡ k.place.reads + 1) × (has_ended new.place.state ≡ false)) c.self.view_is
+          (c.in-None.ensures.4, c.in-None.ensures.3);
     }
 
 pub returns-in-Some : goal.returns-in-Some
@@ -48,6 +50,7 @@ returns-in-Some g c =
     record {
       exchanges = subst (λ (k : Kept g.row.W.Denot). (events : List Event) × Exchanges left held k events new × AreReads events) c.self.view_is
           (ended left held old new count buf within room taken c.in-Ok-Some.ensures.held read c.in-Some.end c.last_reply.ensures c.in-Some.ensures);
+      came_to = ends i.connection new.place c.in-Some.ensures.0 c.in-Some.end c.in-Some.ensures.3;
     }
 
 pub returns-in-Ok-None : goal.returns-in-Ok-None
@@ -65,6 +68,7 @@ returns-in-Ok-None g c =
             (idle left held old new refl refl read (Appends-same (held i.wire) (held c.receive.new.self) c.in-Ok-None.ensures.held)),
         tt,
       );
+      came_to = ap (λ (k : Kept g.row.W.Denot). k.place) c.self.view_is;
     }
 
 pub returns-in-Err : goal.returns-in-Err
@@ -81,4 +85,5 @@ returns-in-Err g c =
             (idle left held old new refl refl c.in-Err.ensures.received (Appends-same (held i.wire) (held c.receive.new.self) c.in-Err.ensures.held)),
         tt,
       );
+      came_to = ap (λ (k : Kept g.row.W.Denot). k.place) c.self.view_is;
     }
