@@ -67,7 +67,7 @@ fn finish<O: Write, E: Write>(
     ensures printed { result ≢ 4 → Appends (O.contents out.old) (O.contents out.new) (text_of answer) }
     ensures at_four { result ≡ 4 → PrintsAtFour answer (Appends (O.contents out.old) (O.contents out.new)) }
 {
-    let status = report(rt.alloc(), origin, answer, out, err);
+    let status = report(rt.alloc(), origin, answer, out, err).status;
     if let Some(service) = service {
         if !end(rt, service, status == 0, err) {
             return 4;
