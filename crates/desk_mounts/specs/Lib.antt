@@ -2,3 +2,4 @@ pub mod Reading
 pub mod Rules
 pub mod SiteLines
 pub mod Table
+pub mod PrivateReading

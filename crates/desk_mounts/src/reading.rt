@@ -6,6 +6,7 @@ ghost use Rattle.desk_text.specs.Path.{read_path};
 ghost use Rattle.desk_text.specs.Reading.{Reads, ReadsAs};
 ghost use Rattle.desk_text.specs.Views.{word_of};
 ghost use Rattle.desk_text.specs.Word.{word_value};
+ghost use Rattle.desk_mounts.specs.PrivateReading.{AddsListed};
 ghost use Rattle.desk_mounts.specs.Reading as spec;
 
 use crate::rules::{MountsFault, Rule};
@@ -22,13 +23,27 @@ pub fn read_mounts(alloc: Global, text: &str) -> Result<Vec<Path>, ReadError<Mou
     let lines = logical_lines(alloc, text)?;
     let mut found = Vec::new(alloc);
     for line in &lines {
-        match read_line(alloc, line) {
-            Ok(Some(path)) => found.push(path)?,
-            Ok(None) => {}
-            Err(error) => return Err(error.at_line(line.number())),
-        }
+        push_listed(&mut found, line.number(), read_line(alloc, line))?;
     }
     Ok(found)
+}
+
+/// Adds the mount point that the line with this number lists, if it lists one; or returns its fault.
+fn push_listed(
+    found: &mut Vec<Path>,
+    number: u32,
+    answer: Result<Option<Path>, ReadError<Rule>>,
+) -> Result<(), ReadError<MountsFault>>
+    ensures { AddsListed number answer found.old.items found.new.items result }
+{
+    match answer {
+        Ok(Some(path)) => {
+            found.push(path)?;
+            Ok(())
+        }
+        Ok(None) => Ok(()),
+        Err(error) => Err(error.at_line(number)),
+    }
 }
 
 /// Reads the mount point that a line lists, if it lists one, or the rule that it breaks.
