@@ -7,10 +7,23 @@ use Rattle.cli_output.specs.declared.failure.Failure.{Failure}
 use Rattle.cli_output.specs.declared.failure.Failure.TheVariants.{BesideSite, Memory}
 use Rattle.cli_files.specs.SiteFolder.{path_in, site_list, site_paths}
 use Rattle.cli_files.specs.declared.site_folder.SiteFiles.{SiteFiles}
-use Rattle.cli_texts.specs.declared.subject.Places.{Places}
+use Rattle.cli_texts.specs.declared.subject.Places as names
 use Rattle.cli_texts.specs.declared.subject.SiteFolder.{SiteFolder}
 use Rattle.cli_texts.specs.declared.subject.Subject as code
 use Rattle.cli_texts.specs.declared.subject.Subject.TheVariants.{File, Site}
+
+-- the names of the words of a command: the first, which names a file; the last that is one word alone; and what a failure calls a word
+-- that is too many with `--site`
+pub record Places : Type 0 where
+  pub first : List ℕ
+  pub last : List ℕ
+  pub beside : List ℕ
+
+abbrev pub places : List ℕ → List ℕ → List ℕ → Places
+places first last beside = record { first = first; last = last; beside = beside }
+
+abbrev pub places_of : names.Places → Places
+places_of given = places given.first.now given.last.now given.beside.now
 
 -- the paths of the files in this folder
 pub record IsSiteOf (folder : List ℕ) (site : SiteFolder) : Type 0 where
@@ -25,7 +38,7 @@ folder_of (Site site) = Some site.paths
 -- what is given and cannot be given with `--site`, as a failure calls it: a word at the last place, or the file of mount points
 abbrev pub beside_site : Places → List Row → Option (List ℕ)
 beside_site places rows =
-    if is_some (first_of places.last.now rows) then Some places.beside.now
+    if is_some (first_of places.last rows) then Some places.beside
     else (if is_some (first_of (codes "mounts") rows) then Some (codes "--mounts") else None)
 
 -- the failure names a word that cannot be given with `--site`
@@ -49,7 +62,7 @@ ReadsFile name found (Err failure) = (found ≡ None) × IsMissing name failure
 
 abbrev pub ReadsSubjectBy : Option (List ℕ) → Places → List Row → Result code.Subject Failure → Type 0
 ReadsSubjectBy (Some folder) places rows result = ReadsSite (beside_site places rows) folder result
-ReadsSubjectBy None places rows result = ReadsFile places.first.now (first_of places.first.now rows) result
+ReadsSubjectBy None places rows result = ReadsFile places.first (first_of places.first rows) result
 
 -- what a command of these words is asked of
 abbrev pub ReadsSubject : Places → List Row → Result code.Subject Failure → Type 0

@@ -1,12 +1,12 @@
 -- The files that a command reads: in which order, and as which sources; those of the tables among them. (this project's own)
-use Rattle.std.specs.Prelude.{◌≡◌, ◌≤◌, ℕ, List, [], ◌∷◌, Option, None, Some, Result, Ok, Err, String, codes, length, map, unwrap_or}
+use Rattle.std.specs.Prelude.{◌≡◌, ◌≤◌, ℕ, List, [], ◌∷◌, Option, None, Some, Result, Ok, Err, String, codes, count_by, length, map, unwrap_or}
 use Rattle.std.specs.Option.{option_map}
 use Rattle.std.specs.String.{string_bytes}
 use Rattle.clap.specs.Words.{Row, first_of}
 use Rattle.desk_policy.specs.declared.per_table.PerTable.{PerTable}
 use Rattle.desk_findings.specs.declared.check_faults.Source.{Source}
 use Rattle.cli_output.specs.declared.failure.Failure.{Failure}
-use Rattle.cli_files.specs.Files.{ReadsFiles}
+use Rattle.cli_files.specs.Files.{ReadsFiles, is_input_if_given}
 use Rattle.cli_files.specs.declared.site_folder.SiteFiles.{SiteFiles}
 use Rattle.cli_texts.specs.declared.table_files.TextFile.{TextFile}
 
@@ -33,6 +33,10 @@ table_files folder rows =
     ∷ table_file (codes "--group") (first_of (codes "group") rows) (path_of folder (λ paths. string_bytes paths.group))
     ∷ table_file (codes "--netgroup") (first_of (codes "netgroup") rows) (path_of folder (λ paths. string_bytes paths.netgroup))
     ∷ []
+
+-- how many of these files are to be standard input
+abbrev pub input_count : List (List ℕ × Option (List ℕ)) → ℕ
+input_count files = count_by (λ file. is_input_if_given file.1) files
 
 -- what there is for each table, in that order
 abbrev pub table_list : {X : Type 0} → PerTable X → List X

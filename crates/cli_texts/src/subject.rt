@@ -4,7 +4,7 @@ ghost use Rattle.std.specs.Prelude.{◌≡◌, IfOk};
 ghost use Rattle.std.specs.Option.{option_copied, option_map};
 ghost use Rattle.cli_words.specs.Words.{Finds, rows_in};
 ghost use Rattle.cli_texts.specs.Subject as spec;
-ghost use Rattle.cli_texts.specs.Subject.{IsSiteOf, ReadsSubject, folder_of, word_at};
+ghost use Rattle.cli_texts.specs.Subject.{IsSiteOf, ReadsSubject, folder_of, places_of, word_at};
 
 use clap::ArgMatches;
 use cli_files::site_folder::{SiteFiles, mounts_path, paths_of};
@@ -57,7 +57,7 @@ pub fn subject_of<'a>(
     words: &ArgMatches<'a>,
     places: Places,
 ) -> Result<Subject<'a>, Failure>
-    ensures { ReadsSubject places.entry (rows_in words.now) result }
+    ensures { ReadsSubject (places_of places.entry) (rows_in words.now) result }
 {
     match given(words, "site") {
         Some(folder) => match beside_site(words, places) {
@@ -73,7 +73,7 @@ pub fn subject_of<'a>(
 
 /// Names what is given and cannot be given with `--site`.
 fn beside_site(words: &ArgMatches<'_>, places: Places) -> Option<&'static str>
-    ensures { option_map (λ name. name.now) result ≡ spec.beside_site places.entry (rows_in words.now) }
+    ensures { option_map (λ name. name.now) result ≡ spec.beside_site (places_of places.entry) (rows_in words.now) }
 {
     if given(words, places.last).is_some() {
         return Some(places.beside);

@@ -1,6 +1,6 @@
 //! The files of texts and of the tables beside them: which they are, how many are standard input, their texts, and both as sources.
 
-ghost use Rattle.std.specs.Prelude.{◌≡◌, ◌≤◌, [], Err, IfOk, MatchResult, None, Some, count_by, if◌then◌else◌, map, unwrap_or};
+ghost use Rattle.std.specs.Prelude.{◌≡◌, ◌≤◌, [], Err, IfOk, MatchResult, None, Some, if◌then◌else◌, map, unwrap_or};
 ghost use Rattle.std.specs.Option.{option_copied};
 ghost use Rattle.std.specs.String.{string_bytes};
 ghost use Rattle.clap.specs.Words.{first_of};
@@ -9,7 +9,7 @@ ghost use Rattle.cli_files.specs.Files.{Leaves, ReadsIfGiven, ReadsInTurn, is_in
 ghost use Rattle.cli_words.specs.Words.{rows_in};
 ghost use Rattle.cli_texts.specs.PrivateTableFiles.{ReadsTo};
 ghost use Rattle.cli_texts.specs.TableFiles as spec;
-ghost use Rattle.cli_texts.specs.TableFiles.{IsShort, given_path, named, paths_in, table_list, texts_in};
+ghost use Rattle.cli_texts.specs.TableFiles.{IsShort, given_path, input_count, named, paths_in, table_list, texts_in};
 
 use clap::ArgMatches;
 use cli_files::files::{is_input, read_if_given, read_or_empty};
@@ -95,7 +95,7 @@ fn option_or<'w: 'a, 'a>(
 /// Counts the tables whose file is standard input.
 pub fn table_inputs(files: PerTable<TextFile<'_>>) -> u32
     ensures small { result ≤ 5 }
-    ensures counted { result ≡ count_by (λ file. is_input_if_given file.1) (map named (table_list files.entry)) }
+    ensures counted { result ≡ input_count (map named (table_list files.entry)) }
 {
     file_inputs(files.hosts)
         + file_inputs(files.networks)

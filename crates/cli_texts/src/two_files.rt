@@ -1,11 +1,11 @@
 //! The files of two texts and of the tables beside them.
 
-ghost use Rattle.std.specs.Prelude.{◌≡◌, IfOk, count_by, map};
+ghost use Rattle.std.specs.Prelude.{◌≡◌, IfOk, map};
 ghost use Rattle.std.specs.Result.{result_map_both};
 ghost use Rattle.desk_text.specs.Lines.{IsReadable};
 ghost use Rattle.desk_findings.specs.CheckFaults.{AreReadable};
-ghost use Rattle.cli_files.specs.Files.{ReadsFiles, is_input_if_given, name_input_twice};
-ghost use Rattle.cli_texts.specs.TableFiles.{given_path, named, paths_in, texts_in};
+ghost use Rattle.cli_files.specs.Files.{ReadsFiles, name_input_twice};
+ghost use Rattle.cli_texts.specs.TableFiles.{given_path, input_count, named, paths_in, texts_in};
 ghost use Rattle.cli_texts.specs.TwoFiles.{AreAllShort, file_list, two_list, two_texts, whole_first, whole_second};
 
 use crate::table_files::{TextFile, file_inputs, read_file, read_tables, source_of, table_sources};
@@ -62,7 +62,7 @@ impl<'a> TwoSources<'a> {
 
 /// Counts the files that are standard input.
 pub fn two_inputs(files: TwoFiles<'_>) -> u32
-    ensures { result ≡ count_by (λ file. is_input_if_given file.1) (map named (file_list files.entry)) }
+    ensures { result ≡ input_count (map named (file_list files.entry)) }
 {
     whole_inputs(files.whole) + file_inputs(files.second)
 }

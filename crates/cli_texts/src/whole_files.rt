@@ -1,12 +1,12 @@
 //! The files of an exports text and of its tables.
 
-ghost use Rattle.std.specs.Prelude.{◌≡◌, IfOk, count_by, map};
+ghost use Rattle.std.specs.Prelude.{◌≡◌, IfOk, map};
 ghost use Rattle.std.specs.Result.{result_map_both};
 ghost use Rattle.desk_text.specs.Lines.{IsReadable};
 ghost use Rattle.desk_findings.specs.CheckFaults.{AreReadable};
-ghost use Rattle.cli_files.specs.Files.{ReadsFiles, is_input_if_given, name_input_twice};
+ghost use Rattle.cli_files.specs.Files.{ReadsFiles, name_input_twice};
 ghost use Rattle.cli_words.specs.Words.{rows_in};
-ghost use Rattle.cli_texts.specs.TableFiles.{given_path, named, paths_in, texts_in};
+ghost use Rattle.cli_texts.specs.TableFiles.{given_path, input_count, named, paths_in, texts_in};
 ghost use Rattle.cli_texts.specs.WholeFiles as spec;
 ghost use Rattle.cli_texts.specs.WholeFiles.{AreShort, file_list, whole_list, whole_texts};
 
@@ -69,7 +69,7 @@ fn exports_file<'w: 'a, 'a>(subject: &'a Subject<'w>, argument: &'static str) ->
 
 /// Counts the files that are standard input.
 pub fn whole_inputs(files: WholeFiles<'_>) -> u32
-    ensures { result ≡ count_by (λ file. is_input_if_given file.1) (map named (file_list files.entry)) }
+    ensures { result ≡ input_count (map named (file_list files.entry)) }
 {
     table_inputs(files.tables) + file_inputs(files.exports)
 }
