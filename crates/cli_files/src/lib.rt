@@ -12,6 +12,6 @@
 pub mod files;
 pub mod folder_systems;
 pub mod input;
-mod opening;
 pub mod mounts_file;
+mod opening;
 pub mod site_folder;

@@ -202,7 +202,10 @@ impl fmt::Display for Failure {
             Failure::Argument(bad) => bad.fmt(f),
             Failure::BesideMounts => f.write_str("MOUNT: it cannot be given with --mounts"),
             Failure::TooManyMounts(name, count) => {
-                write!(f, "{name}: over 256 different mount points: there are {count}")
+                write!(
+                    f,
+                    "{name}: over 256 different mount points: there are {count}"
+                )
             }
             Failure::FirstLine(failure) => failure.fmt(f),
             Failure::InputTwice => f.write_str("two files cannot both be standard input"),

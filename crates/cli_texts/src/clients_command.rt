@@ -82,11 +82,7 @@ fn answer_files<I: BufRead>(
 }
 
 /// Parses the word DIR.
-fn read_dir(
-    alloc: Global,
-    words: &ArgMatches<'_>,
-    subject: &Subject<'_>,
-) -> Result<Path, Failure>
+fn read_dir(alloc: Global, words: &ArgMatches<'_>, subject: &Subject<'_>) -> Result<Path, Failure>
     ensures { ReadsDir subject.now (rows_in words.now) result }
 {
     let dir = word_of(words, subject, "FILE", "DIR")?;

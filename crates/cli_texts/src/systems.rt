@@ -139,11 +139,7 @@ fn read_listed(
 }
 
 /// Prints the fault of a text of file systems, and on standard error the finding that `check` makes of it.
-fn print_fault(
-    alloc: Global,
-    source: Source<'_>,
-    fault: TableFault,
-) -> Result<Printed, AllocError>
+fn print_fault(alloc: Global, source: Source<'_>, fault: TableFault) -> Result<Printed, AllocError>
     requires { IsReadable source.text.now }
     ensures { IfOk result (PrintsSystemsFault source.entry fault) }
 {

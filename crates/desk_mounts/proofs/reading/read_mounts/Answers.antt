@@ -10,8 +10,8 @@ returns-in_err-push_listed c =
     let adds = subst (λ (n : ℕ). AddsListed n c.read_line.result c.loop-line.found.items c.push_listed.new.found.items (Err c.in_err-push_listed.field-0.0)) c.number.ensures c.in_err-push_listed.ensures in
     let p = err_from_is_err_and c.from_residual-in_err-push_listed.result c.from_residual-in_err-push_listed.ensures.1 in
     rw (p.1, p.2) (refused (λ (v : Vec Path Global). v.items) c.args.text.now c.deref-line-items.result.now (c.deref-line-items.ensures.value ∙ c.in_ok-lines.ensures.lines)
-        c.loop-line.line-index c.line-item.result c.loop-line-test.true c.line-item.is c.read_line.result c.read_line.ensures
-        c.loop-line.found.items c.push_listed.new.found.items c.in_err-push_listed.field-0.0 adds c.loop-line.invariant)
+    c.loop-line.line-index c.line-item.result c.loop-line-test.true c.line-item.is c.read_line.result c.read_line.ensures
+    c.loop-line.found.items c.push_listed.new.found.items c.in_err-push_listed.field-0.0 adds c.loop-line.invariant)
 
 pub loop-line-preserved : goal.loop-line-preserved
 loop-line-preserved c =
