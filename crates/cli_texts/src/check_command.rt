@@ -130,7 +130,9 @@ fn check_given<I: BufRead>(
 ) -> Result<Printed, Failure>
     ensures { AnswersGiven subject.now (rows_in words.now) (map named (file_list files.entry)) (I.remaining input.old) result }
 {
-    match read_systems(rt, words, subject, whole_inputs(files), input)? {
+    let others = whole_inputs(files);
+    let systems = read_systems(rt, words, subject, others, input)?;
+    match systems {
         Ok(filesystems) => check_files(rt, words, filesystems, files, input),
         Err(printed) => Ok(printed),
     }

@@ -58,7 +58,9 @@ fn answer_subject<'w, I: BufRead>(
 {
     let path = read_dir(rt.alloc(), words, subject)?;
     let files = whole_files(words, subject, "FILE");
-    match read_systems(rt, words, subject, whole_inputs(files), input)? {
+    let others = whole_inputs(files);
+    let systems = read_systems(rt, words, subject, others, input)?;
+    match systems {
         Ok(filesystems) => answer_files(rt, words, &path, &filesystems, files, input),
         Err(printed) => Ok(printed),
     }

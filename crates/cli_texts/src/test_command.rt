@@ -66,7 +66,9 @@ fn answer_subject<'w, I: BufRead>(
             optional: false,
         },
     };
-    match read_systems(rt, words, subject, two_inputs(files), input)? {
+    let others = two_inputs(files);
+    let systems = read_systems(rt, words, subject, others, input)?;
+    match systems {
         Ok(filesystems) => answer_files(rt, words, &filesystems, files, input),
         Err(printed) => Ok(printed),
     }

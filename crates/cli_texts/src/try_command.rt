@@ -74,7 +74,9 @@ fn answer_subject<'w, I: BufRead>(
 {
     let request = words_request(rt.alloc(), words, subject)?;
     let files = whole_files(words, subject, "FILE");
-    match read_systems(rt, words, subject, whole_inputs(files), input)? {
+    let others = whole_inputs(files);
+    let systems = read_systems(rt, words, subject, others, input)?;
+    match systems {
         Ok(filesystems) => {
             let asked = Asked {
                 word: given(words, "as"),
