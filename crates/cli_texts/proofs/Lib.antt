@@ -2,3 +2,4 @@ pub mod FilesInTurn
 pub mod FoundWords
 pub mod Viewed
 pub mod AskedSystems
+pub mod Custodians

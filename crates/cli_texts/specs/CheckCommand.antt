@@ -73,16 +73,20 @@ abbrev pub AnswersFolderTexts : CheckAsked → Systems → WholeSources → Resu
 AnswersFolderTexts asked systems sources result = AnswersFound (GathersFolder asked.opinions asked.custodians systems sources) asked.form result
 
 -- the file systems of a folder, with the path of their text
-abbrev pub systems_in : SiteFolder → FolderSystems → Systems → Type 0
-systems_in folder (folder_systems.Listed text) (Listed source) = (source.path.now ≡ string_bytes folder.paths.filesystems) × (source.text.now ≡ string_bytes text)
-systems_in folder (folder_systems.Mounted table) (Mounted made) = made ≡ table
-systems_in folder systems made = ⊥
+abbrev pub AreSystems : SiteFolder → FolderSystems → Systems → Type 0
+AreSystems folder (folder_systems.Listed text) (Listed source) = (source.path.now ≡ string_bytes folder.paths.filesystems) × (source.text.now ≡ string_bytes text)
+AreSystems folder (folder_systems.Mounted table) (Mounted made) = made ≡ table
+AreSystems folder systems made = ⊥
+
+-- the answer by the texts of a folder with these file systems
+pub record AnswersSystems (asked : CheckAsked) (folder : SiteFolder) (systems : FolderSystems) (sources : WholeSources) (result : Result Printed Failure) : Type 0 where
+  pub made : Systems
+  pub are : AreSystems folder systems made
+  pub answers : AnswersFolderTexts asked made sources result
 
 -- the answer by the file systems of a folder: the other files are read after them
-pub record AnswersFolder (asked : CheckAsked) (folder : SiteFolder) (systems : FolderSystems) (files : List (List ℕ × Option (List ℕ))) (known : Option (List ℕ)) (result : Result Printed Failure) : Type 0 where
-  pub made : Systems
-  pub are : systems_in folder systems made
-  pub after : After (ReadsSources whole_list files known) (AnswersFolderTexts asked made) result
+abbrev pub AnswersFolder : CheckAsked → SiteFolder → FolderSystems → List (List ℕ × Option (List ℕ)) → Option (List ℕ) → Result Printed Failure → Type 0
+AnswersFolder asked folder systems files known result = After (ReadsSources whole_list files known) (AnswersSystems asked folder systems) result
 
 -- the source of the custodians, if they are there
 abbrev pub AreCustodians : SiteFolder → Option (List ℕ) → Option Source → Type 0
@@ -96,15 +100,20 @@ ReadsCustodians folder (Ok (Some text)) = HasText (codes "--site") (string_bytes
 ReadsCustodians folder (Ok None) = Unit {0}
 ReadsCustodians folder (Err failure) = LacksText (codes "--site") (string_bytes folder.paths.custodians) None failure
 
--- the answer by the custodians of a folder, if they are there: its file systems are read after them, and then the other files. (None of
--- the first files is standard input, so that all of it is left.)
-pub record AnswersKept (opinions : Bool) (form : FindingsForm) (folder : SiteFolder) (files : List (List ℕ × Option (List ℕ))) (known : Option (List ℕ)) (text : Option (List ℕ)) (result : Result Printed Failure) : Type 0 where
+-- the answer by these file systems of a folder, with its custodians, if they are there
+pub record AnswersBoth (opinions : Bool) (form : FindingsForm) (folder : SiteFolder) (text : Option (List ℕ)) (files : List (List ℕ × Option (List ℕ))) (known : Option (List ℕ)) (systems : FolderSystems) (result : Result Printed Failure) : Type 0 where
   pub custodians : Option Source
   pub are : AreCustodians folder text custodians
+  pub answers : AnswersFolder (record { opinions = opinions; form = form; custodians = custodians }) folder systems files known result
+
+-- The answer by the custodians of a folder, if they are there: its file systems are read after them, and then the other files. (None of
+-- the first files is standard input, so that all of it is left.)
+pub record AnswersKept (opinions : Bool) (form : FindingsForm) (folder : SiteFolder) (files : List (List ℕ × Option (List ℕ))) (known : Option (List ℕ)) (text : Option (List ℕ)) (result : Result Printed Failure) : Type 0 where
   pub left : Option (List ℕ)
   pub leaves : string_bytes folder.paths.custodians ≢ codes "-" → LeavesBehind (files_of folder) known left
-  pub after : After (ReadsSystems (codes "--site") (files_of folder)) (λ systems. AnswersFolder (record { opinions = opinions; form = form; custodians = custodians }) folder systems files left) result
+  pub after : After (ReadsSystems (codes "--site") (files_of folder)) (AnswersBoth opinions form folder text files left) result
 
+-- the answer by a folder
 abbrev pub AnswersSite : Bool → FindingsForm → SiteFolder → List (List ℕ × Option (List ℕ)) → Option (List ℕ) → Result Printed Failure → Type 0
 AnswersSite opinions form folder files known result = After (ReadsCustodians folder) (AnswersKept opinions form folder files known) result
 

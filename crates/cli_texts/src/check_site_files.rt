@@ -1,11 +1,13 @@
 //! The command `check --site DIR`: every fault and warning of the files in a site's folder, of which some may be missing.
 
-ghost use Rattle.std.specs.Prelude.{map};
+ghost use Rattle.std.specs.Prelude.{◌≤◌, IfSome, length, map};
+ghost use Rattle.std.specs.Option.{option_map};
+ghost use Rattle.std.specs.String.{string_bytes};
 ghost use Rattle.desk_text.specs.Lines.{IsReadable};
 ghost use Rattle.desk_findings.specs.CheckFaults.{AreReadable};
 ghost use Rattle.desk_findings.specs.CheckFolder.{AreReadableSystems, IsReadableIfThere, systems_of};
 ghost use Rattle.cli_files.specs.FolderSystems.{AreShort};
-ghost use Rattle.cli_texts.specs.CheckCommand.{AnswersFolder, AnswersFolderTexts, AnswersSite};
+ghost use Rattle.cli_texts.specs.CheckCommand.{AnswersFolder, AnswersFolderTexts, AnswersSite, AreCustodians};
 ghost use Rattle.cli_texts.specs.TableFiles.{named};
 ghost use Rattle.cli_texts.specs.WholeFiles.{file_list};
 
@@ -34,21 +36,29 @@ pub fn check_site<I: BufRead>(
 ) -> Result<Printed, Failure>
     ensures { AnswersSite opinions form folder.now (map named (file_list files.entry)) (I.remaining input.old) result }
 {
-    let custodians = read_if_there(rt, "--site", folder.paths.custodians.as_str(), input)?;
+    let kept = read_if_there(rt, "--site", folder.paths.custodians.as_str(), input)?;
     let systems = read_systems(rt, "--site", systems_files(folder), input)?;
-    let custodians = match &custodians {
+    let asked = CheckAsked {
+        opinions,
+        form,
+        custodians: custodians_of(folder, &kept),
+    };
+    check_folder(rt, asked, folder, systems, files, input)
+}
+
+/// Lends the text of a folder's custodians with its path, if they are there.
+fn custodians_of<'a>(folder: &'a SiteFolder, text: &'a Option<String>) -> Option<Source<'a>>
+    requires { IfSome text.now (λ one. length (string_bytes one) ≤ 16777216) }
+    ensures are { AreCustodians folder.entry.now (option_map string_bytes text.entry.now) result }
+    ensures readable { IsReadableIfThere result }
+{
+    match text {
         Some(text) => Some(Source {
             path: folder.paths.custodians.as_str(),
             text: text.as_str(),
         }),
         None => None,
-    };
-    let asked = CheckAsked {
-        opinions,
-        form,
-        custodians,
-    };
-    check_folder(rt, asked, folder, systems, files, input)
+    }
 }
 
 /// How a folder is checked: with opinions or without, in which form, and with which custodians.
