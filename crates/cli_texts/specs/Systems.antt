@@ -103,12 +103,12 @@ LeavesSystems (File file) rows known left = Leaves (first_of (codes "mounts") ro
 LeavesSystems (Site folder) rows known left = LeavesBehind (files_of folder) known left
 
 -- what comes after the file systems, if they have no fault
-abbrev pub Continues : (List Mount → Result Printed Failure → Type 0) → Result (List Mount) Printed → Result Printed Failure → Type 0
-Continues Next (Ok table) result = Next table result
-Continues Next (Err printed) result = result ≡ Ok printed
+abbrev pub ContinuesWith : (List Mount → Result Printed Failure → Type 0) → Result (List Mount) Printed → Result Printed Failure → Type 0
+ContinuesWith Next (Ok table) result = Next table result
+ContinuesWith Next (Err printed) result = result ≡ Ok printed
 
 -- The file systems come first, with so many other files that are standard input; and then the rest, with what is left of the input.
 pub record AfterSystems (subject : Subject) (rows : List Row) (others : ℕ) (known : Option (List ℕ)) (Next : Option (List ℕ) → List Mount → Result Printed Failure → Type 0) (result : Result Printed Failure) : Type 0 where
   pub left : Option (List ℕ)
   pub leaves : LeavesSystems subject rows known left
-  pub after : After (ReadsSystems subject rows others known) (Continues (Next left)) result
+  pub after : After (ReadsSystems subject rows others known) (ContinuesWith (Next left)) result

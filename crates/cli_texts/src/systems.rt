@@ -15,7 +15,7 @@ use crate::subject::{SiteFolder, Subject};
 use crate::table_files::inputs;
 use clap::ArgMatches;
 use cli_files::files::read_text;
-use cli_files::folder_systems::{self, FolderSystems, SystemsFiles};
+use cli_files::folder_systems::{FolderSystems, SystemsFiles};
 use cli_files::mounts_file::mounts_of;
 use cli_output::failure::Failure;
 use cli_output::printed::Printed;
@@ -60,11 +60,15 @@ fn read_by_words<I: BufRead>(
     ensures systems { let rows = rows_in words.now in ReadsByWords (all_of (codes "MOUNT") rows) (first_of (codes "mounts") rows) others (I.remaining input.old) result }
     ensures left { Leaves (first_of (codes "mounts") (rows_in words.now)) (I.remaining input.old) (I.remaining input.new) }
 {
-    match (all_given(words, "MOUNT"), given(words, "mounts")) {
-        (Some(_), Some(_)) => Err(Failure::BesideMounts),
-        (Some(mounts), None) => read_mounts(rt.alloc(), mounts),
-        (None, Some(file)) => read_mounts_file(rt, file, others, input),
-        (None, None) => Err(Failure::of_missing("MOUNT")),
+    match all_given(words, "MOUNT") {
+        Some(mounts) => match given(words, "mounts") {
+            Some(_) => Err(Failure::BesideMounts),
+            None => read_mounts(rt.alloc(), mounts),
+        },
+        None => match given(words, "mounts") {
+            Some(file) => read_mounts_file(rt, file, others, input),
+            None => Err(Failure::of_missing("MOUNT")),
+        },
     }
 }
 
@@ -101,7 +105,7 @@ fn read_folder<I: BufRead>(
     ensures systems { ReadsFolder folder.now result }
     ensures left { LeavesBehind (files_of folder.now) (I.remaining input.old) (I.remaining input.new) }
 {
-    match folder_systems::read_systems(rt, "--site", systems_files(folder), input) {
+    match cli_files::folder_systems::read_systems(rt, "--site", systems_files(folder), input) {
         Ok(FolderSystems::Mounted(filesystems)) => Ok(Ok(filesystems)),
         Ok(FolderSystems::Listed(text)) => {
             let source = Source {

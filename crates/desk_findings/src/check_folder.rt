@@ -37,22 +37,23 @@ pub fn gather_folder<'a>(
     ensures found { IfOk result (GathersFolder opinions custodians.entry (systems_of systems.entry) whole.entry) }
     ensures slices { IfOk result (λ gathered. HaveSlices gathered.findings) }
 {
-    match (custodians, systems) {
-        (Some(custodians), Systems::Listed(filesystems)) => {
-            let sources = SiteSources {
-                custodians,
-                filesystems,
-                whole,
-            };
-            gather_site(alloc, sources, opinions)
-        }
-        (Some(custodians), Systems::Mounted(filesystems)) => {
-            gather_kept(alloc, custodians, filesystems, whole, opinions)
-        }
-        (None, Systems::Listed(filesystems)) => {
-            gather_listed(alloc, filesystems, whole, opinions)
-        }
-        (None, Systems::Mounted(filesystems)) => gather(alloc, whole, filesystems, opinions),
+    match systems {
+        Systems::Listed(filesystems) => match custodians {
+            Some(custodians) => gather_site(
+                alloc,
+                SiteSources {
+                    custodians,
+                    filesystems,
+                    whole,
+                },
+                opinions,
+            ),
+            None => gather_listed(alloc, filesystems, whole, opinions),
+        },
+        Systems::Mounted(filesystems) => match custodians {
+            Some(custodians) => gather_kept(alloc, custodians, filesystems, whole, opinions),
+            None => gather(alloc, whole, filesystems, opinions),
+        },
     }
 }
 
