@@ -1,5 +1,5 @@
 -- The text of a folder's custodians, if they are there.
-use Rattle.std.proofs.Common.{ℕ, List, Option, None, Some, Ok, Err, String, codes}
+use Rattle.std.proofs.Common.{ℕ, List, Option, None, Some, Ok, String, codes}
 use Rattle.std.specs.Option.{option_map}
 use Rattle.std.specs.String.{string_bytes}
 use Rattle.cli_files.specs.Files.{ReadsIfThere}

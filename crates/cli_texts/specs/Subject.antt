@@ -1,5 +1,5 @@
 -- What a command on texts is asked of. (this project's own)
-use Rattle.std.specs.Prelude.{◌≡◌, ℕ, Bool, List, Option, None, Some, Result, Ok, Err, codes, is_some, if◌then◌else◌}
+use Rattle.std.specs.Prelude.{◌≡◌, ℕ, List, Option, None, Some, Result, Ok, Err, codes, is_some, if◌then◌else◌}
 use Rattle.std.specs.String.{string_bytes}
 use Rattle.clap.specs.Words.{Row, first_of}
 use Rattle.cli_output.specs.Failure.{IsMissing}

@@ -1,6 +1,5 @@
 //! The arguments of a command, and how `clap` takes them.
 
-ghost use Rattle.std.specs.Prelude.{◌≡◌};
 ghost use Rattle.cli_words.specs.Commands.{flag, option, optional_word, optional_words, required_option, rule_for, word};
 ghost use Rattle.cli_words.specs.PrivateLine.{IsArgument};
 

@@ -4,7 +4,7 @@ use Rattle.std.specs.List.{cons_option, filter_map}
 use Rattle.std.proofs.lemmas.List.{append-nil, drop_more, map-append, take_all, take_more, take-append-drop}
 use Rattle.std.proofs.lemmas.List.Elements.{filter_map-append}
 use Rattle.desk_text.specs.Lines.{LogicalLine, logical_lines}
-use Rattle.desk_text.specs.Reading.{Reads, ReadsAs, answered_value, at_line, fault_at, fault_of, read_lines, unless_fault, value_of}
+use Rattle.desk_text.specs.Reading.{Reads, ReadsAs, answered_value, fault_at, fault_of, read_lines, unless_fault, value_of}
 use Rattle.desk_text.specs.declared.reading.LineFault.{LineFault}
 use Rattle.desk_text.specs.declared.reading.ReadError.{ReadError}
 use Rattle.desk_text.specs.declared.reading.ReadError.TheVariants.{Fault, Memory}

@@ -1,5 +1,5 @@
 -- The text of file systems that `site` keeps. (this project's own)
-use Rattle.std.specs.Prelude.{ℕ, Bool, ◌==◌, ◌||◌, List, ◌∷◌, ◌++◌, codes, if◌then◌else◌}
+use Rattle.std.specs.Prelude.{ℕ, Bool, ◌||◌, List, ◌∷◌, ◌++◌, codes, if◌then◌else◌}
 use Rattle.std.specs.Char.{encode_utf8}
 use Rattle.std.specs.List.{flat_map}
 use Rattle.std.specs.Str.{chars}

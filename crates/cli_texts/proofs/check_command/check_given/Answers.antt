@@ -1,5 +1,5 @@
 -- The file systems are read, and then the files.
-use Rattle.std.proofs.Common.{map, ℕ}
+use Rattle.std.proofs.Common.{map}
 use Rattle.std.proofs.lemmas.Result.{err_from_is_err_and}
 use Rattle.cli_words.specs.Words.{rows_in}
 use Rattle.cli_texts.specs.TableFiles.{input_count, named}
