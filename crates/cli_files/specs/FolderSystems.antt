@@ -20,8 +20,11 @@ pub record SystemsPaths : Type 0 where
   pub filesystems : List ℕ
   pub mounts : List ℕ
 
+abbrev pub systems_at : List ℕ → List ℕ → SystemsPaths
+systems_at filesystems mounts = record { filesystems = filesystems; mounts = mounts }
+
 abbrev pub systems_paths : SystemsFiles → SystemsPaths
-systems_paths files = record { filesystems = files.filesystems.now; mounts = files.mounts.now }
+systems_paths files = systems_at files.filesystems.now files.mounts.now
 
 -- the mount points of a text of the file mounts give this answer
 pub record AnswersMountsFile (argument path : List ℕ) (result : Result (List Mount) Failure) : Type 0 where

@@ -6,7 +6,7 @@ use Rattle.desk_policy.specs.SiteFile.{all_files, file_name}
 use Rattle.desk_findings.specs.declared.check_site.SiteSources.{SiteSources}
 use Rattle.cli_output.specs.declared.failure.Failure.{Failure}
 use Rattle.cli_files.specs.Files.{HasText, LacksText, Leaves, ReadsInTurn}
-use Rattle.cli_files.specs.FolderSystems.{LeavesBehind, ReadsSystemsText}
+use Rattle.cli_files.specs.FolderSystems.{LeavesBehind, ReadsSystemsText, systems_at}
 use Rattle.cli_files.specs.declared.site_folder.SiteFiles.{SiteFiles}
 
 -- a name may follow the path of a folder as it is: that ends with a slash, or is empty
@@ -55,12 +55,12 @@ site_texts_in sources =
 abbrev pub ReadsSite : List ℕ → List (List ℕ) → List ℕ → Option (List ℕ) → Result (List (List ℕ)) Failure → Type 0
 ReadsSite argument (custodians ∷ filesystems ∷ rest) mounts known (Ok (first ∷ second ∷ texts)) =
     HasText argument custodians known first × ((left : Option (List ℕ)) × (Leaves (Some custodians) known left
-    × (ReadsSystemsText argument (record { filesystems = filesystems; mounts = mounts }) (Ok second)
-    × ((after : Option (List ℕ)) × (LeavesBehind (record { filesystems = filesystems; mounts = mounts }) left after × ReadsInTurn (site_words argument rest) after (Ok texts))))))
+    × (ReadsSystemsText argument (systems_at filesystems mounts) (Ok second)
+    × ((after : Option (List ℕ)) × (LeavesBehind (systems_at filesystems mounts) left after × ReadsInTurn (site_words argument rest) after (Ok texts))))))
 ReadsSite argument (custodians ∷ filesystems ∷ rest) mounts known (Err failure) =
     LacksText argument custodians known failure
     ⊎ ((first : List ℕ) × (left : Option (List ℕ)) × (HasText argument custodians known first × (Leaves (Some custodians) known left
-    × (ReadsSystemsText argument (record { filesystems = filesystems; mounts = mounts }) (Err failure)
-    ⊎ ((second : List ℕ) × (after : Option (List ℕ)) × (ReadsSystemsText argument (record { filesystems = filesystems; mounts = mounts }) (Ok second)
-    × (LeavesBehind (record { filesystems = filesystems; mounts = mounts }) left after × ReadsInTurn (site_words argument rest) after (Err failure))))))))
+    × (ReadsSystemsText argument (systems_at filesystems mounts) (Err failure)
+    ⊎ ((second : List ℕ) × (after : Option (List ℕ)) × (ReadsSystemsText argument (systems_at filesystems mounts) (Ok second)
+    × (LeavesBehind (systems_at filesystems mounts) left after × ReadsInTurn (site_words argument rest) after (Err failure))))))))
 ReadsSite argument paths mounts known result = ⊥

@@ -42,16 +42,36 @@ pub fn read_systems<I: BufRead>(
     ensures short { IfOk result AreShort }
     ensures left { LeavesBehind (systems_paths files.entry) (I.remaining input.old) (I.remaining input.new) }
 {
-    if let Some(text) = read_if_there(rt, argument, files.filesystems, input)? {
-        return Ok(FolderSystems::Listed(text));
+    match read_if_there(rt, argument, files.filesystems, input) {
+        Ok(Some(text)) => Ok(FolderSystems::Listed(text)),
+        Ok(None) => read_mounted(rt, argument, files, input),
+        Err(failure) => Err(failure),
     }
-    if let Some(text) = read_if_there(rt, argument, files.mounts, input)? {
-        let systems = mounts_of(rt.alloc(), argument, files.mounts, text.as_str())?;
-        return Ok(FolderSystems::Mounted(systems));
+}
+
+/// Reads what a folder without `filesystems` has of its file systems.
+fn read_mounted<I: BufRead>(
+    rt: &HostRuntime,
+    argument: &'static str,
+    files: SystemsFiles<'_>,
+    input: &mut I,
+) -> Result<FolderSystems, Failure>
+    ensures systems { ReadsSystems argument.entry.now (systems_paths files.entry) result }
+    ensures short { IfOk result AreShort }
+    ensures left { LeavesBehind (systems_paths files.entry) (I.remaining input.old) (I.remaining input.new) }
+{
+    match read_if_there(rt, argument, files.mounts, input) {
+        Ok(Some(text)) => match mounts_of(rt.alloc(), argument, files.mounts, text.as_str()) {
+            Ok(systems) => Ok(FolderSystems::Mounted(systems)),
+            Err(failure) => Err(failure),
+        },
+        // The system says in its own words that it is not there.
+        Ok(None) => match read_text(rt, argument, files.filesystems, input) {
+            Ok(text) => Ok(FolderSystems::Listed(text)),
+            Err(failure) => Err(failure),
+        },
+        Err(failure) => Err(failure),
     }
-    // The system says in its own words that it is not there.
-    let text = read_text(rt, argument, files.filesystems, input)?;
-    Ok(FolderSystems::Listed(text))
 }
 
 /// Reads the text of a folder's file systems. Of mount points it is a line `MOUNT site` each, in byte order.

@@ -5,6 +5,7 @@ ghost use Rattle.std.specs.Result.{result_map_both};
 ghost use Rattle.std.specs.String.{string_bytes};
 ghost use Rattle.desk_policy.specs.SiteFile.{file_name};
 ghost use Rattle.cli_files.specs.Files.{Leaves, ReadsIfGiven};
+ghost use Rattle.cli_files.specs.FolderSystems.{LeavesBehind, ReadsSystemsText, systems_at};
 ghost use Rattle.cli_files.specs.SiteFolder.{AreShortFiles, ReadsSite, needs_no_slash, path_in, site_list, site_paths, site_paths_in, site_texts_in};
 
 use crate::files::read_if_given;
@@ -131,11 +132,7 @@ pub fn read_texts<I: BufRead>(
     ensures short { IfOk result AreShortFiles }
 {
     let custodians = read_file(rt, argument, &paths.custodians, input)?;
-    let systems = SystemsFiles {
-        filesystems: paths.filesystems.as_str(),
-        mounts,
-    };
-    let filesystems = read_systems_text(rt, argument, systems, input)?;
+    let filesystems = read_filesystems(rt, argument, paths, mounts, input)?;
     let hosts = read_file(rt, argument, &paths.hosts, input)?;
     let networks = read_file(rt, argument, &paths.networks, input)?;
     let passwd = read_file(rt, argument, &paths.passwd, input)?;
@@ -152,6 +149,25 @@ pub fn read_texts<I: BufRead>(
         netgroup,
         exports,
     })
+}
+
+/// Reads the text of the file systems of these paths.
+fn read_filesystems<I: BufRead>(
+    rt: &HostRuntime,
+    argument: &'static str,
+    paths: &SiteFiles,
+    mounts: &str,
+    input: &mut I,
+) -> Result<String, Failure>
+    ensures text { ReadsSystemsText argument.now (systems_at (string_bytes paths.now.filesystems) mounts.now) (result_map_both string_bytes (λ failure. failure) result) }
+    ensures short { IfOk result (λ text. length (string_bytes text) ≤ 16777216) }
+    ensures left { LeavesBehind (systems_at (string_bytes paths.now.filesystems) mounts.now) (I.remaining input.old) (I.remaining input.new) }
+{
+    let files = SystemsFiles {
+        filesystems: paths.filesystems.as_str(),
+        mounts,
+    };
+    read_systems_text(rt, argument, files, input)
 }
 
 /// Reads the file of this path.

@@ -16,7 +16,7 @@ use Rattle.cli_output.specs.declared.failure.Failure.{Failure}
 use Rattle.cli_output.specs.declared.failure.Failure.TheVariants.{BesideMounts, InputTwice, Memory}
 use Rattle.cli_output.specs.declared.printed.Printed.{Printed}
 use Rattle.cli_files.specs.Files.{HasText, LacksText, Leaves, is_input}
-use Rattle.cli_files.specs.FolderSystems.{AnswersMountsFile, LeavesBehind, SystemsPaths}
+use Rattle.cli_files.specs.FolderSystems.{AnswersMountsFile, LeavesBehind, SystemsPaths, systems_at}
 use Rattle.cli_files.specs.MountsFile.{AnswersMounts}
 use Rattle.cli_words.specs.Words.{After}
 use Rattle.cli_texts.specs.MountWords.{ReadsTable}
@@ -69,7 +69,7 @@ AnswersText source (Err fault) (Err printed) = PrintsSystemsFault source fault p
 
 -- the paths of the two files of a folder that list its file systems
 abbrev pub files_of : SiteFolder → SystemsPaths
-files_of folder = record { filesystems = string_bytes folder.paths.filesystems; mounts = string_bytes folder.mounts }
+files_of folder = systems_at (string_bytes folder.paths.filesystems) (string_bytes folder.mounts)
 
 -- the file systems of the text in a folder's file filesystems
 pub record AnswersListed (path : List ℕ) (result : Result (List Mount) Printed) : Type 0 where
