@@ -1,13 +1,14 @@
 //! The command `check --site DIR`: every fault and warning of the files in a site's folder, of which some may be missing.
 
-ghost use Rattle.std.specs.Prelude.{◌≤◌, IfSome, length, map};
+ghost use Rattle.std.specs.Prelude.{◌≡◌, ◌≢◌, ◌≤◌, IfOk, IfSome, codes, length, map};
 ghost use Rattle.std.specs.Option.{option_map};
+ghost use Rattle.std.specs.Result.{result_map_both};
 ghost use Rattle.std.specs.String.{string_bytes};
 ghost use Rattle.desk_text.specs.Lines.{IsReadable};
 ghost use Rattle.desk_findings.specs.CheckFaults.{AreReadable};
 ghost use Rattle.desk_findings.specs.CheckFolder.{AreReadableSystems, IsReadableIfThere, systems_of};
 ghost use Rattle.cli_files.specs.FolderSystems.{AreShort};
-ghost use Rattle.cli_texts.specs.CheckCommand.{AnswersFolder, AnswersFolderTexts, AnswersSite, AreCustodians};
+ghost use Rattle.cli_texts.specs.CheckCommand.{AnswersFolder, AnswersFolderTexts, AnswersSite, AreCustodians, ReadsCustodians};
 ghost use Rattle.cli_texts.specs.TableFiles.{named};
 ghost use Rattle.cli_texts.specs.WholeFiles.{file_list};
 
@@ -36,7 +37,7 @@ pub fn check_site<I: BufRead>(
 ) -> Result<Printed, Failure>
     ensures { AnswersSite opinions form folder.now (map named (file_list files.entry)) (I.remaining input.old) result }
 {
-    let kept = read_if_there(rt, "--site", folder.paths.custodians.as_str(), input)?;
+    let kept = read_custodians(rt, folder, input)?;
     let systems = read_systems(rt, "--site", systems_files(folder), input)?;
     let asked = CheckAsked {
         opinions,
@@ -44,6 +45,19 @@ pub fn check_site<I: BufRead>(
         custodians: custodians_of(folder, &kept),
     };
     check_folder(rt, asked, folder, systems, files, input)
+}
+
+/// Reads the text of a folder's custodians, if they are there.
+fn read_custodians<I: BufRead>(
+    rt: &HostRuntime,
+    folder: &SiteFolder,
+    input: &mut I,
+) -> Result<Option<String>, Failure>
+    ensures text { ReadsCustodians folder.now (result_map_both (option_map string_bytes) (λ failure. failure) result) }
+    ensures short { IfOk result (λ found. IfSome found (λ text. length (string_bytes text) ≤ 16777216)) }
+    ensures untouched { string_bytes folder.now.paths.custodians ≢ codes "-" → input.new ≡ input.old }
+{
+    read_if_there(rt, "--site", folder.paths.custodians.as_str(), input)
 }
 
 /// Lends the text of a folder's custodians with its path, if they are there.

@@ -3,24 +3,22 @@ use Rattle.std.proofs.Common.{◌∙◌, Err, Ok, ap, refl}
 use Rattle.std.proofs.lemmas.Result.{err_from_is_err_and}
 use Rattle.std.specs.Option.{option_map}
 use Rattle.std.specs.String.{string_bytes}
-use Rattle.cli_files.proofs.FilesInTurn.{lacks_unknown}
-use Rattle.cli_texts.proofs.Custodians.{there_unknown}
 use Rattle.cli_texts.proofs.check_site_files.check_site.Goals as goal
 
 pub returns-in_err-kept : goal.returns-in_err-kept
 returns-in_err-kept g c =
     let p = err_from_is_err_and c.from_residual.result c.from_residual.ensures.1 in
-    rw (p.1, p.2) (record { step = Err c.in_err-kept.field-0.0; is = lacks_unknown _ _ _ c.in_err-kept.field-0.0 c.in_err-kept.ensures.text; next = refl })
+    rw (p.1, p.2) (record { step = Err c.in_err-kept.field-0.0; is = c.in_err-kept.ensures.text; next = refl })
 
 pub returns-in_err-systems : goal.returns-in_err-systems
 returns-in_err-systems g c =
     let p = err_from_is_err_and c.from_residual-in_err-systems.result c.from_residual-in_err-systems.ensures.1 in
     rw (p.1, p.2) (record {
       step = Ok (option_map string_bytes c.in_ok-kept.kept);
-      is = there_unknown c.args.folder.now _ c.in_ok-kept.kept c.in_ok-kept.ensures.text;
+      is = c.in_ok-kept.ensures.text;
       next = record {
         left = g.I.Read.remaining c.read_systems.new.input;
-        leaves = λ named filesystems mounts. c.read_systems.ensures.left filesystems mounts ∙ ap g.I.Read.remaining (c.read_if_there.ensures.untouched named);
+        leaves = λ named filesystems mounts. c.read_systems.ensures.left filesystems mounts ∙ ap g.I.Read.remaining (c.read_custodians.ensures.untouched named);
         after = record { step = Err c.in_err-systems.field-0.0; is = c.in_err-systems.ensures.systems; next = refl };
       };
     })
@@ -28,10 +26,10 @@ returns-in_err-systems g c =
 pub returns : goal.returns
 returns g c = record {
   step = Ok (option_map string_bytes c.in_ok-kept.kept);
-  is = there_unknown c.args.folder.now _ c.in_ok-kept.kept c.in_ok-kept.ensures.text;
+  is = c.in_ok-kept.ensures.text;
   next = record {
     left = g.I.Read.remaining c.read_systems.new.input;
-    leaves = λ named filesystems mounts. c.read_systems.ensures.left filesystems mounts ∙ ap g.I.Read.remaining (c.read_if_there.ensures.untouched named);
+    leaves = λ named filesystems mounts. c.read_systems.ensures.left filesystems mounts ∙ ap g.I.Read.remaining (c.read_custodians.ensures.untouched named);
     after = record {
       step = Ok c.in_ok-systems.systems;
       is = c.in_ok-systems.ensures.systems;
