@@ -1,4 +1,4 @@
-//! The commands on texts: `try`, `split`, `check`, `clients`, `compare` and `test`.
+//! The commands on texts: `try`, `split`, `check`, `clients`, `compare` and `test`. They are asked of files, or of a site's folder.
 //!
 //! Its promise: [`try_command::run_try`] grants a mount only if the verdict over the bytes of its files grants it;
 //! [`split_command::run_split`], [`check_command::run_check`], [`clients_command::run_clients`],
@@ -18,10 +18,11 @@ pub mod compare_command;
 mod fault_line;
 mod faulty_texts;
 mod findings_form;
-mod mount_words;
 mod printing;
 pub mod split_command;
 mod split_text;
+mod subject;
+mod systems;
 mod table_files;
 pub mod test_command;
 pub mod try_command;

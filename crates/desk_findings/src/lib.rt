@@ -14,6 +14,7 @@
 #![tactic(auto)]
 
 mod check_faults;
+mod check_folder;
 mod check_odd;
 mod check_site;
 mod check_text;
@@ -24,6 +25,7 @@ mod one_fault;
 mod one_site_fault;
 
 pub use check_faults::{Source, line_at, lines_of};
+pub use check_folder::{Systems, gather_folder};
 pub use check_site::{SiteSources, gather_site};
 pub use check_text::{Gathered, WholeSources, gather, read_sources};
 pub use finding::{Finding, Matter, has_fault};
