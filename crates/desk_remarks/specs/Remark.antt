@@ -47,9 +47,11 @@ remark_name remark = (row_of remark).said.name
 abbrev pub remark_sentence : Remark → List ℕ
 remark_sentence remark = (row_of remark).said.sentence
 
+-- it is an opinion
 abbrev pub is_opinion : Remark → Bool
 is_opinion remark = (row_of remark).is_opinion
 
+-- what the line of its example is
 abbrev pub other_of : Remark → OtherLine
 other_of remark = (row_of remark).other
 
