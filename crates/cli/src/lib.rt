@@ -67,13 +67,13 @@ fn finish<O: Write, E: Write>(
     ensures printed { result ≢ 4 → Appends (O.contents out.old) (O.contents out.new) (text_of answer) }
     ensures at_four { result ≡ 4 → PrintsAtFour answer (Appends (O.contents out.old) (O.contents out.new)) }
 {
-    let status = report(rt.alloc(), origin, answer, out, err);
+    let reported = report(rt.alloc(), origin, answer, out, err);
     if let Some(service) = service {
-        if !end(rt, service, status == 0, err) {
+        if !end(rt, service, reported.status == 0, err) {
             return 4;
         }
     }
-    status
+    reported.status
 }
 
 /// Runs a service, if its line is printed, and ends it. Tells whether it served all that it was to serve.

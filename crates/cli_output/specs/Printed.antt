@@ -1,9 +1,10 @@
 -- What a command prints on standard output, and its exit status. (this project's own)
-use Rattle.std.specs.Prelude.{◌≡◌, ◌⊎◌, ℕ, List, [], ◌∷◌, ◌++◌, Result, Ok, Err, codes}
+use Rattle.std.specs.Prelude.{◌≡◌, ◌≢◌, ◌⊎◌, ℕ, List, [], ◌∷◌, ◌++◌, Result, Ok, Err, codes}
 use Rattle.std.specs.String.{string_bytes}
 use Rattle.cli_output.specs.declared.failure.Failure.{Failure}
 use Rattle.cli_output.specs.declared.failure.Failure.TheVariants.{Memory}
 use Rattle.cli_output.specs.declared.printed.Printed.{Printed}
+use Rattle.cli_output.specs.Shown.{shown_lines}
 
 -- this text is printed, with this exit status; what standard error says beside it is left open
 pub record Prints (status : ℕ) (text : List ℕ) (printed : Printed) : Type 0 where
@@ -41,3 +42,16 @@ pub record PrintsFront (text : List ℕ) (Prints : List ℕ → Type 0) : Type 0
 -- failed.
 abbrev pub PrintsAtFour : Result Printed Failure → (List ℕ → Type 0) → Type 0
 PrintsAtFour answer Prints = PrintsFront (text_of answer) Prints ⊎ PrintsFront memory_line Prints
+
+-- standard error says something, as it is shown
+pub record SaysSomething (Says : List ℕ → Type 0) : Type 0 where
+  pub told : List ℕ
+  pub something : told ≢ []
+  pub says : Says (shown_lines told)
+
+-- What standard error says of an answer that is reported with this exit status: of one that is printed its note, as it is shown, and
+-- nothing else; of a failure something. Where memory ran out, or a print failed, this is left open.
+abbrev pub SaysOf : Result Printed Failure → ℕ → (List ℕ → Type 0) → Type 0
+SaysOf (Ok printed) status Says = status ≢ 4 → Says (shown_lines (string_bytes printed.note))
+SaysOf (Err Memory) status Says = Unit {0}
+SaysOf (Err failure) status Says = SaysSomething Says

@@ -1,6 +1,7 @@
 //! Why a command has no answer: bad words, a file that cannot be read, or memory that ran out; and the message of it.
 
-ghost use Rattle.std.specs.Prelude.{◌≡◌, MatchResult};
+ghost use Rattle.std.specs.Prelude.{◌≡◌, ◌≢◌, [], IfOk, MatchResult};
+ghost use Rattle.std.specs.String.{string_bytes};
 ghost use Rattle.cli_output.specs.Failure.{IsFileFailure, IsMissing, IsRefusal, IsSystem, IsUnreadLine};
 ghost use Rattle.cli_output.specs.declared.failure.Failure.TheVariants.{Memory};
 
@@ -159,18 +160,36 @@ impl ReadFailure {
 }
 
 /// Writes the message on a failure, in whole lines.
-pub fn message(alloc: Global, origin: Origin, failure: &Failure) -> Result<String, AllocError> {
+pub fn message(alloc: Global, origin: Origin, failure: &Failure) -> Result<String, AllocError>
+    ensures something { IfOk result (λ text. string_bytes text ≢ []) }
+{
+    if let (Origin::Arguments, Failure::Usage(text)) = (origin, failure) {
+        // The message of `clap` names the program itself.
+        if !text.is_empty() {
+            return text.clone();
+        }
+    }
+    let reason = reason(alloc, failure)?;
+    let mut text = String::from_str(alloc, start(origin, failure))?;
+    text.push_str(reason.as_str())?;
+    Ok(text)
+}
+
+/// Returns what a message begins with: the program, and where the words of the command come from if they are at fault.
+fn start(origin: Origin, failure: &Failure) -> &'static str
+    ensures { result.now ≢ [] }
+{
     match (origin, failure) {
-        (Origin::Arguments, Failure::Usage(text)) => text.clone(),
-        (Origin::FirstLine, Failure::Usage(text)) => {
-            format!(in alloc; "exportdesk: the first line of standard input: {text}")
-        }
-        (Origin::Arguments, _) | (_, Failure::File(..)) => {
-            format!(in alloc; "exportdesk: {failure}\n")
-        }
-        (Origin::FirstLine, _) => {
-            format!(in alloc; "exportdesk: the first line of standard input: {failure}\n")
-        }
+        (Origin::Arguments, _) | (_, Failure::File(..)) => "exportdesk: ",
+        (Origin::FirstLine, _) => "exportdesk: the first line of standard input: ",
+    }
+}
+
+/// Writes what failed, in whole lines.
+fn reason(alloc: Global, failure: &Failure) -> Result<String, AllocError> {
+    match failure {
+        Failure::Usage(text) => text.clone(),
+        _ => format!(in alloc; "{failure}\n"),
     }
 }
 

@@ -3,7 +3,7 @@
 ghost use Rattle.std.specs.Prelude.{◌≡◌, ◌≢◌, ◌⊎◌, IfOk, OnOk};
 ghost use Rattle.std.specs.Io.KnownBytes.{Appends};
 ghost use Rattle.cli_output.specs.Printed as spec;
-ghost use Rattle.cli_output.specs.Printed.{PrintsAtFour, PrintsFront};
+ghost use Rattle.cli_output.specs.Printed.{PrintsAtFour, PrintsFront, SaysOf, SaysSomething};
 ghost use Rattle.cli_output.specs.Shown.{shown_lines};
 
 use crate::failure::{Failure, Origin, message};
@@ -23,29 +23,55 @@ pub struct Printed {
     pub note: String,
 }
 
-/// Prints what a command answers, or why it has no answer, and returns the exit status. At the status 4 nothing else is printed than the
-/// answer, or that memory ran out, or a front of one of these if the print fails.
+/// How the report of an answer ends.
+#[derive(Drop)]
+pub struct Reported {
+    /// The exit status.
+    pub status: u8,
+    /// That standard error has what there is to say, or why it does not have it.
+    pub said: io::Result<()>,
+}
+
+/// Prints what a command answers, or why it has no answer, and gives the exit status. At the status 4 nothing else is printed than the
+/// answer, or that memory ran out, or a front of one of these if the print fails. Standard error says something of each failure but that
+/// memory ran out.
 pub fn report<O: Write, E: Write>(
     alloc: Global,
     origin: Origin,
     answer: Result<Printed, Failure>,
     out: &mut O,
     err: &mut E,
-) -> u8
-    ensures status { (result ≡ spec.status_of answer) ⊎ (result ≡ 4) }
-    ensures printed { result ≢ 4 → Appends (O.contents out.old) (O.contents out.new) (spec.text_of answer) }
-    ensures at_four { result ≡ 4 → PrintsAtFour answer (Appends (O.contents out.old) (O.contents out.new)) }
+) -> Reported
+    ensures status { (result.status ≡ spec.status_of answer) ⊎ (result.status ≡ 4) }
+    ensures printed { result.status ≢ 4 → Appends (O.contents out.old) (O.contents out.new) (spec.text_of answer) }
+    ensures at_four { result.status ≡ 4 → PrintsAtFour answer (Appends (O.contents out.old) (O.contents out.new)) }
+    ensures said { OnOk result.said (SaysOf answer result.status (Appends (E.contents err.old) (E.contents err.new))) }
 {
     match answer {
         Ok(printed) => match say(alloc, printed.note.as_str(), err) {
-            Ok(_) => print(printed.text.as_str(), printed.status, out, err),
-            Err(_) => print_memory(out, err),
+            Ok(said) => {
+                let status = print(printed.text.as_str(), printed.status, out, err);
+                Reported { status, said }
+            }
+            Err(_) => report_memory(out, err),
         },
-        Err(Failure::Memory) => print_memory(out, err),
+        Err(Failure::Memory) => report_memory(out, err),
         Err(failure) => match say_failure(alloc, origin, &failure, err) {
-            Ok(_) => 2,
-            Err(_) => print_memory(out, err),
+            Ok(said) => Reported { status: 2, said },
+            Err(_) => report_memory(out, err),
         },
+    }
+}
+
+/// Prints that memory ran out, of which standard error says nothing.
+fn report_memory<O: Write, E: Write>(out: &mut O, err: &mut E) -> Reported
+    ensures status { result.status ≡ 4 }
+    ensures printed { PrintsFront spec.memory_line (Appends (O.contents out.old) (O.contents out.new)) }
+    ensures said { OnOk result.said ⊥ }
+{
+    Reported {
+        status: print_memory(out, err),
+        said: Err(io::Error::from(ErrorKind::OutOfMemory)),
     }
 }
 
@@ -55,7 +81,9 @@ fn say_failure<E: Write>(
     origin: Origin,
     failure: &Failure,
     err: &mut E,
-) -> Result<io::Result<()>, AllocError> {
+) -> Result<io::Result<()>, AllocError>
+    ensures { IfOk result (λ said. OnOk said (SaysSomething (Appends (E.contents err.old) (E.contents err.new)))) }
+{
     let text = message(alloc, origin, failure)?;
     say(alloc, text.as_str(), err)
 }
@@ -82,6 +110,7 @@ fn print<O: Write, E: Write>(text: &str, status: u8, out: &mut O, err: &mut E) -
     ensures status { (result ≡ status) ⊎ (result ≡ 4) }
     ensures printed { result ≢ 4 → Appends (O.contents out.old) (O.contents out.new) text.now }
     ensures front { PrintsFront text.now (Appends (O.contents out.old) (O.contents out.new)) }
+    ensures quiet { result ≢ 4 → E.contents err.new ≡ E.contents err.old }
 {
     match write(text.as_bytes(), out) {
         Ok(()) => status,

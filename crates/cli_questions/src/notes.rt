@@ -1,4 +1,8 @@
-//! What standard error says beside the answer to a question. Nothing is promised of it.
+//! What standard error says beside the answer to a question. Of it one thing is promised: that a file is guarded is said of guarded
+//! files alone.
+
+ghost use Rattle.std.specs.Prelude.{◌≡◌, [], false, IfOk, None};
+ghost use Rattle.std.specs.String.{string_bytes};
 
 use crate::answering::Asked;
 use crate::revision_lines::counts_classes;
@@ -67,7 +71,9 @@ pub(crate) fn foreseen_note(
     alloc: Global,
     question: Question<'_>,
     foreseen: &Foreseen<'_, View>,
-) -> Result<String, AllocError> {
+) -> Result<String, AllocError>
+    ensures { foreseen.now.proposal ≡ None → foreseen.now.guarded ≡ false → IfOk result (λ note. string_bytes note ≡ []) }
+{
     let name = foreseen_name(question);
     if let Some(proposal) = foreseen.proposal {
         return proposal_note(alloc, name, proposal.author.as_str(), proposal.base);

@@ -221,8 +221,9 @@ pub(crate) fn help_of(command: Subcommand) -> Help {
             usage: None,
             end: Some(
                 "It prints `listening 127.0.0.1:N`, and then serves up to 256 connections at once, until M of them\n\
-             have ended. While it runs, every other command on DB is refused: ask and edit over HTTP instead, as\n\
-             docs/HTTP.md says. There is no TLS, and a question needs no key: whoever reaches the port may ask.",
+             have ended. While it runs, put on DB is refused, and so is another serve: edit over HTTP instead, as\n\
+             docs/HTTP.md says. Commands that only read DB work as usual. There is no TLS, and a question needs no\n\
+             key: whoever reaches the port may ask.",
             ),
         },
     }
