@@ -3,8 +3,8 @@
 ghost use Rattle.std.specs.Prelude.{◌≡◌, ◌++◌, IfOk, OnOk, codes, map};
 ghost use Rattle.std.specs.String.{string_bytes};
 ghost use Rattle.serde_json.specs.View.{view};
-ghost use Rattle.desk_findings.specs.declared.finding.Matter.TheVariants.{Warning};
 ghost use Rattle.desk_policy.specs.declared.site_fault.SiteRule.TheVariants.{Group, Line, Table};
+ghost use Rattle.desk_findings.specs.declared.finding.Matter.TheVariants.{Warning};
 ghost use Rattle.desk_sarif.specs.SarifRules.{EachHasItsRule, IdsDiffer};
 ghost use Rattle.desk_sarif.specs.SarifRules as spec;
 

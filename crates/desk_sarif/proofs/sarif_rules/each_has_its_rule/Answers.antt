@@ -1,7 +1,8 @@
 -- Whatever a finding is about has its rule among those of a log: its rule or kind is in the list of those.
-use Rattle.std.proofs.Common.{◌≡◌, ℕ, suc, List, [], ◌∷◌, ◌++◌, None, Option, arith, lit<, map, refl, subst, sym}
+use Rattle.std.proofs.Common.{ℕ, suc, Option, List, [], ◌∷◌, ◌++◌, arith, lit<, map, refl, subst, sym}
 use Rattle.std.specs.List.{IsAmong}
 use Rattle.desk_text.proofs.Variants.{is_among}
+use Rattle.desk_text.specs.declared.address.Addr.{Addr}
 use Rattle.desk_tables.specs.Rules as tables
 use Rattle.desk_tables.specs.contracts.rules.TableRule.{the_type as table_type}
 use Rattle.desk_netgroup.specs.Faults as groups
@@ -24,11 +25,30 @@ use Rattle.desk_sarif.specs.SarifRules.{broken, fault_rules, log_rules, remarked
 use Rattle.desk_sarif.proofs.Among.{among_left, among_map, among_right}
 use Rattle.desk_sarif.proofs.sarif_rules.each_has_its_rule.Goals as goal
 
-abbrev HasRule : Matter → Type 0
-HasRule about = IsAmong (map rule_data log_rules) (rule_data about)
+-- what is in one of these lists has its rule among those of all
+module _ (faults : List SiteRule) (kinds : List WarningKind) (marks : List Remark) where
+  abbrev all : List Matter
+  all = map broken faults ++ map matter.Warning kinds ++ map remarked marks
 
-listed : (about : Matter) → IsAmong log_rules about → HasRule about
-listed about among = among_map rule_data log_rules about among
+  of_fault : (broke : SiteRule) → IsAmong faults broke → IsAmong (map rule_data all) (rule_data (broken broke))
+  of_fault broke among =
+      among_map rule_data all (broken broke)
+      (among_left (map broken faults) (map matter.Warning kinds ++ map remarked marks) (broken broke) (among_map broken faults broke among))
+
+  of_kind : (kind : WarningKind) → IsAmong kinds kind → IsAmong (map rule_data all) (rule_data (matter.Warning kind))
+  of_kind kind among =
+      among_map rule_data all (matter.Warning kind)
+      (among_right (map broken faults) (map matter.Warning kinds ++ map remarked marks) (matter.Warning kind)
+      (among_left (map matter.Warning kinds) (map remarked marks) (matter.Warning kind) (among_map matter.Warning kinds kind among)))
+
+  of_remark : (said : Remark) → IsAmong marks said → IsAmong (map rule_data all) (rule_data (remarked said))
+  of_remark said among =
+      among_map rule_data all (remarked said)
+      (among_right (map broken faults) (map matter.Warning kinds ++ map remarked marks) (remarked said)
+      (among_right (map matter.Warning kinds) (map remarked marks) (remarked said) (among_map remarked marks said among)))
+
+HasRule : Matter → Type 0
+HasRule about = IsAmong (map rule_data log_rules) (rule_data about)
 
 abbrev of_lines : List SiteRule
 of_lines = map rule.Line lines.rules_in_order
@@ -54,33 +74,37 @@ among_faults (rule.Group broke) =
     (among_right (rule.Contradiction ∷ []) (of_tables ++ of_groups) (rule.Group broke)
     (among_right of_tables of_groups (rule.Group broke) (among_map rule.Group groups.rules_in_order broke (is_among group_type tt groups.rules_in_order refl broke))))
 
-fault_has_one : (broke : SiteRule) → HasRule (broken broke)
-fault_has_one broke =
-    listed (broken broke) (among_left (map broken fault_rules) (map matter.Warning warning_kinds ++ map remarked remarks) (broken broke)
-    (among_map broken fault_rules broke (among_faults broke)))
+fault_has_one : (broke : SiteRule) (other : Option ℕ) → HasRule (matter.Fault broke other)
+unfolding HasRule
+fault_has_one broke other = of_fault fault_rules warning_kinds remarks broke (among_faults broke)
+
+contradiction_has_one : (other : ℕ) (address : Addr) → HasRule (matter.Contradiction other address)
+unfolding HasRule
+contradiction_has_one other address = of_fault fault_rules warning_kinds remarks rule.Contradiction (among_faults rule.Contradiction)
 
 kind_has_one : (kind : WarningKind) → HasRule (matter.Warning kind)
-kind_has_one kind =
-    listed (matter.Warning kind) (among_right (map broken fault_rules) (map matter.Warning warning_kinds ++ map remarked remarks) (matter.Warning kind)
-    (among_left (map matter.Warning warning_kinds) (map remarked remarks) (matter.Warning kind)
-    (among_map matter.Warning warning_kinds kind (is_among kind_type tt warning_kinds refl kind))))
+unfolding HasRule
+kind_has_one kind = of_kind fault_rules warning_kinds remarks kind (is_among kind_type tt warning_kinds refl kind)
 
-listed_has_one : (said : Remark) → IsAmong remarks said → HasRule (remarked said)
-listed_has_one said among =
-    listed (remarked said) (among_right (map broken fault_rules) (map matter.Warning warning_kinds ++ map remarked remarks) (remarked said)
-    (among_right (map matter.Warning warning_kinds) (map remarked remarks) (remarked said)
-    (among_map remarked remarks said among)))
+listed_has_one : (said : Remark) (example : Option Example) → IsAmong remarks said → HasRule (matter.Remark said example)
+unfolding HasRule
+listed_has_one said example among = of_remark fault_rules warning_kinds remarks said among
+
+here_has_one : (example : Option Example) → HasRule (matter.Remark remark.ShadowedHere example)
+unfolding HasRule
+here_has_one example = of_remark fault_rules warning_kinds remarks remark.Shadowed (0, (lit< tt, refl))
 
 -- a remark has a number of its own, or is the one that has another's
-remark_has_one : (said : Remark) → IsAmong (remark.ShadowedHere ∷ remarks) said → HasRule (remarked said)
-remark_has_one said (0, (within, is)) = subst (λ (r : Remark). HasRule (remarked r)) (sym is) (listed_has_one remark.Shadowed (0, (lit< tt, refl)))
-remark_has_one said (suc i, (within, is)) = listed_has_one said (i, (omega (arith, within), is))
+remark_has_one : (said : Remark) (example : Option Example) → IsAmong (remark.ShadowedHere ∷ remarks) said → HasRule (matter.Remark said example)
+remark_has_one said example (0, (within, is)) = subst (λ (r : Remark). HasRule (matter.Remark r example)) (sym is) (here_has_one example)
+remark_has_one said example (suc i, (within, is)) = listed_has_one said example (i, (omega (arith, within), is))
 
 has_one : (about : Matter) → HasRule about
-has_one (matter.Fault broke other) = fault_has_one broke
-has_one (matter.Contradiction other address) = fault_has_one rule.Contradiction
+has_one (matter.Fault broke other) = fault_has_one broke other
+has_one (matter.Contradiction other address) = contradiction_has_one other address
 has_one (matter.Warning kind) = kind_has_one kind
-has_one (matter.Remark said example) = remark_has_one said (is_among remark_type tt (remark.ShadowedHere ∷ remarks) refl said)
+has_one (matter.Remark said example) = remark_has_one said example (is_among remark_type tt (remark.ShadowedHere ∷ remarks) refl said)
 
 pub returns : goal.returns
+unfolding HasRule
 returns c = has_one
