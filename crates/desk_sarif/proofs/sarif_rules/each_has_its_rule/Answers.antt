@@ -1,5 +1,5 @@
 -- Whatever a finding is about has its rule among those of a log: its rule or kind is in the list of those.
-use Rattle.std.proofs.Common.{ℕ, suc, Option, List, [], ◌∷◌, ◌++◌, arith, lit<, map, refl, subst, sym}
+use Rattle.std.proofs.Common.{ℕ, zero, suc, Option, List, [], ◌∷◌, ◌++◌, arith, lit<, map, refl, subst, sym}
 use Rattle.std.specs.List.{IsAmong}
 use Rattle.desk_text.proofs.Variants.{is_among}
 use Rattle.desk_text.specs.declared.address.Addr.{Addr}
@@ -33,19 +33,19 @@ module _ (faults : List SiteRule) (kinds : List WarningKind) (marks : List Remar
   of_fault : (broke : SiteRule) → IsAmong faults broke → IsAmong (map rule_data all) (rule_data (broken broke))
   of_fault broke among =
       among_map rule_data all (broken broke)
-      (among_left (map broken faults) (map matter.Warning kinds ++ map remarked marks) (broken broke) (among_map broken faults broke among))
+      (among_left (map broken faults ++ map matter.Warning kinds) (map remarked marks) (broken broke)
+      (among_left (map broken faults) (map matter.Warning kinds) (broken broke) (among_map broken faults broke among)))
 
   of_kind : (kind : WarningKind) → IsAmong kinds kind → IsAmong (map rule_data all) (rule_data (matter.Warning kind))
   of_kind kind among =
       among_map rule_data all (matter.Warning kind)
-      (among_right (map broken faults) (map matter.Warning kinds ++ map remarked marks) (matter.Warning kind)
-      (among_left (map matter.Warning kinds) (map remarked marks) (matter.Warning kind) (among_map matter.Warning kinds kind among)))
+      (among_left (map broken faults ++ map matter.Warning kinds) (map remarked marks) (matter.Warning kind)
+      (among_right (map broken faults) (map matter.Warning kinds) (matter.Warning kind) (among_map matter.Warning kinds kind among)))
 
   of_remark : (said : Remark) → IsAmong marks said → IsAmong (map rule_data all) (rule_data (remarked said))
   of_remark said among =
       among_map rule_data all (remarked said)
-      (among_right (map broken faults) (map matter.Warning kinds ++ map remarked marks) (remarked said)
-      (among_right (map matter.Warning kinds) (map remarked marks) (remarked said) (among_map remarked marks said among)))
+      (among_right (map broken faults ++ map matter.Warning kinds) (map remarked marks) (remarked said) (among_map remarked marks said among))
 
 HasRule : Matter → Type 0
 HasRule about = IsAmong (map rule_data log_rules) (rule_data about)
@@ -96,7 +96,7 @@ here_has_one example = of_remark fault_rules warning_kinds remarks remark.Shadow
 
 -- a remark has a number of its own, or is the one that has another's
 remark_has_one : (said : Remark) (example : Option Example) → IsAmong (remark.ShadowedHere ∷ remarks) said → HasRule (matter.Remark said example)
-remark_has_one said example (0, (within, is)) = subst (λ (r : Remark). HasRule (matter.Remark r example)) (sym is) (here_has_one example)
+remark_has_one said example (zero, (within, is)) = subst (λ (r : Remark). HasRule (matter.Remark r example)) (sym is) (here_has_one example)
 remark_has_one said example (suc i, (within, is)) = listed_has_one said example (i, (omega (arith, within), is))
 
 has_one : (about : Matter) → HasRule about
