@@ -23,5 +23,5 @@ mod server_remarks;
 mod unwarned;
 
 pub use laws::lines_left_out_change_nothing;
-pub use remark::{Example, LineRemark, Remark};
+pub use remark::{Example, LineRemark, OtherLine, Remark};
 pub use remarks::find_remarks;
