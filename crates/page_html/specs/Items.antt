@@ -10,7 +10,7 @@ use Rattle.desk_page.specs.Ranges.{ends_of, range_text, ranges_text}
 use Rattle.desk_page.specs.Terms.{terms_words}
 use Rattle.desk_page.specs.declared.ranges.Span.{Span}
 use Rattle.page_html.specs.Amounts.{more, part_of, plural}
-use Rattle.page_html.specs.Pieces.{badge, code_line, digest, level, link, small, small_count, small_percent, small_plural, some_codes, strong, system_line, zero}
+use Rattle.page_html.specs.Pieces.{badge, code_line, digest, level, link, small, small_count, small_percent, small_plural, some_codes, strong, system_line, word, zero}
 
 -- a part that has no text of a site: words of the page's own, numbers, and what is made of them
 pub data OwnPart : Type 0 where
@@ -18,12 +18,14 @@ pub data OwnPart : Type 0 where
   Strong : List ℕ → OwnPart
   Zero : List ℕ → OwnPart
   Small : List ℕ → OwnPart
+  Word : List ℕ → OwnPart
   Badge : List ℕ → List ℕ → OwnPart
   Level : List ℕ → List ℕ → OwnPart
   Link : List ℕ → List ℕ → OwnPart
   Nothing : OwnPart
   Space : OwnPart
   Break : OwnPart
+  NewLine : OwnPart
   Number : ℕ → OwnPart
   Digits : ℕ → OwnPart
   Plural : ℕ → List ℕ → List ℕ → OwnPart
@@ -55,12 +57,14 @@ own_html (Words words) = attribute words
 own_html (Strong words) = strong words
 own_html (Zero words) = zero words
 own_html (Small words) = small words
+own_html (Word words) = word words
 own_html (Badge class words) = badge class words
 own_html (Level class words) = level class words
 own_html (Link place words) = link place words
 own_html Nothing = []
 own_html Space = codes "&nbsp;"
 own_html Break = codes "<br>"
+own_html NewLine = codes "\n"
 own_html (Number n) = number n
 own_html (Digits n) = decimal n
 own_html (Plural count one several) = plural count one several

@@ -1,7 +1,7 @@
 -- The parts as the program lends them: `&'static str` is a word of the page's own, and each other text is a site's. (this project's own)
 use Rattle.std.specs.Prelude.{ℕ, List, map}
 use Rattle.std.specs.String.{string_bytes}
-use Rattle.page_html.specs.Items.{Item, Words, Strong, Zero, Small, Badge, Level, Link, Nothing, Space, Break, Number, Digits, Plural, PartOf, AndMore, SmallCount, SmallPlural, SmallPercent, LineLink, Drawn, Range, Ranges, Terms, Own, Text, Code, Digest, Codes, SomeCodes, Line, System, SystemLine}
+use Rattle.page_html.specs.Items.{Item, Words, Strong, Zero, Small, Word, Badge, Level, Link, Nothing, Space, Break, NewLine, Number, Digits, Plural, PartOf, AndMore, SmallCount, SmallPlural, SmallPercent, LineLink, Drawn, Range, Ranges, Terms, Own, Text, Code, Digest, Codes, SomeCodes, Line, System, SystemLine}
 use Rattle.page_html.specs.declared.parts.Part.{Part}
 use Rattle.page_html.specs.declared.parts.Part.TheVariants as lent
 
@@ -11,12 +11,14 @@ item_of (lent.Words words) = Own (Words words.now)
 item_of (lent.Strong words) = Own (Strong words.now)
 item_of (lent.Zero words) = Own (Zero words.now)
 item_of (lent.Small words) = Own (Small words.now)
+item_of (lent.Word words) = Own (Word words.now)
 item_of (lent.Badge class words) = Own (Badge class.now words.now)
 item_of (lent.Level class words) = Own (Level class.now words.now)
 item_of (lent.Link place words) = Own (Link place.now words.now)
 item_of lent.Nothing = Own Nothing
 item_of lent.Space = Own Space
 item_of lent.Break = Own Break
+item_of lent.NewLine = Own NewLine
 item_of (lent.Number n) = Own (Number n)
 item_of (lent.Digits n) = Own (Digits n)
 item_of (lent.Plural count one more) = Own (Plural count one.now more.now)

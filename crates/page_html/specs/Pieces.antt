@@ -11,7 +11,7 @@ use Rattle.page_html.specs.Amounts.{percent_of, plural}
 abbrev pub within : List ℕ → List ℕ → List ℕ → List ℕ
 within start words end = start ++ attribute words ++ end
 
--- words that stand out, words that stand for nothing, and small ones
+-- words that stand out, words that stand for nothing, small ones, and a word as it is written in a file or a command
 abbrev pub strong : List ℕ → List ℕ
 strong words = within (codes "<b>") words (codes "</b>")
 
@@ -20,6 +20,9 @@ zero words = within (codes "<span class=\"zero\">") words (codes "</span>")
 
 abbrev pub small : List ℕ → List ℕ
 small words = within (codes "<small>") words (codes "</small>")
+
+abbrev pub word : List ℕ → List ℕ
+word words = within (codes "<code>") words (codes "</code>")
 
 -- words with a word of the style sheet, or of the page's own places, in the tag before them
 abbrev pub classed : List ℕ → List ℕ → List ℕ → List ℕ → List ℕ

@@ -30,6 +30,8 @@ pub enum Element {
     /// The way back to the table of file systems.
     Up,
     Commands,
+    /// A map with its caption, as it is drawn.
+    Figure,
     /// An entry of a list.
     Entry,
     /// What is said of that which is folded; it ends with `Tag::FoldEnd`.
@@ -83,6 +85,7 @@ fn element_start(element: Element) -> &'static str
         Element::Names => "<p class=\"names\">",
         Element::Up => "<p class=\"up\">",
         Element::Commands => "<pre><code>",
+        Element::Figure => "<figure>",
         Element::Entry => "<li>",
         Element::Fold => "<details><summary>",
         Element::OpenFold => "<details open><summary>",
@@ -105,6 +108,7 @@ fn element_end(element: Element) -> &'static str
         Element::Names => "</p>\n",
         Element::Up => "</p>\n",
         Element::Commands => "</code></pre>\n",
+        Element::Figure => "</figure>\n",
         Element::Entry => "</li>\n",
         Element::Fold => "</summary>\n",
         Element::OpenFold => "</summary>\n",

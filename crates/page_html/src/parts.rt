@@ -29,15 +29,18 @@ pub enum Part<'a> {
     /// Words that stand for nothing.
     Zero(&'static str),
     Small(&'static str),
+    /// A word as it is written in a file or a command.
+    Word(&'static str),
     /// A class of the style sheet, and words on its ground.
     Badge(&'static str, &'static str),
     Level(&'static str, &'static str),
     /// A place of the page, and words that lead there.
     Link(&'static str, &'static str),
     Nothing,
-    /// A space at which no line is broken.
+    /// A space at which no line is broken, a break that is seen, and one that only `Commands` show.
     Space,
     Break,
+    NewLine,
     /// A number with a comma before each three digits, and one in digits alone.
     Number(u64),
     Digits(u32),
@@ -78,6 +81,7 @@ pub fn push_part(alloc: Global, part: Part<'_>, page: &mut String) -> Result<(),
         Part::Strong(words) => push_within("<b>", words, "</b>", page),
         Part::Zero(words) => push_within("<span class=\"zero\">", words, "</span>", page),
         Part::Small(words) => push_within("<small>", words, "</small>", page),
+        Part::Word(words) => push_within("<code>", words, "</code>", page),
         Part::Badge(class, words) => push_classed(
             "<span class=\"b ",
             class,
@@ -90,6 +94,7 @@ pub fn push_part(alloc: Global, part: Part<'_>, page: &mut String) -> Result<(),
         Part::Nothing => Ok(()),
         Part::Space => page.push_str("&nbsp;"),
         Part::Break => page.push_str("<br>"),
+        Part::NewLine => page.push_str("\n"),
         Part::Number(number) => push_number(alloc, number, page),
         Part::Digits(number) => write!(page, "{number}"),
         Part::Plural(count, one, more) => push_plural(alloc, count, one, more, page),
