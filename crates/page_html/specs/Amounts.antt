@@ -6,7 +6,7 @@ use Rattle.desk_page.specs.Numbers.{number}
 
 -- so many of what the first word says of one, and the second of more
 abbrev pub plural : ℕ → List ℕ → List ℕ → List ℕ
-plural count one more = number count ++ codes " " ++ attribute (if count == 1 then one else more)
+plural count one several = number count ++ codes " " ++ attribute (if count == 1 then one else several)
 
 -- behind some that are named, how many more there are, if there are any
 abbrev pub more : ℕ → List ℕ
