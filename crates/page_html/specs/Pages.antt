@@ -59,10 +59,11 @@ piece_html (Attribute text) = attribute text
 unfoldable pub html : List (Piece (List ℕ)) → List ℕ
 html pieces = flat_map piece_html pieces
 
--- ---- the pieces of each part and block, of whatever type the texts are
+-- pieces between two of the page's own
 abbrev pub between : {T : Type 0} → List ℕ → List (Piece T) → List ℕ → List (Piece T)
 between start pieces end = Bytes start ∷ pieces ++ Bytes end ∷ []
 
+-- the pieces of a part, of whatever type its texts are
 abbrev pub code_pieces : {T : Type 0} → T → List (Piece T)
 code_pieces text = Bytes (codes "<code>") ∷ Shown text ∷ Bytes (codes "</code>") ∷ []
 
@@ -93,12 +94,17 @@ abbrev pub items_pieces : {T : Type 0} → List (Item T) → List (Piece T)
 items_pieces [] = []
 items_pieces (item ∷ items) = item_pieces item ++ items_pieces items
 
+-- those of cells and of a row
 abbrev pub cells_pieces : {T : Type 0} → List Column → List (List (Item T)) → List (Piece T)
 cells_pieces [] cells = []
 cells_pieces (column ∷ columns) [] = []
 cells_pieces (column ∷ columns) (items ∷ cells) =
     between (cell_start column) (items_pieces items) (cell_end column) ++ cells_pieces columns cells
 
+abbrev pub row_pieces : {T : Type 0} → List ℕ → Frame → List (List (Item T)) → List (Piece T)
+row_pieces start frame cells = between start (cells_pieces frame.columns cells) (codes "</tr>\n")
+
+-- those of a title, as the caption and as an attribute, and of the start of a table
 abbrev pub caption_pieces : {T : Type 0} → Title T → List (Piece T)
 caption_pieces (Said words) = Bytes (attribute words) ∷ []
 caption_pieces (Named name) = code_pieces name
@@ -123,9 +129,7 @@ start_pieces frame title =
     ++ (Bytes (class_html frame.class)
     ∷ (between (caption_start frame.is_titled) (captions_pieces title) caption_end ++ (Bytes (heads frame.columns ++ heads_end) ∷ [])))
 
-abbrev pub row_pieces : {T : Type 0} → List ℕ → Frame → List (List (Item T)) → List (Piece T)
-row_pieces start frame cells = between start (cells_pieces frame.columns cells) (codes "</tr>\n")
-
+-- those of what is added to a page, and of a page
 abbrev pub block_pieces : {T : Type 0} → Block T → List (Piece T)
 block_pieces (Head title) = Bytes head_start ∷ Attribute title ∷ Bytes sheet ∷ []
 block_pieces (Start frame title) = start_pieces frame title
@@ -142,7 +146,7 @@ abbrev pub page_pieces : {T : Type 0} → List (Block T) → List (Piece T)
 page_pieces [] = []
 page_pieces (block ∷ blocks) = block_pieces block ++ page_pieces blocks
 
--- ---- the same with each text of a site replaced
+-- a part, a title and what is added to a page, with another text in place of each of a site's
 abbrev pub item_with : {T U : Type 0} → (T → U) → Item T → Item U
 item_with f (Own own) = Own own
 item_with f (Text text) = Text (f text)
@@ -174,6 +178,7 @@ block_with f (Alone tag) = Alone tag
 block_with f (SystemStart fs) = SystemStart fs
 block_with f (Fixed html) = Fixed html
 
+-- the same of a piece
 abbrev pub piece_with : {T U : Type 0} → (T → U) → Piece T → Piece U
 piece_with f (Bytes bytes) = Bytes bytes
 piece_with f (Shown text) = Shown (f text)
