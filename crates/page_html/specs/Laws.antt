@@ -1,11 +1,14 @@
 -- What a page makes of a site's texts, what a list says that is cut, and what the head of a page lets a browser do. (this project's own,
 -- over Content Security Policy Level 3, 2.2.1 and 6.7.2)
-use Rattle.std.specs.Prelude.{◌≡◌, ℕ, suc, ◌+◌, ◌≤◌, ◌==◌, List, [], ◌∷◌, ◌++◌, codes, length, map, take, if◌then◌else◌}
+use Rattle.std.specs.Prelude.{◌≡◌, ℕ, suc, ◌+◌, ◌≤◌, ◌==◌, List, [], ◌∷◌, ◌++◌, codes, drop, length, map, take, if◌then◌else◌}
 use Rattle.std.specs.Str.{IsUtf8}
 use Rattle.desk_page.specs.Amounts.{and_more}
 use Rattle.desk_page.specs.Escaping.{attribute}
 use Rattle.desk_page.specs.Laws.{NoTextIsMarkup}
+use Rattle.desk_page.specs.Numbers.{number}
 use Rattle.desk_page.specs.Pieces.{code_list}
+use Rattle.desk_page.specs.Ranges.{left_out, range_list, ranges_text}
+use Rattle.desk_page.specs.declared.ranges.Span.{Span}
 use Rattle.page_html.specs.Head.{before_policy, behind_policy, page_head, policy, sheet, style_digest}
 use Rattle.page_html.specs.Pages.{Block, Piece, Attribute, Shown, ShownLine, block_with, html, page_html, page_pieces, piece_with}
 use Rattle.page_html.specs.Pieces.{some_codes}
@@ -24,11 +27,16 @@ pub record PagesAreMadeOfPieces : Type 0 where
   pub attributes_apart : (before behind : List (Piece (List ℕ))) (text other : List ℕ) → IsUtf8 text → IsUtf8 other
       → html (before ++ Attribute text ∷ behind) ≡ html (before ++ Attribute other ∷ behind) → text ≡ other
 
--- Of texts that are too many the first are shown, and behind them how many more there are: all others.
+-- Of texts that are too many the first are shown, and behind them how many more there are: all others. Of ranges the first 8 are shown, and
+-- of the others, which are folded, the number; of very many 248 of these are listed, and it is said how many more there are.
 pub record ListsSayWhatTheyLeaveOut : Type 0 where
   pub few : (most : ℕ) (texts : List (List ℕ)) → length texts ≤ most → some_codes most texts ≡ code_list texts
   pub many : (most others : ℕ) (texts : List (List ℕ)) → length texts ≡ most + suc others
       → some_codes most texts ≡ code_list (take most texts) ++ and_more (suc others)
+  pub ranges : (others : ℕ) (spans : List Span) → length spans ≡ 256 + suc others
+      → ranges_text spans ≡ range_list (take 8 spans)
+      ++ (codes "<details><summary>" ++ number (248 + suc others) ++ codes " more</summary>\n"
+      ++ (range_list (take 248 (drop 8 spans)) ++ left_out (suc others)) ++ codes "</details>\n")
 
 -- what stands before the first of a byte
 abbrev pub before : ℕ → List ℕ → List ℕ
