@@ -8,19 +8,16 @@
 pub mod amounts;
 pub mod escaping;
 pub mod facts;
-pub mod head;
 pub mod laws;
 pub mod numbers;
 pub mod pieces;
 pub mod ranges;
-mod style;
 pub mod terms;
 pub mod text_rows;
 
 pub use amounts::{push_and_more, push_part, push_percent, push_plural};
 pub use escaping::{push_attribute, push_escaped, push_escaped_line};
 pub use facts::{push_guarded, push_in_force, push_kept_by, push_revision};
-pub use head::push_page_head;
 pub use laws::{no_text_is_markup, texts_are_told_apart};
 pub use numbers::push_number;
 pub use pieces::{

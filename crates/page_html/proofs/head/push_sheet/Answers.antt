@@ -1,9 +1,9 @@
 use Rattle.std.proofs.Common.{codes}
 use Rattle.std.specs.String.{string_bytes}
 use Rattle.std.proofs.lemmas.Result.{on_ok_weaker}
-use Rattle.desk_page.specs.Head.{style}
+use Rattle.page_html.specs.Head.{style}
 use Rattle.desk_page.proofs.Gaining.{pushed_last, three_pieces}
-use Rattle.desk_page.proofs.head.push_sheet.Goals as goal
+use Rattle.page_html.proofs.head.push_sheet.Goals as goal
 
 pub returns : goal.returns
 returns c =
