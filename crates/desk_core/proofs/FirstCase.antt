@@ -11,7 +11,7 @@ use Rattle.desk_tables.specs.Custodians.{digest_of}
 use Rattle.desk_core.specs.Edit.{Edit}
 use Rattle.desk_core.specs.Head.{Revision, last_revision, longest_revision, newest_number}
 use Rattle.desk_core.specs.Judging.{as_cases, conflicts, first_case, first_held, is_guarded_file, is_key, is_of, is_pending, is_repeat, objections, proposes, table_in}
-use Rattle.desk_core.specs.Laws.{IsAllowed, IsProposed, IsRepeat}
+use Rattle.desk_core.specs.Laws.{IsAllowed, IsProposed, IsRepeat, MayBeAccepted}
 use Rattle.desk_core.specs.Site.{custodians_of, site_in}
 use Rattle.desk_core.specs.Standing.{Standing}
 use Rattle.desk_core.specs.declared.proposal.Proposal.{Proposal}
@@ -194,24 +194,20 @@ module _ (standing : Standing) (e : Edit) where
       let listed = is_listed e.key (digest_of (custodians_of (site_in standing.newest)) e.caller) allowed.key in
       (listed.0, (listed.1, (ap not allowed.known, (ap not allowed.keeps, (le-ltb longest_revision (length e.text) allowed.short, tt)))))
 
-  follows : NoneHolds conflicting → (newest_number newest ≡ e.base) × (e.base ≡ last_revision → ⊥)
-  follows (stale, (full, done)) = (eqb-true (newest_number newest) e.base (not-false _ stale), eqb-false e.base last_revision full)
-
-  following : newest_number newest ≡ e.base → (e.base ≡ last_revision → ⊥) → NoneHolds conflicting
-  following names_newest room = (ap not (eq-eqb (newest_number newest) e.base names_newest), (ne_eqb e.base last_revision room, tt))
-
-  pub no_case : IsAllowed standing.newest e → newest_number newest ≡ e.base → (e.base ≡ last_revision → ⊥) → is_pending table e proposal ≡ false → first_case standing e ≡ None
-  no_case allowed names_newest room fresh =
+  -- no case of an edit holds that may be accepted and is not proposed already
+  pub no_case : MayBeAccepted standing e → is_pending table e proposal ≡ false → first_case standing e ≡ None
+  no_case may fresh =
+      let follows : NoneHolds conflicting = (ap not (eq-eqb (newest_number newest) e.base may.names_newest), (ne_eqb e.base last_revision may.room, tt)) in
       (is_none_first (objected ++ repeat ∷ pending ∷ conflicting)).1
-      (both_of_none objected (repeat ∷ pending ∷ conflicting) (allowed_clear allowed) (no_repeat e newest names_newest, (fresh, following names_newest room)))
+      (both_of_none objected (repeat ∷ pending ∷ conflicting) (allowed_clear may.allowed) (no_repeat e newest may.names_newest, (fresh, follows)))
 
   -- where no case holds the edit is allowed, names the newest revision, has a further number, and is not proposed
   pub without_case : first_case standing e ≡ None
       → IsAllowed standing.newest e × (newest_number newest ≡ e.base) × (e.base ≡ last_revision → ⊥) × (is_pending table e proposal ≡ false)
   without_case is =
       let none = none_of_both objected (repeat ∷ pending ∷ conflicting) ((is_none_first (objected ++ repeat ∷ pending ∷ conflicting)).0 is) in
-      let after = follows none.1.1.1 in
-      (clear_allowed none.0, after.0, after.1, none.1.1.0)
+      let follows = none.1.1.1 in
+      (clear_allowed none.0, eqb-true (newest_number newest) e.base (not-false _ follows.0), eqb-false e.base last_revision follows.1.0, none.1.1.0)
 
   -- where a repeat comes first
   already_is : (first_case standing e ≡ Some case.Already) ↔ (NoneHolds objected × (repeat.0 ≡ true))

@@ -1,4 +1,4 @@
--- What an edit is answered: by the first of nine checks that holds, or else by the site with its text, and by whether the
+-- What an edit is answered: by the first case that holds, or else by the site with its text, and by whether the
 -- file is guarded. (this project's own)
 use Rattle.std.specs.Prelude.{◌≡◌, ◌⊎◌, ℕ, ◌+◌, ◌==◌, ◌&&◌, ◌||◌, Bool, true, false, not, List, [], ◌∷◌, Option, Some, None, Ok, ◌++◌, codes, is_none, is_some, length, map, nat_lt, if◌then◌else◌}
 use Rattle.std.specs.Option.{option_map_or}
