@@ -81,7 +81,22 @@ fn answer_text<V: PolicyView + Drop>(
         (Question::Proposal(name), Answer::Proposal(proposal)) => {
             proposal_body(alloc, name, proposal)?
         }
-        _ => return refused_text(alloc, &Refused::NoRevision, ends),
+        // No question that a route asks has another answer. Each kind is named, so that the check finds one without an arm.
+        (
+            _,
+            Answer::NoRevision
+            | Answer::Verdict(_, _)
+            | Answer::Listing(_, _)
+            | Answer::Exports(_)
+            | Answer::Who(_, _)
+            | Answer::Text(_)
+            | Answer::Revisions(_)
+            | Answer::Proposal(_)
+            | Answer::Files(_)
+            | Answer::Foreseen(_)
+            | Answer::Site(_)
+            | Answer::Refused(_),
+        ) => return refused_text(alloc, &Refused::NoRevision, ends),
     };
     reply_text(alloc, StatusCode::OK, body.as_str(), ends)
 }
