@@ -59,7 +59,7 @@ use Rattle.desk_findings.specs.declared.check_text.Gathered.{Gathered}
 use Rattle.desk_findings.specs.declared.check_text.WholeSources.{WholeSources}
 use Rattle.cli_questions.specs.AuditCommand as audit
 use Rattle.cli_questions.specs.QuestionCommands as question
-use Rattle.cli_questions.specs.Questions.{AnswersQuestion, Asked, Breaches, Mounts, PrintsAnswer, PrintsSite, Ranges, Wanted}
+use Rattle.cli_questions.specs.Questions.{AnswersQuestion, Asked, Breaches, Changes, Mounts, Plain, Printer, PrintsAnswer, PrintsSite, Ranges}
 use Rattle.cli_report.specs.ReportCommand as report
 use Rattle.cli_edits.specs.InitCommand as init
 use Rattle.cli_edits.specs.PutCommand as put
@@ -228,7 +228,9 @@ tests_texts rows known result is =
 
 -- ---- questions on a database
 
-prints_site : (site : WholeSite) (wanted : Wanted) (printed : Printed) → PrintsSite site wanted printed → Fine (Ok printed)
+prints_site : (site : WholeSite) (printer : Printer) (printed : Printed) → PrintsSite site printer printed → Fine (Ok printed)
+prints_site site Plain printed is = prints _ 0 printed not_0 is
+prints_site site (Changes all) printed is = prints _ 0 printed not_0 is
 prints_site site (Breaches expected) printed is = tested site.tables site.content expected printed is
 prints_site site (Mounts question) printed is = tried is.0 printed is.2
 prints_site site (Ranges path mountd) printed is = ranges mountd site.content path printed is
@@ -244,7 +246,7 @@ prints_answer asked (given.ProposalIs proposal) printed is = prints _ 0 printed 
 prints_answer asked given.NoRevision printed is = says refused.NoRevision printed is
 prints_answer asked (given.FilesAre listed) printed is = prints _ 0 printed not_0 is
 prints_answer asked (given.ForeseenIs foreseen) printed is = prints _ _ printed (none_of _ 0 1 not_0 not_1) is.prints
-prints_answer asked (given.SiteIs site) printed is = prints_site site asked.wanted printed is
+prints_answer asked (given.SiteIs site) printed is = prints_site site asked.printer printed is
 prints_answer asked (given.RefusedBy refusal) printed is = says (refused.Edit refusal) printed is
 
 asks : (path : List ℕ) (asked : Asked) (result : Result Printed Failure) → AnswersQuestion path asked result → Fine result
@@ -259,36 +261,36 @@ asks_if : (asking : Result Asking Failure) (rows : List Row) (result : Result Pr
 asks_if (Err failure) rows result is = fails result failure is
 asks_if (Ok asking) rows result is =
     word _ _ (first_of (codes "DB") rows) result is (λ db is. word _ _ (first_of (codes "HOST") rows) result is (λ host is. word _ _ (first_of (codes "DIR") rows) result is (λ dir is.
-    after result is (λ address is. after result is (λ path is. after result is (λ own is. asks _ (question.wanting _ own) result is))))))
+    after result is (λ address is. after result is (λ path is. after result is (λ own is. asks _ (question.of_site _) result is))))))
 
 shows : (rows : List Row) (result : Result Printed Failure) → question.AnswersShow rows result → Fine result
 shows rows result is =
-    word _ _ (first_of (codes "DB") rows) result is (λ db is. word _ _ (first_of (codes "HOST") rows) result is (λ host is. after result is (λ address is. asks db (question.asking (given.Listing address.number) None) result is)))
+    word _ _ (first_of (codes "DB") rows) result is (λ db is. word _ _ (first_of (codes "HOST") rows) result is (λ host is. after result is (λ address is. asks db (question.plainly (given.Listing address.number)) result is)))
 
 lists_exports : (rows : List Row) (result : Result Printed Failure) → question.AnswersExports rows result → Fine result
-lists_exports rows result is = word _ _ (first_of (codes "DB") rows) result is (λ db is. asks db (question.asking given.Exports None) result is)
+lists_exports rows result is = word _ _ (first_of (codes "DB") rows) result is (λ db is. asks db (question.plainly given.Exports) result is)
 
 lists_who : (rows : List Row) (result : Result Printed Failure) → question.AnswersWho rows result → Fine result
 lists_who rows result is =
-    word _ _ (first_of (codes "DB") rows) result is (λ db is. word _ _ (first_of (codes "DIR") rows) result is (λ dir is. after result is (λ path is. asks _ (question.wanting _ None) result is)))
+    word _ _ (first_of (codes "DB") rows) result is (λ db is. word _ _ (first_of (codes "DIR") rows) result is (λ dir is. after result is (λ path is. asks _ (question.of_site _) result is)))
 
 lists_log : (rows : List Row) (result : Result Printed Failure) → question.AnswersLog rows result → Fine result
-lists_log rows result is = word _ _ (first_of (codes "DB") rows) result is (λ db is. word _ _ (first_of (codes "NAME") rows) result is (λ name is. asks db (question.asking (given.Revisions name) None) result is))
+lists_log rows result is = word _ _ (first_of (codes "DB") rows) result is (λ db is. word _ _ (first_of (codes "NAME") rows) result is (λ name is. asks db (question.plainly (given.Revisions name)) result is))
 
 prints_file : (rows : List Row) (result : Result Printed Failure) → question.AnswersCat rows result → Fine result
 prints_file rows result is =
-    word _ _ (first_of (codes "DB") rows) result is (λ db is. word _ _ (first_of (codes "NAME") rows) result is (λ name is. after result is (λ rev is. asks db (question.asking (given.Text name rev) None) result is)))
+    word _ _ (first_of (codes "DB") rows) result is (λ db is. word _ _ (first_of (codes "NAME") rows) result is (λ name is. after result is (λ rev is. asks db (question.plainly (given.Text name rev)) result is)))
 
 prints_proposal : (rows : List Row) (result : Result Printed Failure) → question.AnswersProposal rows result → Fine result
-prints_proposal rows result is = word _ _ (first_of (codes "DB") rows) result is (λ db is. word _ _ (first_of (codes "NAME") rows) result is (λ name is. asks db (question.asking (given.Proposal name) None) result is))
+prints_proposal rows result is = word _ _ (first_of (codes "DB") rows) result is (λ db is. word _ _ (first_of (codes "NAME") rows) result is (λ name is. asks db (question.plainly (given.Proposal name)) result is))
 
 lists_files : (rows : List Row) (result : Result Printed Failure) → question.AnswersFiles rows result → Fine result
-lists_files rows result is = word _ _ (first_of (codes "DB") rows) result is (λ db is. asks db (question.asking given.Files None) result is)
+lists_files rows result is = word _ _ (first_of (codes "DB") rows) result is (λ db is. asks db (question.plainly given.Files) result is)
 
 foresees_by : (db name : List ℕ) (all : Bool) (file : Option (List ℕ)) (proposal : Bool) (known : Option (List ℕ)) (result : Result Printed Failure) → question.AnswersImpactBy db name all file proposal known result → Fine result
 foresees_by db name all (Some file) true known result is = fails result _ is
-foresees_by db name all (Some file) false known result is = after result is (λ text is. asks db (question.foreseeing (given.Foresee name text) all) result is)
-foresees_by db name all None true known result is = asks db (question.foreseeing (given.ForeseeProposal name) all) result is
+foresees_by db name all (Some file) false known result is = after result is (λ text is. asks db (question.changes (given.Foresee name text) all) result is)
+foresees_by db name all None true known result is = asks db (question.changes (given.ForeseeProposal name) all) result is
 foresees_by db name all None false known result is = err_and _ result is
 
 foresees : (rows : List Row) (known : Option (List ℕ)) (result : Result Printed Failure) → question.AnswersImpact rows known result → Fine result

@@ -1,6 +1,6 @@
 //! What standard error says beside the answer to a question. Nothing is promised of it.
 
-use crate::answering::Asked;
+use crate::answering::{Asked, Printer};
 use crate::revision_lines::counts_classes;
 use cli_desk::View;
 use cli_desk::desks::CopiedDesk;
@@ -100,7 +100,12 @@ pub(crate) fn refusal_note(
 ) -> Result<String, AllocError> {
     match refusal {
         Refusal::UnknownFile => unknown_file_note(alloc, foreseen_name(asked.question)),
-        Refusal::TooLarge => too_large_note(alloc, "FILE", asked.file),
+        Refusal::TooLarge => match asked.printer {
+            Printer::Changes(Some(file), _) | Printer::Breaches(Some(file), _) => {
+                too_large_note(alloc, "FILE", file)
+            }
+            _ => Ok(String::new(alloc)),
+        },
         Refusal::Fault(fault) => fault_note(alloc, desk, asked.question, fault),
         _ => Ok(String::new(alloc)),
     }
