@@ -1,3 +1,4 @@
 pub mod FilesInTurn
 pub mod FoundWords
+pub mod TablesRead
 pub mod Viewed

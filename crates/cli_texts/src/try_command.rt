@@ -1,9 +1,12 @@
 //! The command `try`: one verdict over one exports text.
 
-ghost use Rattle.std.specs.Prelude.{IfOk};
+ghost use Rattle.std.specs.Prelude.{◌≡◌, Err, Ok};
 ghost use Rattle.std.specs.Option.{option_map};
 ghost use Rattle.desk_text.specs.Lines.{IsReadable};
+ghost use Rattle.desk_text.specs.Reading.{Reads};
 ghost use Rattle.desk_findings.specs.CheckFaults.{AreReadable};
+ghost use Rattle.desk_findings.specs.CheckText.{tables_of};
+ghost use Rattle.cli_verdict.specs.declared.asking.Asking.{Asking};
 ghost use Rattle.cli_words.specs.Words.{rows_in};
 ghost use Rattle.cli_texts.specs.TryCommand.{AnswersRequest, AnswersTry, AnswersTryAs, PrintsVerdict, ReadsRequest, question_in};
 ghost use Rattle.cli_texts.specs.WholeTables.{GivesOrFault, policy_of};
@@ -15,10 +18,10 @@ use cli_output::failure::Failure;
 use cli_output::printed::Printed;
 use cli_verdict::try_text::try_text;
 use cli_verdict::{Asking, MountQuestion, print_tried, read_asking};
-use cli_words::values::{Request, read_credential, read_request};
+use cli_words::values::{Request, read_credential, read_credential_with, read_request};
 use cli_words::words::{all_required, given, required};
 use desk_findings::{WholeSources, read_sources};
-use desk_policy::SiteFault;
+use desk_policy::{SiteFault, SiteTables};
 use desk_tables::Cred;
 use desk_text::ReadError;
 use std::alloc::Global;
@@ -77,11 +80,54 @@ fn answer_request(
     requires exports { IsReadable sources.exports.text.now }
     ensures { AnswersRequest (option_map (λ word. word.now) word.entry) asking request.now sources.entry result }
 {
-    let tables = sources.tables;
-    let own = read_credential(alloc, word, tables.passwd.text, tables.group.text)?;
-    match decide(alloc, &own, asking, request, sources) {
+    match read_sources(alloc, sources.tables) {
+        Ok(tables) => answer_with(alloc, word, asking, request, &tables, sources),
+        Err(error) => answer_fault(alloc, word, request, sources, error),
+    }
+}
+
+/// Answers a request by the texts of its files, of which these tables were read.
+fn answer_with(
+    alloc: Global,
+    word: Option<&str>,
+    asking: Asking,
+    request: &Request,
+    tables: &SiteTables,
+    sources: WholeSources<'_>,
+) -> Result<Printed, Failure>
+    requires tables { AreReadable sources.tables }
+    requires exports { IsReadable sources.exports.text.now }
+    requires known { tables_of sources.tables ≡ Ok tables.now }
+    ensures { AnswersRequest (option_map (λ word. word.now) word.entry) asking request.now sources.entry result }
+{
+    let own = read_credential_with(alloc, word, &tables.users, &tables.groups)?;
+    match decide(alloc, &own, asking, request, tables, sources) {
         Ok(printed) => Ok(printed),
         Err(error) => answer_error(alloc, sources, &request.filesystems, error),
+    }
+}
+
+/// Answers with the fault of a table, or that memory ran out. A bad CRED comes before it, so the users and the groups are read by
+/// themselves: another table may be at fault.
+fn answer_fault(
+    alloc: Global,
+    word: Option<&str>,
+    request: &Request,
+    sources: WholeSources<'_>,
+    error: ReadError<SiteFault>,
+) -> Result<Printed, Failure>
+    requires tables { AreReadable sources.tables }
+    requires exports { IsReadable sources.exports.text.now }
+    requires fault { Reads (Err error) (tables_of sources.tables) }
+    ensures { (asking : Asking) → AnswersRequest (option_map (λ word. word.now) word.entry) asking request.now sources.entry result }
+{
+    let tables = sources.tables;
+    match read_credential(alloc, word, tables.passwd.text, tables.group.text) {
+        Ok(_) => answer_error(alloc, sources, &request.filesystems, error),
+        Err(failure) => {
+            drop(error);
+            Err(failure)
+        }
     }
 }
 
@@ -91,14 +137,14 @@ fn decide(
     own: &Option<Cred>,
     asking: Asking,
     request: &Request,
+    tables: &SiteTables,
     sources: WholeSources<'_>,
 ) -> Result<Printed, ReadError<SiteFault>>
-    requires tables { AreReadable sources.tables }
     requires exports { IsReadable sources.exports.text.now }
+    requires known { tables_of sources.tables ≡ Ok tables.now }
     ensures { let table = request.now.filesystems in
         GivesOrFault (PrintsVerdict sources.entry table (question_in request.now own.now asking)) (policy_of sources.entry table) result }
 {
-    let tables = read_sources(alloc, sources.tables)?;
     let filesystems = request.filesystems.copy()?;
     let question = MountQuestion {
         address: request.address,
@@ -106,6 +152,6 @@ fn decide(
         own,
         asking,
     };
-    let tried = try_text(alloc, sources.exports.text, &tables, filesystems, question)?;
+    let tried = try_text(alloc, sources.exports.text, tables, filesystems, question)?;
     Ok(print_tried(tried))
 }
