@@ -1,7 +1,7 @@
 -- What the private contracts of the readers of a query cite.
 use Rattle.std.specs.Prelude.{◌≡◌, None, Option, Some}
 use Rattle.desk_service.specs.Questions.{question_of}
-use Rattle.desk_http_requests.specs.Calls.{Asks, Puts, Query}
+use Rattle.desk_http_requests.specs.Calls.{Asks, Query}
 use Rattle.desk_http_requests.specs.declared.calls.Call.{Call}
 use Rattle.desk_http_requests.specs.declared.calls.Call.TheVariants as made
 use Rattle.desk_http_requests.specs.declared.faults.RequestFault.TheVariants.{BadQuery}
