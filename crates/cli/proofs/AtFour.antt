@@ -41,7 +41,7 @@ use Rattle.cli_words.specs.declared.commands.Subcommand.TheVariants.{Ask, Audit,
 use Rattle.cli_files.specs.Input.{first_line}
 use Rattle.cli_verdict.specs.Asking.{asking_in}
 use Rattle.cli_verdict.specs.Ranges.{PrintsRanges}
-use Rattle.cli_verdict.specs.TryText.{PrintsTried}
+use Rattle.cli_verdict.specs.TryText.{MountQuestion, PrintsTried}
 use Rattle.cli_verdict.specs.declared.asking.Asking.{Asking}
 use Rattle.cli_verdict.specs.declared.try_text.Tried.{Tried}
 use Rattle.cli_expectations.specs.Tested.{Expected, PrintsTested}
@@ -59,7 +59,7 @@ use Rattle.desk_findings.specs.declared.check_text.Gathered.{Gathered}
 use Rattle.desk_findings.specs.declared.check_text.WholeSources.{WholeSources}
 use Rattle.cli_questions.specs.AuditCommand as audit
 use Rattle.cli_questions.specs.QuestionCommands as question
-use Rattle.cli_questions.specs.Questions.{AnswersQuestion, Asked, Breaches, Changes, Mounts, Plain, Printer, PrintsAnswer, PrintsSite, Ranges}
+use Rattle.cli_questions.specs.Questions.{AnswersQuestion, Asked, Breaches, Changes, Mounts, Plain, Printer, PrintsAnswer, PrintsSite, PrintsWhy, Ranges, mount_in}
 use Rattle.cli_report.specs.ReportCommand as report
 use Rattle.cli_edits.specs.InitCommand as init
 use Rattle.cli_edits.specs.PutCommand as put
@@ -235,8 +235,13 @@ prints_site site (Breaches expected) printed is = tested site.tables site.conten
 prints_site site (Mounts question) printed is = tried is.0 printed is.2
 prints_site site (Ranges path mountd) printed is = ranges mountd site.content path printed is
 
+prints_why : (question : Option MountQuestion) (content : Content) (reasons : List ℕ) (printed : Printed) → PrintsWhy question content reasons printed → Fine (Ok printed)
+prints_why (Some question) content reasons printed is = tried is.0 printed is.2
+prints_why None content reasons printed is = prints _ 0 printed not_0 is
+
 prints_answer : (asked : Asked) (answer : given.Answer) (printed : Printed) → PrintsAnswer asked answer printed → Fine (Ok printed)
 prints_answer asked (given.VerdictIs content verdict) printed is = prints _ _ printed (none_of _ 0 1 not_0 not_1) is
+prints_answer asked (given.WhyIs content reasons) printed is = prints_why (mount_in asked.printer) content reasons printed is
 prints_answer asked (given.ListingIs content listing) printed is = prints _ 0 printed not_0 is
 prints_answer asked (given.ExportsAre content) printed is = prints _ 0 printed not_0 is
 prints_answer asked (given.RangesAre content runs) printed is = prints _ 0 printed not_0 is
@@ -261,7 +266,7 @@ asks_if : (asking : Result Asking Failure) (rows : List Row) (result : Result Pr
 asks_if (Err failure) rows result is = fails result failure is
 asks_if (Ok asking) rows result is =
     word _ _ (first_of (codes "DB") rows) result is (λ db is. word _ _ (first_of (codes "HOST") rows) result is (λ host is. word _ _ (first_of (codes "DIR") rows) result is (λ dir is.
-    after result is (λ address is. after result is (λ path is. after result is (λ own is. asks _ (question.of_site _) result is))))))
+    after result is (λ address is. after result is (λ path is. after result is (λ own is. asks _ (question.mounting _) result is))))))
 
 shows : (rows : List Row) (result : Result Printed Failure) → question.AnswersShow rows result → Fine result
 shows rows result is =

@@ -7,7 +7,7 @@ use Rattle.desk_text.specs.declared.address.Addr.{Addr}
 use Rattle.desk_tables.specs.Groups.{read_groups}
 use Rattle.desk_tables.specs.Users.{read_users}
 use Rattle.desk_tables.specs.declared.credentials.Cred.{Cred}
-use Rattle.desk_service.specs.Questions.{Exports, Files, Foresee, ForeseeProposal, Listing, Proposal, Question, Revisions, Site, Text}
+use Rattle.desk_service.specs.Questions.{Exports, Files, Foresee, ForeseeProposal, Listing, Proposal, Question, Revisions, Site, Text, Why}
 use Rattle.cli_output.specs.declared.bad_argument.ArgumentFault.TheVariants as fault
 use Rattle.cli_output.specs.declared.failure.Failure.{Failure}
 use Rattle.cli_output.specs.declared.failure.Failure.TheVariants.{BesideProposal}
@@ -17,7 +17,9 @@ use Rattle.cli_words.specs.Values.{AnswersArgument, AnswersOwn, IsBadNumber, own
 use Rattle.cli_words.specs.Words.{After, ByWord, is_set}
 use Rattle.cli_files.specs.Files.{HasText, LacksText}
 use Rattle.cli_verdict.specs.Asking.{asking_in}
+use Rattle.cli_verdict.specs.TryText.{MountQuestion}
 use Rattle.cli_verdict.specs.declared.asking.Asking.{Asking}
+use Rattle.cli_verdict.specs.declared.asking.Asking.TheVariants.{Reasons, Server, Verdict}
 use Rattle.cli_questions.specs.Questions.{AnswersQuestion, Asked, Changes, Mounts, Plain, Printer, Ranges}
 
 -- HOST is parsed as an address, or refused
@@ -55,12 +57,21 @@ changes question all = record { question = question; printer = Changes all }
 abbrev pub of_site : Printer → Asked
 of_site printer = record { question = Site; printer = printer }
 
+-- the question that is asked of a mount: with why, if that is asked; and else of the whole site
+abbrev pub asked_by : Asking → ℕ → List (List ℕ) → Question
+asked_by Reasons address path = Why address path
+asked_by Verdict address path = Site
+asked_by Server address path = Site
+
+abbrev pub mounting : MountQuestion → Asked
+mounting question = record { question = asked_by question.asking question.address question.path; printer = Mounts question }
+
 -- `ask DB HOST DIR [--as CRED]`, by the rule that is asked: the words are parsed from left to right
 abbrev pub AnswersAskAs : Asking → List Row → Result Printed Failure → Type 0
 AnswersAskAs asking rows =
     ByWord (codes "DB") rows (λ db. ByWord (codes "HOST") rows (λ host. ByWord (codes "DIR") rows (λ dir.
     After (ParsesHost host) (λ address. After (ParsesDir dir) (λ path. After (ParsesOwn (first_of (codes "as") rows)) (λ own.
-    AnswersQuestion db (of_site (Mounts (record { address = number_of address; path = path; own = own; asking = asking })))))))))
+    AnswersQuestion db (mounting (record { address = number_of address; path = path; own = own; asking = asking }))))))))
 
 -- the same, or why nothing is asked
 abbrev pub AnswersAskIf : Result Asking Failure → List Row → Result Printed Failure → Type 0

@@ -1,15 +1,16 @@
 -- What is asked of a database without changing it, and what is printed of the answers. (this project's own)
-use Rattle.std.specs.Prelude.{◌⊎◌, ℕ, ◌==◌, Bool, true, false, List, [], None, Result, Ok, Err, codes, if◌then◌else◌}
+use Rattle.std.specs.Prelude.{◌⊎◌, ℕ, ◌==◌, Bool, true, false, List, [], None, Option, Result, Ok, Err, Some, codes, if◌then◌else◌}
 use Rattle.std.specs.String.{string_bytes}
 use Rattle.sqlite.specs.Effect.{Database}
 use Rattle.desk_policy.specs.ListingPrints.{all_exports, listing_text}
+use Rattle.desk_policy.specs.Policy.{Content}
 use Rattle.desk_who.specs.WhoPrints.{who_text}
 use Rattle.desk_impact.specs.Report.{IsReport}
 use Rattle.desk_impact.specs.declared.report.Report.{Report}
 use Rattle.desk_store.specs.Desk.{History}
 use Rattle.desk_store.specs.Open.{IsOurs, IsProject}
 use Rattle.desk_service.specs.Foreseeing.{Foreseen, content_after}
-use Rattle.desk_service.specs.Questions.{Answer as Given, AnswersByHistory, ExportsAre, FilesAre, ForeseenIs, ListingIs, NoRevision, ProposalIs, Question, RangesAre, RefusedBy, RevisionsAre, SiteIs, Text, TextIs, VerdictIs, Proposal, Revisions, question_of}
+use Rattle.desk_service.specs.Questions.{Answer as Given, AnswersByHistory, ExportsAre, FilesAre, ForeseenIs, ListingIs, NoRevision, ProposalIs, Question, RangesAre, RefusedBy, RevisionsAre, SiteIs, Text, TextIs, VerdictIs, WhyIs, Proposal, Revisions, question_of}
 use Rattle.desk_service.specs.Sites.{WholeSite}
 use Rattle.desk_service.specs.declared.refused.Refused.TheVariants as refused
 use Rattle.cli_output.specs.Failure.{IsUnread}
@@ -18,7 +19,7 @@ use Rattle.cli_output.specs.Shown.{shown_lines}
 use Rattle.cli_output.specs.declared.failure.Failure.{Failure}
 use Rattle.cli_output.specs.declared.printed.Printed.{Printed}
 use Rattle.cli_verdict.specs.Ranges.{PrintsRanges}
-use Rattle.cli_verdict.specs.TryText.{Answer, Answers, MountQuestion, PrintsTried, answer_on, mount_question_of}
+use Rattle.cli_verdict.specs.TryText.{Answer, Answers, MountQuestion, PrintsTried, TellsAbove, answer_on, mount_question_of}
 use Rattle.cli_verdict.specs.declared.try_text.Tried.{Tried}
 use Rattle.cli_desk.specs.RefusalLines.{Says}
 use Rattle.cli_expectations.specs.Tested.{Expected, PrintsTested, expected_of}
@@ -70,6 +71,16 @@ file_in question = []
 abbrev pub PrintsVerdict : Answer → Printed → Type 0
 PrintsVerdict tried printed = Prints (if tried.granted then 0 else 1) tried.text printed
 
+-- the question whether a client may mount a path, if the printer has it
+abbrev pub mount_in : Printer → Option MountQuestion
+mount_in (Mounts question) = Some question
+mount_in printer = None
+
+-- why a mount is granted or denied is printed: below the verdict, to whom asks this; and else alone
+abbrev pub PrintsWhy : Option MountQuestion → Content → List ℕ → Printed → Type 0
+PrintsWhy (Some question) content reasons printed = (tried : Tried) × TellsAbove (shown_lines reasons) content question tried × PrintsTried tried printed
+PrintsWhy None content reasons printed = Prints 0 (shown_lines reasons) printed
+
 -- A site is printed: which expectations it breaks; the verdict by its policy; the ranges of its verdicts; or else all its exports. Names
 -- are looked up in its own tables.
 abbrev pub PrintsSite : WholeSite → Printer → Printed → Type 0
@@ -88,6 +99,7 @@ pub record PrintsChanges (printer : Printer) (foreseen : Foreseen) (printed : Pr
 -- files in lines; what would change as a report; a site by the printer; and a refusal as its line.
 abbrev pub PrintsAnswer : Asked → Given → Printed → Type 0
 PrintsAnswer asked (VerdictIs content verdict) printed = PrintsVerdict (answer_on content None verdict) printed
+PrintsAnswer asked (WhyIs content reasons) printed = PrintsWhy (mount_in asked.printer) content reasons printed
 PrintsAnswer asked (ListingIs content listing) printed = Prints 0 (listing_text content listing) printed
 PrintsAnswer asked (ExportsAre content) printed = Prints 0 (all_exports content) printed
 PrintsAnswer asked (RangesAre content ranges) printed = Prints 0 (who_text content ranges) printed

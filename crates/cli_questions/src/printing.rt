@@ -1,6 +1,7 @@
 //! How the answer to a question is printed, with what standard error says beside it.
 
-ghost use Rattle.std.specs.Prelude.{◌≡◌, ℕ, IfOk, List, None};
+ghost use Rattle.std.specs.Prelude.{◌≡◌, ℕ, IfOk, List, None, Some};
+ghost use Rattle.std.specs.Option.{option_map};
 ghost use Rattle.std.specs.String.{string_bytes};
 ghost use Rattle.desk_impact.specs.Report.{IsReport};
 ghost use Rattle.desk_policy.specs.ListingPrints.{all_exports};
@@ -10,8 +11,9 @@ ghost use Rattle.desk_service.specs.Questions.{ForeseenIs, SiteIs, answer_of, qu
 ghost use Rattle.desk_service.specs.Sites.{site_of};
 ghost use Rattle.cli_output.specs.Printed.{PrintsText};
 ghost use Rattle.cli_verdict.specs.TryText as told;
-ghost use Rattle.cli_questions.specs.PrivateAnswering.{IsSound, TriesToPrint, TriesToPrintVerdict};
-ghost use Rattle.cli_questions.specs.Questions.{asked_of, file_in, printer_of, prints_all};
+ghost use Rattle.cli_verdict.specs.TryText.{mount_question_of};
+ghost use Rattle.cli_questions.specs.PrivateAnswering.{IsSound, TriesToPrint, TriesToPrintVerdict, TriesToPrintWhy};
+ghost use Rattle.cli_questions.specs.Questions.{asked_of, file_in, mount_in, printer_of, prints_all};
 
 use crate::answering::{Asked, Printer};
 use crate::file_lines::files_text;
@@ -24,7 +26,9 @@ use cli_expectations::tested::print_tested;
 use cli_output::failure::Failure;
 use cli_output::printed::Printed;
 use cli_output::shown::shown_lines;
-use cli_verdict::{print_ranges, print_tried, printed_verdict, tried_by};
+use cli_verdict::{
+    MountQuestion, print_ranges, print_tried, printed_verdict, tried_by, tried_with,
+};
 use desk_core::Foresight;
 use desk_impact::{Report, impact_report, lines_report};
 use desk_policy::{Policy, PolicyView, Verdict, all_exports, listing_text};
@@ -47,6 +51,12 @@ pub(crate) fn print_answer(
 {
     match answer {
         Answer::Verdict(policy, verdict) => print_verdict(alloc, policy, &verdict),
+        Answer::Why(view, reasons) => print_why(
+            alloc,
+            mount_in(asked.printer),
+            view,
+            reasons.as_str(),
+        ),
         Answer::Listing(policy, listing) => {
             print_text(alloc, listing_text(alloc, policy, listing.as_slice()))
         }
@@ -103,6 +113,44 @@ fn print_verdict(alloc: Global, policy: &Policy, verdict: &Verdict<'_>) -> Resul
     ensures { TriesToPrintVerdict (told.answer_on policy.now None (verdict_result verdict.now)) result }
 {
     let tried = printed_verdict(alloc, policy, verdict, &None)?;
+    Ok(print_tried(tried))
+}
+
+/// Returns the question of a client whether it may mount a directory, if the printer has it.
+fn mount_in<'a>(printer: Printer<'a>) -> Option<MountQuestion<'a>>
+    ensures { option_map mount_question_of result ≡ mount_in (printer_of printer.entry) }
+{
+    match printer {
+        Printer::Mount(question) => Some(question),
+        _ => None,
+    }
+}
+
+/// Prints a verdict and why, as `try --why` does, to whom asks this; and else why alone.
+fn print_why(
+    alloc: Global,
+    question: Option<MountQuestion<'_>>,
+    view: &View,
+    reasons: &str,
+) -> Result<Printed, Failure>
+    ensures { TriesToPrintWhy (option_map mount_question_of question.entry) view.now reasons.now result }
+{
+    match question {
+        Some(question) => print_reasons(alloc, view, question, reasons),
+        None => print_text(alloc, shown_lines(alloc, reasons)),
+    }
+}
+
+/// Prints the verdict on a mount, and below it these reasons.
+fn print_reasons(
+    alloc: Global,
+    view: &View,
+    question: MountQuestion<'_>,
+    reasons: &str,
+) -> Result<Printed, Failure>
+    ensures { TriesToPrintWhy (Some (mount_question_of question.entry)) view.now reasons.now result }
+{
+    let tried = tried_with(alloc, view, question, reasons)?;
     Ok(print_tried(tried))
 }
 
@@ -206,7 +254,8 @@ fn print_site(
             Ok(print_tried(tried))
         }
         Printer::Ranges(path, mountd) => Ok(print_ranges(alloc, site.view(), path, mountd)?),
-        Printer::Plain | Printer::Changes(_, _) => print_exports(alloc, site),
+        Printer::Plain => print_exports(alloc, site),
+        Printer::Changes(_, _) => print_exports(alloc, site),
     }
 }
 

@@ -5,6 +5,7 @@ ghost use Rattle.std.specs.Prelude.{◌≡◌, Some, false};
 ghost use Rattle.std.specs.Option.{option_map};
 ghost use Rattle.desk_text.specs.Address.{number_of};
 ghost use Rattle.desk_service.specs.Questions.{question_of};
+ghost use Rattle.cli_verdict.specs.TryText.{mount_question_of};
 ghost use Rattle.cli_words.specs.Words.{rows_in};
 ghost use Rattle.cli_questions.specs.QuestionCommands as spec;
 ghost use Rattle.cli_questions.specs.Questions.{asked_of, printer_of};
@@ -50,7 +51,27 @@ fn ask_as(rt: &HostRuntime, words: &ArgMatches<'_>, asking: Asking) -> Result<Pr
         own: &own,
         asking,
     };
-    answer_question(rt, db, of_site(Printer::Mount(question)))
+    answer_question(rt, db, mounting(question))
+}
+
+/// Returns a question whether a client may mount a directory: with why, if that is asked; and else of the whole site.
+fn mounting<'a>(question: MountQuestion<'a>) -> Asked<'a>
+    ensures { asked_of result ≡ spec.mounting (mount_question_of question.entry) }
+{
+    Asked {
+        question: asked_by(question),
+        printer: Printer::Mount(question),
+    }
+}
+
+/// Returns what is asked of a desk.
+fn asked_by<'a>(question: MountQuestion<'a>) -> Question<'a>
+    ensures { question_of result ≡ spec.asked_by question.entry.asking (number_of question.entry.address) question.entry.path.now }
+{
+    match question.asking {
+        Asking::Reasons => Question::Why(question.address, question.path),
+        Asking::Verdict | Asking::Server => Question::Site,
+    }
 }
 
 /// Returns a question on the whole site, which is printed so.

@@ -86,6 +86,7 @@ fn answer_text<V: PolicyView + Drop>(
             _,
             Answer::NoRevision
             | Answer::Verdict(_, _)
+            | Answer::Why(_, _)
             | Answer::Listing(_, _)
             | Answer::Exports(_)
             | Answer::Who(_, _)

@@ -11,6 +11,7 @@ ghost use Rattle.desk_service.specs.Questions.{AnswersByHistory, IsLookedUp, IsR
 use crate::files::files_answer;
 use crate::foreseeing::{foresee_proposal, foresee_text};
 use crate::questions::{Answer, Looked, Question};
+use crate::reasons::why_answer;
 use crate::sites::{foresee_proposed_site, foresee_site_text, site_answer};
 use crate::texts::{newest_text, proposal_answer, revisions_looked, text_looked};
 use desk_policy::{PolicyView, listing};
@@ -83,6 +84,7 @@ fn answer_kept<'a, S: Alter + Drop, V: PolicyView + Drop>(
 {
     match question {
         Question::Mount(address, path) => Ok(verdict_answer(desk, address, path)),
+        Question::Why(address, path) => why_answer(alloc, desk, address, path),
         Question::Listing(address) => listing_answer(alloc, desk, address),
         Question::Exports => Ok(exports_answer(desk)),
         Question::Who(path) => who_answer(alloc, desk, path),

@@ -21,6 +21,7 @@ pub mod foreseeing;
 pub mod laws;
 pub mod questions;
 pub mod readable;
+mod reasons;
 pub mod refused;
 pub mod sites;
 mod texts;

@@ -15,6 +15,8 @@ use desk_who::Range;
 pub enum Question<'a> {
     /// Whether the client of this address may mount this directory, by the policy in force.
     Mount(Addr, &'a Path),
+    /// Why the client of this address may mount this directory, or may not, by the policy in force.
+    Why(Addr, &'a Path),
     /// What the client of this address may mount, by the policy in force.
     Listing(Addr),
     /// All exports of the policy in force.
@@ -58,6 +60,8 @@ pub enum Looked {
 #[derive(Drop)]
 pub enum Answer<'a, V> {
     Verdict(&'a Policy, Verdict<'a>),
+    /// The view of the policy in force, and why it decides so, in whole lines.
+    Why(&'a V, String),
     /// What the client may mount, by mount point.
     Listing(&'a Policy, Vec<Shown>),
     /// The policy itself says what all exports are.

@@ -4,7 +4,9 @@ use Rattle.desk_service.specs.Sites.{WholeSite, site_of}
 use Rattle.cli_output.specs.declared.printed.Printed.{Printed}
 use Rattle.cli_verdict.specs.TryText.{mount_question_of}
 use Rattle.cli_expectations.specs.Tested.{expected_of}
-use Rattle.cli_questions.specs.Questions.{Breaches, Mounts, PrintsSite, Printer, Ranges, printer_of}
+use Rattle.cli_questions.specs.Questions.{Breaches, Mounts, PrintsSite, Printer, Ranges, asked_of, printer_of}
+use Rattle.cli_questions.specs.declared.answering.Printer.{Printer as LentPrinter}
+use Rattle.cli_questions.proofs.DeskAnswers.{exports_printed, shows_exports}
 use Rattle.cli_questions.proofs.printing.print_site.Goals as goal
 
 -- the printer is this
@@ -25,3 +27,13 @@ pub returns-in_ok-print_ranges-in-Ranges : goal.returns-in_ok-print_ranges-in-Ra
 returns-in_ok-print_ranges-in-Ranges c =
     by_printer (site_of (λ content. content) c.args.site.now) (printer_of c.args.asked.printer) (Ranges c.in-Ranges.path.now c.in-Ranges.mountd) _ (ap printer_of c.in-Ranges.is)
     (rw (← c.view-in-Ranges.ensures) c.in_ok-print_ranges-in-Ranges.ensures)
+
+pub returns-in-Plain : goal.returns-in-Plain
+returns-in-Plain c =
+    exports_printed (asked_of c.args.asked) (site_of (λ content. content) c.args.site.now) c.print_exports.result
+    (ap (λ (printer : LentPrinter). shows_exports (printer_of printer)) c.in-Plain.is) c.print_exports.ensures
+
+pub returns-in-Changes : goal.returns-in-Changes
+returns-in-Changes c =
+    exports_printed (asked_of c.args.asked) (site_of (λ content. content) c.args.site.now) c.print_exports-in-Changes.result
+    (ap (λ (printer : LentPrinter). shows_exports (printer_of printer)) c.in-Changes.is) c.print_exports-in-Changes.ensures

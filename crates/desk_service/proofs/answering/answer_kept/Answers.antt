@@ -7,6 +7,10 @@ pub returns-in-Mount : goal.returns-in-Mount
 returns-in-Mount g c = λ history pending stands.
     subst (λ (q : Question). AnswersByHistory history q (answer_of g.V.PolicyView.in_force c.verdict_answer.result)) (sym (ap question_of c.in-Mount.is)) (c.verdict_answer.ensures history pending stands)
 
+pub returns-in-Why : goal.returns-in-Why
+returns-in-Why g c = λ history pending stands.
+    subst (λ (q : Question). IfOk c.why_answer.result (λ answer. AnswersByHistory history q (answer_of g.V.PolicyView.in_force answer))) (sym (ap question_of c.in-Why.is)) (c.why_answer.ensures history pending stands)
+
 pub returns-in-Exports : goal.returns-in-Exports
 returns-in-Exports g c = λ history pending stands.
     subst (λ (q : Question). AnswersByHistory history q (answer_of g.V.PolicyView.in_force c.exports_answer.result)) (sym (ap question_of c.in-Exports.is)) (c.exports_answer.ensures history pending stands)
