@@ -23,6 +23,8 @@ use Rattle.desk_store.specs.declared.error.DeskError.TheVariants as error
 use Rattle.desk_service.specs.Questions as given
 use Rattle.desk_service.specs.Refused.{refused_by}
 use Rattle.desk_service.specs.Sites.{WholeSite}
+use Rattle.desk_service.specs.declared.questions.FileQuestion.{FileQuestion}
+use Rattle.desk_service.specs.declared.questions.FileQuestion.TheVariants as of_file
 use Rattle.desk_service.specs.declared.refused.Refused.{Refused}
 use Rattle.desk_service.specs.declared.refused.Refused.TheVariants as refused
 use Rattle.cli_output.specs.Printed.{Prints, PrintsText}
@@ -37,7 +39,7 @@ use Rattle.cli_words.specs.LineWords.{words_of}
 use Rattle.cli_words.specs.Values.{revision_number}
 use Rattle.cli_words.specs.Words.{After, AnswersBy, Continues}
 use Rattle.cli_words.specs.declared.commands.Subcommand.{Subcommand}
-use Rattle.cli_words.specs.declared.commands.Subcommand.TheVariants.{Ask, Audit, Cat, Check, Clients, Compare, Copy, Exports, Files, Impact, Init, Log, Proposal, Put, Report, Serve, Show, Split, Test, Try, Who, Write}
+use Rattle.cli_words.specs.declared.commands.Subcommand.TheVariants as subcommand
 use Rattle.cli_files.specs.Input.{first_line}
 use Rattle.cli_verdict.specs.Asking.{asking_in}
 use Rattle.cli_verdict.specs.Ranges.{PrintsRanges}
@@ -279,15 +281,12 @@ lists_who : (rows : List Row) (result : Result Printed Failure) → question.Ans
 lists_who rows result is =
     word _ _ (first_of (codes "DB") rows) result is (λ db is. word _ _ (first_of (codes "DIR") rows) result is (λ dir is. after result is (λ path is. asks _ (question.of_site _) result is)))
 
-lists_log : (rows : List Row) (result : Result Printed Failure) → question.AnswersLog rows result → Fine result
-lists_log rows result is = word _ _ (first_of (codes "DB") rows) result is (λ db is. word _ _ (first_of (codes "NAME") rows) result is (λ name is. asks db (question.plainly (given.Revisions name)) result is))
+asks_file : (what : FileQuestion) (rows : List Row) (result : Result Printed Failure) → question.AnswersOfFile what rows result → Fine result
+asks_file what rows result is = word _ _ (first_of (codes "DB") rows) result is (λ db is. word _ _ (first_of (codes "NAME") rows) result is (λ name is. asks db (question.plainly (given.OfFile name what)) result is))
 
 prints_file : (rows : List Row) (result : Result Printed Failure) → question.AnswersCat rows result → Fine result
 prints_file rows result is =
     word _ _ (first_of (codes "DB") rows) result is (λ db is. word _ _ (first_of (codes "NAME") rows) result is (λ name is. after result is (λ rev is. asks db (question.plainly (given.Text name rev)) result is)))
-
-prints_proposal : (rows : List Row) (result : Result Printed Failure) → question.AnswersProposal rows result → Fine result
-prints_proposal rows result is = word _ _ (first_of (codes "DB") rows) result is (λ db is. word _ _ (first_of (codes "NAME") rows) result is (λ name is. asks db (question.plainly (given.Proposal name)) result is))
 
 lists_files : (rows : List Row) (result : Result Printed Failure) → question.AnswersFiles rows result → Fine result
 lists_files rows result is = word _ _ (first_of (codes "DB") rows) result is (λ db is. asks db (question.plainly given.Files) result is)
@@ -439,28 +438,28 @@ serves rows result (inr is) = after result is (λ asked is. serves_not _ _ resul
 -- ---- the program
 
 by_command : (command : Subcommand) (rows : List Row) (known : Option (List ℕ)) (result : Result Printed Failure) → AnswersGiven command rows known result → Fine result
-by_command Try rows known result is = tries (asking_in rows) rows known result is
-by_command Split rows known result is = splits rows known result is
-by_command Check rows known result is = checks (check.beside_sarif rows) rows known result is
-by_command Clients rows known result is = lists_clients rows known result is
-by_command Compare rows known result is = compares rows known result is
-by_command Test rows known result is = tests_texts rows known result is
-by_command Init rows known result is = makes rows known result is
-by_command Ask rows known result is = asks_if (asking_in rows) rows result is
-by_command Show rows known result is = shows rows result is
-by_command Exports rows known result is = lists_exports rows result is
-by_command Who rows known result is = lists_who rows result is
-by_command Put rows known result is = puts rows known result is
-by_command Impact rows known result is = foresees rows known result is
-by_command Audit rows known result is = audits rows known result is
-by_command Log rows known result is = lists_log rows result is
-by_command Cat rows known result is = prints_file rows result is
-by_command Proposal rows known result is = prints_proposal rows result is
-by_command Files rows known result is = lists_files rows result is
-by_command Report rows known result is = word _ _ (first_of (codes "DB") rows) result is (λ db is. reports db result is)
-by_command Write rows known result is = writes rows result is
-by_command Copy rows known result is = copies rows result is
-by_command Serve rows known result is = serves rows result is
+by_command subcommand.Try rows known result is = tries (asking_in rows) rows known result is
+by_command subcommand.Split rows known result is = splits rows known result is
+by_command subcommand.Check rows known result is = checks (check.beside_sarif rows) rows known result is
+by_command subcommand.Clients rows known result is = lists_clients rows known result is
+by_command subcommand.Compare rows known result is = compares rows known result is
+by_command subcommand.Test rows known result is = tests_texts rows known result is
+by_command subcommand.Init rows known result is = makes rows known result is
+by_command subcommand.Ask rows known result is = asks_if (asking_in rows) rows result is
+by_command subcommand.Show rows known result is = shows rows result is
+by_command subcommand.Exports rows known result is = lists_exports rows result is
+by_command subcommand.Who rows known result is = lists_who rows result is
+by_command subcommand.Put rows known result is = puts rows known result is
+by_command subcommand.Impact rows known result is = foresees rows known result is
+by_command subcommand.Audit rows known result is = audits rows known result is
+by_command subcommand.Log rows known result is = asks_file of_file.Revisions rows result is
+by_command subcommand.Cat rows known result is = prints_file rows result is
+by_command subcommand.Proposal rows known result is = asks_file of_file.Proposal rows result is
+by_command subcommand.Files rows known result is = lists_files rows result is
+by_command subcommand.Report rows known result is = word _ _ (first_of (codes "DB") rows) result is (λ db is. reports db result is)
+by_command subcommand.Write rows known result is = writes rows result is
+by_command subcommand.Copy rows known result is = copies rows result is
+by_command subcommand.Serve rows known result is = serves rows result is
 
 by_found : (found : Option (Subcommand × List Row)) (known : Option (List ℕ)) (result : Result Printed Failure) → AnswersFound found known result → Fine result
 by_found (Some found) known result is = by_command found.0 found.1 known result is

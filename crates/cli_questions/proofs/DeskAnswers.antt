@@ -16,8 +16,9 @@ use Rattle.desk_store.specs.declared.error.StoreFault.{StoreFault}
 use Rattle.desk_store.specs.declared.error.Task.TheVariants as task
 use Rattle.desk_store.specs.declared.desk.Signature.{Signature}
 use Rattle.desk_service.specs.Foreseeing.{Foreseen}
-use Rattle.desk_service.specs.Questions.{Answer, AnswersByHistory, Exports, Files, Foresee, ForeseeProposal, ForeseeProposedSite, ForeseeSite, ForeseenIs, ForeseesProposal, ForeseesProposedSite, IsLookedUp, Listing, Mount, Proposal, Question, Revisions, Site, SiteIs, Text, Who, Why, WhyIs, proposal_answer, revision_asked, revisions_answer, signatures, text_answer}
+use Rattle.desk_service.specs.Questions.{Answer, AnswersByHistory, Exports, Files, Foresee, ForeseeProposal, ForeseeProposedSite, ForeseeSite, ForeseenIs, ForeseesProposal, ForeseesProposedSite, IsLookedUp, Listing, Mount, OfFile, Question, Site, SiteIs, Text, Who, Why, WhyIs, proposal_answer, revision_asked, revisions_answer, signatures, text_answer}
 use Rattle.desk_service.specs.Sites.{WholeSite}
+use Rattle.desk_service.specs.declared.questions.FileQuestion.TheVariants as of_file
 use Rattle.desk_service.specs.declared.questions.Looked.{Looked}
 use Rattle.desk_service.specs.declared.refused.Refused.TheVariants as refused
 use Rattle.cli_output.specs.Failure.{IsUnread}
@@ -110,8 +111,8 @@ foreseen_sound history (Listing address) foreseen by = absurd (let e = by.2 in c
 foreseen_sound history Exports foreseen by = absurd (let e = by.2 in cc)
 foreseen_sound history (Who path) foreseen by = absurd by.2
 foreseen_sound history (Text file rev) foreseen by = absurd (not_text (revision_asked history file rev) foreseen by)
-foreseen_sound history (Revisions file) foreseen by = absurd (not_revisions (signatures file history) foreseen by)
-foreseen_sound history (Proposal file) foreseen by = absurd (not_proposal ((standing_of history).proposals file) foreseen by)
+foreseen_sound history (OfFile file of_file.Revisions) foreseen by = absurd (not_revisions (signatures file history) foreseen by)
+foreseen_sound history (OfFile file of_file.Proposal) foreseen by = absurd (not_proposal ((standing_of history).proposals file) foreseen by)
 foreseen_sound history Files foreseen by = absurd by
 foreseen_sound history (Foresee file text) foreseen by = (file, by.own)
 foreseen_sound history (ForeseeProposal file) foreseen by = proposal_sound history file ((standing_of history).proposals file) foreseen by

@@ -7,7 +7,8 @@ use Rattle.desk_text.specs.declared.address.Addr.{Addr}
 use Rattle.desk_tables.specs.Groups.{read_groups}
 use Rattle.desk_tables.specs.Users.{read_users}
 use Rattle.desk_tables.specs.declared.credentials.Cred.{Cred}
-use Rattle.desk_service.specs.Questions.{Exports, Files, Foresee, ForeseeProposal, Listing, Proposal, Question, Revisions, Site, Text, Why}
+use Rattle.desk_service.specs.Questions.{Exports, Files, Foresee, ForeseeProposal, Listing, OfFile, Question, Site, Text, Why}
+use Rattle.desk_service.specs.declared.questions.FileQuestion.{FileQuestion}
 use Rattle.cli_output.specs.declared.bad_argument.ArgumentFault.TheVariants as fault
 use Rattle.cli_output.specs.declared.failure.Failure.{Failure}
 use Rattle.cli_output.specs.declared.failure.Failure.TheVariants.{BesideProposal}
@@ -98,19 +99,15 @@ AnswersWho rows =
     ByWord (codes "DB") rows (λ db. ByWord (codes "DIR") rows (λ dir.
     After (ParsesDir dir) (λ path. AnswersQuestion db (of_site (Ranges path (is_set (codes "mountd") rows))))))
 
--- `log DB NAME`
-abbrev pub AnswersLog : List Row → Result Printed Failure → Type 0
-AnswersLog rows = ByWord (codes "DB") rows (λ db. ByWord (codes "NAME") rows (λ name. AnswersQuestion db (plainly (Revisions name))))
+-- `log DB NAME` or `proposal DB NAME`: what is asked of a file by its name alone
+abbrev pub AnswersOfFile : FileQuestion → List Row → Result Printed Failure → Type 0
+AnswersOfFile what rows = ByWord (codes "DB") rows (λ db. ByWord (codes "NAME") rows (λ name. AnswersQuestion db (plainly (OfFile name what))))
 
 -- `cat DB NAME [--rev N]`
 abbrev pub AnswersCat : List Row → Result Printed Failure → Type 0
 AnswersCat rows =
     ByWord (codes "DB") rows (λ db. ByWord (codes "NAME") rows (λ name.
     After (ParsesRevision (first_of (codes "rev") rows)) (λ rev. AnswersQuestion db (plainly (Text name rev)))))
-
--- `proposal DB NAME`
-abbrev pub AnswersProposal : List Row → Result Printed Failure → Type 0
-AnswersProposal rows = ByWord (codes "DB") rows (λ db. ByWord (codes "NAME") rows (λ name. AnswersQuestion db (plainly (Proposal name))))
 
 -- `files DB`
 abbrev pub AnswersFiles : List Row → Result Printed Failure → Type 0

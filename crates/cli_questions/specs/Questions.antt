@@ -10,7 +10,8 @@ use Rattle.desk_impact.specs.declared.report.Report.{Report}
 use Rattle.desk_store.specs.Desk.{History}
 use Rattle.desk_store.specs.Open.{IsOurs, IsProject}
 use Rattle.desk_service.specs.Foreseeing.{Foreseen, content_after}
-use Rattle.desk_service.specs.Questions.{Answer as Given, AnswersByHistory, ExportsAre, FilesAre, ForeseenIs, ListingIs, NoRevision, ProposalIs, Question, RangesAre, RefusedBy, RevisionsAre, SiteIs, Text, TextIs, VerdictIs, WhyIs, Proposal, Revisions, question_of}
+use Rattle.desk_service.specs.Questions as given
+use Rattle.desk_service.specs.Questions.{Answer as Given, AnswersByHistory, OfFile, Question, Text, question_of}
 use Rattle.desk_service.specs.Sites.{WholeSite}
 use Rattle.desk_service.specs.declared.refused.Refused.TheVariants as refused
 use Rattle.cli_output.specs.Failure.{IsUnread}
@@ -63,8 +64,7 @@ prints_all printer = false
 -- the file that a question is on; empty if it is on none
 abbrev pub file_in : Question → List ℕ
 file_in (Text file rev) = file
-file_in (Revisions file) = file
-file_in (Proposal file) = file
+file_in (OfFile file what) = file
 file_in question = []
 
 -- the answer to whether a client may mount a path is printed: status 0 if it grants the mount, else 1
@@ -98,19 +98,19 @@ pub record PrintsChanges (printer : Printer) (foreseen : Foreseen) (printed : Pr
 -- An answer is printed: a verdict as `try` does; a text as it is, of a revision or of a proposal; lists of revisions, of ranges and of
 -- files in lines; what would change as a report; a site by the printer; and a refusal as its line.
 abbrev pub PrintsAnswer : Asked → Given → Printed → Type 0
-PrintsAnswer asked (VerdictIs content verdict) printed = PrintsVerdict (answer_on content None verdict) printed
-PrintsAnswer asked (WhyIs content reasons) printed = PrintsWhy (mount_in asked.printer) content reasons printed
-PrintsAnswer asked (ListingIs content listing) printed = Prints 0 (listing_text content listing) printed
-PrintsAnswer asked (ExportsAre content) printed = Prints 0 (all_exports content) printed
-PrintsAnswer asked (RangesAre content ranges) printed = Prints 0 (who_text content ranges) printed
-PrintsAnswer asked (TextIs stored) printed = Prints 0 stored.body printed
-PrintsAnswer asked (RevisionsAre revisions) printed = Prints 0 (log_text (file_in asked.question) revisions) printed
-PrintsAnswer asked (ProposalIs proposal) printed = Prints 0 proposal.body printed
-PrintsAnswer asked NoRevision printed = Says refused.NoRevision printed
-PrintsAnswer asked (FilesAre listed) printed = Prints 0 (files_text listed) printed
-PrintsAnswer asked (ForeseenIs foreseen) printed = PrintsChanges asked.printer foreseen printed
-PrintsAnswer asked (SiteIs site) printed = PrintsSite site asked.printer printed
-PrintsAnswer asked (RefusedBy refusal) printed = Says (refused.Edit refusal) printed
+PrintsAnswer asked (given.VerdictIs content verdict) printed = PrintsVerdict (answer_on content None verdict) printed
+PrintsAnswer asked (given.WhyIs content reasons) printed = PrintsWhy (mount_in asked.printer) content reasons printed
+PrintsAnswer asked (given.ListingIs content listing) printed = Prints 0 (listing_text content listing) printed
+PrintsAnswer asked (given.ExportsAre content) printed = Prints 0 (all_exports content) printed
+PrintsAnswer asked (given.RangesAre content ranges) printed = Prints 0 (who_text content ranges) printed
+PrintsAnswer asked (given.TextIs stored) printed = Prints 0 stored.body printed
+PrintsAnswer asked (given.RevisionsAre revisions) printed = Prints 0 (log_text (file_in asked.question) revisions) printed
+PrintsAnswer asked (given.ProposalIs proposal) printed = Prints 0 proposal.body printed
+PrintsAnswer asked given.NoRevision printed = Says refused.NoRevision printed
+PrintsAnswer asked (given.FilesAre listed) printed = Prints 0 (files_text listed) printed
+PrintsAnswer asked (given.ForeseenIs foreseen) printed = PrintsChanges asked.printer foreseen printed
+PrintsAnswer asked (given.SiteIs site) printed = PrintsSite site asked.printer printed
+PrintsAnswer asked (given.RefusedBy refusal) printed = Says (refused.Edit refusal) printed
 
 -- what is printed of a question by a history: its answer
 abbrev pub PrintsByHistory : History → Asked → Printed → Type 0

@@ -8,7 +8,7 @@ use cli_desk::refusal_notes::{too_large_note, unknown_file_note};
 use cli_desk::site_notes::{NewText, edit_fault_note};
 use desk_core::Refusal;
 use desk_policy::SiteFault;
-use desk_service::{Answer, FileText, Foreseen, Looked, Question, answer};
+use desk_service::{Answer, FileQuestion, FileText, Foreseen, Looked, Question, answer};
 use std::alloc::{AllocError, Global};
 
 /// Says that the file of a question, its revision of the number that is asked for, or its proposal is not there.
@@ -20,10 +20,10 @@ pub(crate) fn no_revision_note(
         Question::Text(name, Some(rev)) => {
             format!(in alloc; "exportdesk: NAME {name:?}: it has no revision {rev}\n")
         }
-        Question::Text(name, None) | Question::Revisions(name) => {
+        Question::Text(name, None) | Question::OfFile(name, FileQuestion::Revisions) => {
             format!(in alloc; "exportdesk: NAME {name:?}: it has no revision\n")
         }
-        Question::Proposal(name)
+        Question::OfFile(name, FileQuestion::Proposal)
         | Question::ForeseeProposal(name)
         | Question::ForeseeProposedSite(name) => {
             format!(in alloc; "exportdesk: NAME {name:?}: it has no proposal\n")
@@ -139,7 +139,8 @@ fn proposal_fault_note(
     file: &str,
     fault: &SiteFault,
 ) -> Result<String, AllocError> {
-    match answer(alloc, desk, Question::Proposal(file), Looked::Nothing)? {
+    let question = Question::OfFile(file, FileQuestion::Proposal);
+    match answer(alloc, desk, question, Looked::Nothing)? {
         Answer::Proposal(proposal) => {
             let text = proposal.body.as_str();
             edit_fault_note(alloc, desk, NewText { file, text }, fault)

@@ -89,7 +89,7 @@ fn name_in<'a>(question: Question<'a>) -> &'a str
     ensures { result.now ≡ file_in (question_of question.entry) }
 {
     match question {
-        Question::Text(name, _) | Question::Revisions(name) | Question::Proposal(name) => name,
+        Question::Text(name, _) | Question::OfFile(name, _) => name,
         _ => "",
     }
 }

@@ -18,7 +18,7 @@ use cli_output::printed::Printed;
 use cli_verdict::{Asking, MountQuestion, read_asking};
 use cli_words::values::{read_credential, read_host, read_number, read_path};
 use cli_words::words::{given, is_set, required};
-use desk_service::Question;
+use desk_service::{FileQuestion, Question};
 use desk_text::{Addr, Path};
 use std::alloc::Global;
 use std::io::BufRead;
@@ -113,13 +113,17 @@ pub fn run_who(rt: &HostRuntime, words: &ArgMatches<'_>) -> Result<Printed, Fail
     answer_question(rt, db, of_site(Printer::Ranges(&path, mountd)))
 }
 
-/// Answers `log DB NAME`.
-pub fn run_log(rt: &HostRuntime, words: &ArgMatches<'_>) -> Result<Printed, Failure>
-    ensures { spec.AnswersLog (rows_in words.now) result }
+/// Answers `log DB NAME` or `proposal DB NAME`: what is asked of a file by its name alone.
+pub fn run_of_file(
+    rt: &HostRuntime,
+    words: &ArgMatches<'_>,
+    what: FileQuestion,
+) -> Result<Printed, Failure>
+    ensures { spec.AnswersOfFile what (rows_in words.now) result }
 {
     let db = required(words, "DB")?;
     let name = required(words, "NAME")?;
-    answer_question(rt, db, plainly(Question::Revisions(name)))
+    answer_question(rt, db, plainly(Question::OfFile(name, what)))
 }
 
 /// Answers `cat DB NAME [--rev N]`.
@@ -140,15 +144,6 @@ fn read_revision(alloc: Global, word: Option<&str>) -> Result<Option<u32>, Failu
         Some(word) => Ok(Some(read_number(alloc, "--rev", word)?)),
         None => Ok(None),
     }
-}
-
-/// Answers `proposal DB NAME`.
-pub fn run_proposal(rt: &HostRuntime, words: &ArgMatches<'_>) -> Result<Printed, Failure>
-    ensures { spec.AnswersProposal (rows_in words.now) result }
-{
-    let db = required(words, "DB")?;
-    let name = required(words, "NAME")?;
-    answer_question(rt, db, plainly(Question::Proposal(name)))
 }
 
 /// Answers `files DB`.

@@ -75,10 +75,10 @@ fn answer_text<V: PolicyView + Drop>(
             who_body(alloc, policy, path, ranges.as_slice())?
         }
         (Question::Text(name, _), Answer::Text(text)) => file_body(alloc, name, text)?,
-        (Question::Revisions(name), Answer::Revisions(revisions)) => {
+        (Question::OfFile(name, _), Answer::Revisions(revisions)) => {
             revisions_body(alloc, name, revisions.as_slice())?
         }
-        (Question::Proposal(name), Answer::Proposal(proposal)) => {
+        (Question::OfFile(name, _), Answer::Proposal(proposal)) => {
             proposal_body(alloc, name, proposal)?
         }
         // No question that a route asks has another answer. Each kind is named, so that the check finds one without an arm.

@@ -10,7 +10,7 @@ use Rattle.desk_tables.specs.Credentials.{at_most_16}
 use Rattle.desk_tables.specs.declared.credentials.Cred.{Cred}
 use Rattle.desk_core.specs.Edit.{Edit, asked}
 use Rattle.desk_core.specs.Head.{last_revision}
-use Rattle.desk_service.specs.Questions.{Listing, Mount, Proposal, Question, Revisions, Text, Who, question_of}
+use Rattle.desk_service.specs.Questions.{Listing, Mount, OfFile, Question, Text, Who, question_of}
 use Rattle.desk_http_messages.specs.Asked.{Asked}
 use Rattle.desk_http_messages.specs.Head.{Header, header_values}
 use Rattle.desk_http_requests.specs.Parameters.{Parameter, at_most_one, each_read, one, parameters_of, values_of}
@@ -80,8 +80,7 @@ abbrev pub question_in : Reader → List Parameter → Option Question
 question_in reader.Mount parameters = option_and_then (λ address. option_map (Mount address) (path_in parameters)) (address_in parameters)
 question_in reader.Listing parameters = option_map Listing (address_in parameters)
 question_in reader.Text parameters = text_in parameters
-question_in reader.Proposal parameters = option_map Proposal (one_of (codes "name") parameters)
-question_in reader.Revisions parameters = option_map Revisions (one_of (codes "name") parameters)
+question_in (reader.OfFile what) parameters = option_map (λ name. OfFile name what) (one_of (codes "name") parameters)
 question_in reader.Who parameters = option_map Who (path_in parameters)
 
 -- the same, with the client's credential, if that is told

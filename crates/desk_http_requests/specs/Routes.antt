@@ -4,6 +4,7 @@ use Rattle.std.specs.Str.{bytes_eq}
 use Rattle.matchit.specs.Rows.{RowsOf}
 use Rattle.matchit.specs.Router.{RouteOf}
 use Rattle.matchit.specs.Seek.{first}
+use Rattle.desk_service.specs.declared.questions.FileQuestion.TheVariants as of_file
 use Rattle.desk_http_requests.specs.declared.routes.Action.{Action as LentAction}
 use Rattle.desk_http_requests.specs.declared.routes.Purpose.{Purpose}
 use Rattle.desk_http_requests.specs.declared.routes.Purpose.TheVariants.{Ask, Put}
@@ -43,8 +44,8 @@ routes =
     record { path = codes "/v1/exports"; actions = get (codes "host" ∷ []) reader.Listing ∷ [] }
     ∷ record { path = codes "/v1/file"; actions = get (codes "name" ∷ codes "rev" ∷ []) reader.Text ∷ put (codes "name" ∷ codes "base" ∷ []) ∷ [] }
     ∷ record { path = codes "/v1/mount"; actions = get (codes "host" ∷ codes "dir" ∷ codes "uid" ∷ codes "gid" ∷ []) reader.Mount ∷ [] }
-    ∷ record { path = codes "/v1/proposal"; actions = get (codes "name" ∷ []) reader.Proposal ∷ [] }
-    ∷ record { path = codes "/v1/revisions"; actions = get (codes "name" ∷ []) reader.Revisions ∷ [] }
+    ∷ record { path = codes "/v1/proposal"; actions = get (codes "name" ∷ []) (reader.OfFile of_file.Proposal) ∷ [] }
+    ∷ record { path = codes "/v1/revisions"; actions = get (codes "name" ∷ []) (reader.OfFile of_file.Revisions) ∷ [] }
     ∷ record { path = codes "/v1/who"; actions = get (codes "dir" ∷ []) reader.Who ∷ [] }
     ∷ []
 

@@ -97,12 +97,8 @@ fn question_in<'a>(
             None => None,
         },
         Reader::Text => text_in(parameters),
-        Reader::Proposal => match one_of(parameters, "name") {
-            Some(name) => Some(Question::Proposal(name)),
-            None => None,
-        },
-        Reader::Revisions => match one_of(parameters, "name") {
-            Some(name) => Some(Question::Revisions(name)),
+        Reader::OfFile(what) => match one_of(parameters, "name") {
+            Some(name) => Some(Question::OfFile(name, what)),
             None => None,
         },
         Reader::Who => match path {

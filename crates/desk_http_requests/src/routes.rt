@@ -14,6 +14,7 @@ ghost use Rattle.desk_http_requests.specs.Routes.{IsRouter, action_in, place_of}
 use crate::faults::RequestFault;
 use crate::target::path_of;
 use desk_http_messages::Request;
+use desk_service::FileQuestion;
 use matchit::{InsertError, Router};
 use std::alloc::{AllocError, Global};
 
@@ -23,8 +24,7 @@ pub enum Reader {
     Mount,
     Listing,
     Text,
-    Proposal,
-    Revisions,
+    OfFile(FileQuestion),
     Who,
 }
 
@@ -88,7 +88,7 @@ const ROUTES: [Route; 6] = [
         actions: &[Action {
             method: "GET",
             names: &["name"],
-            purpose: Purpose::Ask(Reader::Proposal),
+            purpose: Purpose::Ask(Reader::OfFile(FileQuestion::Proposal)),
         }],
     },
     Route {
@@ -96,7 +96,7 @@ const ROUTES: [Route; 6] = [
         actions: &[Action {
             method: "GET",
             names: &["name"],
-            purpose: Purpose::Ask(Reader::Revisions),
+            purpose: Purpose::Ask(Reader::OfFile(FileQuestion::Revisions)),
         }],
     },
     Route {

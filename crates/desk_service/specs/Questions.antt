@@ -24,6 +24,8 @@ use Rattle.desk_service.specs.Foreseeing.{Foreseen, IsForeseen, IsRefusedText, f
 use Rattle.desk_service.specs.Sites.{IsForeseenSite, IsSiteOf, WholeSite, site_of}
 use Rattle.desk_service.specs.declared.questions.Answer.{Answer as LentAnswer}
 use Rattle.desk_service.specs.declared.questions.Answer.TheVariants as lent_answer
+use Rattle.desk_service.specs.declared.questions.FileQuestion.{FileQuestion}
+use Rattle.desk_service.specs.declared.questions.FileQuestion.TheVariants as of_file
 use Rattle.desk_service.specs.declared.questions.FileText.{FileText}
 use Rattle.desk_service.specs.declared.questions.Looked.{Looked}
 use Rattle.desk_service.specs.declared.questions.Looked.TheVariants as looked
@@ -41,8 +43,7 @@ pub data Question : Type 0 where
   Exports : Question
   Who : List (List ℕ) → Question
   Text : List ℕ → Option ℕ → Question
-  Revisions : List ℕ → Question
-  Proposal : List ℕ → Question
+  OfFile : List ℕ → FileQuestion → Question
   Files : Question
   Foresee : List ℕ → List ℕ → Question
   ForeseeProposal : List ℕ → Question
@@ -58,8 +59,7 @@ question_of (lent.Listing address) = Listing (number_of address)
 question_of lent.Exports = Exports
 question_of (lent.Who path) = Who path.now
 question_of (lent.Text name rev) = Text name.now rev
-question_of (lent.Revisions name) = Revisions name.now
-question_of (lent.Proposal name) = Proposal name.now
+question_of (lent.OfFile name what) = OfFile name.now what
 question_of lent.Files = Files
 question_of (lent.Foresee name text) = Foresee name.now text.now
 question_of (lent.ForeseeProposal name) = ForeseeProposal name.now
@@ -182,6 +182,11 @@ abbrev pub ForeseesProposedSite : Newest → List ℕ → Option Pending → Ans
 ForeseesProposedSite newest file (Some p) answer = ForeseesSite newest file p.body answer
 ForeseesProposedSite newest file None answer = answer ≡ NoRevision
 
+-- the answer to what is asked of a file by its name alone
+abbrev pub AnswersOfFile : History → List ℕ → FileQuestion → Answer → Type 0
+AnswersOfFile history file of_file.Revisions answer = answer ≡ revisions_answer (signatures file history)
+AnswersOfFile history file of_file.Proposal answer = answer ≡ proposal_answer ((standing_of history).proposals file)
+
 -- The answer to a question by a history: of the policy in force by it, or of what it has of files.
 abbrev pub AnswersByHistory : History → Question → Answer → Type 0
 AnswersByHistory history (Mount address path) answer = TellsInForce (newest_of history) (λ content. answer ≡ VerdictIs content (verdict_of content address path))
@@ -190,8 +195,7 @@ AnswersByHistory history (Listing address) answer = TellsInForce (newest_of hist
 AnswersByHistory history Exports answer = TellsInForce (newest_of history) (λ content. answer ≡ ExportsAre content)
 AnswersByHistory history (Who path) answer = TellsInForce (newest_of history) (λ content. AreRangesOf content path answer)
 AnswersByHistory history (Text file rev) answer = answer ≡ text_answer (revision_asked history file rev)
-AnswersByHistory history (Revisions file) answer = answer ≡ revisions_answer (signatures file history)
-AnswersByHistory history (Proposal file) answer = answer ≡ proposal_answer ((standing_of history).proposals file)
+AnswersByHistory history (OfFile file what) answer = AnswersOfFile history file what answer
 AnswersByHistory history Files answer = AreFiles history answer
 AnswersByHistory history (Foresee file text) answer = ForeseesText (newest_of history) file text None answer
 AnswersByHistory history (ForeseeProposal file) answer = ForeseesProposal (newest_of history) file ((standing_of history).proposals file) answer
@@ -202,7 +206,7 @@ AnswersByHistory history (ForeseeProposedSite file) answer = ForeseesProposedSit
 -- a question takes statements: one for the text of a numbered revision, and one for a list of revisions
 abbrev pub takes_statements : Question → Bool
 takes_statements (Text file (Some rev)) = true
-takes_statements (Revisions file) = true
+takes_statements (OfFile file of_file.Revisions) = true
 takes_statements question = false
 
 -- the statements that a question takes were made
