@@ -1,9 +1,11 @@
 //! The command `clients`: who may mount a directory, by an exports text.
 
+ghost use Rattle.std.specs.Prelude.{Ok};
 ghost use Rattle.desk_text.specs.Lines.{IsReadable};
 ghost use Rattle.desk_findings.specs.CheckFaults.{AreReadable};
 ghost use Rattle.cli_words.specs.Words.{rows_in};
 ghost use Rattle.cli_texts.specs.ClientsCommand.{AnswersClients, AnswersPath, PrintsClients, ReadsDir};
+ghost use Rattle.cli_texts.specs.MountWords.{ReadsMounts};
 ghost use Rattle.cli_texts.specs.WholeTables.{GivesOrFault, policy_of};
 
 use crate::faulty_texts::answer_error;
@@ -38,7 +40,7 @@ pub fn run_clients<I: BufRead>(
     let texts = read_whole_texts(rt, words, file, input)?;
     let sources = whole_sources(words, file, &texts);
     let mountd = is_set(words, "mountd");
-    answer_path(rt.alloc(), mountd, &path, &filesystems, sources)
+    answer_path(rt.alloc(), words, mountd, &path, filesystems, sources)
 }
 
 /// Parses the word DIR.
@@ -52,18 +54,20 @@ fn read_dir(alloc: Global, words: &ArgMatches<'_>) -> Result<Path, Failure>
 /// Answers about a path by the texts of the files.
 fn answer_path(
     alloc: Global,
+    words: &ArgMatches<'_>,
     mountd: bool,
     path: &Path,
-    filesystems: &FileSystems,
+    filesystems: FileSystems,
     sources: WholeSources<'_>,
 ) -> Result<Printed, Failure>
     requires tables { AreReadable sources.tables }
     requires exports { IsReadable sources.exports.text.now }
-    ensures { AnswersPath mountd path.now filesystems.now sources.entry result }
+    requires mounts { ReadsMounts (rows_in words.now) (Ok filesystems) }
+    ensures { AnswersPath mountd path.now filesystems sources.entry result }
 {
     match list_clients(alloc, mountd, path, filesystems, sources) {
         Ok(printed) => Ok(printed),
-        Err(error) => answer_error(alloc, sources, filesystems, error),
+        Err(error) => answer_error(alloc, words, sources, error),
     }
 }
 
@@ -72,12 +76,12 @@ fn list_clients(
     alloc: Global,
     mountd: bool,
     path: &Path,
-    filesystems: &FileSystems,
+    filesystems: FileSystems,
     sources: WholeSources<'_>,
 ) -> Result<Printed, ReadError<SiteFault>>
     requires tables { AreReadable sources.tables }
     requires exports { IsReadable sources.exports.text.now }
-    ensures { let read = policy_of sources.entry filesystems.now in GivesOrFault (PrintsClients read mountd path.now) read result }
+    ensures { let read = policy_of sources.entry filesystems in GivesOrFault (PrintsClients read mountd path.now) read result }
 {
     let tables = read_sources(alloc, sources.tables)?;
     let view = view_of(alloc, sources, &tables, filesystems)?;

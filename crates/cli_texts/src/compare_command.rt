@@ -1,13 +1,14 @@
 //! The command `compare`: what changes from one exports text to another, of every directory and for every client.
 
-ghost use Rattle.std.specs.Prelude.{◌≡◌, Ok};
+ghost use Rattle.std.specs.Prelude.{◌≡◌, Ok, codes};
 ghost use Rattle.desk_text.specs.Lines.{IsReadable};
 ghost use Rattle.desk_findings.specs.CheckFaults.{AreReadable};
 ghost use Rattle.desk_findings.specs.CheckText.{tables_of};
-ghost use Rattle.cli_words.specs.Words.{rows_in};
+ghost use Rattle.cli_words.specs.Words.{is_set, rows_in};
 ghost use Rattle.cli_texts.specs.CompareCommand.{AnswersCompare, AnswersTexts, PrintsChanges};
 ghost use Rattle.cli_texts.specs.FaultyTexts.{AnswersOrFault};
-ghost use Rattle.cli_texts.specs.WholeTables.{GivesOrFault, policy_of};
+ghost use Rattle.cli_texts.specs.MountWords.{ReadsMounts};
+ghost use Rattle.cli_texts.specs.WholeTables.{GivesOrFault, Writes, policy_of};
 
 use crate::View;
 use crate::faulty_texts::answer_error;
@@ -49,71 +50,94 @@ pub fn run_compare<I: BufRead>(
     };
     let texts = read_two_texts(rt, words, before, after, input)?;
     let sources = two_sources(words, before, after, &texts);
-    answer_texts(rt.alloc(), is_set(words, "all"), &filesystems, sources)
+    answer_texts(rt.alloc(), words, filesystems, sources)
 }
 
 /// Answers by the texts of the files.
 fn answer_texts(
     alloc: Global,
-    all: bool,
-    filesystems: &FileSystems,
+    words: &ArgMatches<'_>,
+    filesystems: FileSystems,
     sources: TwoSources<'_>,
 ) -> Result<Printed, Failure>
     requires tables { AreReadable sources.tables }
     requires first { IsReadable sources.first.text.now }
     requires second { IsReadable sources.second.text.now }
-    ensures { AnswersTexts all filesystems.now sources.entry result }
+    requires mounts { ReadsMounts (rows_in words.now) (Ok filesystems) }
+    ensures { AnswersTexts (is_set (codes "all") (rows_in words.now)) filesystems sources.entry result }
 {
     match read_sources(alloc, sources.tables) {
-        Ok(tables) => compare(alloc, all, filesystems, &tables, sources),
-        Err(error) => answer_error(alloc, sources.whole_first(), filesystems, error),
+        Ok(tables) => compare(alloc, words, filesystems, &tables, sources),
+        Err(error) => {
+            drop(filesystems);
+            answer_error(alloc, words, sources.whole_first(), error)
+        }
     }
 }
 
-/// Answers by the texts of the files, of which these tables were read.
+/// Answers by the texts of the files, of which these tables were read. Each of the two policies has the file systems.
 fn compare(
     alloc: Global,
-    all: bool,
-    filesystems: &FileSystems,
+    words: &ArgMatches<'_>,
+    filesystems: FileSystems,
     tables: &SiteTables,
     sources: TwoSources<'_>,
 ) -> Result<Printed, Failure>
     requires tables { AreReadable sources.tables }
     requires first { IsReadable sources.first.text.now }
     requires second { IsReadable sources.second.text.now }
+    requires mounts { ReadsMounts (rows_in words.now) (Ok filesystems) }
     requires known { tables_of sources.tables ≡ Ok tables.now }
-    ensures { AnswersTexts all filesystems.now sources.entry result }
+    ensures { AnswersTexts (is_set (codes "all") (rows_in words.now)) filesystems sources.entry result }
 {
-    match view_of(alloc, sources.whole_first(), tables, filesystems) {
-        Ok(before) => compare_with(
-            alloc,
-            &before,
-            all,
-            filesystems,
-            tables,
-            sources.whole_second(),
-        ),
-        Err(error) => answer_error(alloc, sources.whole_first(), filesystems, error),
+    let old = sources.whole_first();
+    match view_with(alloc, old, tables, &filesystems) {
+        Ok(before) => {
+            let new = sources.whole_second();
+            compare_with(alloc, words, &before, filesystems, tables, new)
+        }
+        Err(error) => {
+            drop(filesystems);
+            answer_error(alloc, words, old, error)
+        }
     }
+}
+
+/// Makes a view of the policy that a text writes, as `view_of` does, with a copy of these file systems.
+fn view_with(
+    alloc: Global,
+    sources: WholeSources<'_>,
+    tables: &SiteTables,
+    filesystems: &FileSystems,
+) -> Result<View, ReadError<SiteFault>>
+    requires exports { IsReadable sources.exports.text.now }
+    requires known { tables_of sources.tables ≡ Ok tables.now }
+    ensures { let read = policy_of sources.entry filesystems.now in GivesOrFault (Writes read) read result }
+{
+    let own = filesystems.copy()?;
+    view_of(alloc, sources, tables, own)
 }
 
 /// Answers by a policy and the text of NEW, of which these tables were read.
 fn compare_with(
     alloc: Global,
+    words: &ArgMatches<'_>,
     before: &View,
-    all: bool,
-    filesystems: &FileSystems,
+    filesystems: FileSystems,
     tables: &SiteTables,
     sources: WholeSources<'_>,
 ) -> Result<Printed, Failure>
     requires tables { AreReadable sources.tables }
     requires exports { IsReadable sources.exports.text.now }
+    requires mounts { ReadsMounts (rows_in words.now) (Ok filesystems) }
     requires known { tables_of sources.tables ≡ Ok tables.now }
-    ensures { AnswersOrFault (PrintsChanges before.now (policy_of sources.entry filesystems.now) all) sources.entry filesystems.now result }
+    ensures { let all = is_set (codes "all") (rows_in words.now) in
+        AnswersOrFault (PrintsChanges before.now (policy_of sources.entry filesystems) all) sources.entry filesystems result }
 {
+    let all = is_set(words, "all");
     match print_changes(alloc, before, all, filesystems, tables, sources) {
         Ok(printed) => Ok(printed),
-        Err(error) => answer_error(alloc, sources, filesystems, error),
+        Err(error) => answer_error(alloc, words, sources, error),
     }
 }
 
@@ -122,13 +146,13 @@ fn print_changes(
     alloc: Global,
     before: &View,
     all: bool,
-    filesystems: &FileSystems,
+    filesystems: FileSystems,
     tables: &SiteTables,
     sources: WholeSources<'_>,
 ) -> Result<Printed, ReadError<SiteFault>>
     requires exports { IsReadable sources.exports.text.now }
     requires known { tables_of sources.tables ≡ Ok tables.now }
-    ensures { let read = policy_of sources.entry filesystems.now in GivesOrFault (PrintsChanges before.now read all) read result }
+    ensures { let read = policy_of sources.entry filesystems in GivesOrFault (PrintsChanges before.now read all) read result }
 {
     let after = view_of(alloc, sources, tables, filesystems)?;
     let note = news_note(alloc, before, &after)?;

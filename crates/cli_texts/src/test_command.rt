@@ -1,8 +1,10 @@
 //! The command `test`: whether an exports text keeps what another text expects of it, for every directory and every client.
 
+ghost use Rattle.std.specs.Prelude.{Ok, codes};
 ghost use Rattle.desk_text.specs.Lines.{IsReadable};
 ghost use Rattle.desk_findings.specs.CheckFaults.{AreReadable};
-ghost use Rattle.cli_words.specs.Words.{rows_in};
+ghost use Rattle.cli_words.specs.Words.{is_set, rows_in};
+ghost use Rattle.cli_texts.specs.MountWords.{ReadsMounts};
 ghost use Rattle.cli_texts.specs.TestCommand.{AnswersTest, AnswersTexts, PrintsExpected};
 ghost use Rattle.cli_texts.specs.TwoFiles.{whole_first};
 ghost use Rattle.cli_texts.specs.WholeTables.{GivesOrFault, policy_of};
@@ -45,24 +47,25 @@ pub fn run_test<I: BufRead>(
     };
     let texts = read_two_texts(rt, words, exports, expected, input)?;
     let sources = two_sources(words, exports, expected, &texts);
-    answer_texts(rt.alloc(), is_set(words, "json"), &filesystems, sources)
+    answer_texts(rt.alloc(), words, filesystems, sources)
 }
 
 /// Answers by the texts of the files.
 fn answer_texts(
     alloc: Global,
-    json: bool,
-    filesystems: &FileSystems,
+    words: &ArgMatches<'_>,
+    filesystems: FileSystems,
     sources: TwoSources<'_>,
 ) -> Result<Printed, Failure>
     requires tables { AreReadable sources.tables }
     requires first { IsReadable sources.first.text.now }
     requires second { IsReadable sources.second.text.now }
-    ensures { AnswersTexts json filesystems.now sources.entry result }
+    requires mounts { ReadsMounts (rows_in words.now) (Ok filesystems) }
+    ensures { AnswersTexts (is_set (codes "json") (rows_in words.now)) filesystems sources.entry result }
 {
-    match test_texts(alloc, json, filesystems, sources) {
+    match test_texts(alloc, is_set(words, "json"), filesystems, sources) {
         Ok(printed) => Ok(printed),
-        Err(error) => answer_error(alloc, sources.whole_first(), filesystems, error),
+        Err(error) => answer_error(alloc, words, sources.whole_first(), error),
     }
 }
 
@@ -70,13 +73,13 @@ fn answer_texts(
 fn test_texts(
     alloc: Global,
     json: bool,
-    filesystems: &FileSystems,
+    filesystems: FileSystems,
     sources: TwoSources<'_>,
 ) -> Result<Printed, ReadError<SiteFault>>
     requires tables { AreReadable sources.tables }
     requires first { IsReadable sources.first.text.now }
     requires second { IsReadable sources.second.text.now }
-    ensures { GivesOrFault (PrintsExpected filesystems.now json sources.entry) (policy_of (whole_first sources.entry) filesystems.now) result }
+    ensures { GivesOrFault (PrintsExpected filesystems json sources.entry) (policy_of (whole_first sources.entry) filesystems) result }
 {
     let tables = read_sources(alloc, sources.tables)?;
     let view = view_of(alloc, sources.whole_first(), &tables, filesystems)?;

@@ -1,14 +1,16 @@
 //! The command `try`: one verdict over one exports text.
 
-ghost use Rattle.std.specs.Prelude.{◌≡◌, Err, Ok};
-ghost use Rattle.std.specs.Option.{option_map};
+ghost use Rattle.std.specs.Prelude.{◌≡◌, Err, Ok, codes};
+ghost use Rattle.clap.specs.Words.{first_of};
 ghost use Rattle.desk_text.specs.Lines.{IsReadable};
 ghost use Rattle.desk_text.specs.Reading.{Reads};
 ghost use Rattle.desk_findings.specs.CheckFaults.{AreReadable};
 ghost use Rattle.desk_findings.specs.CheckText.{tables_of};
 ghost use Rattle.cli_verdict.specs.declared.asking.Asking.{Asking};
 ghost use Rattle.cli_words.specs.Words.{rows_in};
-ghost use Rattle.cli_texts.specs.TryCommand.{AnswersRequest, AnswersTry, AnswersTryAs, PrintsVerdict, ReadsRequest, question_in};
+ghost use Rattle.cli_words.specs.declared.values.Request.{Request};
+ghost use Rattle.cli_texts.specs.MountWords.{ReadsMounts};
+ghost use Rattle.cli_texts.specs.TryCommand.{AnswersAs, AnswersRequest, AnswersTry, AnswersTryAs, PrintsVerdict, ReadsRequest, question_in};
 ghost use Rattle.cli_texts.specs.WholeTables.{GivesOrFault, policy_of};
 
 use crate::faulty_texts::answer_error;
@@ -55,7 +57,7 @@ fn try_as<I: BufRead>(
     let request = words_request(rt.alloc(), words)?;
     let texts = read_whole_texts(rt, words, file, input)?;
     let sources = whole_sources(words, file, &texts);
-    answer_request(rt.alloc(), given(words, "as"), asking, &request, sources)
+    answer_request(rt.alloc(), words, asking, request, sources)
 }
 
 /// Parses the request that the words HOST, DIR and MOUNT.. write.
@@ -71,39 +73,68 @@ fn words_request(alloc: Global, words: &ArgMatches<'_>) -> Result<Request, Failu
 /// Answers a request by the texts of its files.
 fn answer_request(
     alloc: Global,
-    word: Option<&str>,
+    words: &ArgMatches<'_>,
     asking: Asking,
-    request: &Request,
+    request: Request,
     sources: WholeSources<'_>,
 ) -> Result<Printed, Failure>
     requires tables { AreReadable sources.tables }
     requires exports { IsReadable sources.exports.text.now }
-    ensures { AnswersRequest (option_map (λ word. word.now) word.entry) asking request.now sources.entry result }
+    requires mounts { ReadsMounts (rows_in words.now) (Ok request.filesystems) }
+    ensures { AnswersRequest (first_of (codes "as") (rows_in words.now)) asking request sources.entry result }
 {
     match read_sources(alloc, sources.tables) {
-        Ok(tables) => answer_with(alloc, word, asking, request, &tables, sources),
-        Err(error) => answer_fault(alloc, word, request, sources, error),
+        Ok(tables) => answer_with(alloc, words, asking, request, &tables, sources),
+        Err(error) => {
+            drop(request);
+            answer_fault(alloc, words, sources, error)
+        }
     }
 }
 
 /// Answers a request by the texts of its files, of which these tables were read.
 fn answer_with(
     alloc: Global,
-    word: Option<&str>,
+    words: &ArgMatches<'_>,
     asking: Asking,
-    request: &Request,
+    request: Request,
     tables: &SiteTables,
     sources: WholeSources<'_>,
 ) -> Result<Printed, Failure>
     requires tables { AreReadable sources.tables }
     requires exports { IsReadable sources.exports.text.now }
+    requires mounts { ReadsMounts (rows_in words.now) (Ok request.filesystems) }
     requires known { tables_of sources.tables ≡ Ok tables.now }
-    ensures { AnswersRequest (option_map (λ word. word.now) word.entry) asking request.now sources.entry result }
+    ensures { AnswersRequest (first_of (codes "as") (rows_in words.now)) asking request sources.entry result }
 {
-    let own = read_credential_with(alloc, word, &tables.users, &tables.groups)?;
-    match decide(alloc, &own, asking, request, tables, sources) {
+    match read_credential_with(alloc, given(words, "as"), &tables.users, &tables.groups) {
+        Ok(own) => answer_as(alloc, words, &own, asking, request, tables, sources),
+        Err(failure) => {
+            drop(request);
+            Err(failure)
+        }
+    }
+}
+
+/// Answers a request of a client with this credential, if it is given.
+fn answer_as(
+    alloc: Global,
+    words: &ArgMatches<'_>,
+    own: &Option<Cred>,
+    asking: Asking,
+    request: Request,
+    tables: &SiteTables,
+    sources: WholeSources<'_>,
+) -> Result<Printed, Failure>
+    requires tables { AreReadable sources.tables }
+    requires exports { IsReadable sources.exports.text.now }
+    requires mounts { ReadsMounts (rows_in words.now) (Ok request.filesystems) }
+    requires known { tables_of sources.tables ≡ Ok tables.now }
+    ensures { AnswersAs request asking sources.entry own.now result }
+{
+    match decide(alloc, own, asking, request, tables, sources) {
         Ok(printed) => Ok(printed),
-        Err(error) => answer_error(alloc, sources, &request.filesystems, error),
+        Err(error) => answer_error(alloc, words, sources, error),
     }
 }
 
@@ -111,19 +142,24 @@ fn answer_with(
 /// themselves: another table may be at fault.
 fn answer_fault(
     alloc: Global,
-    word: Option<&str>,
-    request: &Request,
+    words: &ArgMatches<'_>,
     sources: WholeSources<'_>,
     error: ReadError<SiteFault>,
 ) -> Result<Printed, Failure>
     requires tables { AreReadable sources.tables }
     requires exports { IsReadable sources.exports.text.now }
     requires fault { Reads (Err error) (tables_of sources.tables) }
-    ensures { (asking : Asking) → AnswersRequest (option_map (λ word. word.now) word.entry) asking request.now sources.entry result }
+    ensures { (asking : Asking) (request : Request) → ReadsMounts (rows_in words.now) (Ok request.filesystems)
+        → AnswersRequest (first_of (codes "as") (rows_in words.now)) asking request sources.entry result }
 {
     let tables = sources.tables;
-    match read_credential(alloc, word, tables.passwd.text, tables.group.text) {
-        Ok(_) => answer_error(alloc, sources, &request.filesystems, error),
+    match read_credential(
+        alloc,
+        given(words, "as"),
+        tables.passwd.text,
+        tables.group.text,
+    ) {
+        Ok(_) => answer_error(alloc, words, sources, error),
         Err(failure) => {
             drop(error);
             Err(failure)
@@ -136,19 +172,23 @@ fn decide(
     alloc: Global,
     own: &Option<Cred>,
     asking: Asking,
-    request: &Request,
+    request: Request,
     tables: &SiteTables,
     sources: WholeSources<'_>,
 ) -> Result<Printed, ReadError<SiteFault>>
     requires exports { IsReadable sources.exports.text.now }
     requires known { tables_of sources.tables ≡ Ok tables.now }
-    ensures { let table = request.now.filesystems in
-        GivesOrFault (PrintsVerdict sources.entry table (question_in request.now own.now asking)) (policy_of sources.entry table) result }
+    ensures { let table = request.filesystems in
+        GivesOrFault (PrintsVerdict sources.entry table (question_in request own.now asking)) (policy_of sources.entry table) result }
 {
-    let filesystems = request.filesystems.copy()?;
+    let Request {
+        address,
+        path,
+        filesystems,
+    } = request;
     let question = MountQuestion {
-        address: request.address,
-        path: &request.path,
+        address,
+        path: &path,
         own,
         asking,
     };

@@ -21,15 +21,14 @@ pub fn view_of(
     alloc: Global,
     sources: WholeSources<'_>,
     tables: &SiteTables,
-    filesystems: &FileSystems,
+    filesystems: FileSystems,
 ) -> Result<View, ReadError<SiteFault>>
     requires exports { IsReadable sources.exports.text.now }
     requires known { tables_of sources.tables ≡ Ok tables.now }
-    ensures { let read = policy_of sources.entry filesystems.now in GivesOrFault (Writes read) read result }
+    ensures { let read = policy_of sources.entry filesystems in GivesOrFault (Writes read) read result }
 {
-    let own = filesystems.copy()?;
     let text = sources.exports.text;
-    let policy = parse_whole_without_warnings(alloc, Profile::Two, text, own, tables)?;
+    let policy = parse_whole_without_warnings(alloc, Profile::Two, text, filesystems, tables)?;
     // No verdict and no fault rests on the warnings, which are left out.
     warnings_change_no_answer();
     View::build(alloc, policy)

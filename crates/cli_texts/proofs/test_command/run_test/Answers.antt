@@ -1,8 +1,8 @@
 -- The words are parsed, and then the files are read.
-use Rattle.std.proofs.Common.{Bool, Err, Ok, refl, subst}
+use Rattle.std.proofs.Common.{Err, Ok, refl}
 use Rattle.std.proofs.lemmas.Result.{err_from_is_err_and}
 use Rattle.cli_words.specs.Words.{rows_in}
-use Rattle.cli_texts.specs.TestCommand.{AnswersTexts, tested_files}
+use Rattle.cli_texts.specs.TestCommand.{tested_files}
 use Rattle.cli_texts.specs.TwoFiles.{two_list, two_texts}
 use Rattle.cli_texts.proofs.FilesInTurn.{lent}
 use Rattle.cli_texts.proofs.FoundWords.{by_found}
@@ -28,6 +28,6 @@ returns g c =
       next = record {
         step = Ok sources.result;
         is = lent (tested_files (rows_in c.args.words.now) c.in_ok-file.file.now c.in_ok-expectations.expectations.now) (g.I.Read.remaining c.args.input.now) (two_texts c.in_ok-texts.texts) (two_list sources.result) sources.ensures.paths sources.ensures.texts c.in_ok-texts.ensures.texts;
-        next = subst (λ (json : Bool). AnswersTexts json c.in_ok-filesystems.filesystems sources.result c.answer_texts.result) c.is_set.ensures c.answer_texts.ensures;
+        next = c.answer_texts.ensures;
       };
     }))

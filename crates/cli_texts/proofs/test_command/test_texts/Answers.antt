@@ -9,6 +9,6 @@ returns c = record {
   tables = c.in_ok-tables.tables;
   tables_are = c.in_ok-tables.ensures;
   policy = c.in_ok-view.view;
-  written = subst (λ (whole : WholeSources). Writes (policy_of whole c.args.filesystems.now) c.in_ok-view.view) c.whole_first.ensures c.in_ok-view.ensures;
+  written = subst (λ (whole : WholeSources). Writes (policy_of whole c.args.filesystems) c.in_ok-view.view) c.whole_first.ensures c.in_ok-view.ensures;
   prints = c.in_ok-print_tested.ensures;
 }

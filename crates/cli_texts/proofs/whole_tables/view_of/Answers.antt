@@ -8,5 +8,5 @@ use Rattle.cli_texts.proofs.whole_tables.view_of.Goals as goal
 
 pub returns : goal.returns
 returns c =
-    viewed c.warnings_change_no_answer.ensures (λ (view : Content). view) (policy_of c.args.sources c.args.filesystems.now) c.in_ok-policy.policy c.build.result
-    (ap without_warnings (read_known c.args.sources c.args.filesystems.now c.in_ok-own.own c.args.tables.now c.requires.known c.in_ok-own.ensures) ∙ c.in_ok-policy.ensures) c.build.ensures
+    viewed c.warnings_change_no_answer.ensures (λ (view : Content). view) (policy_of c.args.sources c.args.filesystems) c.in_ok-policy.policy c.build.result
+    (ap without_warnings (read_known c.args.sources c.args.filesystems c.args.tables.now c.requires.known) ∙ c.in_ok-policy.ensures) c.build.ensures
