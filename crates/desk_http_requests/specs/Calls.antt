@@ -87,10 +87,13 @@ question_in reader.Who parameters = option_map Who (path_in parameters)
 abbrev pub asked_in : Reader → List Parameter → Option Query
 asked_in reader parameters = option_and_then (λ question. option_map (Asks question) (credential_in parameters)) (question_in reader parameters)
 
+-- the number of the revision that an edit follows, 0 if it is the first
+abbrev pub base_in : List Parameter → Option ℕ
+base_in parameters = option_and_then (read_decimal last_revision) (one_of (codes "base") parameters)
+
 -- the file that the query of an edit names, and its base
 abbrev pub put_in : List Parameter → Option Query
-put_in parameters =
-    option_and_then (λ name. option_map (Puts name) (option_and_then (read_decimal last_revision) (one_of (codes "base") parameters))) (one_of (codes "name") parameters)
+put_in parameters = option_and_then (λ name. option_map (Puts name) (base_in parameters)) (one_of (codes "name") parameters)
 
 -- what parameters say for this purpose
 abbrev pub query_read : Purpose → List Parameter → Option Query

@@ -6,7 +6,7 @@ ghost use Rattle.std.specs.Str.{is_utf8};
 ghost use Rattle.httparse.specs.Spans.{IsHeaderWithin};
 ghost use Rattle.desk_core.specs.Head.{last_revision};
 ghost use Rattle.desk_http_messages.specs.Asked.{asked_of};
-ghost use Rattle.desk_http_requests.specs.Calls.{IsCall, Puts, action_of, header_text, is_put, path_in, put_in, query_asked, utf8_text};
+ghost use Rattle.desk_http_requests.specs.Calls.{IsCall, Puts, action_of, base_in, header_text, is_put, path_in, put_in, query_asked, utf8_text};
 ghost use Rattle.desk_http_requests.specs.Parameters.{pairs};
 ghost use Rattle.desk_http_requests.specs.Parameters as spec;
 ghost use Rattle.desk_http_requests.specs.Routes.{action_in};
@@ -86,13 +86,23 @@ fn edit_in<'a>(request: &Request<'a>, parameters: &'a [Parameter]) -> Call<'a>
     requires query { query_asked (asked_of request.now) ≡ put_in (pairs parameters.now) }
     ensures { IsCall (asked_of request.now) result }
 {
-    let (Some(file), Some(base)) = (
-        one_of(parameters, "name"),
-        number_in(parameters, "base", LAST_REVISION),
-    ) else {
-        return Call::Refused(RequestFault::BadQuery);
-    };
-    edit_of(request, file, base)
+    match one_of(parameters, "name") {
+        Some(file) => edit_after(request, parameters, file),
+        None => Call::Refused(RequestFault::BadQuery),
+    }
+}
+
+/// Reads the edit of a file that a request asks for: it follows the revision of the number that the parameters tell.
+fn edit_after<'a>(request: &Request<'a>, parameters: &'a [Parameter], file: &'a str) -> Call<'a>
+    requires headers { All (IsHeaderWithin (length request.now.head.now)) request.now.headers.now }
+    requires action { is_put (action_of (asked_of request.now)) ≡ true }
+    requires query { query_asked (asked_of request.now) ≡ option_map (Puts file.now) (base_in (pairs parameters.now)) }
+    ensures { IsCall (asked_of request.now) result }
+{
+    match number_in(parameters, "base", LAST_REVISION) {
+        Some(base) => edit_of(request, file, base),
+        None => Call::Refused(RequestFault::BadQuery),
+    }
 }
 
 /// Makes the edit of a file that a request asks for.
