@@ -1,13 +1,18 @@
 -- What is kept of revisions, as one more is read, and as an older one of a file loses its text.
-use Rattle.std.proofs.Common.{◌≡◌, ◌∙◌, ◌⊎◌, inl, inr, sym, ap, subst, refl, ℕ, zero, suc, ◌<◌, ◌++◌, List, [], ◌∷◌, Option, Some, None, All, get_or, length, map, set, arith}
+use Rattle.std.proofs.Common.{◌≡◌, ◌∙◌, ◌⊎◌, inl, inr, sym, ap, subst, refl, ℕ, zero, suc, ◌<◌, ◌++◌, true, false, is_some, List, [], ◌∷◌, Option, Some, None, All, get_or, length, map, set, arith}
+use Rattle.std.specs.Option.{option_map_or}
 use Rattle.std.specs.Prelude.{Contains, slice_get}
 use Rattle.std.proofs.lemmas.List.{map-append, map-set}
-use Rattle.std.proofs.lemmas.List.Elements.{All-contains, All-from_recursion, All-push, All-set, Contains-append_left}
+use Rattle.std.proofs.lemmas.List.Elements.{All-contains, All-from_recursion, All-push, All-set, Contains-append_left, Contains-push}
 use Rattle.std.proofs.lemmas.Option.{slice_get-map}
+use Rattle.sqlite.specs.Order.{Row}
 use Rattle.desk_core.specs.Head.{Revision}
 use Rattle.desk_store.specs.Desk.{IsStorable}
-use Rattle.desk_store.specs.PrivateGathered.{AreKept, IsKept, IsOlderAt, IsOutdated, bare}
+use Rattle.desk_store.specs.History.{row_of}
+use Rattle.desk_store.specs.PrivateGathered.{AreKept, AreOf, IsForeign, IsGatheredAs, IsKept, IsOlderAt, IsOutdated, bare, with_bare}
 use Rattle.desk_store.specs.StoredRows.{IsUnapproved}
+use Rattle.desk_store.specs.declared.gathered.Ungathered.{Ungathered}
+use Rattle.desk_store.specs.declared.gathered.Ungathered.TheVariants.{Foreign, Memory}
 use Rattle.desk_store.proofs.Members.{default, from_map, in_map, shift}
 
 -- what is found at a place is there
@@ -62,7 +67,7 @@ same_bare revisions one (inl whole) = ap bare whole
 same_bare revisions one (inr light) = ap bare light.0
 
 -- an older one of a file loses its text
-pub kept_lighter : (revisions kept : List Revision) (place other : ℕ) (older later : Revision) → slice_get kept place ≡ Some older → slice_get kept other ≡ Some later → later.file ≡ older.file → older.rev < later.rev
+kept_lighter : (revisions kept : List Revision) (place other : ℕ) (older later : Revision) → slice_get kept place ≡ Some older → slice_get kept other ≡ Some later → later.file ≡ older.file → older.rev < later.rev
     → AreKept revisions kept → AreKept revisions (set kept place (bare older))
 kept_lighter revisions kept place other older later is_older is_later file rev are =
     let first : Revision × Revision → Revision = λ p. p.0 in
@@ -85,6 +90,13 @@ kept_lighter revisions kept place other older later is_older is_later file rev a
       light = map-set second are.both place lighter ∙ ap (λ xs. set xs place (bare older)) are.light;
       each = All-set (IsKept revisions) are.both place lighter (inr (ap bare (sym p.2) ∙ same_bare revisions p.0 of_p, outdated)) are.each;
     }
+
+pub set_bare : (heads : List Revision) (place : ℕ) (head : Revision) → slice_get heads place ≡ Some head → set heads place (bare head) ≡ with_bare heads place
+set_bare heads place head is = ap (λ o. option_map_or (λ (r : Revision). set heads place (bare r)) o heads) (sym is)
+
+pub kept_lighter_at : (revisions kept : List Revision) (place other : ℕ) → IsOlderAt kept place other → AreKept revisions kept → AreKept revisions (with_bare kept place)
+kept_lighter_at revisions kept place other (older, later, is_older, is_later, file, rev) are =
+    subst (AreKept revisions) (set_bare kept place older is_older) (kept_lighter revisions kept place other older later is_older is_later file rev are)
 
 -- what holds of revisions, and still without their texts, holds of what is kept of them
 kept_all : (P : Revision → Type 0) → ((r : Revision) → P r → P (bare r)) → (revisions kept : List Revision) → All P revisions → AreKept revisions kept → All P kept
@@ -115,3 +127,35 @@ bare_storable r storable = record {
 
 pub kept_storable : (revisions kept : List Revision) → All IsStorable revisions → AreKept revisions kept → All IsStorable kept
 kept_storable = kept_all IsStorable bare_storable
+
+-- ---- what is gathered of rows
+
+-- a row more is that of a revision
+pub gathered_more : (rows : List Row) (row : Row) (kept new : List Revision) (revision : Revision) → row_of revision ≡ row → IsUnapproved revision → IsStorable revision
+    → ((revisions : List Revision) → AreKept revisions kept → AreKept (revisions ++ revision ∷ []) new) → AreOf rows kept → AreOf (rows ++ row ∷ []) new
+gathered_more rows row kept new revision is unapproved storable more of = record {
+  revisions = of.revisions ++ revision ∷ [];
+  of_rows = map-append row_of of.revisions (revision ∷ []) ∙ ap (λ read. read ++ row_of revision ∷ []) of.of_rows ∙ ap (λ last. rows ++ last ∷ []) is;
+  unapproved = All-push IsUnapproved of.revisions revision of.unapproved unapproved;
+  storable = All-push IsStorable of.revisions revision of.storable storable;
+  are_kept = more of.revisions of.are_kept;
+}
+
+-- or it is not
+pub foreign_here : (rows : List Row) (row : Row) → IsForeign row → (foreign : Row) × Contains (rows ++ row ∷ []) foreign × IsForeign foreign
+foreign_here rows row foreign = (row, Contains-push rows row, foreign)
+
+-- behind a fault rows are passed over
+pub stays_so : (rows : List Row) (row : Row) (kept : List Revision) (fault : Option Ungathered) → is_some fault ≡ true → IsGatheredAs rows kept fault → IsGatheredAs (rows ++ row ∷ []) kept fault
+stays_so rows row kept None some of = absurd (cc)
+stays_so rows row kept (Some Foreign) some (foreign, there, is) = (foreign, Contains-append_left rows (row ∷ []) foreign there, is)
+stays_so rows row kept (Some Memory) some of = tt
+
+pub no_fault : (rows : List Row) (kept : List Revision) (fault : Option Ungathered) → is_some fault ≡ false → IsGatheredAs rows kept fault → AreOf rows kept
+no_fault rows kept None none of = of
+no_fault rows kept (Some Foreign) none of = absurd (cc)
+no_fault rows kept (Some Memory) none of = absurd (cc)
+
+-- no row
+pub nothing_gathered : AreOf [] []
+nothing_gathered = record { revisions = []; of_rows = refl; unapproved = All-from_recursion IsUnapproved [] tt; storable = All-from_recursion IsStorable [] tt; are_kept = none_kept }

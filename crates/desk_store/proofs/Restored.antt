@@ -1,9 +1,10 @@
 -- The histories that revisions stand for of which the older ones have lost their texts.
-use Rattle.std.proofs.Common.{◌≡◌, ◌∙◌, ◌⊎◌, inl, inr, sym, ap, subst, refl, ℕ, zero, suc, ◌+◌, ◌-◌, ◌<◌, Bool, true, false, cond, List, [], ◌∷◌, Option, Some, None, All, IsPermutation, filter, filter_map, get_or, length, length-map, map, option_map, arith}
+use Rattle.std.proofs.Common.{◌≡◌, ◌∙◌, ◌⊎◌, inl, inr, sym, ap, subst, refl, ℕ, zero, suc, ◌+◌, ◌-◌, ◌<◌, Bool, true, false, cond, List, [], ◌∷◌, Option, Some, None, All, IsPermutation, filter, filter_map, get_or, length, map, option_map, arith}
 use Rattle.std.specs.Prelude.{Contains, slice_get}
 use Rattle.std.specs.List.{AllByRecursion, cons_option, range_with_len}
 use Rattle.std.specs.Str.{bytes_eq}
 use Rattle.std.proofs.Math.Path.{fun_ext}
+use Rattle.std.proofs.lemmas.List.{length-map}
 use Rattle.std.proofs.lemmas.List.Elements.{All-contains, All-from_recursion, recursion_from_All}
 use Rattle.std.proofs.lemmas.List.Sorted.{All-permutation, Contains-permutation, IsPermutation-map, IsPermutation-sym, IsPermutation-trans}
 use Rattle.std.proofs.lemmas.Option.{slice_get-map}
@@ -161,6 +162,7 @@ last_greatest : (xs : List Revision) (newest other : Revision) → AreNumbered x
 last_greatest xs newest other numbered is there above =
     let n = length xs in
     let at : slice_get xs (n - 1) ≡ Some (get_or xs (n - 1) newest) = slice_at xs (n - 1) newest (omega (arith, there.1)) in
+    let found : Some (get_or xs (n - 1) newest) ≡ Some newest = sym at ∙ is in
     let same : get_or xs (n - 1) newest ≡ newest = cc in
     let end : newest.rev ≡ 1 + (n - 1) = ap (λ (r : Revision). r.rev) (sym same) ∙ rev_at xs (n - 1) newest numbered (omega (arith, there.1)) in
     let its : other.rev ≡ 1 + there.0 = ap (λ (r : Revision). r.rev) (sym there.2) ∙ rev_at xs there.0 other numbered there.1 in

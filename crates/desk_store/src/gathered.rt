@@ -4,7 +4,7 @@
 ghost use Rattle.std.specs.Prelude.{◌≡◌, ◌++◌, ◌<◌, ◌∷◌, [], Contains, Err, IfErr, IfOk, IsTrue, List, OnOk, Some};
 ghost use Rattle.sqlite.specs.Order.{Row as Values};
 ghost use Rattle.desk_core.specs.Head.{Revision};
-ghost use Rattle.desk_store.specs.PrivateGathered.{AreKept, AreOf, IsForeign, IsFull, IsGathered, IsOlderAt, with_bare};
+ghost use Rattle.desk_store.specs.PrivateGathered.{AreKept, AreOf, IsForeign, IsFull, IsGathered, IsGatheredAs, IsOlderAt, with_bare};
 ghost use Rattle.desk_store.specs.Open.{IsOfRows};
 ghost use Rattle.desk_store.specs.declared.error.DeskError.TheVariants as error;
 
@@ -55,15 +55,7 @@ impl Gathered {
         if self.fault.is_some() {
             return;
         }
-        match revision_in(alloc, row) {
-            Ok(revision) => {
-                if add_revision(alloc, &mut self.heads, &mut self.newest, revision).is_err() {
-                    self.fault = Some(Ungathered::Memory);
-                }
-            }
-            Err(DeskError::Memory) => self.fault = Some(Ungathered::Memory),
-            Err(_) => self.fault = Some(Ungathered::Foreign),
-        }
+        self.fault = gather_row(alloc, &mut self.heads, &mut self.newest, row);
     }
 
     /// Notes that there is no room for another row.
@@ -88,6 +80,25 @@ impl Gathered {
     }
 }
 
+/// Gathers the revision in a row behind others; or tells why not.
+fn gather_row(
+    alloc: Global,
+    heads: &mut Vec<Head>,
+    newest: &mut BTreeMap<String, usize>,
+    row: &Row,
+) -> Option<Ungathered>
+    ensures { (rows : List Values) → AreOf rows heads.old.items → IsGatheredAs (rows ++ row.now ∷ []) heads.new.items result }
+{
+    match revision_in(alloc, row) {
+        Ok(revision) => match add_revision(alloc, heads, newest, revision) {
+            Ok(()) => None,
+            Err(_) => Some(Ungathered::Memory),
+        },
+        Err(DeskError::Schema) => Some(Ungathered::Foreign),
+        Err(_) => Some(Ungathered::Memory),
+    }
+}
+
 /// Adds a revision. If there is another of its file, the older one of both loses its text.
 fn add_revision(
     alloc: Global,
@@ -100,14 +111,18 @@ fn add_revision(
     let file = String::from_str(alloc, revision.file.as_str())?;
     let place = heads.len();
     let known = place_of(newest, file.as_str());
-    heads.push(revision)?;
-    if let Some(known) = known {
-        if lighten(alloc, heads, place, known) {
-            return Ok(());
-        }
-        lighten(alloc, heads, known, place);
+    push_whole(heads, revision)?;
+    if lighten_older(alloc, heads, known, place) {
+        newest.insert(file, place)?;
     }
-    newest.insert(file, place)?;
+    Ok(())
+}
+
+/// Adds a revision with its text.
+fn push_whole(heads: &mut Vec<Head>, revision: Head) -> Result<(), AllocError>
+    ensures { OnOk result ((revisions : List Revision) → AreKept revisions heads.old.items → AreKept (revisions ++ revision ∷ []) heads.new.items) }
+{
+    heads.push(revision)?;
     Ok(())
 }
 
@@ -117,6 +132,21 @@ fn place_of(newest: &BTreeMap<String, usize>, file: &str) -> Option<usize> {
         Some(place) => Some(*place),
         None => None,
     }
+}
+
+/// Takes the text of the older of two revisions of a file away, the newest that is known and another. Tells whether the other is not the
+/// older one.
+fn lighten_older(alloc: Global, heads: &mut Vec<Head>, known: Option<usize>, other: usize) -> bool
+    ensures { (revisions : List Revision) → AreKept revisions heads.old.items → AreKept revisions heads.new.items }
+{
+    let Some(known) = known else {
+        return true;
+    };
+    if lighten(alloc, heads, other, known) {
+        return false;
+    }
+    lighten(alloc, heads, known, other);
+    true
 }
 
 /// Takes the text of the revision at a place away if that at the other is a later one of its file. Tells whether it did.
