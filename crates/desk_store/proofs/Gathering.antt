@@ -8,7 +8,7 @@ use Rattle.sqlite.specs.Given.{FailsToAdvance, HasBegun, HasGiven, IsPlain, IsRe
 use Rattle.sqlite.specs.Held.{Held, state}
 use Rattle.sqlite.specs.Listing.{understood}
 use Rattle.sqlite.specs.Order.{Row}
-use Rattle.sqlite.specs.State.{CommitsShowing, HasCleanDisk, IsNotRun, IsUnchanged, Shown, Survives}
+use Rattle.sqlite.specs.State.{CommitsShowing, FailsToQuery, HasCleanDisk, IsNotRun, IsUnchanged, Shown, Survives}
 use Rattle.sqlite.specs.declared.error.Error.{Error}
 use Rattle.sqlite.proofs.Callers.{begun_plain, command_of, never_commits, reads_as, unchanged_then}
 use Rattle.desk_schema.specs.Tables.{HasThese}
@@ -42,17 +42,18 @@ module _ {S : Type 0} (g : Ghosts S) (sql : List ℕ) (old : Held S) (plain : Ha
   }
 
   -- a query that does not begin
-  refused_so : {X : Type 0} (e : Error) (new : Held S) → IsRefused {X = X} g sql [] old (Err e) new → GathersShown g sql old new (Err e)
-  refused_so e new held = record {
-    look = changes_nothing (state g old) (state g new) held.mode (λ clean. query_failed (state g old) (state g new) sql [] e (held.err clean)) (quiet new held.survives);
+  refused_so : (e : Error) (new : Held S) → (old.in_transaction ≡ false → new.in_transaction ≡ false) → (HasCleanDisk (state g new) → FailsToQuery sql [] (state g old) (state g new) e)
+      → Survives (state g old) (state g new) (CommitsShowing sql [] (state g old)) → GathersShown g sql old new (Err e)
+  refused_so e new mode fails survives = record {
+    look = changes_nothing (state g old) (state g new) mode (λ clean. query_failed (state g old) (state g new) sql [] e (fails clean)) (quiet new survives);
     live = λ clean. tt;
     gathered = tt;
-    said = λ clean. said_now g own old new (Query sql []) e refl (held.err clean);
+    said = λ clean. said_now g own old new (Query sql []) e refl (fails clean);
   }
 
   pub refused : {X : Type 0} (r : Result X Error) (e : Error) (new : Held S) → r ≡ Err e → OnErr r (IsRefused g sql [] old r new) → GathersShown g sql old new (Err e)
   refused (Ok x) e new was held = absurd (cc)
-  refused (Err f) e new was held = let same : f ≡ e = cc in subst (λ x. GathersShown g sql old new (Err x)) same (refused_so f new held)
+  refused (Err f) e new was held = let same : f ≡ e = cc in subst (λ x. GathersShown g sql old new (Err x)) same (refused_so f new held.mode held.err held.survives)
 
   -- a query that begins
   pub begun : (new : Held S) → Survives (state g old) (state g new) (CommitsShowing sql [] (state g old)) → (HasCleanDisk (state g new) → HasBegun g sql [] old new)

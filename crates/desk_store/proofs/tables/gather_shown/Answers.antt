@@ -1,4 +1,4 @@
-use Rattle.std.proofs.Common.{◌≡◌, [], Err, Ok, refl, rules}
+use Rattle.std.proofs.Common.{◌≡◌, [], Err, Ok, refl, rules, subst}
 use Rattle.std.proofs.lemmas.Result.{err_from_is_err_and}
 use Rattle.sqlite.specs.Held.{state}
 use Rattle.sqlite.specs.State.{HasCleanDisk}
@@ -29,11 +29,11 @@ returns-in_err-row g c = λ plain.
 
 pub returns-in_default : goal.returns-in_default
 returns-in_default g c = λ plain.
-    let moved = c.next.follows.holds-at-none in
     let now = c.next.follows.lender-at-none.conn.now in
+    let last : now ≡ c.conn-in_default-1.given.0 = search rules in
+    let moved = c.next.follows.holds-at-none in
     let was = c.rows.invariant in
     let so_far = was.2.2 plain in
-    let it : GathersShown g.S.Store c.args.select.now.text c.args.conn.now now (Ok c.rows.gathered) =
-    ended g.S.Store c.args.select.now.text c.args.conn.now plain c.rows.rows.conn.now was.2.0 was.1 so_far.0 so_far.1 now moved.mode moved.survives c.rows.gathered was.2.1 (λ clean. rw c.in_ok-row.was at (moved.same clean))
-    (λ clean has. (rw (c.in_ok-row.was, c.in_default.is) at (moved.ok clean)) c.args.select.now.text [] was.2.0 has) in
-    search rules
+    subst (λ conn. GathersShown g.S.Store c.args.select.now.text c.args.conn.now conn (Ok c.rows.gathered)) last
+    (ended g.S.Store c.args.select.now.text c.args.conn.now plain c.rows.rows.conn.now was.2.0 was.1 so_far.0 so_far.1 now moved.mode moved.survives c.rows.gathered was.2.1 (λ clean. rw c.in_ok-row.was at (moved.same clean))
+    (λ clean has. (rw (c.in_ok-row.was, c.in_default.is) at (moved.ok clean)) c.args.select.now.text [] was.2.0 has))
