@@ -101,14 +101,22 @@ module _ {S : Type 0} (g : Ghosts S) (sql : List ℕ) (old : Held S) (plain : Ha
 module _ (own : List Row) (gathered : Gathered) where
   some_rows : (fault : Option Ungathered) → gathered.fault ≡ fault → (rows : List Row) → IsGathered rows gathered → (P : Type 0) → (P → IsPermutation own rows ⊎ IsFull gathered)
       → (rows : List Row) × IsGathered rows gathered × (P → IsPermutation own rows)
-  some_rows None is rows of P all = (rows, of, λ holds. elim (all holds) [
-    | inl same ↦ same
-    | inr full ↦ absurd (cc)
-  ])
-  some_rows (Some Foreign) is rows of P all = (rows, of, λ holds. elim (all holds) [
-    | inl same ↦ same
-    | inr full ↦ absurd (cc)
-  ])
+  some_rows None is rows of P all = (
+    rows,
+    of,
+    λ holds. elim (all holds) [
+      | inl same ↦ same
+      | inr full ↦ absurd (cc)
+    ],
+  )
+  some_rows (Some Foreign) is rows of P all = (
+    rows,
+    of,
+    λ holds. elim (all holds) [
+      | inl same ↦ same
+      | inr full ↦ absurd (cc)
+    ],
+  )
   some_rows (Some Memory) is rows of P all = (own, subst (IsGatheredAs own gathered.heads.items) (sym is) tt, λ holds. IsPermutation-refl own)
 
 -- the rows of a look are gathered, after it was prepared
