@@ -10,6 +10,7 @@
 //! ```
 #![tactic(auto)]
 
+pub mod copied_file;
 pub mod copy;
 pub mod copying;
 pub mod database_file;

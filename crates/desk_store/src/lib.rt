@@ -15,6 +15,7 @@ mod database;
 pub mod desk;
 pub mod error;
 mod first;
+mod gathered;
 mod keys;
 pub mod laws;
 mod newest;
