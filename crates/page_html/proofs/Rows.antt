@@ -1,5 +1,5 @@
 -- The cells of a row, with one more.
-use Rattle.std.proofs.Common.{◌≡◌, ℕ, suc, ◌+◌, ◌<◌, ◌++◌, ◌∙◌, List, [], ◌∷◌, ap, arith, get_or, length, map, refl, sym, take}
+use Rattle.std.proofs.Common.{◌≡◌, ℕ, ◌+◌, ◌<◌, ◌++◌, ◌∙◌, List, [], ◌∷◌, ap, arith, get_or, length, map, refl, sym, take}
 use Rattle.std.proofs.lemmas.List.{append-nil, append_assoc, get_or-map, length-map, length-take-le, take_all, take_more}
 use Rattle.page_html.specs.Items.{Item}
 use Rattle.page_html.specs.Tables.{Column, cell_html, cells_html}
