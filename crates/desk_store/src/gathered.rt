@@ -49,6 +49,7 @@ impl Gathered {
     }
 
     /// Gathers the revision in another row. (After a fault, rows are read to the end all the same: what SQLite says of them comes first.)
+    #[tactic(auto, using(crate::proofs::Kept::stays_so, crate::proofs::Kept::no_fault))]
     pub(crate) fn add(&mut self, alloc: Global, row: &Row)
         ensures { (rows : List Values) → IsGathered rows self.old → IsGathered (rows ++ row.now ∷ []) self.new }
     {
