@@ -16,7 +16,6 @@ use cli_words::words::required;
 use desk_core::{Head, can_be_kept};
 use desk_index::Index;
 use desk_report_page::page_of_state;
-use desk_service::lend_state;
 use desk_store::Desk;
 use sqlite::Alter;
 use std::alloc::Global;
@@ -52,11 +51,10 @@ fn print_page<S: Alter + Drop>(
 ) -> Result<Printed, Failure>
     ensures { PrintsOnDesk S.Store desk.now db.now result }
 {
-    let state = lend_state(desk);
-    if !can_be_kept(state.heads()) || !stand_once(state.heads()) {
+    if !can_be_kept(desk.heads()) || !stand_once(desk.heads()) {
         return Err(Failure::Memory);
     }
-    match page_of_state(alloc, db, state) {
+    match page_of_state(alloc, db, desk.current()) {
         Ok(text) => Ok(Printed {
             status: 0,
             text,

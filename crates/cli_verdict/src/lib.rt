@@ -3,7 +3,7 @@
 //! Its promise: [`try_text`] decides by an exports text as the definition does, or returns the text's first fault, and [`tried_by`]
 //! decides so by a policy in force. Both print the verdict, as whom the client acts if its credential is given, and why if that is
 //! asked, and say by which line mountd(8) grants what is denied; or they decide by mountd's rule, and name the lines that it may leave
-//! out. [`tried_with`] tells reasons that are known, and [`printed_verdict`] prints a verdict that is. [`print_ranges`] lists the verdicts of all addresses by either rule.
+//! out. [`printed_verdict`] prints a verdict that is known. [`print_ranges`] lists the verdicts of all addresses by either rule.
 //! [`read_asking`] reads which is asked.
 //!
 //! ```text
@@ -18,4 +18,4 @@ pub mod try_text;
 
 pub use asking::{Asking, read_asking};
 pub use ranges::print_ranges;
-pub use try_text::{MountQuestion, Tried, print_tried, printed_verdict, tried_by, tried_with};
+pub use try_text::{MountQuestion, Tried, print_tried, printed_verdict, tried_by};

@@ -14,33 +14,27 @@ ghost use Rattle.desk_http_requests.specs.Routes.{IsRouter, action_in, place_of}
 use crate::faults::RequestFault;
 use crate::target::path_of;
 use desk_http_messages::Request;
-use desk_service::FileQuestion;
 use matchit::{InsertError, Router};
 use std::alloc::{AllocError, Global};
 
-/// How the parameters of a request are read as one of the questions of desk_service.
+/// How the parameters of a request are read: as one of the questions of desk_service, or as an edit.
 #[derive(Clone, Copy)]
 pub enum Reader {
     Mount,
     Listing,
     Text,
-    OfFile(FileQuestion),
+    Proposal,
+    Revisions,
     Who,
-}
-
-/// What a request is for: a question, which is read so, or an edit.
-#[derive(Clone, Copy)]
-pub enum Purpose {
-    Ask(Reader),
     Put,
 }
 
-/// What a method does at a path: the names of its parameters, and what it is for.
+/// What a method does at a path: the names of its parameters, and how they are read.
 #[derive(Clone, Copy)]
 pub struct Action {
     pub method: &'static str,
     pub names: &'static [&'static str],
-    pub purpose: Purpose,
+    pub reader: Reader,
 }
 
 /// A path, and what each method does there.
@@ -57,7 +51,7 @@ const ROUTES: [Route; 6] = [
         actions: &[Action {
             method: "GET",
             names: &["host"],
-            purpose: Purpose::Ask(Reader::Listing),
+            reader: Reader::Listing,
         }],
     },
     Route {
@@ -66,12 +60,12 @@ const ROUTES: [Route; 6] = [
             Action {
                 method: "GET",
                 names: &["name", "rev"],
-                purpose: Purpose::Ask(Reader::Text),
+                reader: Reader::Text,
             },
             Action {
                 method: "PUT",
                 names: &["name", "base"],
-                purpose: Purpose::Put,
+                reader: Reader::Put,
             },
         ],
     },
@@ -80,7 +74,7 @@ const ROUTES: [Route; 6] = [
         actions: &[Action {
             method: "GET",
             names: &["host", "dir", "uid", "gid"],
-            purpose: Purpose::Ask(Reader::Mount),
+            reader: Reader::Mount,
         }],
     },
     Route {
@@ -88,7 +82,7 @@ const ROUTES: [Route; 6] = [
         actions: &[Action {
             method: "GET",
             names: &["name"],
-            purpose: Purpose::Ask(Reader::OfFile(FileQuestion::Proposal)),
+            reader: Reader::Proposal,
         }],
     },
     Route {
@@ -96,7 +90,7 @@ const ROUTES: [Route; 6] = [
         actions: &[Action {
             method: "GET",
             names: &["name"],
-            purpose: Purpose::Ask(Reader::OfFile(FileQuestion::Revisions)),
+            reader: Reader::Revisions,
         }],
     },
     Route {
@@ -104,7 +98,7 @@ const ROUTES: [Route; 6] = [
         actions: &[Action {
             method: "GET",
             names: &["dir"],
-            purpose: Purpose::Ask(Reader::Who),
+            reader: Reader::Who,
         }],
     },
 ];

@@ -4,7 +4,7 @@
 //! edit that is stored or proposed is always answered, with a reply that was made before.
 //!
 //! A question has two calls, since its answer lends from the desk: [`look_up`] makes the statements that it takes, if it takes any,
-//! and [`answer`] answers it. For a report [`lend_state`] lends all that the desk keeps.
+//! and [`answer`] answers it.
 //!
 //! ```text
 //! let question = Question::Mount(address, &path);
@@ -19,10 +19,8 @@ pub mod edits;
 pub mod files;
 pub mod foreseeing;
 pub mod laws;
-pub mod lending;
 pub mod questions;
 pub mod readable;
-mod reasons;
 pub mod refused;
 pub mod sites;
 mod texts;
@@ -32,8 +30,7 @@ pub use edits::{Replies, put};
 pub use files::{ListedFile, ListedFiles, Mark};
 pub use foreseeing::Foreseen;
 pub use laws::{edits_put_the_site_that_was_foreseen, edits_put_what_was_foreseen};
-pub use lending::lend_state;
-pub use questions::{Answer, FileQuestion, FileText, Looked, ProposalText, Question};
+pub use questions::{Answer, FileText, Looked, ProposalText, Question};
 pub use readable::read_by_second;
 pub use refused::Refused;
 pub use sites::WholeSite;
