@@ -106,7 +106,7 @@ module _ (netgroups : List GroupLine) (hosts : List HostRow) where
   of_clients file line (clients.Hosts names) other = of_words file line (λ name. name) (name_kind netgroups hosts) of_name names
   of_clients file line (clients.Net net None) other = tt
   of_clients file line (clients.Net net (Some value)) other = absurd (cc)
-  of_clients file line (clients.Net6 value) other = (ipv6_is_other, tt)
+  of_clients file line (clients.Net6 value) other = (is_other kinds.Ipv6 refl, tt)
   of_clients file line clients.World other = tt
 
   abbrev HasNoClass : FsId × Entry → Type 0
