@@ -1,5 +1,5 @@
 -- What becomes of a connection whose rows are gathered one after another.
-use Rattle.std.proofs.Common.{◌≡◌, ◌∙◌, ◌⊎◌, inl, inr, Bool, false, ℕ, List, [], Option, None, Some, Result, Ok, Err, IfErr, IfOk, IsPermutation, ap, arith, refl, subst, sym}
+use Rattle.std.proofs.Common.{◌≡◌, ◌∙◌, ◌⊎◌, inl, inr, Bool, false, ℕ, List, [], ◌∷◌, ◌++◌, Option, None, Some, Result, Ok, Err, IfErr, IfOk, IsPermutation, ap, arith, refl, subst, sym}
 use Rattle.std.specs.Prelude.{OnErr}
 use Rattle.std.proofs.lemmas.List.Sorted.{IsPermutation-refl}
 use Rattle.sqlite_trees.specs.declared.store.Store.{Ghosts}
@@ -22,7 +22,7 @@ use Rattle.desk_store.specs.declared.gathered.Ungathered.TheVariants.{Foreign, M
 use Rattle.desk_store.proofs.ChangesNothing.{changes_nothing, early as clean_before, look_then, rest_after_error}
 use Rattle.desk_store.proofs.Inside.{same_survives}
 use Rattle.desk_store.proofs.Reading.{compiled_in, query_failed, said_unprepared}
-use Rattle.desk_store.proofs.Said.{said_in, said_now}
+use Rattle.desk_store.proofs.Said.{both, said_in, said_now}
 
 module _ {S : Type 0} (g : Ghosts S) (sql : List ℕ) (old : Held S) (plain : HasCleanDisk (state g old) → IsPlain (understood old.schema sql)) where
   abbrev pub own : Statement → Type 0
@@ -67,6 +67,14 @@ module _ {S : Type 0} (g : Ghosts S) (sql : List ℕ) (old : Held S) (plain : Ha
       early : HasCleanDisk (state g new) → HasCleanDisk (state g mid)
       early clean = omega (arith, clean, then.clean)
 
+      -- and then one more
+      pub more : (row : Row) → (HasCleanDisk (state g new) → IsUnchanged (state g mid) (state g new)) → (HasCleanDisk (state g new) → HasGiven g sql [] mid given → HasGiven g sql [] new (given ++ row ∷ []))
+          → Survives (state g old) (state g new) (λ _. ⊥) × (HasCleanDisk (state g new) → IsUnchanged (state g old) (state g new) × HasGiven g sql [] new (given ++ row ∷ []))
+      more row same gives = (
+        both (state g old) (state g mid) (state g new) reaches then,
+        λ clean. (unchanged_then (state g old) (state g mid) (state g new) (held (early clean)).0 (same clean), gives clean (held (early clean)).1),
+      )
+
       pub failed : (e : Error) → (HasCleanDisk (state g new) → FailsToAdvance g mid new e) → GathersShown g sql old new (Err e)
       failed e fails = record {
         look =
@@ -87,15 +95,6 @@ module _ {S : Type 0} (g : Ghosts S) (sql : List ℕ) (old : Held S) (plain : Ha
         gathered = (given, is, λ clean. inl (mid, (held (early clean)).0, shown clean (held (early clean)).1));
         said = λ clean. tt;
       }
-
-    -- and for which there is no more room
-    pub over : (gathered : Gathered) → IsFull gathered → ((rows : List Row) → IsGathered rows gathered) → GathersShown g sql old mid (Ok gathered)
-    over gathered full is = record {
-      look = changes_nothing (state g old) (state g mid) kept (λ clean. inl (held clean).0) reaches;
-      live = λ clean. (held clean).0.0.is_open;
-      gathered = ([], is [], λ clean. inr full);
-      said = λ clean. tt;
-    }
 
 -- what was gathered of all rows that a query shows, or of some before there was no more room
 module _ (own : List Row) (gathered : Gathered) where

@@ -24,7 +24,7 @@ use Rattle.desk_store.proofs.Members.{default, from_filter, from_map, in_filter,
 use Rattle.desk_store.proofs.OneOrder.{same_revision}
 use Rattle.desk_store.proofs.Revisions.{AreNumbered, history_of, last, newest_by, newest_revised, numbered_in, own, rev_at}
 
-abbrev pub Pair : Type 0
+abbrev Pair : Type 0
 Pair = Revision × Revision
 
 -- lists of which two functions give the same, one beside the other
@@ -110,7 +110,7 @@ module _ {T : Type 0} (h k : T → Revision) where
 -- ---- from what is kept of revisions to the revisions, and back
 
 -- a revision with the approver of another
-abbrev pub with_own : Revision → Revision → Revision
+abbrev with_own : Revision → Revision → Revision
 with_own r other = record r { approver = other.approver }
 
 module _ (revisions : List Revision) (pairs : List Pair) (each : All (IsKept revisions) pairs) (from_side to_side : Pair → Revision)
@@ -122,10 +122,10 @@ module _ (revisions : List Revision) (pairs : List Pair) (each : All (IsKept rev
   joined : (both : List (Pair × Revision)) × (map (λ one. one.0) both ≡ turned.0) × (map (λ one. one.1) both ≡ history) × AllByRecursion (λ one. row_of (from_side one.0) ≡ row_of one.1) both
   joined = zipped (λ one. row_of (from_side one)) row_of turned.0 history (sym turned.2)
 
-  abbrev pub moved_one : Pair × Revision → Revision
+  abbrev moved_one : Pair × Revision → Revision
   moved_one one = with_own (to_side one.0) one.1
 
-  abbrev pub moved : List Revision
+  abbrev moved : List Revision
   moved = map moved_one joined.0
 
   kept_pairs : AllByRecursion (IsKept revisions) turned.0
@@ -141,20 +141,20 @@ module _ (revisions : List Revision) (pairs : List Pair) (each : All (IsKept rev
   alike_all [] kept rows = tt
   alike_all (one ∷ more) kept rows = (alike_one one kept.0 rows.0, alike_all more kept.1 rows.1)
 
-  pub alike : AllByRecursion (Alike moved_one (λ one. one.1)) joined.0
+  alike : AllByRecursion (Alike moved_one (λ one. one.1)) joined.0
   alike = alike_all joined.0 (subst (AllByRecursion (IsKept revisions)) (sym joined.1) kept_pairs) joined.3
 
-  pub moved_rows : IsPermutation (map row_of moved) (map (λ one. row_of (to_side one)) pairs)
+  moved_rows : IsPermutation (map row_of moved) (map (λ one. row_of (to_side one)) pairs)
   moved_rows =
       let to_row : Pair → Row = λ one. row_of (to_side one) in
       let is : map row_of moved ≡ map to_row turned.0 =
       map-map row_of moved_one joined.0 ∙ sym (map-map to_row (λ (one : Pair × Revision). one.0) joined.0) ∙ ap (map to_row) joined.1 in
       subst (λ rows. IsPermutation rows (map to_row pairs)) (sym is) (IsPermutation-sym (map to_row pairs) (map to_row turned.0) (IsPermutation-map to_row pairs turned.0 turned.1))
 
-  pub moved_approvals : filter_map approval_of moved ≡ filter_map approval_of history
+  moved_approvals : filter_map approval_of moved ≡ filter_map approval_of history
   moved_approvals = same_approvals moved_one (λ one. one.1) joined.0 alike ∙ ap (filter_map approval_of) joined.2
 
-  pub moved_history : IsHistory (map Revised history) → IsHistory (map Revised moved)
+  moved_history : IsHistory (map Revised history) → IsHistory (map Revised moved)
   moved_history is = same_history moved_one (λ one. one.1) joined.0 alike (subst (λ rs. IsHistory (map Revised rs)) (sym joined.2) is)
 
 -- in a file whose revisions are numbered, none has a greater number than the last
@@ -175,10 +175,10 @@ last_greatest xs newest other numbered is there above =
 
 -- ---- the history of the whole revisions, from that of what is kept of them
 
-abbrev pub whole_of : Pair → Revision
+abbrev whole_of : Pair → Revision
 whole_of one = one.0
 
-abbrev pub kept_of : Pair → Revision
+abbrev kept_of : Pair → Revision
 kept_of one = one.1
 
 module _ (revisions : List Revision) (pairs : List Pair) (whole : map whole_of pairs ≡ revisions) (each : All (IsKept revisions) pairs) (history : List Revision)
@@ -189,7 +189,7 @@ module _ (revisions : List Revision) (pairs : List Pair) (whole : map whole_of p
   numbered : (one : Pair) → IsKept revisions one → (whole_of one).rev ≡ (kept_of one).rev
   numbered one kept = sym (same_rev revisions one kept)
 
-  abbrev pub restored : List Revision
+  abbrev restored : List Revision
   restored = moved revisions pairs each kept_of whole_of named numbered history same
 
   abbrev Both : Type 0
@@ -266,12 +266,12 @@ module _ (revisions : List Revision) (pairs : List Pair) (whole : map whole_of p
         | inr light ↦ absurd (not_outdated file b is_numbered is from.0 from.1 light.1)
       ]
 
-  pub restored_newest : IsHistory (map Revised history) → newest_of (map Revised history) ≡ newest_of (map Revised restored)
+  restored_newest : IsHistory (map Revised history) → newest_of (map Revised history) ≡ newest_of (map Revised restored)
   restored_newest is_numbered =
       ap (λ rs. newest_of (map Revised rs)) (sym is_history)
       ∙ same_newest (λ (b : Both). with_own (whole_of b.0) b.1) (λ (b : Both). b.1) both (alike revisions pairs each kept_of whole_of named numbered history same) (λ file b is. newest_whole file b is_numbered is)
 
-  pub restored_storable : All IsStorable revisions → All IsStorable history → All IsStorable restored
+  restored_storable : All IsStorable revisions → All IsStorable history → All IsStorable restored
   restored_storable all own_all = λ k d below.
       let r : Revision = get_or restored k d in
       let b = from_map (λ (b : Both). with_own (whole_of b.0) b.1) both r (k, below, default restored k r d below) in

@@ -72,8 +72,8 @@ returns-in-Err-read_approvals-clause-said g c clean =
 pub returns-in-Ok-read_proposals-clause-said : goal.returns-in-Ok-read_proposals-clause-said
 returns-in-Ok-read_proposals-clause-said g c clean = rows_told g.S.Store c.args.conn.now c.read_proposals.new.conn c.state_in.result c.state_in.ensures.errors
 
-pub returns-clause-said : goal.returns-clause-said
-returns-clause-said g c clean =
+pub returns-in-Err-read_proposals-clause-said : goal.returns-in-Err-read_proposals-clause-said
+returns-in-Err-read_proposals-clause-said g c clean =
     let old = c.args.conn.now in
     let one = c.gather_revisions.new.conn in
     let two = c.read_approvals.new.conn in

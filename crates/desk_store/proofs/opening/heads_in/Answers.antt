@@ -12,7 +12,7 @@ use Rattle.desk_store.proofs.opening.heads_in.Goals as goal
 pub approve-requires : goal.approve-requires
 approve-requires c =
     let of = c.in_ok-revisions.ensures.heads c.requires.0 c.requires.1 in
-    kept_unapproved of.revisions c.in_ok-revisions.revisions.items of.unapproved of.are_kept
+    record { bare = kept_unapproved of.revisions c.in_ok-revisions.revisions.items of.unapproved of.are_kept }
 
 pub returns-in_err-revisions-clause-foreign : goal.returns-in_err-revisions-clause-foreign
 returns-in_err-revisions-clause-foreign c = λ schema rows is_gathered history storable numbered revised approved.

@@ -1,10 +1,28 @@
-use Rattle.std.proofs.Common.{◌≡◌, [], Err, Ok, refl, rules, subst}
+use Rattle.std.proofs.Common.{◌≡◌, ◌∙◌, ◌∷◌, ◌++◌, [], Err, Ok, refl, rules, subst}
 use Rattle.std.proofs.lemmas.Result.{err_from_is_err_and}
 use Rattle.sqlite.specs.Held.{state}
 use Rattle.sqlite.specs.State.{HasCleanDisk}
 use Rattle.desk_store.specs.PrivateGathered.{GathersShown}
-use Rattle.desk_store.proofs.Gathering.{begun, ended, failed, over, refused}
+use Rattle.desk_store.proofs.Gathering.{begun, ended, failed, more, refused}
 use Rattle.desk_store.proofs.tables.gather_shown.Goals as goal
+
+pub rows-preserved : goal.rows-preserved
+rows-preserved g c =
+    let moved = c.next.follows.holds-at-none in
+    let was = c.rows.invariant in
+    let now = c.next.follows.lender-at-none.conn.now in
+    let row = c.in-Some.row.now in (
+      moved.same_reference ∙ was.0,
+      λ none. moved.mode (was.1 none),
+      (
+        was.2.0 ++ row ∷ [],
+        c.add.ensures was.2.0 was.2.1,
+        λ plain.
+            let so_far = was.2.2 plain in
+            more g.S.Store c.args.select.now.text c.args.conn.now plain c.rows.rows.conn.now was.2.0 was.1 so_far.0 so_far.1 now moved.mode moved.survives row (λ clean. rw c.in_ok-row.was at (moved.same clean))
+            (λ clean has. (rw (c.in_ok-row.was, c.in-Some.is) at (moved.ok clean)) c.args.select.now.text [] was.2.0 has),
+      ),
+    )
 
 pub returns-in_err-rows : goal.returns-in_err-rows
 returns-in_err-rows g c = λ plain.
