@@ -21,11 +21,11 @@ returns-in-Mounted g c =
       next = rw c.in-Mounted.is (record { made = Mounted c.in-Mounted.filesystems; are = refl; answers = c.check_texts.ensures });
     }
 
-pub returns-in-Listed : goal.returns-in-Listed
-returns-in-Listed g c =
+pub returns : goal.returns
+returns g c =
     let sources = c.whole_sources-whole in
     record {
       step = Ok sources.result;
       is = lent (map named (file_list c.args.files)) (g.I.Read.remaining c.args.input.now) (whole_texts c.in_ok-texts.texts) (whole_list sources.result) sources.ensures.paths sources.ensures.texts c.in_ok-texts.ensures.texts;
-      next = rw c.in-Listed.is (record { made = Listed _; are = (c.as_str.ensures.value, c.as_str-2.ensures.value); answers = c.check_texts.ensures });
+      next = rw c.in-Listed.is (record { made = Listed (record { path = c.as_str.result; text = c.as_str-in-Listed.result }); are = (c.as_str.ensures.value, c.as_str-in-Listed.ensures.value); answers = c.check_texts-in-Listed.ensures });
     }

@@ -10,7 +10,7 @@ use Rattle.cli_texts.proofs.clients_command.answer_subject.Goals as goal
 
 pub returns-in_err-path : goal.returns-in_err-path
 returns-in_err-path g c =
-    let p = err_from_is_err_and c.from_residual-in_err-path.result c.from_residual-in_err-path.ensures.1 in
+    let p = err_from_is_err_and c.from_residual.result c.from_residual.ensures.1 in
     rw (p.1, p.2) (record { step = Err c.in_err-path.field-0.0; is = c.in_err-path.ensures; next = refl })
 
 pub returns-in_err-systems : goal.returns-in_err-systems
@@ -37,8 +37,8 @@ returns-in-Ok g c =
           (subst (λ (files : List (List ℕ × Option (List ℕ))). AnswersFiles (is_set (codes "mountd") rows) files (g.I.Read.remaining c.read_systems.new.input) c.in_ok-path.path c.in-Ok.filesystems c.answer_files.result) c.whole_files-files.ensures c.answer_files.ensures);
     }
 
-pub returns-in-Err : goal.returns-in-Err
-returns-in-Err g c =
+pub returns : goal.returns
+returns g c =
     let rows = rows_in c.args.words.now in
     let subject = c.args.subject.now in
     record {

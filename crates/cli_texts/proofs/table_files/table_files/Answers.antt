@@ -4,6 +4,7 @@ use Rattle.std.specs.Option.{option_copied}
 use Rattle.std.specs.String.{string_bytes}
 use Rattle.clap.specs.Words.{Row, first_of}
 use Rattle.cli_files.specs.declared.site_folder.SiteFiles.{SiteFiles}
+use Rattle.cli_words.specs.Words.{rows_in}
 use Rattle.cli_texts.specs.TableFiles.{table_file, table_files}
 use Rattle.cli_texts.proofs.table_files.table_files.Goals as goal
 
@@ -31,12 +32,12 @@ module _ (rows : List Row) (hosts networks passwd group netgroup : List ℕ × O
 
 pub returns-in-None : goal.returns-in-None
 returns-in-None c =
-    by_options _ _ _ _ _ _ c.option_file.ensures c.option_file-in-None.ensures c.option_file-in-None-2.ensures c.option_file-in-None-3.ensures c.option_file-in-None-4.ensures
+    by_options (rows_in c.args.words.now) _ _ _ _ _ c.option_file.ensures c.option_file-in-None.ensures c.option_file-in-None-2.ensures c.option_file-in-None-3.ensures c.option_file-in-None-4.ensures
     (option_copied c.args.folder) (ap option_copied c.in-None.is)
 
 pub returns-in-Some : goal.returns-in-Some
 returns-in-Some c =
-    of_folder _ _ _ _ _ _ c.in-Some.paths.now _ _ _ _ _
+    of_folder (rows_in c.args.words.now) _ _ _ _ _ c.in-Some.paths.now _ _ _ _ _
     c.as_str.ensures.value c.as_str-in-Some.ensures.value c.as_str-in-Some-2.ensures.value c.as_str-in-Some-3.ensures.value c.as_str-in-Some-4.ensures.value
     c.option_or.ensures c.option_or-in-Some.ensures c.option_or-in-Some-2.ensures c.option_or-in-Some-3.ensures c.option_or-in-Some-4.ensures
     (option_copied c.args.folder) (ap option_copied c.in-Some.is)

@@ -1,5 +1,5 @@
 -- The second word is found, the file systems are read, and then the files.
-use Rattle.std.proofs.Common.{◌∙◌, ◌++◌, ◌∷◌, [], Err, List, Ok, Option, Some, ap, codes, subst, ℕ}
+use Rattle.std.proofs.Common.{◌∙◌, ◌++◌, ◌∷◌, [], List, Option, Some, ap, codes, subst, ℕ}
 use Rattle.std.proofs.lemmas.Result.{err_from_is_err_and}
 use Rattle.cli_words.specs.Words.{is_set, rows_in}
 use Rattle.cli_texts.specs.TestCommand.{AnswersFiles, tested_files}
