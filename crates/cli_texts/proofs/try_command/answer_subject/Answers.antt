@@ -32,7 +32,7 @@ returns-in-Ok g c =
     let subject = c.args.subject.now in
     let left = g.I.Read.remaining c.read_systems.new.input in
     let Answers : Option (List ℕ) → List (List ℕ × Option (List ℕ)) → Type 0 = λ word files.
-        AnswersFiles (record { word = word; asking = c.args.asking; request = c.in_ok-request.request; filesystems = c.in-Ok.filesystems }) files left c.answer_files.result in
+    AnswersFiles (record { word = word; asking = c.args.asking; request = c.in_ok-request.request; filesystems = c.in-Ok.filesystems }) files left c.answer_files.result in
     record {
       step = Ok c.in_ok-request.request;
       is = c.in_ok-request.ensures;
