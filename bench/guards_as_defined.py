@@ -428,36 +428,40 @@ def newest_number(newest):
     return newest.rev if newest else 0
 
 
-CASES = ("UnknownCaller", "BadKey", "UnknownFile", "NotCustodian", "TooLarge", "Already", "Pending", "Stale", "Full")
+def objections(custodians, table, e):
+    return [
+        (digest_of(custodians, e.caller) is None, ("UnknownCaller",)),
+        (digest_of(custodians, e.caller) != hashlib.sha256(e.key.encode()).digest(), ("BadKey",)),
+        (e.file not in SEVEN and mount_named(table, e.file) is None, ("UnknownFile",)),
+        (not keeps_file(table, e.caller, e.file), ("NotCustodian",)),
+        (LONGEST_REVISION < len(e.text), ("TooLarge",)),
+    ]
 
 
-def holds(custodians, table, newest, proposal, e, case):
-    tests = {
-        "UnknownCaller": lambda: digest_of(custodians, e.caller) is None,
-        "BadKey": lambda: digest_of(custodians, e.caller) != hashlib.sha256(e.key.encode()).digest(),
-        "UnknownFile": lambda: e.file not in SEVEN and mount_named(table, e.file) is None,
-        "NotCustodian": lambda: not keeps_file(table, e.caller, e.file),
-        "TooLarge": lambda: LONGEST_REVISION < len(e.text),
-        "Already": lambda: is_repeat(e, newest),
-        "Pending": lambda: is_pending(table, e, proposal),
-        "Stale": lambda: newest_number(newest) != e.base,
-        "Full": lambda: e.base == LAST_REVISION,
-    }
-    return tests[case]()
+def conflicts(newest, e):
+    return [(newest_number(newest) != e.base, ("Stale", newest_number(newest))), (e.base == LAST_REVISION, ("Full",))]
+
+
+def as_cases(reasons):
+    return [(holds, ("refused",) + refusal) for holds, refusal in reasons]
+
+
+def checks(custodians, table, newest, proposal, e):
+    repeats = [(is_repeat(e, newest), ("already",)), (is_pending(table, e, proposal), ("pending",))]
+    return as_cases(objections(custodians, table, e)) + repeats + as_cases(conflicts(newest, e))
+
+
+def first_held(checks):
+    return next((case for holds, case in checks if holds), None)
 
 
 def first_case(standing, e):
     custodians, table = custodians_of(site_in(standing.newest)), table_in(standing.newest)
-    newest, proposal = standing.newest.get(e.file), standing.proposals.get(e.file)
-    return first(lambda case: holds(custodians, table, newest, proposal, e, case), CASES)
+    return first_held(checks(custodians, table, standing.newest.get(e.file), standing.proposals.get(e.file), e))
 
 
 def answer_in(newest, e, case):
-    if case == "Already":
-        return ("already", e.base + 1)
-    if case == "Pending":
-        return ("pending", e.base + 1)
-    return ("refused", case) + ((newest_number(newest),) if case == "Stale" else ())
+    return case if case[0] == "refused" else case + (e.base + 1,)
 
 
 def approves(table, e, proposal):

@@ -13,10 +13,12 @@ _exportdesk()
     for ((place = 2; place < COMP_CWORD; place++)); do
         # (readline takes `=` and `:` for words of their own, so that `exports:/usr` is three)
         case $is_value:${COMP_WORDS[place]} in
+        # (a folder stands for the first word)
+        no:--site) is_value=yes count=$((count + 1)) ;;
         no:--as | no:--base | no:--caller | no:--connections | \
             no:--group | no:--hosts | no:--key | no:--key-file | \
-            no:--netgroup | no:--networks | no:--passwd | no:--port | \
-            no:--rev | no:--site | no:--timeout) is_value=yes ;;
+            no:--mounts | no:--netgroup | no:--networks | no:--passwd | \
+            no:--port | no:--rev | no:--timeout) is_value=yes ;;
         yes:=) ;;
         yes:*) is_value=no ;;
         no::) count=$((count - 1)) ;;
@@ -25,11 +27,11 @@ _exportdesk()
         esac
     done
     case $command in
-    try) choices='--hosts --networks --passwd --group --netgroup --as --why --mountd --help' ;;
-    check) choices='--hosts --networks --passwd --group --netgroup --site --brief --strict --json --sarif --opinions --help' ;;
-    clients) choices='--hosts --networks --passwd --group --netgroup --mountd --help' ;;
-    compare) choices='--hosts --networks --passwd --group --netgroup --all --help' ;;
-    test) choices='--hosts --networks --passwd --group --netgroup --json --help' ;;
+    try) choices='--hosts --networks --passwd --group --netgroup --mounts --site --as --why --mountd --help' ;;
+    check) choices='--hosts --networks --passwd --group --netgroup --mounts --site --brief --strict --json --sarif --opinions --help' ;;
+    clients) choices='--hosts --networks --passwd --group --netgroup --mounts --site --mountd --help' ;;
+    compare) choices='--hosts --networks --passwd --group --netgroup --mounts --site --all --help' ;;
+    test) choices='--hosts --networks --passwd --group --netgroup --mounts --site --json --help' ;;
     ask) choices='--as --why --mountd --help' ;;
     who) choices='--mountd --help' ;;
     put) choices='--base --caller --key --key-file --help' ;;
@@ -50,17 +52,19 @@ _exportdesk()
         before=${COMP_WORDS[COMP_CWORD - 2]}
     fi
     case $command:$before:$word in
-    check:--group:* | check:--hosts:* | check:--netgroup:* | check:--networks:* | \
-        check:--passwd:* | clients:--group:* | clients:--hosts:* | clients:--netgroup:* | \
-        clients:--networks:* | clients:--passwd:* | compare:--group:* | compare:--hosts:* | \
-        compare:--netgroup:* | compare:--networks:* | compare:--passwd:* | put:--key-file:* | \
-        test:--group:* | test:--hosts:* | test:--netgroup:* | test:--networks:* | \
-        test:--passwd:* | try:--group:* | try:--hosts:* | try:--netgroup:* | \
-        try:--networks:* | try:--passwd:*)
+    check:--group:* | check:--hosts:* | check:--mounts:* | check:--netgroup:* | \
+        check:--networks:* | check:--passwd:* | clients:--group:* | clients:--hosts:* | \
+        clients:--mounts:* | clients:--netgroup:* | clients:--networks:* | clients:--passwd:* | \
+        compare:--group:* | compare:--hosts:* | compare:--mounts:* | compare:--netgroup:* | \
+        compare:--networks:* | compare:--passwd:* | put:--key-file:* | test:--group:* | \
+        test:--hosts:* | test:--mounts:* | test:--netgroup:* | test:--networks:* | \
+        test:--passwd:* | try:--group:* | try:--hosts:* | try:--mounts:* | \
+        try:--netgroup:* | try:--networks:* | try:--passwd:*)
         compopt -o filenames
         mapfile -t COMPREPLY < <(compgen -f -- "$word")
         ;;
-    check:--site:*)
+    check:--site:* | clients:--site:* | compare:--site:* | test:--site:* | \
+        try:--site:*)
         compopt -o filenames
         mapfile -t COMPREPLY < <(compgen -d -- "$word")
         ;;

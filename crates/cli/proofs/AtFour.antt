@@ -2,7 +2,7 @@
 use Rattle.std.proofs.Common.{◌≡◌, ◌⊎◌, ◌∙◌, ◌∷◌, ℕ, Bool, true, false, List, [], Option, Some, None, Result, Ok, Err, arith, inl, inr, refl, subst, sym}
 use Rattle.std.specs.Prelude.{IsErrAnd, MatchResult, codes, find, is_some, option_map, if◌then◌else◌}
 use Rattle.std.specs.String.{string_bytes}
-use Rattle.clap.specs.Words.{Row, all_of, first_of}
+use Rattle.clap.specs.Words.{Row, first_of}
 use Rattle.desk_text.specs.declared.reading.LineFault.{LineFault}
 use Rattle.desk_tables.specs.FileSystemsText.{read_filesystems}
 use Rattle.desk_tables.specs.Rules.{TableFault}
@@ -51,11 +51,16 @@ use Rattle.cli_texts.specs.CompareCommand as compare
 use Rattle.cli_texts.specs.FaultyTexts.{AnswersOrFault}
 use Rattle.cli_texts.specs.SplitCommand as split
 use Rattle.cli_texts.specs.SplitText.{split_answer}
+use Rattle.cli_texts.specs.Subject.{word_at}
+use Rattle.cli_texts.specs.Systems as systems
 use Rattle.cli_texts.specs.TestCommand as test
 use Rattle.cli_texts.specs.TryCommand as try
 use Rattle.cli_texts.specs.declared.findings_form.FindingsForm.{FindingsForm}
 use Rattle.cli_texts.specs.declared.split_command.SplitSources.{SplitSources}
+use Rattle.cli_texts.specs.declared.subject.Subject.{Subject}
+use Rattle.cli_texts.specs.declared.subject.Subject.TheVariants.{File, Site}
 use Rattle.desk_findings.specs.declared.check_text.Gathered.{Gathered}
+use Rattle.desk_findings.specs.declared.check_faults.Source.{Source}
 use Rattle.desk_findings.specs.declared.check_text.WholeSources.{WholeSources}
 use Rattle.cli_questions.specs.AuditCommand as audit
 use Rattle.cli_questions.specs.QuestionCommands as question
@@ -170,11 +175,30 @@ tested tables content expected printed (inr is) = prints _ 3 printed not_3 is.pr
 
 -- ---- commands on texts
 
+-- the fault of a folder's file systems
+listed_fault : (source : Source) (read : Result (List Mount) TableFault) (printed : Printed) → systems.AnswersText source read (Err printed) → Fine (Ok printed)
+listed_fault source (Ok table) printed is = absurd is
+listed_fault source (Err fault) printed is = prints _ 3 printed not_3 is.prints
+
+systems_fault : (subject : Subject) (rows : List Row) (others : ℕ) (known : Option (List ℕ)) (printed : Printed) → systems.ReadsSystems subject rows others known (Ok (Err printed)) → Fine (Ok printed)
+systems_fault (File file) rows others known printed is = absurd is
+systems_fault (Site folder) rows others known printed is = listed_fault is.source (read_filesystems is.source.text.now) printed is.answers
+
+systems_by : (subject : Subject) (rows : List Row) (others : ℕ) (known : Option (List ℕ)) (Next : List Mount → Result Printed Failure → Type 0) (step : Result (Result (List Mount) Printed) Failure) (result : Result Printed Failure)
+    → systems.ReadsSystems subject rows others known step → Continues step (systems.ContinuesWith Next) result → ((table : List Mount) → Next table result → Fine result) → Fine result
+systems_by subject rows others known Next (Ok (Ok table)) result reads is each = each table is
+systems_by subject rows others known Next (Ok (Err printed)) result reads is each = subst Fine (sym is) (systems_fault subject rows others known printed reads)
+systems_by subject rows others known Next (Err failure) result reads is each = fails result failure is
+
+with_systems : (subject : Subject) (rows : List Row) (others : ℕ) (known : Option (List ℕ)) (Next : Option (List ℕ) → List Mount → Result Printed Failure → Type 0) (result : Result Printed Failure)
+    → systems.AfterSystems subject rows others known Next result → ((left : Option (List ℕ)) (table : List Mount) → Next left table result → Fine result) → Fine result
+with_systems subject rows others known Next result is each = systems_by subject rows others known (Next is.left) is.after.step result is.after.is is.after.next (each is.left)
+
 tries : (asking : Result Asking Failure) (rows : List Row) (known : Option (List ℕ)) (result : Result Printed Failure) → try.AnswersTryIf asking rows known result → Fine result
 tries (Err failure) rows known result is = fails result failure is
 tries (Ok asking) rows known result is =
-    word _ _ (first_of (codes "FILE") rows) result is (λ file is. after result is (λ request is. after result is (λ sources is. after result is (λ own is.
-    or_fault _ _ _ result is (λ printed is. tried is.tried printed is.prints)))))
+    after result is (λ subject is. after result is (λ request is. with_systems subject rows _ known _ result is (λ left table is. after result is (λ sources is. after result is (λ own is.
+    or_fault _ _ _ result is (λ printed is. tried is.tried printed is.prints))))))
 
 split_prints : (sources : SplitSources) (answer : Result (List ℕ) SplitFault) (printed : Printed) → split.PrintsSplit sources answer printed → Fine (Ok printed)
 split_prints sources (Ok body) printed is = prints _ 0 printed not_0 is.prints
@@ -188,26 +212,18 @@ splits rows known result is =
 found : (IsFound : Gathered → Type 0) (form : FindingsForm) (result : Result Printed Failure) → check.AnswersFound IsFound form result → Fine result
 found IsFound form result is = either _ _ result is (λ printed is. let shown = is.1.1 in prints _ _ printed (none_of shown.checked.passes 0 3 not_0 not_3) shown.prints.prints)
 
-checks_given : (file : Option (List ℕ)) (mounts : Option (List (List ℕ))) (rows : List Row) (known : Option (List ℕ)) (result : Result Printed Failure) → check.AnswersGiven file mounts rows known result → Fine result
-checks_given None mounts rows known result is = err_and _ result is
-checks_given (Some file) None rows known result is = err_and _ result is
-checks_given (Some file) (Some mounts) rows known result is = after result is (λ table is. after result is (λ sources is. found _ _ result is))
-
-checks_site : (beside : Option (List ℕ)) (opinions : Bool) (form : FindingsForm) (folder : List ℕ) (known : Option (List ℕ)) (result : Result Printed Failure) → check.AnswersSiteIf beside opinions form folder known result → Fine result
-checks_site (Some word) opinions form folder known result is = err_and _ result is
-checks_site None opinions form folder known result is = after result is (λ sources is. found _ _ result is)
-
-checks_by : (site : Option (List ℕ)) (rows : List Row) (known : Option (List ℕ)) (result : Result Printed Failure) → check.AnswersCheckBy site rows known result → Fine result
-checks_by (Some folder) rows known result is = checks_site (check.beside_site rows) (check.asks_opinions rows) (check.form_of rows) folder known result is
-checks_by None rows known result is = checks_given (first_of (codes "FILE") rows) (all_of (codes "MOUNT") rows) rows known result is
+checks_subject : (subject : Subject) (rows : List Row) (known : Option (List ℕ)) (result : Result Printed Failure) → check.AnswersSubject rows known subject result → Fine result
+checks_subject (File file) rows known result is = with_systems (File file) rows _ known _ result is (λ left table is. after result is (λ sources is. found _ _ result is))
+checks_subject (Site folder) rows known result is =
+    after result is (λ custodians is. after result is.after (λ both is. after result is.answers (λ sources is. found _ _ result is.answers)))
 
 checks : (option : Option (List ℕ)) (rows : List Row) (known : Option (List ℕ)) (result : Result Printed Failure) → check.AnswersCheckIf option rows known result → Fine result
 checks (Some option) rows known result is = err_and _ result is
-checks None rows known result is = checks_by (first_of (codes "site") rows) rows known result is
+checks None rows known result is = after result is (λ subject is. checks_subject subject rows known result is)
 
 lists_clients : (rows : List Row) (known : Option (List ℕ)) (result : Result Printed Failure) → clients.AnswersClients rows known result → Fine result
 lists_clients rows known result is =
-    word _ _ (first_of (codes "FILE") rows) result is (λ file is. after result is (λ path is. after result is (λ table is. after result is (λ sources is.
+    after result is (λ subject is. after result is (λ path is. with_systems subject rows _ known _ result is (λ left table is. after result is (λ sources is.
     or_fault _ _ _ result is (λ printed is. ranges _ is.policy path printed is.prints)))))
 
 compared : (before : Content) (read : Result Content SiteFault) (all : Bool) (printed : Printed) → compare.PrintsChanges before read all printed → Fine (Ok printed)
@@ -215,7 +231,7 @@ compared before read all printed is = prints _ _ printed (none_of _ 0 1 not_0 no
 
 compares : (rows : List Row) (known : Option (List ℕ)) (result : Result Printed Failure) → compare.AnswersCompare rows known result → Fine result
 compares rows known result is =
-    word _ _ (first_of (codes "OLD") rows) result is (λ old is. word _ _ (first_of (codes "NEW") rows) result is (λ new is. after result is (λ table is. after result is (λ sources is.
+    after result is (λ subject is. word _ _ (word_at subject (codes "OLD") (codes "NEW") rows) result is (λ new is. with_systems subject rows _ known _ result is (λ left table is. after result is (λ sources is.
     or_fault _ _ _ result is (λ printed is. elim is.prints [
       | inl changes ↦ compared _ _ _ printed changes
       | inr fault ↦ prints _ 3 printed not_3 fault.prints.prints
@@ -223,7 +239,7 @@ compares rows known result is =
 
 tests_texts : (rows : List Row) (known : Option (List ℕ)) (result : Result Printed Failure) → test.AnswersTest rows known result → Fine result
 tests_texts rows known result is =
-    word _ _ (first_of (codes "FILE") rows) result is (λ file is. word _ _ (first_of (codes "EXPECTATIONS") rows) result is (λ expectations is. after result is (λ table is. after result is (λ sources is.
+    after result is (λ subject is. word _ _ (word_at subject (codes "FILE") (codes "EXPECTATIONS") rows) result is (λ expectations is. with_systems subject rows _ known _ result is (λ left table is. after result is (λ sources is.
     or_fault _ _ _ result is (λ printed is. tested is.tables is.policy _ printed is.prints)))))
 
 -- ---- questions on a database

@@ -1,11 +1,8 @@
 -- Why a database is not opened. (this project's own)
-use Rattle.std.specs.Prelude.{ℕ, Bool, true, false, codes, List, IsTrue, if◌then◌else◌}
+use Rattle.std.specs.Prelude.{ℕ, Bool, true, false, codes, List, if◌then◌else◌}
 use Rattle.sqlite.specs.declared.error.Error.{Error}
 use Rattle.sqlite.specs.declared.error.Error.TheVariants.{SqliteFailure}
 use Rattle.sqlite.specs.declared.error.ErrorCode.TheVariants.{OutOfMemory, SystemIoFailure}
-use Rattle.sqlite_disk.specs.Memory.{memory_is_usable}
-use Rattle.sqlite_disk.specs.declared.Files.{Files}
-use Rattle.sqlite_disk.specs.declared.memory.Memory.{Memory}
 use Rattle.cli_output.specs.Failure.{IsUnread}
 use Rattle.cli_output.specs.declared.failure.Failure.TheVariants.{Memory as NoMemory}
 use Rattle.cli_database_files.specs.declared.copy.Unopened.{Unopened}
@@ -25,8 +22,3 @@ is_out_of_memory error = false
 -- why a copy in memory is not opened, by the error of SQLite
 abbrev pub copy_unopened : Error → Unopened
 copy_unopened error = if is_out_of_memory error then Unread NoMemory else Refused error
-
--- no sync of these files has failed
-pub record AreUsable (files : Files Memory) : Type 0 where
-  pub log : IsTrue (memory_is_usable files.log)
-  pub db : IsTrue (memory_is_usable files.db)

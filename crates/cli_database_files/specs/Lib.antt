@@ -1,3 +1,4 @@
+pub mod CopiedFile
 pub mod Copy
 pub mod Copying
 pub mod DatabaseFile

@@ -3,16 +3,17 @@
 ghost use Rattle.std.specs.Prelude.{◌≡◌, ℕ, codes, false, IfErr, IfOk, IfSome, List};
 ghost use Rattle.sqlite.specs.Files.{file_state};
 ghost use Rattle.cli_output.specs.Failure.{IsUnread};
-ghost use Rattle.cli_database_files.specs.Copy.{AreUsable, IsUnopened, copy_unopened, is_out_of_memory};
+ghost use Rattle.cli_database_files.specs.Copy.{IsUnopened, copy_unopened, is_out_of_memory};
 ghost use Rattle.cli_database_files.specs.Copying.{IsCopyFrom};
 
+use crate::copied_file::CopiedFile;
 use crate::copying::{Copying, Source};
 use crate::database_file::{BUSY, CANNOT_OPEN, is_plain, lock};
 use crate::obstacles::is_settled;
 use cli_output::failure::{Failure, ReadFailure};
 use os::RangeLock;
 use sqlite::{Connection, Error, ErrorCode, FileStore, Options};
-use sqlite_disk::{Files, Memory};
+use sqlite_disk::Files;
 use std::alloc::Global;
 use std::{fs, io};
 
@@ -20,7 +21,7 @@ use std::{fs, io};
 const MOST_TRIES: u32 = 100;
 
 /// A connection to a copy of a database in memory.
-pub type Copied = Connection<FileStore<Memory>>;
+pub type Copied = Connection<FileStore<CopiedFile>>;
 
 /// Why a database is not opened.
 #[derive(Drop)]
@@ -43,8 +44,7 @@ pub fn open_copy(rt: &HostRuntime, path: &str) -> Result<Copied, Unopened>
 }
 
 /// Opens a connection to files in memory.
-pub fn open_copied(alloc: Global, files: Files<Memory>) -> Result<Copied, Unopened>
-    requires { AreUsable files }
+pub fn open_copied(alloc: Global, files: Files<CopiedFile>) -> Result<Copied, Unopened>
     ensures settled { IfOk result (λ conn. (file_state conn).in_transaction ≡ false) }
     ensures unopened { (path : List ℕ) → IfErr result (IsUnopened path) }
 {
@@ -85,8 +85,7 @@ pub fn is_out_of_memory(error: Error) -> bool
 }
 
 /// Copies the files of a database into memory: the database file, and its log if there is one.
-fn copy_files(rt: &HostRuntime, path: &str) -> Result<Files<Memory>, Unopened>
-    ensures usable { IfOk result AreUsable }
+fn copy_files(rt: &HostRuntime, path: &str) -> Result<Files<CopiedFile>, Unopened>
     ensures unopened { IfErr result (IsUnopened path.now) }
 {
     match copy_locked(rt, path) {
@@ -108,9 +107,7 @@ pub fn unread(alloc: Global, path: &str, error: io::Error) -> Failure
 
 /// Copies the files: under the lock that SQLite's readers share or, if another has DB alone, beside it. If there is no log beside another,
 /// or it is written from its front on meanwhile, it begins again, up to a bound.
-fn copy_locked(rt: &HostRuntime, path: &str) -> io::Result<Result<Files<Memory>, Error>>
-    ensures { IfOk result (λ copied. IfOk copied AreUsable) }
-{
+fn copy_locked(rt: &HostRuntime, path: &str) -> io::Result<Result<Files<CopiedFile>, Error>> {
     for _ in 0..MOST_TRIES {
         match copy_once(rt, path) {
             Ok(Ok(Some(files))) => return Ok(Ok(files)),
@@ -124,9 +121,7 @@ fn copy_locked(rt: &HostRuntime, path: &str) -> io::Result<Result<Files<Memory>,
 
 /// Copies the files once. Gives none if there is no log beside another, if it was written from its front on meanwhile, or if other files took
 /// their names.
-fn copy_once(rt: &HostRuntime, path: &str) -> io::Result<Result<Option<Files<Memory>>, Error>>
-    ensures { IfOk result (λ copied. IfOk copied (λ files. IfSome files AreUsable)) }
-{
+fn copy_once(rt: &HostRuntime, path: &str) -> io::Result<Result<Option<Files<CopiedFile>>, Error>> {
     // As SQLite does, the log is looked for where a link leads.
     let real = fs::canonicalize(rt, path)?;
     if !is_plain(rt, real.as_str())? {
@@ -145,9 +140,7 @@ pub fn copy_under_lock(
     rt: &HostRuntime,
     real: &str,
     file: &fs::File,
-) -> io::Result<Result<Files<Memory>, Error>>
-    ensures { IfOk result (λ copied. IfOk copied AreUsable) }
-{
+) -> io::Result<Result<Files<CopiedFile>, Error>> {
     match copy_files_of(rt, real, file, false) {
         Ok(Ok(Some(files))) => Ok(Ok(files)),
         Ok(Ok(None)) => Ok(Err(BUSY)),
@@ -162,9 +155,7 @@ fn copy_files_of(
     real: &str,
     file: &fs::File,
     beside: bool,
-) -> io::Result<Result<Option<Files<Memory>>, Error>>
-    ensures { IfOk result (λ copied. IfOk copied (λ files. IfSome files AreUsable)) }
-{
+) -> io::Result<Result<Option<Files<CopiedFile>>, Error>> {
     let journal = format!(in rt.alloc(); "{real}-journal")?;
     if !is_settled(rt, journal.as_str())? {
         return Ok(Err(CANNOT_OPEN));
@@ -205,9 +196,8 @@ fn copy_rest<D: Source, L: Source + Drop>(
     db: &D,
     db_path: &str,
     log_path: &str,
-) -> io::Result<Option<Files<Memory>>>
-    ensures usable { IfOk result (λ copied. IfSome copied AreUsable) }
-    ensures copied { IfOk result (λ copied. IfSome copied (IsCopyFrom D.Source.gives L.Source.gives db.now begun.log begun.before.items)) }
+) -> io::Result<Option<Files<CopiedFile>>>
+    ensures { IfOk result (λ copied. IfSome copied (IsCopyFrom D.Source.gives L.Source.gives db.now begun.log begun.before.items)) }
 {
     let mut copying = begun;
     copying.read_db(db)?;

@@ -10,13 +10,12 @@
 //! 4. Where nobody can write, since SQLite's lock is shared, a log without a header, or none at all, is one without a commit. Where
 //!    somebody may, such a log is about to be made, so nothing is copied.
 
-ghost use Rattle.std.specs.Prelude.{◌≡◌, ℕ, IfOk, IfSome, IsTrue, List, OnOk};
-ghost use Rattle.sqlite_disk.specs.Memory.{memory_is_usable};
-ghost use Rattle.cli_database_files.specs.Copy.{AreUsable};
-ghost use Rattle.cli_database_files.specs.Copying.{HasBytes, IsCopyOf, LogGives, everything, header_len};
+ghost use Rattle.std.specs.Prelude.{◌≡◌, ℕ, IfOk, IfSome, List, OnOk};
+ghost use Rattle.cli_database_files.specs.Copying.{IsCopyOf, LogGives, everything, header_len};
 
+use crate::copied_file::CopiedFile;
 use crate::kept::{HEADER_LEN, kept};
-use sqlite_disk::{Disk, Files, Memory};
+use sqlite_disk::Files;
 use std::alloc::Global;
 use std::io::{Read, Seek, SeekFrom};
 use std::os::unix::fs::MetadataExt;
@@ -41,7 +40,9 @@ impl Source for fs::File {
     fn read_front(&self, alloc: Global, most: u64) -> io::Result<Vec<u8>> {
         let mut reader = self;
         reader.seek(SeekFrom::Start(0))?;
-        let mut bytes = Vec::new(alloc);
+        // There is room for the whole file, and for one byte more, so that its end is found without more room.
+        let len = self.metadata()?.len().min(most);
+        let mut bytes = Vec::with_capacity(alloc, (len as usize).saturating_add(1))?;
         reader.take(most).read_to_end(&mut bytes)?;
         Ok(bytes)
     }
@@ -125,16 +126,15 @@ impl<L: Source + Drop> Copying<L> {
     }
 
     /// Ends: gives the copy of DB and of what stays of the log; none if the log was written from its front on meanwhile, or if the names
-    /// lead to other files.
+    /// lead to other files. (What was read becomes the copy, so that no byte of it stands twice.)
     pub fn end<D: Source>(
         self,
         rt: &HostRuntime,
         db: &D,
         db_path: &str,
         log_path: &str,
-    ) -> io::Result<Option<Files<Memory>>>
-        ensures usable { IfOk result (λ copied. IfSome copied AreUsable) }
-        ensures copied { IfOk result (λ copied. IfSome copied (IsCopyOf L.Source.gives self)) }
+    ) -> io::Result<Option<Files<CopiedFile>>>
+        ensures { IfOk result (λ copied. IfSome copied (IsCopyOf L.Source.gives self)) }
     {
         let after = read_if_any(self.alloc, &self.log, HEADER_LEN as u64)?;
         let Some(log_bytes) = kept(
@@ -145,12 +145,16 @@ impl<L: Source + Drop> Copying<L> {
         ) else {
             return Ok(None);
         };
+        let log_len = log_bytes.len();
         if !db.is_at(rt, db_path)? || !is_log_at(rt, log_path, &self.log)? {
             return Ok(None);
         }
-        let log = in_memory(self.alloc, log_bytes)?;
-        let db = in_memory(self.alloc, self.db_bytes.as_slice())?;
-        Ok(Some(Files { log, db }))
+        let mut log = self.first;
+        log.truncate(log_len);
+        Ok(Some(Files {
+            log: CopiedFile::of(log),
+            db: CopiedFile::of(self.db_bytes),
+        }))
     }
 
     /// Tells whether the log had a header at first.
@@ -184,14 +188,4 @@ fn is_free(rt: &HostRuntime, path: &str) -> io::Result<bool> {
         Err(error) if error.kind() == io::ErrorKind::NotFound => Ok(true),
         Err(error) => Err(error),
     }
-}
-
-/// Returns a file in memory with these bytes.
-fn in_memory(alloc: Global, bytes: &[u8]) -> io::Result<Memory>
-    ensures usable { IfOk result (λ copy. IsTrue (memory_is_usable copy)) }
-    ensures bytes { IfOk result (HasBytes bytes.now) }
-{
-    let mut copy = Memory::new(alloc);
-    copy.write_at(0, bytes)?;
-    Ok(copy)
 }

@@ -14,13 +14,7 @@ use Rattle.cli_output.specs.declared.printed.Printed.{Printed}
 -- the exit status of an edit that is refused: 3 for the fault of a site, else 1
 abbrev pub refusal_status : Refusal → ℕ
 refusal_status (refusal.Fault fault) = 3
-refusal_status (refusal.Stale newest) = 1
-refusal_status refusal.UnknownCaller = 1
-refusal_status refusal.BadKey = 1
-refusal_status refusal.UnknownFile = 1
-refusal_status refusal.NotCustodian = 1
-refusal_status refusal.TooLarge = 1
-refusal_status refusal.Full = 1
+refusal_status refused = 1
 
 -- the exit status
 abbrev pub refused_status : Refused → ℕ

@@ -26,6 +26,7 @@ use crate::View;
 use crate::refusal_notes::{
     not_opened_at, not_writable, refused_by_copy, refused_by_desk, refused_by_schema,
 };
+use cli_database_files::copied_file::CopiedFile;
 use cli_database_files::copy::{Copied, Unopened, open_copy, unread};
 use cli_database_files::database_file::{CANNOT_OPEN, is_plain};
 use cli_database_files::log_file::remove_log;
@@ -37,13 +38,12 @@ use desk_policy::PolicyView;
 use desk_service::{Replies, put};
 use desk_store::{Desk, DeskError};
 use sqlite::{Alter, Connection, Error, FileFrom, FileStore, Start};
-use sqlite_disk::Memory;
 use std::alloc::Global;
 use std::fs::OpenOptions;
 use std::{fs, io};
 
 /// A desk on a copy of a database in memory.
-pub type CopiedDesk = Desk<FileStore<Memory>, View>;
+pub type CopiedDesk = Desk<FileStore<CopiedFile>, View>;
 
 /// Opens a desk on a copy of the database at a path; or prints why there is none. Of version 1, the copy alone is migrated.
 pub fn open_copied_desk(rt: &HostRuntime, db: &str) -> Result<CopiedDesk, Result<Printed, Failure>>

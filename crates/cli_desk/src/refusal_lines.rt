@@ -27,16 +27,7 @@ fn refused_status(why: &Refused) -> u8
 {
     match why {
         Refused::Edit(Refusal::Fault(_)) => 3,
-        Refused::Edit(
-            Refusal::UnknownCaller
-            | Refusal::BadKey
-            | Refusal::UnknownFile
-            | Refusal::NotCustodian
-            | Refusal::TooLarge
-            | Refusal::Stale(_)
-            | Refusal::Full,
-        ) => 1,
-        Refused::NoRevision => 1,
+        Refused::Edit(_) | Refused::NoRevision => 1,
         Refused::Store | Refused::Schema | Refused::Memory => 4,
     }
 }

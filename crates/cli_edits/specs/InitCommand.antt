@@ -41,8 +41,7 @@ use Rattle.cli_output.specs.declared.failure.Failure.{Failure}
 use Rattle.cli_output.specs.declared.failure.Failure.TheVariants.{Memory}
 use Rattle.cli_output.specs.declared.printed.Printed.{Printed}
 use Rattle.cli_words.specs.Words.{After, ByWord}
-use Rattle.cli_files.specs.Files.{ReadsInTurn}
-use Rattle.cli_files.specs.SiteFolder.{site_paths, site_words}
+use Rattle.cli_files.specs.SiteFolder.{ReadsSite, path_in, site_paths}
 use Rattle.cli_desk.specs.RefusalLines.{IsRefused, filed_line}
 use Rattle.cli_edits.specs.declared.init_command.NotMade.{NotMade}
 use Rattle.cli_edits.specs.declared.init_command.NotMade.TheVariants as not_made
@@ -196,9 +195,10 @@ AnswersInitTexts (custodians ∷ filesystems ∷ hosts ∷ networks ∷ passwd �
     AnswersInitBy (custodians ∷ filesystems ∷ hosts ∷ networks ∷ passwd ∷ group ∷ netgroup ∷ []) exports (read_filesystems filesystems) result
 AnswersInitTexts texts result = ⊥
 
--- the answer of `init` by the files in the folder at this path, or why one has no text; out of memory says nothing
+-- the answer of `init` by the files in the folder at this path, or why one has no text; the text of its file systems may be that of its
+-- mount points. Out of memory says nothing.
 abbrev pub AnswersInitDir : List ℕ → Option (List ℕ) → Result Printed Failure → Type 0
-AnswersInitDir dir known result = (result ≡ Err Memory) ⊎ After (ReadsInTurn (site_words (codes "DIR") (site_paths dir)) known) AnswersInitTexts result
+AnswersInitDir dir known result = (result ≡ Err Memory) ⊎ After (ReadsSite (codes "DIR") (site_paths dir) (path_in dir (codes "mounts")) known) AnswersInitTexts result
 
 -- the answer of `init` to its words
 abbrev pub AnswersInit : List Row → Option (List ℕ) → Result Printed Failure → Type 0

@@ -25,7 +25,7 @@ use cli_desk::refusal_lines::{filed_line, refused};
 use cli_desk::refusal_notes::{
     not_opened_at, not_writable, obstructed, refused_by_store, refused_by_table, too_large_note,
 };
-use cli_files::site_folder::{SiteFiles, paths_of, read_texts, sources_of};
+use cli_files::site_folder::{SiteFiles, mounts_path, paths_of, read_texts, sources_of};
 use cli_output::failure::Failure;
 use cli_output::printed::Printed;
 use cli_words::words::required;
@@ -47,7 +47,8 @@ use std::collections::BTreeMap;
 use std::io;
 use std::io::BufRead;
 
-/// Answers `init DB DIR`.
+/// Answers `init DB DIR`. If the folder has no file of file systems, their first revision lists the mount points of its file `mounts`,
+/// which `site` keeps.
 pub fn run_init<I: BufRead>(
     rt: &HostRuntime,
     words: &ArgMatches<'_>,
@@ -58,7 +59,8 @@ pub fn run_init<I: BufRead>(
     let db = required(words, "DB")?;
     let dir = required(words, "DIR")?;
     let paths = paths_of(rt.alloc(), dir)?;
-    let texts = read_texts(rt, "DIR", &paths, input)?;
+    let mounts = mounts_path(rt.alloc(), dir)?;
+    let texts = read_texts(rt, "DIR", &paths, mounts.as_str(), input)?;
     split_texts(rt, db, &paths, &texts)
 }
 

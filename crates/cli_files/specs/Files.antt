@@ -71,6 +71,14 @@ module _ {A : Type 0} where
   ReadsIfGiven argument word known (Ok text) = HasTextIfGiven argument word known (string_bytes text)
   ReadsIfGiven argument word known (Err failure) = LacksTextIfGiven argument word known failure
 
+module _ {A : Type 0} where
+  -- the text of a file, if there is such a file, or why it has none; which files there are only the system knows, and standard input
+  -- is always there
+  abbrev pub ReadsIfThere : List ℕ → List ℕ → Option (List ℕ) → Result (Option (String A)) Failure → Type 0
+  ReadsIfThere argument word known (Ok (Some text)) = HasText argument word known (string_bytes text)
+  ReadsIfThere argument word known (Ok None) = word ≢ codes "-"
+  ReadsIfThere argument word known (Err failure) = LacksText argument word known failure
+
 -- The texts of files that are read in turn, each from the input that those before it leave; or why the first without a text
 -- has none.
 abbrev pub ReadsInTurn : List (List ℕ × Option (List ℕ)) → Option (List ℕ) → Result (List (List ℕ)) Failure → Type 0

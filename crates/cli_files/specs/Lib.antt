@@ -1,3 +1,5 @@
 pub mod Files
 pub mod Input
+pub mod MountsFile
+pub mod FolderSystems
 pub mod SiteFolder

@@ -1,9 +1,12 @@
 -- The files in the folder of a site. (this project's own)
-use Rattle.std.specs.Prelude.{ℕ, ◌==◌, ◌-◌, ◌≤◌, ◌++◌, Bool, true, List, [], ◌∷◌, Option, Some, codes, length, map, slice_get, if◌then◌else◌}
+use Rattle.std.specs.Prelude.{◌⊎◌, ℕ, ◌==◌, ◌-◌, ◌≤◌, ◌++◌, Bool, true, List, [], ◌∷◌, Option, Some, Result, Ok, Err, codes, length, map, slice_get, if◌then◌else◌}
 use Rattle.std.specs.Option.{option_map_or}
 use Rattle.std.specs.String.{string_bytes}
 use Rattle.desk_policy.specs.SiteFile.{all_files, file_name}
 use Rattle.desk_findings.specs.declared.check_site.SiteSources.{SiteSources}
+use Rattle.cli_output.specs.declared.failure.Failure.{Failure}
+use Rattle.cli_files.specs.Files.{HasText, LacksText, Leaves, ReadsInTurn}
+use Rattle.cli_files.specs.FolderSystems.{LeavesBehind, ReadsSystemsText, systems_at}
 use Rattle.cli_files.specs.declared.site_folder.SiteFiles.{SiteFiles}
 
 -- a name may follow the path of a folder as it is: that ends with a slash, or is empty
@@ -46,3 +49,18 @@ site_paths_in sources =
 abbrev pub site_texts_in : SiteSources → List (List ℕ)
 site_texts_in sources =
     sources.custodians.text.now ∷ sources.filesystems.text.now ∷ sources.whole.tables.hosts.text.now ∷ sources.whole.tables.networks.text.now ∷ sources.whole.tables.passwd.text.now ∷ sources.whole.tables.group.text.now ∷ sources.whole.tables.netgroup.text.now ∷ sources.whole.exports.text.now ∷ []
+
+-- The texts of a site's files, which are read in turn; that of the file systems, the second, may be that of the mount points in the file
+-- mounts. Or why the first without a text has none.
+abbrev pub ReadsSite : List ℕ → List (List ℕ) → List ℕ → Option (List ℕ) → Result (List (List ℕ)) Failure → Type 0
+ReadsSite argument (custodians ∷ filesystems ∷ rest) mounts known (Ok (first ∷ second ∷ texts)) =
+    HasText argument custodians known first × ((left : Option (List ℕ)) × (Leaves (Some custodians) known left
+    × (ReadsSystemsText argument (systems_at filesystems mounts) (Ok second)
+    × ((after : Option (List ℕ)) × (LeavesBehind (systems_at filesystems mounts) left after × ReadsInTurn (site_words argument rest) after (Ok texts))))))
+ReadsSite argument (custodians ∷ filesystems ∷ rest) mounts known (Err failure) =
+    LacksText argument custodians known failure
+    ⊎ ((first : List ℕ) × (left : Option (List ℕ)) × (HasText argument custodians known first × (Leaves (Some custodians) known left
+    × (ReadsSystemsText argument (systems_at filesystems mounts) (Err failure)
+    ⊎ ((second : List ℕ) × (after : Option (List ℕ)) × (ReadsSystemsText argument (systems_at filesystems mounts) (Ok second)
+    × (LeavesBehind (systems_at filesystems mounts) left after × ReadsInTurn (site_words argument rest) after (Err failure))))))))
+ReadsSite argument paths mounts known result = ⊥

@@ -1,11 +1,11 @@
 //! The files that words name, read whole as texts. A failure names the argument as the usage does.
 
-ghost use Rattle.std.specs.Prelude.{◌≡◌, ◌≢◌, ◌≤◌, ◌==◌, IfErr, IfOk, IfSome, codes, length, take};
+ghost use Rattle.std.specs.Prelude.{◌≡◌, ◌≢◌, ◌≤◌, ◌==◌, IfErr, IfOk, IfSome, Some, codes, length, take};
 ghost use Rattle.std.specs.String.{string_bytes};
 ghost use Rattle.cli_files.specs.Files as spec;
 ghost use Rattle.std.specs.Option.{option_map};
 ghost use Rattle.cli_output.specs.Failure.{IsUnread};
-ghost use Rattle.cli_files.specs.Files.{Leaves, ReadsIfGiven, ReadsNamed, ReadsText};
+ghost use Rattle.cli_files.specs.Files.{Leaves, ReadsIfGiven, ReadsIfThere, ReadsNamed, ReadsText};
 
 use crate::input::{read_bytes, text_of};
 use crate::opening::Opens;
@@ -69,6 +69,47 @@ pub fn read_if_given<I: BufRead>(
     match word {
         Some(word) => read_text(rt, argument, word, input),
         None => Ok(String::new(rt.alloc())),
+    }
+}
+
+/// Reads the text of the file that a word names, if there is such a file. Standard input is always there.
+pub fn read_if_there<I: BufRead>(
+    rt: &HostRuntime,
+    argument: &'static str,
+    word: &str,
+    input: &mut I,
+) -> Result<Option<String>, Failure>
+    ensures text { ReadsIfThere argument.now word.now (I.remaining input.old) result }
+    ensures short { IfOk result (λ found. IfSome found (λ text. length (string_bytes text) ≤ 16777216)) }
+    ensures untouched { word.now ≢ codes "-" → input.new ≡ input.old }
+{
+    match read_text(rt, argument, word, input) {
+        Ok(text) => Ok(Some(text)),
+        Err(failure) => {
+            if !is_input(word) && failure.is_of_missing_file() {
+                drop(failure);
+                return Ok(None);
+            }
+            Err(failure)
+        }
+    }
+}
+
+/// Reads the text of the file that a word names, or the empty text if there is no such file.
+pub fn read_or_empty<I: BufRead>(
+    rt: &HostRuntime,
+    argument: &'static str,
+    word: &str,
+    input: &mut I,
+) -> Result<String, Failure>
+    ensures text { ReadsIfGiven argument.now (Some word.now) (I.remaining input.old) result }
+    ensures short { IfOk result (λ text. length (string_bytes text) ≤ 16777216) }
+    ensures left { Leaves (Some word.now) (I.remaining input.old) (I.remaining input.new) }
+{
+    match read_if_there(rt, argument, word, input) {
+        Ok(Some(text)) => Ok(text),
+        Ok(None) => Ok(String::new(rt.alloc())),
+        Err(failure) => Err(failure),
     }
 }
 

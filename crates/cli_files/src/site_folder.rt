@@ -4,10 +4,12 @@ ghost use Rattle.std.specs.Prelude.{◌≡◌, ◌≤◌, ◌++◌, IfOk, Some, 
 ghost use Rattle.std.specs.Result.{result_map_both};
 ghost use Rattle.std.specs.String.{string_bytes};
 ghost use Rattle.desk_policy.specs.SiteFile.{file_name};
-ghost use Rattle.cli_files.specs.Files.{Leaves, ReadsIfGiven, ReadsInTurn};
-ghost use Rattle.cli_files.specs.SiteFolder.{AreShortFiles, needs_no_slash, path_in, site_list, site_paths, site_paths_in, site_texts_in, site_words};
+ghost use Rattle.cli_files.specs.Files.{Leaves, ReadsIfGiven};
+ghost use Rattle.cli_files.specs.FolderSystems.{LeavesBehind, ReadsSystemsText, systems_at};
+ghost use Rattle.cli_files.specs.SiteFolder.{AreShortFiles, ReadsSite, needs_no_slash, path_in, site_list, site_paths, site_paths_in, site_texts_in};
 
 use crate::files::read_if_given;
+use crate::folder_systems::{SystemsFiles, read_systems_text};
 use cli_output::failure::Failure;
 use desk_findings::{SiteSources, Source, WholeSources};
 use desk_policy::{PerTable, SiteFile};
@@ -110,18 +112,27 @@ fn needs_no_slash(folder: &str) -> bool
     }
 }
 
-/// Reads the files of these paths.
+/// Makes the path of the file of mount points in a folder.
+pub fn mounts_path(alloc: Global, folder: &str) -> Result<String, AllocError>
+    ensures { IfOk result (λ path. string_bytes path ≡ path_in folder.now (codes "mounts")) }
+{
+    path_in(alloc, folder, "mounts")
+}
+
+/// Reads the files of these paths. If there is no file of file systems, its text is that of the mount points in the file `mounts`,
+/// which `site` keeps.
 pub fn read_texts<I: BufRead>(
     rt: &HostRuntime,
     argument: &'static str,
     paths: &SiteFiles,
+    mounts: &str,
     input: &mut I,
 ) -> Result<SiteFiles, Failure>
-    ensures texts { ReadsInTurn (site_words argument.now (site_list paths.now)) (I.remaining input.old) (result_map_both site_list (λ failure. failure) result) }
+    ensures texts { ReadsSite argument.now (site_list paths.now) mounts.now (I.remaining input.old) (result_map_both site_list (λ failure. failure) result) }
     ensures short { IfOk result AreShortFiles }
 {
     let custodians = read_file(rt, argument, &paths.custodians, input)?;
-    let filesystems = read_file(rt, argument, &paths.filesystems, input)?;
+    let filesystems = read_filesystems(rt, argument, paths, mounts, input)?;
     let hosts = read_file(rt, argument, &paths.hosts, input)?;
     let networks = read_file(rt, argument, &paths.networks, input)?;
     let passwd = read_file(rt, argument, &paths.passwd, input)?;
@@ -138,6 +149,25 @@ pub fn read_texts<I: BufRead>(
         netgroup,
         exports,
     })
+}
+
+/// Reads the text of the file systems of these paths.
+fn read_filesystems<I: BufRead>(
+    rt: &HostRuntime,
+    argument: &'static str,
+    paths: &SiteFiles,
+    mounts: &str,
+    input: &mut I,
+) -> Result<String, Failure>
+    ensures text { ReadsSystemsText argument.now (systems_at (string_bytes paths.now.filesystems) mounts.now) (result_map_both string_bytes (λ failure. failure) result) }
+    ensures short { IfOk result (λ text. length (string_bytes text) ≤ 16777216) }
+    ensures left { LeavesBehind (systems_at (string_bytes paths.now.filesystems) mounts.now) (I.remaining input.old) (I.remaining input.new) }
+{
+    let files = SystemsFiles {
+        filesystems: paths.filesystems.as_str(),
+        mounts,
+    };
+    read_systems_text(rt, argument, files, input)
 }
 
 /// Reads the file of this path.

@@ -5,7 +5,7 @@ use Rattle.cli_output.specs.declared.bad_argument.ArgumentFault.{ArgumentFault}
 use Rattle.cli_output.specs.declared.failure.Failure.{Failure}
 use Rattle.cli_output.specs.declared.failure.Failure.TheVariants.{Argument, File, FirstLine, Memory, Missing}
 use Rattle.cli_output.specs.declared.failure.ReadFailure.{ReadFailure}
-use Rattle.cli_output.specs.declared.failure.ReadFailure.TheVariants.{System, Text}
+use Rattle.cli_output.specs.declared.failure.ReadFailure.TheVariants.{System, Text, Mounts}
 
 -- the failure names this argument, as the usage does, with its word and the fault; out of memory says nothing
 abbrev pub IsRefusal : List ℕ → List ℕ → ArgumentFault → Failure → Type 0
@@ -28,6 +28,7 @@ IsFileFailure argument word reason failure = ⊥
 abbrev pub IsSystem : ReadFailure → Type 0
 IsSystem (System error) = Unit {0}
 IsSystem (Text fault) = ⊥
+IsSystem (Mounts fault) = ⊥
 
 -- the failure says that the system could not read the first line; out of memory says nothing
 abbrev pub IsUnreadLine : Failure → Type 0

@@ -6,6 +6,7 @@ ghost use Rattle.cli_output.specs.Failure.{IsFileFailure, IsMissing, IsRefusal, 
 ghost use Rattle.cli_output.specs.declared.failure.Failure.TheVariants.{Memory};
 
 use crate::bad_argument::{ArgumentFault, BadArgument};
+use desk_mounts::MountsFault;
 use std::alloc::{AllocError, AllocFailed, Global};
 use std::io::ErrorKind;
 use std::{fmt, io};
@@ -37,8 +38,10 @@ pub enum Failure {
     BesideSarif(&'static str),
     /// An argument cannot be parsed.
     Argument(BadArgument),
-    /// There are more than 256 different mount points.
-    TooManyMounts,
+    /// MOUNT is given beside `--mounts`.
+    BesideMounts,
+    /// There are more than 256 different mount points: the argument that gives them, as the usage names it, and how many there are.
+    TooManyMounts(&'static str, usize),
     /// The first line of standard input cannot be read.
     FirstLine(ReadFailure),
     /// Two files are both to be standard input.
@@ -70,6 +73,8 @@ pub enum TextFault {
 pub enum ReadFailure {
     System(io::Error),
     Text(TextFault),
+    /// It is a text, but a line does not list a mount point.
+    Mounts(MountsFault),
 }
 
 impl From<AllocError> for Failure {
@@ -95,6 +100,16 @@ impl<T: Drop> From<AllocFailed<T>> for Failure {
 }
 
 impl Failure {
+    /// Tests whether a file is not there.
+    pub fn is_of_missing_file(&self) -> bool {
+        match self {
+            Failure::File(_, _, ReadFailure::System(error)) => {
+                matches!(error.kind(), ErrorKind::NotFound)
+            }
+            _ => false,
+        }
+    }
+
     /// Returns the failure of an argument that cannot be parsed.
     pub fn of_argument(
         alloc: Global,
@@ -204,7 +219,13 @@ impl fmt::Display for Failure {
             Failure::BesideWhy => f.write_str("--mountd: it cannot be given with --why"),
             Failure::BesideSarif(name) => write!(f, "{name}: it cannot be given with --sarif"),
             Failure::Argument(bad) => bad.fmt(f),
-            Failure::TooManyMounts => f.write_str("MOUNT: over 256 different mount points"),
+            Failure::BesideMounts => f.write_str("MOUNT: it cannot be given with --mounts"),
+            Failure::TooManyMounts(name, count) => {
+                write!(
+                    f,
+                    "{name}: over 256 different mount points: there are {count}"
+                )
+            }
             Failure::FirstLine(failure) => failure.fmt(f),
             Failure::InputTwice => f.write_str("two files cannot both be standard input"),
             Failure::KeyTwice => f.write_str("--key and --key-file: only one of them can be given"),
@@ -234,6 +255,18 @@ impl fmt::Display for ReadFailure {
             ReadFailure::Text(TextFault::NotUtf8 { line, column }) => {
                 write!(f, "line {line}, column {column}: it is not UTF-8")
             }
+            ReadFailure::Mounts(fault) => fmt_mounts_fault(*fault, f),
         }
     }
+}
+
+/// Writes where a text of mount points has a fault, and which.
+fn fmt_mounts_fault<W: fmt::Write>(fault: MountsFault, f: &mut fmt::Formatter<W>) -> fmt::Result {
+    let (line, rule) = (fault.line, fault.rule);
+    write!(f, "line {line}")?;
+    if let Some(word) = rule.word() {
+        write!(f, ", word {word}")?;
+    }
+    let (number, name) = (rule.number(), rule.name());
+    write!(f, ": fault {number} {name}: {rule}")
 }

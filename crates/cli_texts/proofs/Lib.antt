@@ -1,3 +1,5 @@
 pub mod FilesInTurn
 pub mod FoundWords
 pub mod Viewed
+pub mod AskedSystems
+pub mod Custodians

@@ -1,27 +1,33 @@
 -- What `check` prints, by its words and files. (this project's own)
-use Rattle.std.specs.Prelude.{◌≡◌, ◌⊎◌, ◌++◌, ℕ, Bool, List, [], ◌∷◌, Option, Some, None, Result, Ok, Err, IsErrAnd, MatchResult, codes, find, is_some, option_map, if◌then◌else◌}
+use Rattle.std.specs.Prelude.{◌≡◌, ◌≢◌, ◌++◌, ℕ, Bool, List, [], ◌∷◌, Option, Some, None, Result, Ok, Err, IsErrAnd, MatchResult, codes, if◌then◌else◌}
 use Rattle.std.specs.String.{string_bytes}
-use Rattle.clap.specs.Words.{Row, all_of, first_of}
+use Rattle.clap.specs.Words.{Row}
 use Rattle.desk_tables.specs.declared.filesystems.Mount.{Mount}
-use Rattle.desk_findings.specs.CheckSite.{GathersSite}
+use Rattle.desk_findings.specs.CheckFolder.{GathersFolder, Listed, Mounted, Systems}
 use Rattle.desk_findings.specs.CheckText.{Gathers}
-use Rattle.desk_findings.specs.declared.check_site.SiteSources.{SiteSources}
+use Rattle.desk_findings.specs.declared.check_faults.Source.{Source}
 use Rattle.desk_findings.specs.declared.check_text.Gathered.{Gathered}
 use Rattle.desk_findings.specs.declared.check_text.WholeSources.{WholeSources}
 use Rattle.desk_check.specs.declared.check_report.Checked.{Checked}
-use Rattle.cli_output.specs.Failure.{IsMissing}
 use Rattle.cli_output.specs.Printed.{Prints}
 use Rattle.cli_output.specs.declared.failure.Failure.{Failure}
-use Rattle.cli_output.specs.declared.failure.Failure.TheVariants.{BesideSarif, BesideSite, Memory}
+use Rattle.cli_output.specs.declared.failure.Failure.TheVariants.{BesideSarif, Memory}
 use Rattle.cli_output.specs.declared.printed.Printed.{Printed}
-use Rattle.cli_files.specs.Files.{ReadsInTurn}
-use Rattle.cli_files.specs.SiteFolder.{site_paths, site_paths_in, site_texts_in, site_words}
+use Rattle.cli_files.specs.Files.{HasText, LacksText}
+use Rattle.cli_files.specs.FolderSystems.{LeavesBehind, ReadsSystems}
+use Rattle.cli_files.specs.declared.folder_systems.FolderSystems.{FolderSystems}
+use Rattle.cli_files.specs.declared.folder_systems.FolderSystems.TheVariants as folder_systems
 use Rattle.cli_words.specs.Words.{After, is_set}
 use Rattle.cli_texts.specs.FindingsForm.{ReportsIn}
-use Rattle.cli_texts.specs.declared.findings_form.FindingsForm.{FindingsForm}
-use Rattle.cli_texts.specs.MountWords.{ReadsTable}
-use Rattle.cli_texts.specs.TableFiles.{ReadsSources, table_files}
+use Rattle.cli_texts.specs.Subject.{ReadsSubject, places}
+use Rattle.cli_texts.specs.Systems.{AfterSystems, files_of}
+use Rattle.cli_texts.specs.TableFiles.{ReadsSources, input_count}
 use Rattle.cli_texts.specs.WholeFiles.{whole_files, whole_list}
+use Rattle.cli_texts.specs.declared.check_site_files.CheckAsked.{CheckAsked}
+use Rattle.cli_texts.specs.declared.findings_form.FindingsForm.{FindingsForm}
+use Rattle.cli_texts.specs.declared.subject.SiteFolder.{SiteFolder}
+use Rattle.cli_texts.specs.declared.subject.Subject.{Subject}
+use Rattle.cli_texts.specs.declared.subject.Subject.TheVariants.{File, Site}
 
 -- the form in which the words ask for the findings
 abbrev pub form_of : List Row → FindingsForm
@@ -55,47 +61,70 @@ abbrev pub AnswersTexts : Bool → FindingsForm → List Mount → WholeSources 
 AnswersTexts opinions form table sources result = AnswersFound (Gathers opinions sources table) form result
 
 -- the answer with these file systems: the files are read after them
-abbrev pub AnswersByFiles : List Row → Option (List ℕ) → List ℕ → List Mount → Result Printed Failure → Type 0
-AnswersByFiles rows known file table result = After (ReadsSources whole_list (whole_files rows file) known) (AnswersTexts (asks_opinions rows) (form_of rows) table) result
+abbrev pub AnswersByFiles : List Row → List (List ℕ × Option (List ℕ)) → Option (List ℕ) → List Mount → Result Printed Failure → Type 0
+AnswersByFiles rows files known table result = After (ReadsSources whole_list files known) (AnswersTexts (asks_opinions rows) (form_of rows) table) result
 
--- the answer without `--site`: FILE and MOUNT.. have to be given
-abbrev pub AnswersGiven : Option (List ℕ) → Option (List (List ℕ)) → List Row → Option (List ℕ) → Result Printed Failure → Type 0
-AnswersGiven None mounts rows known result = IsErrAnd result (IsMissing (codes "FILE"))
-AnswersGiven (Some file) None rows known result = IsErrAnd result (IsMissing (codes "MOUNT"))
-AnswersGiven (Some file) (Some mounts) rows known result = After (ReadsTable mounts) (AnswersByFiles rows known file) result
+-- the answer about a file: MOUNT or `--mounts` has to be given
+abbrev pub AnswersGiven : Subject → List Row → List (List ℕ × Option (List ℕ)) → Option (List ℕ) → Result Printed Failure → Type 0
+AnswersGiven subject rows files known result = AfterSystems subject rows (input_count files) known (λ left. AnswersByFiles rows files left) result
 
--- the first of the files that cannot be given with `--site`, by the argument that names it
-abbrev pub beside_site : List Row → Option (List ℕ)
-beside_site rows = option_map (λ file. file.0) (find (λ file. is_some file.1) ((codes "FILE", first_of (codes "FILE") rows) ∷ table_files rows))
+-- the answer by the texts of a folder, with opinions or without
+abbrev pub AnswersFolderTexts : CheckAsked → Systems → WholeSources → Result Printed Failure → Type 0
+AnswersFolderTexts asked systems sources result = AnswersFound (GathersFolder asked.opinions asked.custodians systems sources) asked.form result
 
--- the failure names a word that cannot be given with `--site`
-abbrev pub IsBesideSite : List ℕ → Failure → Type 0
-IsBesideSite word (BesideSite name) = name.now ≡ word
-IsBesideSite word failure = ⊥
+-- the file systems of a folder, with the path of their text
+abbrev pub AreSystems : SiteFolder → FolderSystems → Systems → Type 0
+AreSystems folder (folder_systems.Listed text) (Listed source) = (source.path.now ≡ string_bytes folder.paths.filesystems) × (source.text.now ≡ string_bytes text)
+AreSystems folder (folder_systems.Mounted table) (Mounted made) = made ≡ table
+AreSystems folder systems made = ⊥
 
--- the sources of the files in a site's folder; or why one of them has no text. Out of memory says nothing.
-abbrev pub ReadsSite : List ℕ → Option (List ℕ) → Result SiteSources Failure → Type 0
-ReadsSite folder known (Ok sources) =
-    (site_paths_in sources ≡ site_paths folder) × ReadsInTurn (site_words (codes "--site") (site_paths folder)) known (Ok (site_texts_in sources))
-ReadsSite folder known (Err failure) = (failure ≡ Memory) ⊎ ReadsInTurn (site_words (codes "--site") (site_paths folder)) known (Err failure)
+-- the answer by the texts of a folder with these file systems
+pub record AnswersSystems (asked : CheckAsked) (folder : SiteFolder) (systems : FolderSystems) (sources : WholeSources) (result : Result Printed Failure) : Type 0 where
+  pub made : Systems
+  pub are : AreSystems folder systems made
+  pub answers : AnswersFolderTexts asked made sources result
 
--- the answer by the texts of a site, with opinions or without
-abbrev pub AnswersSiteTexts : Bool → FindingsForm → SiteSources → Result Printed Failure → Type 0
-AnswersSiteTexts opinions form sources result = AnswersFound (GathersSite opinions sources) form result
+-- the answer by the file systems of a folder: the other files are read after them
+abbrev pub AnswersFolder : CheckAsked → SiteFolder → FolderSystems → List (List ℕ × Option (List ℕ)) → Option (List ℕ) → Result Printed Failure → Type 0
+AnswersFolder asked folder systems files known result = After (ReadsSources whole_list files known) (AnswersSystems asked folder systems) result
 
--- the answer by the files of a site's folder
-abbrev pub AnswersSite : Bool → FindingsForm → List ℕ → Option (List ℕ) → Result Printed Failure → Type 0
-AnswersSite opinions form folder known result = After (ReadsSite folder known) (AnswersSiteTexts opinions form) result
+-- the source of the custodians, if they are there
+abbrev pub AreCustodians : SiteFolder → Option (List ℕ) → Option Source → Type 0
+AreCustodians folder None None = Unit {0}
+AreCustodians folder (Some text) (Some source) = (source.path.now ≡ string_bytes folder.paths.custodians) × (source.text.now ≡ text)
+AreCustodians folder text source = ⊥
 
--- the same, if nothing is given that cannot be given with `--site`
-abbrev pub AnswersSiteIf : Option (List ℕ) → Bool → FindingsForm → List ℕ → Option (List ℕ) → Result Printed Failure → Type 0
-AnswersSiteIf (Some word) opinions form folder known result = IsErrAnd result (IsBesideSite word)
-AnswersSiteIf None opinions form folder known result = AnswersSite opinions form folder known result
+-- the text of the custodians, if they are there, or why they have none
+abbrev pub ReadsCustodians : SiteFolder → Result (Option (List ℕ)) Failure → Type 0
+ReadsCustodians folder (Ok (Some text)) = HasText (codes "--site") (string_bytes folder.paths.custodians) None text
+ReadsCustodians folder (Ok None) = Unit {0}
+ReadsCustodians folder (Err failure) = LacksText (codes "--site") (string_bytes folder.paths.custodians) None failure
 
--- the answer by the folder that `--site` names, if it is given
-abbrev pub AnswersCheckBy : Option (List ℕ) → List Row → Option (List ℕ) → Result Printed Failure → Type 0
-AnswersCheckBy (Some folder) rows known result = AnswersSiteIf (beside_site rows) (asks_opinions rows) (form_of rows) folder known result
-AnswersCheckBy None rows known result = AnswersGiven (first_of (codes "FILE") rows) (all_of (codes "MOUNT") rows) rows known result
+-- the answer by these file systems of a folder, with its custodians, if they are there
+pub record AnswersBoth (opinions : Bool) (form : FindingsForm) (folder : SiteFolder) (text : Option (List ℕ)) (files : List (List ℕ × Option (List ℕ))) (known : Option (List ℕ)) (systems : FolderSystems) (result : Result Printed Failure) : Type 0 where
+  pub custodians : Option Source
+  pub are : AreCustodians folder text custodians
+  pub answers : AnswersFolder (record { opinions = opinions; form = form; custodians = custodians }) folder systems files known result
+
+-- The answer by the custodians of a folder, if they are there: its file systems are read after them, and then the other files. (None of
+-- the first files is standard input, so that all of it is left.)
+pub record AnswersKept (opinions : Bool) (form : FindingsForm) (folder : SiteFolder) (files : List (List ℕ × Option (List ℕ))) (known : Option (List ℕ)) (text : Option (List ℕ)) (result : Result Printed Failure) : Type 0 where
+  pub left : Option (List ℕ)
+  pub leaves : string_bytes folder.paths.custodians ≢ codes "-" → LeavesBehind (files_of folder) known left
+  pub after : After (ReadsSystems (codes "--site") (files_of folder)) (AnswersBoth opinions form folder text files left) result
+
+-- the answer by a folder
+abbrev pub AnswersSite : Bool → FindingsForm → SiteFolder → List (List ℕ × Option (List ℕ)) → Option (List ℕ) → Result Printed Failure → Type 0
+AnswersSite opinions form folder files known result = After (ReadsCustodians folder) (AnswersKept opinions form folder files known) result
+
+-- the answer about what is asked of
+abbrev pub AnswersSubject : List Row → Option (List ℕ) → Subject → Result Printed Failure → Type 0
+AnswersSubject rows known (File file) result = AnswersGiven (File file) rows (whole_files (File file) (codes "FILE") rows) known result
+AnswersSubject rows known (Site folder) result = AnswersSite (asks_opinions rows) (form_of rows) folder (whole_files (Site folder) (codes "FILE") rows) known result
+
+-- the answer to words whose forms can be given together
+abbrev pub AnswersCheckBy : List Row → Option (List ℕ) → Result Printed Failure → Type 0
+AnswersCheckBy rows known result = After (ReadsSubject (places (codes "FILE") (codes "FILE") (codes "FILE")) rows) (AnswersSubject rows known) result
 
 -- the first form of findings, by its option, that is given with `--sarif` and cannot be
 abbrev pub beside_sarif : List Row → Option (List ℕ)
@@ -112,7 +141,7 @@ IsBesideSarif option failure = ⊥
 -- the same, if no form is given that cannot be given with `--sarif`
 abbrev pub AnswersCheckIf : Option (List ℕ) → List Row → Option (List ℕ) → Result Printed Failure → Type 0
 AnswersCheckIf (Some option) rows known result = IsErrAnd result (IsBesideSarif option)
-AnswersCheckIf None rows known result = AnswersCheckBy (first_of (codes "site") rows) rows known result
+AnswersCheckIf None rows known result = AnswersCheckBy rows known result
 
 -- the answer of `check` to its words
 abbrev pub AnswersCheck : List Row → Option (List ℕ) → Result Printed Failure → Type 0

@@ -11,10 +11,12 @@ use Rattle.cli_output.specs.declared.failure.Failure.{Failure}
 use Rattle.cli_output.specs.declared.printed.Printed.{Printed}
 use Rattle.cli_words.specs.Values.{AnswersArgument}
 use Rattle.cli_verdict.specs.Ranges.{PrintsRanges}
-use Rattle.cli_words.specs.Words.{After, ByWord, is_set}
+use Rattle.cli_words.specs.Words.{After, AnswersBy, is_set}
 use Rattle.cli_texts.specs.FaultyTexts.{AnswersOrFault}
-use Rattle.cli_texts.specs.MountWords.{ReadsMounts}
-use Rattle.cli_texts.specs.TableFiles.{ReadsSources}
+use Rattle.cli_texts.specs.Subject.{ReadsSubject, places, word_at}
+use Rattle.cli_texts.specs.Systems.{AfterSystems}
+use Rattle.cli_texts.specs.TableFiles.{ReadsSources, input_count}
+use Rattle.cli_texts.specs.declared.subject.Subject.{Subject}
 use Rattle.cli_texts.specs.WholeFiles.{whole_files, whole_list}
 use Rattle.cli_texts.specs.WholeTables.{Writes, policy_of}
 
@@ -28,18 +30,25 @@ pub record PrintsClients (read : Result Content SiteFault) (mountd : Bool) (path
 abbrev pub AnswersPath : Bool → List (List ℕ) → List Mount → WholeSources → Result Printed Failure → Type 0
 AnswersPath mountd path table sources result = AnswersOrFault (PrintsClients (policy_of sources table) mountd path) sources table result
 
--- the path that DIR writes, or why it writes none
-abbrev pub ReadsDir : List Row → Result (List (List ℕ)) Failure → Type 0
-ReadsDir rows result = ByWord (codes "DIR") rows (λ dir. AnswersArgument (λ path. path) fault.Path (codes "DIR") dir (read_path dir)) result
+-- the path that DIR writes, or why it writes none; with `--site` it is the first word
+abbrev pub ReadsDir : Subject → List Row → Result (List (List ℕ)) Failure → Type 0
+ReadsDir subject rows result =
+    AnswersBy (codes "DIR") (word_at subject (codes "FILE") (codes "DIR") rows) (λ dir. AnswersArgument (λ path. path) fault.Path (codes "DIR") dir (read_path dir)) result
 
--- the answer about a path: the file systems are read after it, and then the files
-abbrev pub AnswersByFiles : List Row → Option (List ℕ) → List ℕ → List (List ℕ) → List Mount → Result Printed Failure → Type 0
-AnswersByFiles rows known file path table result =
-    After (ReadsSources whole_list (whole_files rows file) known) (AnswersPath (is_set (codes "mountd") rows) path table) result
+-- the answer about a path with these file systems: the files are read after them
+abbrev pub AnswersFiles : Bool → List (List ℕ × Option (List ℕ)) → Option (List ℕ) → List (List ℕ) → List Mount → Result Printed Failure → Type 0
+AnswersFiles mountd files known path table result = After (ReadsSources whole_list files known) (AnswersPath mountd path table) result
 
-abbrev pub AnswersDir : List Row → Option (List ℕ) → List ℕ → List (List ℕ) → Result Printed Failure → Type 0
-AnswersDir rows known file path result = After (ReadsMounts rows) (AnswersByFiles rows known file path) result
+-- the answer about a path
+abbrev pub AnswersDir : List Row → Option (List ℕ) → Subject → List (List ℕ) → Result Printed Failure → Type 0
+AnswersDir rows known subject path result =
+    AfterSystems subject rows (input_count (whole_files subject (codes "FILE") rows)) known
+    (λ left. AnswersFiles (is_set (codes "mountd") rows) (whole_files subject (codes "FILE") rows) left path) result
+
+-- the answer about what is asked of
+abbrev pub AnswersSubject : List Row → Option (List ℕ) → Subject → Result Printed Failure → Type 0
+AnswersSubject rows known subject result = After (ReadsDir subject rows) (AnswersDir rows known subject) result
 
 -- the answer of `clients` to its words
 abbrev pub AnswersClients : List Row → Option (List ℕ) → Result Printed Failure → Type 0
-AnswersClients rows known result = ByWord (codes "FILE") rows (λ file. After (ReadsDir rows) (AnswersDir rows known file)) result
+AnswersClients rows known result = After (ReadsSubject (places (codes "FILE") (codes "DIR") (codes "FILE or MOUNT")) rows) (AnswersSubject rows known) result

@@ -13,11 +13,13 @@ use Rattle.cli_output.specs.declared.failure.Failure.{Failure}
 use Rattle.cli_output.specs.Printed.{Prints}
 use Rattle.cli_output.specs.Shown.{shown_lines}
 use Rattle.cli_output.specs.declared.printed.Printed.{Printed}
-use Rattle.cli_words.specs.Words.{After, ByWord, is_set}
+use Rattle.cli_words.specs.Words.{After, AnswersBy, is_set}
+use Rattle.cli_texts.specs.Subject.{ReadsSubject, places, word_at}
+use Rattle.cli_texts.specs.Systems.{AfterSystems}
 use Rattle.cli_texts.specs.TwoFiles.{two_files, two_list, whole_first, whole_second}
 use Rattle.cli_texts.specs.FaultyTexts.{AnswersOrFault, PrintsFault}
-use Rattle.cli_texts.specs.MountWords.{ReadsMounts}
-use Rattle.cli_texts.specs.TableFiles.{ReadsSources}
+use Rattle.cli_texts.specs.TableFiles.{ReadsSources, input_count}
+use Rattle.cli_texts.specs.declared.subject.Subject.{Subject}
 use Rattle.cli_texts.specs.WholeTables.{Writes, policy_of}
 use Rattle.cli_texts.specs.declared.two_files.TwoSources.{TwoSources}
 
@@ -42,16 +44,23 @@ abbrev pub AnswersTexts : Bool → List Mount → TwoSources → Result Printed 
 AnswersTexts all table sources result =
     AnswersOrFault (PrintsComparison table all (whole_first sources) (whole_second sources)) (whole_first sources) table result
 
--- OLD and NEW, and the tables before them
-abbrev pub compared_files : List Row → List ℕ → List ℕ → List (List ℕ × Option (List ℕ))
-compared_files rows old new = two_files rows (codes "OLD", Some old) (codes "NEW", Some new)
-
 -- the answer with these file systems: the files are read after them
-abbrev pub AnswersByFiles : List Row → Option (List ℕ) → List ℕ → List ℕ → List Mount → Result Printed Failure → Type 0
-AnswersByFiles rows known old new table result =
-    After (ReadsSources two_list (compared_files rows old new) known) (AnswersTexts (is_set (codes "all") rows) table) result
+abbrev pub AnswersFiles : Bool → List (List ℕ × Option (List ℕ)) → Option (List ℕ) → List Mount → Result Printed Failure → Type 0
+AnswersFiles all files known table result = After (ReadsSources two_list files known) (AnswersTexts all table) result
+
+-- OLD, or the exports text of the folder, and NEW; and the tables before them
+abbrev pub compared_files : Subject → List Row → List ℕ → List (List ℕ × Option (List ℕ))
+compared_files subject rows new = two_files subject (codes "OLD") rows (codes "NEW", Some new)
+
+-- the answer about NEW
+abbrev pub AnswersNew : List Row → Option (List ℕ) → Subject → List ℕ → Result Printed Failure → Type 0
+AnswersNew rows known subject new result =
+    AfterSystems subject rows (input_count (compared_files subject rows new)) known (λ left. AnswersFiles (is_set (codes "all") rows) (compared_files subject rows new) left) result
+
+-- the answer about what is asked of; with `--site` NEW is the first word
+abbrev pub AnswersSubject : List Row → Option (List ℕ) → Subject → Result Printed Failure → Type 0
+AnswersSubject rows known subject result = AnswersBy (codes "NEW") (word_at subject (codes "OLD") (codes "NEW") rows) (AnswersNew rows known subject) result
 
 -- the answer of `compare` to its words
 abbrev pub AnswersCompare : List Row → Option (List ℕ) → Result Printed Failure → Type 0
-AnswersCompare rows known result =
-    ByWord (codes "OLD") rows (λ old. ByWord (codes "NEW") rows (λ new. After (ReadsMounts rows) (AnswersByFiles rows known old new))) result
+AnswersCompare rows known result = After (ReadsSubject (places (codes "OLD") (codes "NEW") (codes "OLD or MOUNT")) rows) (AnswersSubject rows known) result

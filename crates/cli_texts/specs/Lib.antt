@@ -9,6 +9,8 @@ pub mod Printing
 pub mod PrivateTableFiles
 pub mod SplitCommand
 pub mod SplitText
+pub mod Subject
+pub mod Systems
 pub mod TableFiles
 pub mod TestCommand
 pub mod TryCommand

@@ -8,10 +8,12 @@ use Rattle.desk_findings.specs.CheckText.{tables_of}
 use Rattle.cli_output.specs.declared.failure.Failure.{Failure}
 use Rattle.cli_output.specs.declared.printed.Printed.{Printed}
 use Rattle.cli_expectations.specs.Tested.{Expected, PrintsTested}
-use Rattle.cli_words.specs.Words.{After, ByWord, is_set}
+use Rattle.cli_words.specs.Words.{After, AnswersBy, is_set}
+use Rattle.cli_texts.specs.Subject.{ReadsSubject, places, word_at}
+use Rattle.cli_texts.specs.Systems.{AfterSystems}
 use Rattle.cli_texts.specs.FaultyTexts.{AnswersOrFault}
-use Rattle.cli_texts.specs.MountWords.{ReadsMounts}
-use Rattle.cli_texts.specs.TableFiles.{ReadsSources}
+use Rattle.cli_texts.specs.TableFiles.{ReadsSources, input_count}
+use Rattle.cli_texts.specs.declared.subject.Subject.{Subject}
 use Rattle.cli_texts.specs.TwoFiles.{two_files, two_list, whole_first}
 use Rattle.cli_texts.specs.WholeTables.{Writes, policy_of}
 use Rattle.cli_texts.specs.declared.two_files.TwoSources.{TwoSources}
@@ -33,16 +35,24 @@ pub record PrintsExpected (table : List Mount) (json : Bool) (sources : TwoSourc
 abbrev pub AnswersTexts : Bool → List Mount → TwoSources → Result Printed Failure → Type 0
 AnswersTexts json table sources result = AnswersOrFault (PrintsExpected table json sources) (whole_first sources) table result
 
--- FILE and EXPECTATIONS, and the tables before them
-abbrev pub tested_files : List Row → List ℕ → List ℕ → List (List ℕ × Option (List ℕ))
-tested_files rows file expectations = two_files rows (codes "FILE", Some file) (codes "EXPECTATIONS", Some expectations)
-
 -- the answer with these file systems: the files are read after them
-abbrev pub AnswersByFiles : List Row → Option (List ℕ) → List ℕ → List ℕ → List Mount → Result Printed Failure → Type 0
-AnswersByFiles rows known file expectations table result =
-    After (ReadsSources two_list (tested_files rows file expectations) known) (AnswersTexts (is_set (codes "json") rows) table) result
+abbrev pub AnswersFiles : Bool → List (List ℕ × Option (List ℕ)) → Option (List ℕ) → List Mount → Result Printed Failure → Type 0
+AnswersFiles json files known table result = After (ReadsSources two_list files known) (AnswersTexts json table) result
+
+-- FILE, or the exports text of the folder, and EXPECTATIONS; and the tables before them
+abbrev pub tested_files : Subject → List Row → List ℕ → List (List ℕ × Option (List ℕ))
+tested_files subject rows expectations = two_files subject (codes "FILE") rows (codes "EXPECTATIONS", Some expectations)
+
+-- the answer about EXPECTATIONS
+abbrev pub AnswersExpectations : List Row → Option (List ℕ) → Subject → List ℕ → Result Printed Failure → Type 0
+AnswersExpectations rows known subject expectations result =
+    AfterSystems subject rows (input_count (tested_files subject rows expectations)) known (λ left. AnswersFiles (is_set (codes "json") rows) (tested_files subject rows expectations) left) result
+
+-- the answer about what is asked of; with `--site` EXPECTATIONS is the first word
+abbrev pub AnswersSubject : List Row → Option (List ℕ) → Subject → Result Printed Failure → Type 0
+AnswersSubject rows known subject result =
+    AnswersBy (codes "EXPECTATIONS") (word_at subject (codes "FILE") (codes "EXPECTATIONS") rows) (AnswersExpectations rows known subject) result
 
 -- the answer of `test` to its words
 abbrev pub AnswersTest : List Row → Option (List ℕ) → Result Printed Failure → Type 0
-AnswersTest rows known result =
-    ByWord (codes "FILE") rows (λ file. ByWord (codes "EXPECTATIONS") rows (λ expectations. After (ReadsMounts rows) (AnswersByFiles rows known file expectations))) result
+AnswersTest rows known result = After (ReadsSubject (places (codes "FILE") (codes "EXPECTATIONS") (codes "FILE or MOUNT")) rows) (AnswersSubject rows known) result

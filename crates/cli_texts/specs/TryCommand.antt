@@ -1,5 +1,6 @@
 -- What `try` prints, by its words and files. (this project's own)
 use Rattle.std.specs.Prelude.{◌≡◌, ℕ, List, Option, Result, Ok, Err, MatchResult, codes}
+use Rattle.std.specs.Option.{option_map}
 use Rattle.clap.specs.Words.{Row, first_of}
 use Rattle.desk_text.specs.Address.{number_of, read_addr}
 use Rattle.desk_text.specs.Path.{read_path}
@@ -13,10 +14,14 @@ use Rattle.desk_findings.specs.declared.check_text.WholeSources.{WholeSources}
 use Rattle.cli_output.specs.declared.failure.Failure.{Failure}
 use Rattle.cli_output.specs.declared.printed.Printed.{Printed}
 use Rattle.cli_words.specs.Values.{AnswersOwn, IsBadArgument, IsRequest, own_answer}
-use Rattle.cli_words.specs.Words.{After, ByWord, ByWords}
+use Rattle.cli_words.specs.Words.{After, AnswersBy}
 use Rattle.cli_words.specs.declared.values.Request.{Request}
 use Rattle.cli_texts.specs.FaultyTexts.{AnswersOrFault}
-use Rattle.cli_texts.specs.TableFiles.{ReadsSources}
+use Rattle.cli_texts.specs.Subject.{ReadsSubject, places, word_at}
+use Rattle.cli_texts.specs.Systems.{AfterSystems}
+use Rattle.cli_texts.specs.TableFiles.{ReadsSources, input_count}
+use Rattle.cli_texts.specs.declared.subject.Subject.{Subject}
+use Rattle.cli_texts.specs.declared.try_command.Asked as code
 use Rattle.cli_verdict.specs.Asking.{asking_in}
 use Rattle.cli_verdict.specs.TryText.{IsAnswerBy, MountQuestion, PrintsTried}
 use Rattle.cli_verdict.specs.declared.asking.Asking.{Asking}
@@ -36,36 +41,56 @@ pub record PrintsVerdict (sources : WholeSources) (table : List Mount) (question
   pub answers : IsAnswerBy tables (policy_of sources table) question tried
   pub prints : PrintsTried tried printed
 
+-- a request as it is asked: with the word of a credential, if it is given, and the file systems
+pub record Asked : Type 0 where
+  pub word : Option (List ℕ)
+  pub asking : Asking
+  pub request : Request
+  pub filesystems : List Mount
+
+abbrev pub asked_of : code.Asked → Asked
+asked_of asked = record { word = option_map (λ word. word.now) asked.word; asking = asked.asking; request = asked.request.now; filesystems = asked.filesystems.now }
+
 -- the answer to a request of a client with this credential, if it is given
-abbrev pub AnswersAs : Request → Asking → WholeSources → Option Cred → Result Printed Failure → Type 0
-AnswersAs request asking sources own result =
-    AnswersOrFault (PrintsVerdict sources request.filesystems (question_in request own asking)) sources request.filesystems result
+abbrev pub AnswersAs : Asked → WholeSources → Option Cred → Result Printed Failure → Type 0
+AnswersAs asked sources own result =
+    AnswersOrFault (PrintsVerdict sources asked.filesystems (question_in asked.request own asked.asking)) sources asked.filesystems result
 
 -- the credential that CRED stands for with these tables, or why it stands for none
 abbrev pub ReadsOwn : Option (List ℕ) → WholeSources → Result (Option Cred) Failure → Type 0
 ReadsOwn word sources result = AnswersOwn word (own_answer word (read_users sources.tables.passwd.text.now) (read_groups sources.tables.group.text.now)) result
 
 -- the answer to a request by the texts of its files; a bad credential comes before any fault of them
-abbrev pub AnswersRequest : Option (List ℕ) → Asking → Request → WholeSources → Result Printed Failure → Type 0
-AnswersRequest word asking request sources result = After (ReadsOwn word sources) (AnswersAs request asking sources) result
-
--- the request that these words write; or which of them is the first, from left to right, that cannot be parsed
-abbrev pub ReadsWords : List ℕ → List ℕ → List (List ℕ) → Result Request Failure → Type 0
-ReadsWords host dir mounts result = MatchResult result (IsRequest host dir mounts) (IsBadArgument host (read_addr host) dir (read_path dir) mounts)
-
--- the same of the words HOST, DIR and MOUNT..
-abbrev pub ReadsRequest : List Row → Result Request Failure → Type 0
-ReadsRequest rows result =
-    ByWord (codes "HOST") rows (λ host. ByWord (codes "DIR") rows (λ dir. ByWords (codes "MOUNT") rows (ReadsWords host dir))) result
+abbrev pub AnswersRequest : Asked → WholeSources → Result Printed Failure → Type 0
+AnswersRequest asked sources result = After (ReadsOwn asked.word sources) (AnswersAs asked sources) result
 
 -- the answer to a request: its files are read after it
-abbrev pub AnswersByFiles : Asking → List Row → Option (List ℕ) → List ℕ → Request → Result Printed Failure → Type 0
-AnswersByFiles asking rows known file request result =
-    After (ReadsSources whole_list (whole_files rows file) known) (AnswersRequest (first_of (codes "as") rows) asking request) result
+abbrev pub AnswersFiles : Asked → List (List ℕ × Option (List ℕ)) → Option (List ℕ) → Result Printed Failure → Type 0
+AnswersFiles asked files known result = After (ReadsSources whole_list files known) (AnswersRequest asked) result
+
+-- the request that these words write; or which of them is the first, from left to right, that cannot be parsed
+abbrev pub ReadsWords : List ℕ → List ℕ → Result Request Failure → Type 0
+ReadsWords host dir result = MatchResult result (IsRequest host dir) (IsBadArgument host (read_addr host) dir (read_path dir))
+
+-- the same of the words HOST and DIR; with `--site` they are the first two
+abbrev pub ReadsRequest : Subject → List Row → Result Request Failure → Type 0
+ReadsRequest subject rows result =
+    AnswersBy (codes "HOST") (word_at subject (codes "FILE") (codes "HOST") rows)
+    (λ host. AnswersBy (codes "DIR") (word_at subject (codes "HOST") (codes "DIR") rows) (ReadsWords host)) result
+
+-- the answer to a request: the file systems are read after it, and then the files
+abbrev pub AnswersAsked : Asking → List Row → Option (List ℕ) → Subject → Request → Result Printed Failure → Type 0
+AnswersAsked asking rows known subject request result =
+    AfterSystems subject rows (input_count (whole_files subject (codes "FILE") rows)) known
+    (λ left table. AnswersFiles (record { word = first_of (codes "as") rows; asking = asking; request = request; filesystems = table }) (whole_files subject (codes "FILE") rows) left) result
+
+-- the answer about what is asked of
+abbrev pub AnswersSubject : Asking → List Row → Option (List ℕ) → Subject → Result Printed Failure → Type 0
+AnswersSubject asking rows known subject result = After (ReadsRequest subject rows) (AnswersAsked asking rows known subject) result
 
 -- the answer of `try` to its words, by the rule that is asked
 abbrev pub AnswersTryAs : Asking → List Row → Option (List ℕ) → Result Printed Failure → Type 0
-AnswersTryAs asking rows known result = ByWord (codes "FILE") rows (λ file. After (ReadsRequest rows) (AnswersByFiles asking rows known file)) result
+AnswersTryAs asking rows known result = After (ReadsSubject (places (codes "FILE") (codes "DIR") (codes "FILE or MOUNT")) rows) (AnswersSubject asking rows known) result
 
 -- the same, or why nothing is asked
 abbrev pub AnswersTryIf : Result Asking Failure → List Row → Option (List ℕ) → Result Printed Failure → Type 0

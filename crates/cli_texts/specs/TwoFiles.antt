@@ -1,22 +1,25 @@
 -- The files of two texts and of the tables beside them. (this project's own)
-use Rattle.std.specs.Prelude.{ℕ, ◌++◌, List, [], ◌∷◌, Option, Some, map}
+use Rattle.std.specs.Prelude.{ℕ, ◌++◌, List, [], ◌∷◌, Option, map}
 use Rattle.std.specs.String.{string_bytes}
 use Rattle.clap.specs.Words.{Row}
 use Rattle.desk_policy.specs.PerTable.{EachTable}
 use Rattle.desk_findings.specs.declared.check_faults.Source.{Source}
 use Rattle.desk_findings.specs.declared.check_text.WholeSources.{WholeSources}
-use Rattle.cli_texts.specs.TableFiles.{IsShort, table_files, table_list}
-use Rattle.cli_texts.specs.declared.two_files.NamedFile.{NamedFile}
+use Rattle.cli_texts.specs.TableFiles.{IsShort, table_list}
+use Rattle.cli_texts.specs.WholeFiles.{whole_files}
+use Rattle.cli_texts.specs.declared.subject.Subject.{Subject}
+use Rattle.cli_texts.specs.declared.table_files.TextFile.{TextFile}
+use Rattle.cli_texts.specs.declared.two_files.TwoFiles as code
 use Rattle.cli_texts.specs.declared.two_files.TwoSources.{TwoSources}
 use Rattle.cli_texts.specs.declared.two_files.TwoTexts.{TwoTexts}
 
--- a file with the argument that names it
-abbrev pub named : NamedFile → List ℕ × Option (List ℕ)
-named file = (file.argument.now, Some file.path.now)
-
 -- the files in the order in which they are read: those of the tables, and then the two
-abbrev pub two_files : List Row → List ℕ × Option (List ℕ) → List ℕ × Option (List ℕ) → List (List ℕ × Option (List ℕ))
-two_files rows first second = table_files rows ++ first ∷ second ∷ []
+abbrev pub two_files : Subject → List ℕ → List Row → List ℕ × Option (List ℕ) → List (List ℕ × Option (List ℕ))
+two_files subject argument rows second = whole_files subject argument rows ++ second ∷ []
+
+-- these files, in that order
+abbrev pub file_list : code.TwoFiles → List TextFile
+file_list files = table_list files.whole.tables ++ files.whole.exports ∷ files.second ∷ []
 
 -- the sources of these files, in that order
 abbrev pub two_list : TwoSources → List Source

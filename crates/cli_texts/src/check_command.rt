@@ -1,28 +1,37 @@
 //! The command `check`: every fault and warning of an exports text and its tables, or of a site's files.
 
-ghost use Rattle.std.specs.Prelude.{◌≡◌, ◌++◌, ◌∷◌, [], IfOk, MatchResult, codes, if◌then◌else◌};
+ghost use Rattle.std.specs.Prelude.{◌≡◌, ◌++◌, ◌∷◌, [], IfOk, codes, if◌then◌else◌, map};
 ghost use Rattle.std.specs.Option.{option_map};
 ghost use Rattle.std.specs.String.{string_bytes};
-ghost use Rattle.clap.specs.Words.{all_of, first_of};
 ghost use Rattle.desk_text.specs.Lines.{IsReadable};
 ghost use Rattle.desk_findings.specs.CheckFaults.{AreReadable};
 ghost use Rattle.desk_findings.specs.Finding.{HaveSlices};
 ghost use Rattle.cli_words.specs.Words.{rows_in};
-ghost use Rattle.cli_texts.specs.CheckCommand.{AnswersByFiles, AnswersCheck, AnswersCheckBy, AnswersGiven, AnswersTexts, PrintsFindings, asks_opinions, beside_sarif, beside_site, form_of};
+ghost use Rattle.cli_texts.specs.CheckCommand.{AnswersByFiles, AnswersCheck, AnswersCheckBy, AnswersGiven, AnswersSubject, AnswersTexts, PrintsFindings, asks_opinions, beside_sarif, form_of};
+ghost use Rattle.cli_texts.specs.TableFiles.{named};
+ghost use Rattle.cli_texts.specs.WholeFiles.{file_list};
 
 use crate::check_site_files::check_site;
 use crate::findings_form::{FindingsForm, report_in};
-use crate::whole_files::{read_whole_texts, whole_sources};
+use crate::subject::{Places, Subject, subject_of};
+use crate::systems::read_systems;
+use crate::whole_files::{WholeFiles, read_whole_texts, whole_files, whole_inputs, whole_sources};
 use clap::ArgMatches;
 use cli_output::failure::Failure;
 use cli_output::printed::Printed;
-use cli_words::values::read_mounts;
-use cli_words::words::{all_given, given, is_set};
+use cli_words::words::is_set;
 use desk_check::CheckForm;
 use desk_findings::{Gathered, WholeSources, gather};
 use desk_tables::FileSystems;
 use std::alloc::{AllocError, Global};
 use std::io::BufRead;
+
+/// The names of the words: `check FILE MOUNT...`, or with `--site` none.
+const PLACES: Places = Places {
+    first: "FILE",
+    last: "FILE",
+    beside: "FILE",
+};
 
 /// Answers `check FILE MOUNT...` or `check --site DIR`, with its options. Whether its forms can be given together comes first,
 /// then which of the two it is, and then the mount points are parsed, before any file is read.
@@ -61,14 +70,32 @@ fn check_in_form<I: BufRead>(
     words: &ArgMatches<'_>,
     input: &mut I,
 ) -> Result<Printed, Failure>
-    ensures { let rows = rows_in words.now in AnswersCheckBy (first_of (codes "site") rows) rows (I.remaining input.old) result }
+    ensures { AnswersCheckBy (rows_in words.now) (I.remaining input.old) result }
 {
-    match given(words, "site") {
-        Some(folder) => match beside_site(words) {
-            Some(name) => Err(Failure::BesideSite(name)),
-            None => check_site(rt, asks_opinions(words), form_of(words), folder, input),
-        },
-        None => check_given(rt, words, input),
+    let subject = subject_of(rt.alloc(), words, PLACES)?;
+    check_subject(rt, words, &subject, input)
+}
+
+/// Answers by what is asked of.
+fn check_subject<'w, I: BufRead>(
+    rt: &HostRuntime,
+    words: &ArgMatches<'w>,
+    subject: &Subject<'w>,
+    input: &mut I,
+) -> Result<Printed, Failure>
+    ensures { AnswersSubject (rows_in words.now) (I.remaining input.old) subject.now result }
+{
+    let files = whole_files(words, subject, "FILE");
+    match subject {
+        Subject::File(_) => check_given(rt, words, subject, files, input),
+        Subject::Site(folder) => check_site(
+            rt,
+            asks_opinions(words),
+            form_of(words),
+            folder,
+            files,
+            input,
+        ),
     }
 }
 
@@ -93,68 +120,41 @@ fn asks_opinions(words: &ArgMatches<'_>) -> bool
     is_set(words, "opinions")
 }
 
-/// Names the first of the files that cannot be given with `--site`, if one is given.
-fn beside_site(words: &ArgMatches<'_>) -> Option<&'static str>
-    ensures { option_map (λ name. name.now) result ≡ beside_site (rows_in words.now) }
-{
-    if given(words, "FILE").is_some() {
-        return Some("FILE");
-    }
-    if given(words, "hosts").is_some() {
-        return Some("--hosts");
-    }
-    if given(words, "networks").is_some() {
-        return Some("--networks");
-    }
-    if given(words, "passwd").is_some() {
-        return Some("--passwd");
-    }
-    if given(words, "group").is_some() {
-        return Some("--group");
-    }
-    if given(words, "netgroup").is_some() {
-        return Some("--netgroup");
-    }
-    None
-}
-
-/// Answers without `--site`: FILE and MOUNT.. have to be given.
+/// Answers without `--site`: FILE is given, and MOUNT or `--mounts` has to be.
 fn check_given<I: BufRead>(
     rt: &HostRuntime,
     words: &ArgMatches<'_>,
+    subject: &Subject<'_>,
+    files: WholeFiles<'_>,
     input: &mut I,
 ) -> Result<Printed, Failure>
-    ensures { let rows = rows_in words.now in
-        AnswersGiven (first_of (codes "FILE") rows) (all_of (codes "MOUNT") rows) rows (I.remaining input.old) result }
+    ensures { AnswersGiven subject.now (rows_in words.now) (map named (file_list files.entry)) (I.remaining input.old) result }
 {
-    let Some(file) = given(words, "FILE") else {
-        return Err(Failure::Missing("FILE"));
-    };
-    let Some(mounts) = all_given(words, "MOUNT") else {
-        return Err(Failure::Missing("MOUNT"));
-    };
-    let filesystems = read_mounts(rt.alloc(), mounts)?;
-    check_files(rt, words, file, filesystems, input)
+    let others = whole_inputs(files);
+    let systems = read_systems(rt, words, subject, others, input)?;
+    match systems {
+        Ok(filesystems) => check_files(rt, words, filesystems, files, input),
+        Err(printed) => Ok(printed),
+    }
 }
 
-/// Answers by these file systems and the files that the words name.
+/// Answers by these file systems and files.
 fn check_files<I: BufRead>(
     rt: &HostRuntime,
     words: &ArgMatches<'_>,
-    file: &str,
     filesystems: FileSystems,
+    files: WholeFiles<'_>,
     input: &mut I,
 ) -> Result<Printed, Failure>
-    ensures { AnswersByFiles (rows_in words.now) (I.remaining input.old) file.now filesystems result }
+    ensures { AnswersByFiles (rows_in words.now) (map named (file_list files.entry)) (I.remaining input.old) filesystems result }
 {
-    let texts = read_whole_texts(rt, words, file, input)?;
-    let sources = whole_sources(words, file, &texts);
+    let texts = read_whole_texts(rt, files, input)?;
     check_texts(
         rt.alloc(),
         asks_opinions(words),
         form_of(words),
         filesystems,
-        sources,
+        whole_sources(files, &texts),
     )
 }
 

@@ -1,21 +1,25 @@
 //! The command `clients`: who may mount a directory, by an exports text.
 
+ghost use Rattle.std.specs.Prelude.{codes, map};
 ghost use Rattle.desk_text.specs.Lines.{IsReadable};
 ghost use Rattle.desk_findings.specs.CheckFaults.{AreReadable};
-ghost use Rattle.cli_words.specs.Words.{rows_in};
-ghost use Rattle.cli_texts.specs.ClientsCommand.{AnswersClients, AnswersPath, PrintsClients, ReadsDir};
+ghost use Rattle.cli_words.specs.Words.{is_set, rows_in};
+ghost use Rattle.cli_texts.specs.ClientsCommand.{AnswersClients, AnswersFiles, AnswersPath, AnswersSubject, PrintsClients, ReadsDir};
+ghost use Rattle.cli_texts.specs.TableFiles.{named};
+ghost use Rattle.cli_texts.specs.WholeFiles.{file_list};
 ghost use Rattle.cli_texts.specs.WholeTables.{GivesOrFault, policy_of};
 
 use crate::faulty_texts::answer_error;
-use crate::mount_words::read_filesystems;
-use crate::whole_files::{read_whole_texts, whole_sources};
+use crate::subject::{Places, Subject, subject_of, word_of};
+use crate::systems::read_systems;
+use crate::whole_files::{WholeFiles, read_whole_texts, whole_files, whole_inputs, whole_sources};
 use crate::whole_tables::view_of;
 use clap::ArgMatches;
 use cli_output::failure::Failure;
 use cli_output::printed::Printed;
 use cli_verdict::print_ranges;
 use cli_words::values::read_path;
-use cli_words::words::{is_set, required};
+use cli_words::words::is_set;
 use desk_findings::{WholeSources, read_sources};
 use desk_policy::SiteFault;
 use desk_tables::FileSystems;
@@ -23,8 +27,15 @@ use desk_text::{Path, ReadError};
 use std::alloc::Global;
 use std::io::BufRead;
 
-/// Answers `clients FILE DIR MOUNT...` with its options. The arguments are parsed from left to right, and then the files are
-/// read.
+/// The names of the words: `clients FILE DIR MOUNT...`, or with `--site` just DIR.
+const PLACES: Places = Places {
+    first: "FILE",
+    last: "DIR",
+    beside: "FILE or MOUNT",
+};
+
+/// Answers `clients FILE DIR MOUNT...`, or `clients --site DIR DIR`, with its options. The arguments are parsed from left to right, and
+/// then the files are read.
 pub fn run_clients<I: BufRead>(
     rt: &HostRuntime,
     words: &ArgMatches<'_>,
@@ -32,20 +43,51 @@ pub fn run_clients<I: BufRead>(
 ) -> Result<Printed, Failure>
     ensures { AnswersClients (rows_in words.now) (I.remaining input.old) result }
 {
-    let file = required(words, "FILE")?;
-    let path = read_dir(rt.alloc(), words)?;
-    let filesystems = read_filesystems(rt.alloc(), words)?;
-    let texts = read_whole_texts(rt, words, file, input)?;
-    let sources = whole_sources(words, file, &texts);
+    let subject = subject_of(rt.alloc(), words, PLACES)?;
+    answer_subject(rt, words, &subject, input)
+}
+
+/// Answers by what is asked of.
+fn answer_subject<'w, I: BufRead>(
+    rt: &HostRuntime,
+    words: &ArgMatches<'w>,
+    subject: &Subject<'w>,
+    input: &mut I,
+) -> Result<Printed, Failure>
+    ensures { AnswersSubject (rows_in words.now) (I.remaining input.old) subject.now result }
+{
+    let path = read_dir(rt.alloc(), words, subject)?;
+    let files = whole_files(words, subject, "FILE");
+    let others = whole_inputs(files);
+    let systems = read_systems(rt, words, subject, others, input)?;
+    match systems {
+        Ok(filesystems) => answer_files(rt, words, &path, &filesystems, files, input),
+        Err(printed) => Ok(printed),
+    }
+}
+
+/// Answers by these file systems and files.
+fn answer_files<I: BufRead>(
+    rt: &HostRuntime,
+    words: &ArgMatches<'_>,
+    path: &Path,
+    filesystems: &FileSystems,
+    files: WholeFiles<'_>,
+    input: &mut I,
+) -> Result<Printed, Failure>
+    ensures { AnswersFiles (is_set (codes "mountd") (rows_in words.now)) (map named (file_list files.entry)) (I.remaining input.old) path.now filesystems.now result }
+{
+    let texts = read_whole_texts(rt, files, input)?;
+    let sources = whole_sources(files, &texts);
     let mountd = is_set(words, "mountd");
-    answer_path(rt.alloc(), mountd, &path, &filesystems, sources)
+    answer_path(rt.alloc(), mountd, path, filesystems, sources)
 }
 
 /// Parses the word DIR.
-fn read_dir(alloc: Global, words: &ArgMatches<'_>) -> Result<Path, Failure>
-    ensures { ReadsDir (rows_in words.now) result }
+fn read_dir(alloc: Global, words: &ArgMatches<'_>, subject: &Subject<'_>) -> Result<Path, Failure>
+    ensures { ReadsDir subject.now (rows_in words.now) result }
 {
-    let dir = required(words, "DIR")?;
+    let dir = word_of(words, subject, "FILE", "DIR")?;
     read_path(alloc, "DIR", dir)
 }
 

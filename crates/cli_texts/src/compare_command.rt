@@ -1,24 +1,29 @@
 //! The command `compare`: what changes from one exports text to another, of every directory and for every client.
 
-ghost use Rattle.std.specs.Prelude.{◌≡◌, Ok};
+ghost use Rattle.std.specs.Prelude.{◌≡◌, Ok, codes, map};
 ghost use Rattle.desk_text.specs.Lines.{IsReadable};
 ghost use Rattle.desk_findings.specs.CheckFaults.{AreReadable};
 ghost use Rattle.desk_findings.specs.CheckText.{tables_of};
-ghost use Rattle.cli_words.specs.Words.{rows_in};
-ghost use Rattle.cli_texts.specs.CompareCommand.{AnswersCompare, AnswersTexts, PrintsChanges};
+ghost use Rattle.cli_words.specs.Words.{is_set, rows_in};
+ghost use Rattle.cli_texts.specs.CompareCommand.{AnswersCompare, AnswersFiles, AnswersSubject, AnswersTexts, PrintsChanges};
+ghost use Rattle.cli_texts.specs.TableFiles.{named};
+ghost use Rattle.cli_texts.specs.TwoFiles.{file_list};
 ghost use Rattle.cli_texts.specs.FaultyTexts.{AnswersOrFault};
 ghost use Rattle.cli_texts.specs.WholeTables.{GivesOrFault, policy_of};
 
 use crate::View;
 use crate::faulty_texts::answer_error;
-use crate::mount_words::read_filesystems;
-use crate::two_files::{NamedFile, TwoSources, read_two_texts, two_sources};
+use crate::subject::{Places, Subject, subject_of, word_of};
+use crate::systems::read_systems;
+use crate::table_files::TextFile;
+use crate::two_files::{TwoFiles, TwoSources, read_two_texts, two_inputs, two_sources};
+use crate::whole_files::whole_files;
 use crate::whole_tables::view_of;
 use clap::ArgMatches;
 use cli_output::failure::Failure;
 use cli_output::printed::Printed;
 use cli_output::shown::shown_lines;
-use cli_words::words::{is_set, required};
+use cli_words::words::is_set;
 use desk_findings::{WholeSources, read_sources};
 use desk_impact::impact_report;
 use desk_policy::{SiteFault, SiteTables};
@@ -28,7 +33,14 @@ use desk_text::ReadError;
 use std::alloc::Global;
 use std::io::BufRead;
 
-/// Answers `compare OLD NEW MOUNT...` with its options. The mount points are parsed before any file is read.
+/// The names of the words: `compare OLD NEW MOUNT...`, or with `--site` just NEW.
+const PLACES: Places = Places {
+    first: "OLD",
+    last: "NEW",
+    beside: "OLD or MOUNT",
+};
+
+/// Answers `compare OLD NEW MOUNT...`, or `compare --site DIR NEW`, with its options. MOUNT is parsed before any file is read.
 pub fn run_compare<I: BufRead>(
     rt: &HostRuntime,
     words: &ArgMatches<'_>,
@@ -36,20 +48,49 @@ pub fn run_compare<I: BufRead>(
 ) -> Result<Printed, Failure>
     ensures { AnswersCompare (rows_in words.now) (I.remaining input.old) result }
 {
-    let before = required(words, "OLD")?;
-    let after = required(words, "NEW")?;
-    let filesystems = read_filesystems(rt.alloc(), words)?;
-    let before = NamedFile {
-        argument: "OLD",
-        path: before,
+    let subject = subject_of(rt.alloc(), words, PLACES)?;
+    answer_subject(rt, words, &subject, input)
+}
+
+/// Answers by what is asked of.
+fn answer_subject<'w, I: BufRead>(
+    rt: &HostRuntime,
+    words: &ArgMatches<'w>,
+    subject: &Subject<'w>,
+    input: &mut I,
+) -> Result<Printed, Failure>
+    ensures { AnswersSubject (rows_in words.now) (I.remaining input.old) subject.now result }
+{
+    let after = word_of(words, subject, "OLD", "NEW")?;
+    let files = TwoFiles {
+        whole: whole_files(words, subject, "OLD"),
+        second: TextFile {
+            argument: "NEW",
+            path: Some(after),
+            optional: false,
+        },
     };
-    let after = NamedFile {
-        argument: "NEW",
-        path: after,
-    };
-    let texts = read_two_texts(rt, words, before, after, input)?;
-    let sources = two_sources(words, before, after, &texts);
-    answer_texts(rt.alloc(), is_set(words, "all"), &filesystems, sources)
+    let others = two_inputs(files);
+    let systems = read_systems(rt, words, subject, others, input)?;
+    match systems {
+        Ok(filesystems) => answer_files(rt, words, &filesystems, files, input),
+        Err(printed) => Ok(printed),
+    }
+}
+
+/// Answers by these file systems and files.
+fn answer_files<I: BufRead>(
+    rt: &HostRuntime,
+    words: &ArgMatches<'_>,
+    filesystems: &FileSystems,
+    files: TwoFiles<'_>,
+    input: &mut I,
+) -> Result<Printed, Failure>
+    ensures { AnswersFiles (is_set (codes "all") (rows_in words.now)) (map named (file_list files.entry)) (I.remaining input.old) filesystems.now result }
+{
+    let texts = read_two_texts(rt, files, input)?;
+    let sources = two_sources(files, &texts);
+    answer_texts(rt.alloc(), is_set(words, "all"), filesystems, sources)
 }
 
 /// Answers by the texts of the files.

@@ -1,10 +1,5 @@
 //! The commands on texts: `try`, `split`, `check`, `clients`, `compare` and `test`.
 //!
-//! Its promise: [`try_command::run_try`] grants a mount only if the verdict over the bytes of its files grants it;
-//! [`split_command::run_split`], [`check_command::run_check`], [`clients_command::run_clients`],
-//! [`compare_command::run_compare`] and [`test_command::run_test`] print likewise what the bytes of the files that their words
-//! name come to, or say why a file has no text.
-//!
 //! ```text
 //! // for the words `split - filesystems`
 //! run_split(&rt, words, &mut input)? // Printed { status: 0, text, note }: each file system's text
@@ -18,10 +13,11 @@ pub mod compare_command;
 mod fault_line;
 mod faulty_texts;
 mod findings_form;
-mod mount_words;
 mod printing;
 pub mod split_command;
 mod split_text;
+mod subject;
+mod systems;
 mod table_files;
 pub mod test_command;
 pub mod try_command;

@@ -1,31 +1,41 @@
 //! The command `try`: one verdict over one exports text.
 
-ghost use Rattle.std.specs.Prelude.{IfOk};
-ghost use Rattle.std.specs.Option.{option_map};
+ghost use Rattle.std.specs.Prelude.{map};
 ghost use Rattle.desk_text.specs.Lines.{IsReadable};
 ghost use Rattle.desk_findings.specs.CheckFaults.{AreReadable};
 ghost use Rattle.cli_words.specs.Words.{rows_in};
-ghost use Rattle.cli_texts.specs.TryCommand.{AnswersRequest, AnswersTry, AnswersTryAs, PrintsVerdict, ReadsRequest, question_in};
+ghost use Rattle.cli_texts.specs.TryCommand.{AnswersFiles, AnswersRequest, AnswersSubject, AnswersTry, AnswersTryAs, PrintsVerdict, ReadsRequest, asked_of, question_in};
+ghost use Rattle.cli_texts.specs.TableFiles.{named};
+ghost use Rattle.cli_texts.specs.WholeFiles.{file_list};
 ghost use Rattle.cli_texts.specs.WholeTables.{GivesOrFault, policy_of};
 
 use crate::faulty_texts::answer_error;
-use crate::whole_files::{read_whole_texts, whole_sources};
+use crate::subject::{Places, Subject, subject_of, word_of};
+use crate::systems::read_systems;
+use crate::whole_files::{WholeFiles, read_whole_texts, whole_files, whole_inputs, whole_sources};
 use clap::ArgMatches;
 use cli_output::failure::Failure;
 use cli_output::printed::Printed;
 use cli_verdict::try_text::try_text;
 use cli_verdict::{Asking, MountQuestion, print_tried, read_asking};
 use cli_words::values::{Request, read_credential, read_request};
-use cli_words::words::{all_required, given, required};
+use cli_words::words::given;
 use desk_findings::{WholeSources, read_sources};
 use desk_policy::SiteFault;
-use desk_tables::Cred;
+use desk_tables::{Cred, FileSystems};
 use desk_text::ReadError;
 use std::alloc::Global;
 use std::io::BufRead;
 
-/// Answers `try FILE HOST DIR MOUNT...` with its options. The arguments are parsed from left to right, and then the files
-/// are read.
+/// The names of the words: `try FILE HOST DIR MOUNT...`, or with `--site` just HOST and DIR.
+const PLACES: Places = Places {
+    first: "FILE",
+    last: "DIR",
+    beside: "FILE or MOUNT",
+};
+
+/// Answers `try FILE HOST DIR MOUNT...`, or `try --site DIR HOST DIR`, with its options. The arguments are parsed from left to right, and
+/// then the files are read.
 pub fn run_try<I: BufRead>(
     rt: &HostRuntime,
     words: &ArgMatches<'_>,
@@ -48,40 +58,88 @@ fn try_as<I: BufRead>(
 ) -> Result<Printed, Failure>
     ensures { AnswersTryAs asking (rows_in words.now) (I.remaining input.old) result }
 {
-    let file = required(words, "FILE")?;
-    let request = words_request(rt.alloc(), words)?;
-    let texts = read_whole_texts(rt, words, file, input)?;
-    let sources = whole_sources(words, file, &texts);
-    answer_request(rt.alloc(), given(words, "as"), asking, &request, sources)
+    let subject = subject_of(rt.alloc(), words, PLACES)?;
+    answer_subject(rt, words, asking, &subject, input)
 }
 
-/// Parses the request that the words HOST, DIR and MOUNT.. write.
-fn words_request(alloc: Global, words: &ArgMatches<'_>) -> Result<Request, Failure>
-    ensures { ReadsRequest (rows_in words.now) result }
+/// Answers by what is asked of.
+fn answer_subject<'w, I: BufRead>(
+    rt: &HostRuntime,
+    words: &ArgMatches<'w>,
+    asking: Asking,
+    subject: &Subject<'w>,
+    input: &mut I,
+) -> Result<Printed, Failure>
+    ensures { AnswersSubject asking (rows_in words.now) (I.remaining input.old) subject.now result }
 {
-    let host = required(words, "HOST")?;
-    let dir = required(words, "DIR")?;
-    let mounts = all_required(words, "MOUNT")?;
-    read_request(alloc, host, dir, mounts)
+    let request = words_request(rt.alloc(), words, subject)?;
+    let files = whole_files(words, subject, "FILE");
+    let others = whole_inputs(files);
+    let systems = read_systems(rt, words, subject, others, input)?;
+    match systems {
+        Ok(filesystems) => {
+            let asked = Asked {
+                word: given(words, "as"),
+                asking,
+                request: &request,
+                filesystems: &filesystems,
+            };
+            answer_files(rt, asked, files, input)
+        }
+        Err(printed) => Ok(printed),
+    }
+}
+
+/// A request as it is asked: with the word of a credential, if it is given, and the file systems.
+#[derive(Clone, Copy)]
+struct Asked<'a> {
+    word: Option<&'a str>,
+    asking: Asking,
+    request: &'a Request,
+    filesystems: &'a FileSystems,
+}
+
+/// Answers a request by these files.
+fn answer_files<I: BufRead>(
+    rt: &HostRuntime,
+    asked: Asked<'_>,
+    files: WholeFiles<'_>,
+    input: &mut I,
+) -> Result<Printed, Failure>
+    ensures { AnswersFiles (asked_of asked.entry) (map named (file_list files.entry)) (I.remaining input.old) result }
+{
+    let texts = read_whole_texts(rt, files, input)?;
+    answer_request(rt.alloc(), asked, whole_sources(files, &texts))
+}
+
+/// Parses the request that the words HOST and DIR write.
+fn words_request(
+    alloc: Global,
+    words: &ArgMatches<'_>,
+    subject: &Subject<'_>,
+) -> Result<Request, Failure>
+    ensures { ReadsRequest subject.now (rows_in words.now) result }
+{
+    let host = word_of(words, subject, "FILE", "HOST")?;
+    let dir = word_of(words, subject, "HOST", "DIR")?;
+    read_request(alloc, host, dir)
 }
 
 /// Answers a request by the texts of its files.
 fn answer_request(
     alloc: Global,
-    word: Option<&str>,
-    asking: Asking,
-    request: &Request,
+    asked: Asked<'_>,
     sources: WholeSources<'_>,
 ) -> Result<Printed, Failure>
     requires tables { AreReadable sources.tables }
     requires exports { IsReadable sources.exports.text.now }
-    ensures { AnswersRequest (option_map (λ word. word.now) word.entry) asking request.now sources.entry result }
+    ensures { AnswersRequest (asked_of asked.entry) sources.entry result }
 {
     let tables = sources.tables;
-    let own = read_credential(alloc, word, tables.passwd.text, tables.group.text)?;
-    match decide(alloc, &own, asking, request, sources) {
+    let own = read_credential(alloc, asked.word, tables.passwd.text, tables.group.text)?;
+    match decide(alloc, &own, asked, sources) {
         Ok(printed) => Ok(printed),
-        Err(error) => answer_error(alloc, sources, &request.filesystems, error),
+        Err(error) => answer_error(alloc, sources, asked.filesystems, error),
     }
 }
 
@@ -89,22 +147,21 @@ fn answer_request(
 fn decide(
     alloc: Global,
     own: &Option<Cred>,
-    asking: Asking,
-    request: &Request,
+    asked: Asked<'_>,
     sources: WholeSources<'_>,
 ) -> Result<Printed, ReadError<SiteFault>>
     requires tables { AreReadable sources.tables }
     requires exports { IsReadable sources.exports.text.now }
-    ensures { let table = request.now.filesystems in
-        GivesOrFault (PrintsVerdict sources.entry table (question_in request.now own.now asking)) (policy_of sources.entry table) result }
+    ensures { let table = asked.entry.filesystems.now in
+        GivesOrFault (PrintsVerdict sources.entry table (question_in asked.entry.request.now own.now asked.entry.asking)) (policy_of sources.entry table) result }
 {
     let tables = read_sources(alloc, sources.tables)?;
-    let filesystems = request.filesystems.copy()?;
+    let filesystems = asked.filesystems.copy()?;
     let question = MountQuestion {
-        address: request.address,
-        path: &request.path,
+        address: asked.request.address,
+        path: &asked.request.path,
         own,
-        asking,
+        asking: asked.asking,
     };
     let tried = try_text(alloc, sources.exports.text, &tables, filesystems, question)?;
     Ok(print_tried(tried))

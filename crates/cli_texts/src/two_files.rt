@@ -5,23 +5,21 @@ ghost use Rattle.std.specs.Result.{result_map_both};
 ghost use Rattle.desk_text.specs.Lines.{IsReadable};
 ghost use Rattle.desk_findings.specs.CheckFaults.{AreReadable};
 ghost use Rattle.cli_files.specs.Files.{ReadsFiles, name_input_twice};
-ghost use Rattle.cli_words.specs.Words.{rows_in};
-ghost use Rattle.cli_texts.specs.TableFiles.{given_path, paths_in, texts_in};
-ghost use Rattle.cli_texts.specs.TwoFiles.{AreAllShort, named, two_files, two_list, two_texts, whole_first, whole_second};
+ghost use Rattle.cli_texts.specs.TableFiles.{given_path, input_count, named, paths_in, texts_in};
+ghost use Rattle.cli_texts.specs.TwoFiles.{AreAllShort, file_list, two_list, two_texts, whole_first, whole_second};
 
-use crate::table_files::{inputs, read_tables, table_inputs, table_sources};
-use clap::ArgMatches;
-use cli_files::files::read_if_given;
+use crate::table_files::{TextFile, file_inputs, read_file, read_tables, source_of, table_sources};
+use crate::whole_files::{WholeFiles, whole_inputs};
 use cli_output::failure::Failure;
 use desk_findings::{Source, WholeSources};
 use desk_policy::PerTable;
 use std::io::BufRead;
 
-/// A file that a word names: the argument as the usage names it, and the word.
+/// The files of an exports text and its tables, and of a second text.
 #[derive(Clone, Copy)]
-pub struct NamedFile<'a> {
-    pub argument: &'static str,
-    pub path: &'a str,
+pub struct TwoFiles<'a> {
+    pub whole: WholeFiles<'a>,
+    pub second: TextFile<'a>,
 }
 
 /// Two texts, and the texts of the tables beside them.
@@ -62,24 +60,28 @@ impl<'a> TwoSources<'a> {
     }
 }
 
-/// Reads the files of the tables that are given, and then these two. At most one of them may be standard input.
+/// Counts the files that are standard input.
+pub fn two_inputs(files: TwoFiles<'_>) -> u32
+    ensures { result ≡ input_count (map named (file_list files.entry)) }
+{
+    whole_inputs(files.whole) + file_inputs(files.second)
+}
+
+/// Reads the files of the tables, and then these two. At most one of them may be standard input.
 pub fn read_two_texts<I: BufRead>(
     rt: &HostRuntime,
-    words: &ArgMatches<'_>,
-    first: NamedFile<'_>,
-    second: NamedFile<'_>,
+    files: TwoFiles<'_>,
     input: &mut I,
 ) -> Result<TwoTexts, Failure>
-    ensures texts { ReadsFiles (two_files (rows_in words.now) (named first.entry) (named second.entry)) (I.remaining input.old)
-        (result_map_both two_texts (λ failure. failure) result) }
+    ensures texts { ReadsFiles (map named (file_list files.entry)) (I.remaining input.old) (result_map_both two_texts (λ failure. failure) result) }
     ensures short { IfOk result AreAllShort }
 {
-    if names_input_twice(words, first, second) {
+    if names_input_twice(files) {
         return Err(Failure::InputTwice);
     }
-    let tables = read_tables(rt, words, input)?;
-    let first = read_if_given(rt, first.argument, Some(first.path), input)?;
-    let second = read_if_given(rt, second.argument, Some(second.path), input)?;
+    let tables = read_tables(rt, files.whole.tables, input)?;
+    let first = read_file(rt, files.whole.exports, input)?;
+    let second = read_file(rt, files.second, input)?;
     Ok(TwoTexts {
         tables,
         first,
@@ -88,35 +90,24 @@ pub fn read_two_texts<I: BufRead>(
 }
 
 /// Tests whether more than one of these files is to be standard input.
-fn names_input_twice(words: &ArgMatches<'_>, first: NamedFile<'_>, second: NamedFile<'_>) -> bool
-    ensures { result ≡ name_input_twice (two_files (rows_in words.now) (named first.entry) (named second.entry)) }
+fn names_input_twice(files: TwoFiles<'_>) -> bool
+    ensures { result ≡ name_input_twice (map named (file_list files.entry)) }
 {
-    1 < table_inputs(words) + inputs(first.path) + inputs(second.path)
+    1 < two_inputs(files)
 }
 
 /// Lends the texts with the paths of their files.
-pub fn two_sources<'w: 'a, 'a>(
-    words: &ArgMatches<'w>,
-    first: NamedFile<'a>,
-    second: NamedFile<'a>,
-    texts: &'a TwoTexts,
-) -> TwoSources<'a>
+pub fn two_sources<'a>(files: TwoFiles<'a>, texts: &'a TwoTexts) -> TwoSources<'a>
     requires { AreAllShort texts.now }
-    ensures paths { paths_in (two_list result) ≡ map given_path (two_files (rows_in words.now) (named first.entry) (named second.entry)) }
+    ensures paths { paths_in (two_list result) ≡ map given_path (map named (file_list files.entry)) }
     ensures texts { texts_in (two_list result) ≡ two_texts texts.now }
     ensures tables { AreReadable result.tables }
     ensures first { IsReadable result.first.text.now }
     ensures second { IsReadable result.second.text.now }
 {
     TwoSources {
-        tables: table_sources(words, &texts.tables),
-        first: Source {
-            path: first.path,
-            text: texts.first.as_str(),
-        },
-        second: Source {
-            path: second.path,
-            text: texts.second.as_str(),
-        },
+        tables: table_sources(files.whole.tables, &texts.tables),
+        first: source_of(files.whole.exports, texts.first.as_str()),
+        second: source_of(files.second, texts.second.as_str()),
     }
 }

@@ -16,10 +16,6 @@ use Rattle.cli_words.specs.declared.commands.Subcommand.TheVariants.{Ask, Audit,
 abbrev pub word : List ℕ → Rule
 word name = record (new_rule name) { required = true; action = Some Set }
 
--- one word or more
-abbrev pub words : List ℕ → Rule
-words name = record (word name) { range = Some (record { start_inclusive = 1; end_inclusive = usize_max }) }
-
 -- a word that may be left out
 abbrev pub optional_word : List ℕ → Rule
 optional_word name = record (new_rule name) { action = Some Set }
@@ -51,19 +47,19 @@ pub record CommandRow : Type 0 where
 abbrev row : Subcommand → List ℕ → List Rule → Bool → List Rule → CommandRow
 row command name words tables options = record { command = command; name = name; words = words; tables = tables; options = options }
 
--- the options that name the files of tables
+-- the options that name the files of tables and of mount points, and the folder of a site's files
 abbrev pub table_options : List Rule
-table_options = option (codes "hosts") ∷ option (codes "networks") ∷ option (codes "passwd") ∷ option (codes "group") ∷ option (codes "netgroup") ∷ []
+table_options = option (codes "hosts") ∷ option (codes "networks") ∷ option (codes "passwd") ∷ option (codes "group") ∷ option (codes "netgroup") ∷ option (codes "mounts") ∷ option (codes "site") ∷ []
 
 -- the commands, in the order of the help
 abbrev pub commands : List CommandRow
 commands =
-    row Try (codes "try") (word (codes "FILE") ∷ word (codes "HOST") ∷ word (codes "DIR") ∷ words (codes "MOUNT") ∷ []) true (option (codes "as") ∷ flag (codes "why") ∷ flag (codes "mountd") ∷ [])
+    row Try (codes "try") (optional_word (codes "FILE") ∷ optional_word (codes "HOST") ∷ optional_word (codes "DIR") ∷ optional_words (codes "MOUNT") ∷ []) true (option (codes "as") ∷ flag (codes "why") ∷ flag (codes "mountd") ∷ [])
     ∷ row Split (codes "split") (word (codes "FILE") ∷ word (codes "FILESYSTEMS") ∷ []) false []
-    ∷ row Check (codes "check") (optional_word (codes "FILE") ∷ optional_words (codes "MOUNT") ∷ []) true (option (codes "site") ∷ flag (codes "brief") ∷ flag (codes "strict") ∷ flag (codes "json") ∷ flag (codes "sarif") ∷ flag (codes "opinions") ∷ [])
-    ∷ row Clients (codes "clients") (word (codes "FILE") ∷ word (codes "DIR") ∷ words (codes "MOUNT") ∷ []) true (flag (codes "mountd") ∷ [])
-    ∷ row Compare (codes "compare") (word (codes "OLD") ∷ word (codes "NEW") ∷ words (codes "MOUNT") ∷ []) true (flag (codes "all") ∷ [])
-    ∷ row Test (codes "test") (word (codes "FILE") ∷ word (codes "EXPECTATIONS") ∷ words (codes "MOUNT") ∷ []) true (flag (codes "json") ∷ [])
+    ∷ row Check (codes "check") (optional_word (codes "FILE") ∷ optional_words (codes "MOUNT") ∷ []) true (flag (codes "brief") ∷ flag (codes "strict") ∷ flag (codes "json") ∷ flag (codes "sarif") ∷ flag (codes "opinions") ∷ [])
+    ∷ row Clients (codes "clients") (optional_word (codes "FILE") ∷ optional_word (codes "DIR") ∷ optional_words (codes "MOUNT") ∷ []) true (flag (codes "mountd") ∷ [])
+    ∷ row Compare (codes "compare") (optional_word (codes "OLD") ∷ optional_word (codes "NEW") ∷ optional_words (codes "MOUNT") ∷ []) true (flag (codes "all") ∷ [])
+    ∷ row Test (codes "test") (optional_word (codes "FILE") ∷ optional_word (codes "EXPECTATIONS") ∷ optional_words (codes "MOUNT") ∷ []) true (flag (codes "json") ∷ [])
     ∷ row Init (codes "init") (word (codes "DB") ∷ word (codes "DIR") ∷ []) false []
     ∷ row Ask (codes "ask") (word (codes "DB") ∷ word (codes "HOST") ∷ word (codes "DIR") ∷ []) false (option (codes "as") ∷ flag (codes "why") ∷ flag (codes "mountd") ∷ [])
     ∷ row Show (codes "show") (word (codes "DB") ∷ word (codes "HOST") ∷ []) false []
@@ -85,7 +81,6 @@ commands =
 -- an argument of the code
 abbrev pub rule_of_kind : Kind → List ℕ → Rule
 rule_of_kind kind.Word name = word name
-rule_of_kind kind.Words name = words name
 rule_of_kind kind.MaybeWord name = optional_word name
 rule_of_kind kind.MaybeWords name = optional_words name
 rule_of_kind (kind.Valued value) name = option name

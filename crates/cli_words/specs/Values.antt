@@ -15,7 +15,7 @@ use Rattle.desk_tables.specs.declared.groups.Group.{Group}
 use Rattle.desk_tables.specs.declared.users.User.{User}
 use Rattle.desk_text.specs.declared.address.AddrFault.{AddrFault}
 use Rattle.desk_text.specs.declared.path.PathFault.{PathFault}
-use Rattle.desk_tables.specs.FileSystems.{IsTableOf, TooMany}
+use Rattle.desk_mounts.specs.Table.{TooManyBy}
 use Rattle.cli_output.specs.Failure.{IsRefusal}
 use Rattle.cli_output.specs.declared.bad_argument.ArgumentFault.{ArgumentFault}
 use Rattle.cli_output.specs.declared.bad_argument.ArgumentFault.TheVariants as fault
@@ -53,16 +53,16 @@ IsBadMount words (failure.Argument bad) = (first_bad_path words ≡ Some (string
 IsBadMount words failure.Memory = Unit {0}
 IsBadMount words other = ⊥
 
--- the failure names the first MOUNT that is not a path, or says rightly that there would be more than 256 file systems
+-- the failure names the first MOUNT that is not a path, or says rightly that there would be more than 256 file systems, and how many
 abbrev pub IsNoTable : List (List ℕ) → Failure → Type 0
-IsNoTable words failure.TooManyMounts = (first_bad_path words ≡ None) × TooMany (paths_of words)
+IsNoTable words (failure.TooManyMounts argument count) = (argument.now ≡ codes "MOUNT") × (first_bad_path words ≡ None) × TooManyBy (paths_of words) count
 IsNoTable words other = IsBadMount words other
 
--- the failure names the first argument, from left to right, that cannot be parsed
-abbrev pub IsBadArgument : List ℕ → Result ℕ AddrFault → List ℕ → Result (List (List ℕ)) PathFault → List (List ℕ) → Failure → Type 0
-IsBadArgument host (Err bad) dir path mounts other = IsRefusal (codes "HOST") host (fault.Address bad) other
-IsBadArgument host (Ok address) dir (Err bad) mounts other = IsRefusal (codes "DIR") dir (fault.Path bad) other
-IsBadArgument host (Ok address) dir (Ok path) mounts other = IsNoTable mounts other
+-- the failure names the first of HOST and DIR that cannot be parsed; out of memory says nothing
+abbrev pub IsBadArgument : List ℕ → Result ℕ AddrFault → List ℕ → Result (List (List ℕ)) PathFault → Failure → Type 0
+IsBadArgument host (Err bad) dir path other = IsRefusal (codes "HOST") host (fault.Address bad) other
+IsBadArgument host (Ok address) dir (Err bad) other = IsRefusal (codes "DIR") dir (fault.Path bad) other
+IsBadArgument host (Ok address) dir (Ok path) other = other ≡ failure.Memory
 
 -- the number of a revision that a word writes
 abbrev pub revision_number : List ℕ → Option ℕ
@@ -88,12 +88,10 @@ count_number word = read_decimal 4294967295 word
 abbrev pub IsBadCount : List ℕ → List ℕ → Failure → Type 0
 IsBadCount argument word other = IsRefusal argument word (fault.Number 0 4294967295) other
 
--- the request that these words of HOST, DIR and MOUNT write
-pub record IsRequest (host dir : List ℕ) (mounts : List (List ℕ)) (request : Request) : Type 0 where
+-- the request that these words of HOST and DIR write
+pub record IsRequest (host dir : List ℕ) (request : Request) : Type 0 where
   pub address : read_addr host ≡ Ok (number_of request.address)
   pub path : read_path dir ≡ Ok request.path
-  pub mounts_read : first_bad_path mounts ≡ None
-  pub table : IsTableOf (paths_of mounts) request.filesystems
 
 -- what CRED stands for with these users and groups, if it is given and neither table has a fault
 abbrev pub own_answer : Option (List ℕ) → Result (List User) TableFault → Result (List Group) TableFault → Option (Result Cred CredFault)

@@ -2,7 +2,7 @@
 use Rattle.std.specs.Prelude.{◌≡◌, ℕ, Bool, false, codes, List, Option, Some, None, Result, Ok, Err, IsErrAnd}
 use Rattle.std.specs.Option.{option_map_or}
 use Rattle.std.specs.Str.{bytes_eq}
-use Rattle.clap.specs.Words.{Row, all_of, first_of, found_of, rows_of}
+use Rattle.clap.specs.Words.{Row, first_of, found_of, rows_of}
 use Rattle.clap.specs.declared.parser.ArgMatches.{ArgMatches}
 use Rattle.cli_output.specs.Failure.{IsMissing}
 use Rattle.cli_output.specs.declared.failure.Failure.{Failure}
@@ -31,10 +31,6 @@ module _ {T : Type 0} where
   -- the answer by the word of an argument that has to be given
   abbrev pub ByWord : List ℕ → List Row → (List ℕ → Result T Failure → Type 0) → Result T Failure → Type 0
   ByWord name rows Answers result = AnswersBy name (first_of name rows) Answers result
-
-  -- the answer by the words of an argument that has to be given once or more
-  abbrev pub ByWords : List ℕ → List Row → (List (List ℕ) → Result T Failure → Type 0) → Result T Failure → Type 0
-  ByWords name rows Answers result = AnswersBy name (all_of name rows) Answers result
 
 module _ {A T : Type 0} where
   -- what comes after a step: the answer of what it gives, or its failure

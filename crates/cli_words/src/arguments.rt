@@ -1,7 +1,6 @@
 //! The arguments of a command, and how `clap` takes them.
 
-ghost use Rattle.std.specs.Prelude.{◌≡◌};
-ghost use Rattle.cli_words.specs.Commands.{flag, option, optional_word, optional_words, required_option, rule_for, word, words};
+ghost use Rattle.cli_words.specs.Commands.{flag, option, optional_word, optional_words, required_option, rule_for, word};
 ghost use Rattle.cli_words.specs.PrivateLine.{IsArgument};
 
 use clap::{Arg, ArgAction};
@@ -12,8 +11,6 @@ use std::alloc::Global;
 pub enum Kind {
     /// One word.
     Word,
-    /// One word or more.
-    Words,
     /// One word, or left out.
     MaybeWord,
     /// One word or more, or left out.
@@ -41,7 +38,6 @@ pub(crate) fn made_argument<'a>(alloc: Global, argument: Argument) -> Arg<'a>
     let (name, help) = (argument.name, argument.help);
     match argument.kind {
         Kind::Word => word(alloc, name, help),
-        Kind::Words => words(alloc, name, help),
         Kind::MaybeWord => optional_word(alloc, name, help),
         Kind::MaybeWords => optional_words(alloc, name, help),
         Kind::Valued(value) => option(alloc, name, value, help),
@@ -55,13 +51,6 @@ fn word<'a>(alloc: Global, name: &'a str, help: &'a str) -> Arg<'a>
     ensures { IsArgument (word name.entry.now) result }
 {
     optional_word(alloc, name, help).required(true)
-}
-
-/// Makes an argument that is one word or more.
-fn words<'a>(alloc: Global, name: &'a str, help: &'a str) -> Arg<'a>
-    ensures { IsArgument (words name.entry.now) result }
-{
-    word(alloc, name, help).num_args(1..)
 }
 
 /// Makes an argument that is one word, or left out.

@@ -43,7 +43,7 @@ pub struct CommandRow {
     pub name: &'static str,
     /// Its words, in their order.
     pub words: &'static [Argument],
-    /// Whether it takes the options that name the files of tables.
+    /// Whether it takes the options that name the files of tables and of mount points, and a folder.
     pub tables: bool,
     /// Its own options, in the order of its help.
     pub options: &'static [Argument],
@@ -67,10 +67,36 @@ const DIR: Argument = Argument {
     help: "The directory that it asks for",
 };
 
-const MOUNTS: Argument = Argument {
+// A command on texts is asked of FILE and MOUNT, or of a folder: then its other words stand one place to the left. So none of its
+// words is required here.
+const GIVEN_FILE: Argument = Argument {
+    name: "FILE",
+    kind: Kind::MaybeWord,
+    help: "The exports text; - is standard input",
+};
+
+const GIVEN_HOST: Argument = Argument {
+    name: "HOST",
+    kind: Kind::MaybeWord,
+    help: "The IPv4 address of the client",
+};
+
+const GIVEN_DIR: Argument = Argument {
+    name: "DIR",
+    kind: Kind::MaybeWord,
+    help: "The directory that it asks for",
+};
+
+const GIVEN_MOUNTS: Argument = Argument {
     name: "MOUNT",
-    kind: Kind::Words,
+    kind: Kind::MaybeWords,
     help: "The mount points of the file systems",
+};
+
+const GIVEN_CLIENTS_DIR: Argument = Argument {
+    name: "DIR",
+    kind: Kind::MaybeWord,
+    help: "The directory that the clients ask for",
 };
 
 const CLIENTS_DIR: Argument = Argument {
@@ -103,6 +129,12 @@ const EXPECTATIONS: Argument = Argument {
     help: "The text of the expectations; - is standard input",
 };
 
+const GIVEN_EXPECTATIONS: Argument = Argument {
+    name: "EXPECTATIONS",
+    kind: Kind::MaybeWord,
+    help: "The text of the expectations; - is standard input",
+};
+
 const BREACHES_JSON: Argument = Argument {
     name: "json",
     kind: Kind::Flag,
@@ -121,8 +153,8 @@ const NAME: Argument = Argument {
     help: "The name of the file",
 };
 
-/// The options that name the files of tables.
-pub static TABLES: [Argument; 5] = [
+/// The options that name the files of tables and of mount points, and the folder that has them all.
+pub static TABLES: [Argument; 7] = [
     Argument {
         name: "hosts",
         kind: Kind::Valued("FILE"),
@@ -148,6 +180,16 @@ pub static TABLES: [Argument; 5] = [
         kind: Kind::Valued("FILE"),
         help: "The netgroups, as in netgroup(5)",
     },
+    Argument {
+        name: "mounts",
+        kind: Kind::Valued("FILE"),
+        help: "The mount points, in place of MOUNT: paths, or what zfs mount or mount -p prints",
+    },
+    Argument {
+        name: "site",
+        kind: Kind::Valued("DIR"),
+        help: "The folder of a site's files, in place of FILE and MOUNT: exports, filesystems or mounts, and tables",
+    },
 ];
 
 /// The commands, in the order of the help.
@@ -155,7 +197,7 @@ pub static COMMANDS: [CommandRow; 22] = [
     CommandRow {
         command: Subcommand::Try,
         name: "try",
-        words: &[FILE, HOST, DIR, MOUNTS],
+        words: &[GIVEN_FILE, GIVEN_HOST, GIVEN_DIR, GIVEN_MOUNTS],
         tables: true,
         options: &[
             Argument {
@@ -184,25 +226,9 @@ pub static COMMANDS: [CommandRow; 22] = [
     CommandRow {
         command: Subcommand::Check,
         name: "check",
-        words: &[
-            Argument {
-                name: "FILE",
-                kind: Kind::MaybeWord,
-                help: "The exports text; - is standard input",
-            },
-            Argument {
-                name: "MOUNT",
-                kind: Kind::MaybeWords,
-                help: "The mount points of the file systems",
-            },
-        ],
+        words: &[GIVEN_FILE, GIVEN_MOUNTS],
         tables: true,
         options: &[
-            Argument {
-                name: "site",
-                kind: Kind::Valued("DIR"),
-                help: "The folder of a site's files: custodians, filesystems, hosts, networks, passwd, group, netgroup, exports",
-            },
             Argument {
                 name: "brief",
                 kind: Kind::Flag,
@@ -233,7 +259,7 @@ pub static COMMANDS: [CommandRow; 22] = [
     CommandRow {
         command: Subcommand::Clients,
         name: "clients",
-        words: &[FILE, CLIENTS_DIR, MOUNTS],
+        words: &[GIVEN_FILE, GIVEN_CLIENTS_DIR, GIVEN_MOUNTS],
         tables: true,
         options: &[MOUNTD],
     },
@@ -243,15 +269,15 @@ pub static COMMANDS: [CommandRow; 22] = [
         words: &[
             Argument {
                 name: "OLD",
-                kind: Kind::Word,
+                kind: Kind::MaybeWord,
                 help: "The exports text before; - is standard input",
             },
             Argument {
                 name: "NEW",
-                kind: Kind::Word,
+                kind: Kind::MaybeWord,
                 help: "The exports text after; - is standard input",
             },
-            MOUNTS,
+            GIVEN_MOUNTS,
         ],
         tables: true,
         options: &[ALL],
@@ -259,7 +285,7 @@ pub static COMMANDS: [CommandRow; 22] = [
     CommandRow {
         command: Subcommand::Test,
         name: "test",
-        words: &[FILE, EXPECTATIONS, MOUNTS],
+        words: &[GIVEN_FILE, GIVEN_EXPECTATIONS, GIVEN_MOUNTS],
         tables: true,
         options: &[BREACHES_JSON],
     },

@@ -20,7 +20,9 @@ pub(crate) fn help_of(command: Subcommand) -> Help {
     match command {
         Subcommand::Try => Help {
             about: "Decides one mount request by an exports file",
-            usage: None,
+            usage: Some(
+                "exportdesk try [OPTIONS] <FILE> <HOST> <DIR> <MOUNT>...\n       exportdesk try [OPTIONS] --mounts <FILE> <FILE> <HOST> <DIR>\n       exportdesk try [OPTIONS] --site <DIR> <HOST> <DIR>",
+            ),
             end: Some(
                 "A table that is not given is empty: names of hosts then stand for nothing, credentials are\n\
              written in numbers with a colon (0:0), and names of networks are unknown. One file may be -,\n\
@@ -42,7 +44,7 @@ pub(crate) fn help_of(command: Subcommand) -> Help {
         Subcommand::Check => Help {
             about: "Reports every fault and warning of an exports file and its tables",
             usage: Some(
-                "exportdesk check [OPTIONS] <FILE> <MOUNT>...\n       exportdesk check [OPTIONS] --site <DIR>",
+                "exportdesk check [OPTIONS] <FILE> <MOUNT>...\n       exportdesk check [OPTIONS] --mounts <FILE> <FILE>\n       exportdesk check [OPTIONS] --site <DIR>",
             ),
             end: Some(
                 "Each finding is a line `PATH:LINE:COLUMN: fault RULE NAME: ...` or `.. warning ..`, behind which\n\
@@ -53,7 +55,9 @@ pub(crate) fn help_of(command: Subcommand) -> Help {
         },
         Subcommand::Clients => Help {
             about: "Lists who may mount a directory by an exports file",
-            usage: None,
+            usage: Some(
+                "exportdesk clients [OPTIONS] <FILE> <DIR> <MOUNT>...\n       exportdesk clients [OPTIONS] --mounts <FILE> <FILE> <DIR>\n       exportdesk clients [OPTIONS] --site <DIR> <DIR>",
+            ),
             end: Some(
                 "Each line is `FIRST-LAST` and the verdict on every client of that range, as try prints it; together\n\
              they have every address once. A table that is not given is empty. One file may be -, standard input.\n\
@@ -63,7 +67,9 @@ pub(crate) fn help_of(command: Subcommand) -> Help {
         },
         Subcommand::Compare => Help {
             about: "Tells what another exports file would change",
-            usage: None,
+            usage: Some(
+                "exportdesk compare [OPTIONS] <OLD> <NEW> <MOUNT>...\n       exportdesk compare [OPTIONS] --mounts <FILE> <OLD> <NEW>\n       exportdesk compare [OPTIONS] --site <DIR> <NEW>",
+            ),
             end: Some(
                 "For each directory that changes it prints a line `== DIR`, or `== other directories of MOUNT` for all that\n\
              no line writes, and below it for each range of addresses the verdict by OLD behind `- ` and that by NEW\n\
@@ -74,7 +80,9 @@ pub(crate) fn help_of(command: Subcommand) -> Help {
         },
         Subcommand::Test => Help {
             about: "Tests whether an exports file keeps what is expected of it",
-            usage: None,
+            usage: Some(
+                "exportdesk test [OPTIONS] <FILE> <EXPECTATIONS> <MOUNT>...\n       exportdesk test [OPTIONS] --mounts <FILE> <FILE> <EXPECTATIONS>\n       exportdesk test [OPTIONS] --site <DIR> <EXPECTATIONS>",
+            ),
             end: Some(
                 "EXPECTATIONS has a line for each: WHOM [but NAME..] may [not] ACTION DIR.., as in\n\
              `everybody but adm may not write /usr/...`, where /usr/... is /usr and all below it. ACTION is mount, write,\n\
@@ -89,7 +97,8 @@ pub(crate) fn help_of(command: Subcommand) -> Help {
             usage: None,
             end: Some(
                 "DIR has the files custodians, filesystems, hosts, networks, passwd, group, netgroup and exports;\n\
-             exports is split among the file systems. Each file is stored as revision 1, by site. It prints the\n\
+             exports is split among the file systems. Without filesystems, the mount points are those of the file\n\
+             mounts, and site keeps them. Each file is stored as revision 1, by site. It prints the\n\
              warnings of the files, and `ready`. DB is made for its owner alone; a log DB-wal stands beside it.",
             ),
         },

@@ -15,37 +15,26 @@ ghost use Rattle.cli_output.specs.declared.bad_argument.ArgumentFault.TheVariant
 
 use cli_output::bad_argument::ArgumentFault;
 use cli_output::failure::Failure;
+use desk_mounts::table_of;
 use desk_tables::{Cred, FileSystems, Groups, Users, credential};
 use desk_text::{Addr, Path, ReadError, read_decimal};
 use std::alloc::Global;
 
-/// A mount request: who asks for which directory, and the file systems that there are.
+/// A mount request: who asks for which directory.
 #[derive(Drop)]
 pub struct Request {
     pub address: Addr,
     pub path: Path,
-    pub filesystems: FileSystems,
 }
 
-/// Parses HOST, DIR and MOUNT, from left to right.
-pub fn read_request(
-    alloc: Global,
-    host: &str,
-    dir: &str,
-    mounts: &[&str],
-) -> Result<Request, Failure>
-    ensures { let given = map (λ word. word.now) mounts.now in
-        MatchResult result (IsRequest host.now dir.now given)
-        (IsBadArgument host.now (read_addr host.now) dir.now (read_path dir.now) given) }
+/// Parses HOST and DIR, from left to right.
+pub fn read_request(alloc: Global, host: &str, dir: &str) -> Result<Request, Failure>
+    ensures { MatchResult result (IsRequest host.now dir.now)
+        (IsBadArgument host.now (read_addr host.now) dir.now (read_path dir.now)) }
 {
     let address = read_host(alloc, host)?;
     let path = read_path(alloc, "DIR", dir)?;
-    let filesystems = read_mounts(alloc, mounts)?;
-    Ok(Request {
-        address,
-        path,
-        filesystems,
-    })
+    Ok(Request { address, path })
 }
 
 /// Parses HOST, the client's address.
@@ -117,9 +106,9 @@ pub fn read_mounts(alloc: Global, words: &[&str]) -> Result<FileSystems, Failure
         MatchResult result (λ table. (first_bad_path given ≡ None) × IsTableOf (paths_of given) table) (IsNoTable given) }
 {
     let mount_points = read_mount_points(alloc, words)?;
-    match FileSystems::from_mounts(alloc, mount_points)? {
-        Some(filesystems) => Ok(filesystems),
-        None => Err(Failure::TooManyMounts),
+    match table_of(alloc, mount_points)? {
+        Ok(filesystems) => Ok(filesystems),
+        Err(count) => Err(Failure::TooManyMounts("MOUNT", count)),
     }
 }
 

@@ -35,15 +35,16 @@ pub fn required<'a>(words: &ArgMatches<'a>, name: &'static str) -> Result<&'a st
     }
 }
 
-/// Returns the words of an argument that has to be given once or more.
-pub fn all_required<'m, 'a>(
-    words: &'m ArgMatches<'a>,
+/// Returns the word that stands at the place of an argument and has to be given as another one, which a failure names.
+pub fn required_as<'a>(
+    words: &ArgMatches<'a>,
+    place: &str,
     name: &'static str,
-) -> Result<&'m [&'a str], Failure>
-    ensures { Finds (λ found. map (λ word. word.now) found.now) name.entry.now (all_of name.entry.now (rows_in words.now)) result }
+) -> Result<&'a str, Failure>
+    ensures { Finds (λ word. word.now) name.entry.now (first_of place.now (rows_in words.now)) result }
 {
-    match all_given(words, name) {
-        Some(found) => Ok(found),
+    match given(words, place) {
+        Some(word) => Ok(word),
         None => Err(Failure::of_missing(name)),
     }
 }

@@ -1,23 +1,23 @@
 //! A copy of a database in one file, which a desk was opened on.
 
-ghost use Rattle.std.specs.Prelude.{◌≡◌, ℕ, false, IfErr, IfOk, IsTrue, List, OnOk};
-ghost use Rattle.sqlite_disk.specs.Memory.{memory_bytes, memory_is_usable};
+ghost use Rattle.std.specs.Prelude.{◌≡◌, ℕ, false, IfErr, IfOk, List, OnOk};
 ghost use Rattle.sqlite_trees.specs.Tree.{Trees};
 ghost use Rattle.sqlite.specs.Effect.{Database};
 ghost use Rattle.sqlite.specs.Files.{file_state};
 ghost use Rattle.desk_store.specs.Open.{IsOurs};
+ghost use Rattle.cli_database_files.specs.CopiedFile.{copied_bytes};
 ghost use Rattle.cli_database_files.specs.Copy.{IsUnopened};
 ghost use Rattle.cli_database_files.specs.OneFile.{HoldsAlone};
 ghost use Rattle.cli_desk.specs.Desks.{HasNoCopiedDesk};
 ghost use Rattle.cli_write.specs.CheckedCopy.{IsCheckedCopy, IsOursIn};
 
+use cli_database_files::copied_file::CopiedFile;
 use cli_database_files::copy::{Copied, Unopened};
 use cli_database_files::one_file::{bytes_of, open_alone, take_log_in};
 use cli_desk::desks::desk_on_copy;
 use cli_desk::refusal_notes::not_opened_at;
 use cli_output::failure::Failure;
 use cli_output::printed::Printed;
-use sqlite_disk::Memory;
 use std::alloc::Global;
 
 /// Makes one file of a copy, and gives its bytes, if a desk opens on them; or prints why there is none. A database of version 1 stays one.
@@ -39,10 +39,9 @@ pub(crate) fn checked_copy(
 fn checked_bytes(
     rt: &HostRuntime,
     db: &str,
-    file: Memory,
+    file: CopiedFile,
 ) -> Result<Vec<u8>, Result<Printed, Failure>>
-    requires { IsTrue (memory_is_usable file) }
-    ensures copy { IfOk result (λ bytes. (trees : Trees) → HoldsAlone (memory_bytes file) trees → IsCheckedCopy trees bytes.items) }
+    ensures copy { IfOk result (λ bytes. (trees : Trees) → HoldsAlone (copied_bytes file) trees → IsCheckedCopy trees bytes.items) }
     ensures refused { IfErr result (HasNoCopiedDesk db.now) }
 {
     match bytes_of(rt.alloc(), &file) {
@@ -55,12 +54,11 @@ fn checked_bytes(
 fn if_checked(
     rt: &HostRuntime,
     db: &str,
-    file: Memory,
+    file: CopiedFile,
     bytes: Vec<u8>,
 ) -> Result<Vec<u8>, Result<Printed, Failure>>
-    requires usable { IsTrue (memory_is_usable file) }
-    requires same { bytes.items ≡ memory_bytes file }
-    ensures copy { IfOk result (λ given. (trees : Trees) → HoldsAlone (memory_bytes file) trees → IsCheckedCopy trees given.items) }
+    requires { bytes.items ≡ copied_bytes file }
+    ensures copy { IfOk result (λ given. (trees : Trees) → HoldsAlone (copied_bytes file) trees → IsCheckedCopy trees given.items) }
     ensures refused { IfErr result (HasNoCopiedDesk db.now) }
 {
     match check_file(rt, db, file) {
@@ -70,9 +68,8 @@ fn if_checked(
 }
 
 /// Opens a desk on a database file with no log beside it; or prints why there is none.
-fn check_file(rt: &HostRuntime, db: &str, file: Memory) -> Result<(), Result<Printed, Failure>>
-    requires { IsTrue (memory_is_usable file) }
-    ensures ours { OnOk result ((trees : Trees) → HoldsAlone (memory_bytes file) trees → IsOursIn trees) }
+fn check_file(rt: &HostRuntime, db: &str, file: CopiedFile) -> Result<(), Result<Printed, Failure>>
+    ensures ours { OnOk result ((trees : Trees) → HoldsAlone (copied_bytes file) trees → IsOursIn trees) }
     ensures refused { IfErr result (HasNoCopiedDesk db.now) }
 {
     match open_alone(rt.alloc(), file) {

@@ -12,10 +12,11 @@ use Rattle.desk_text.specs.declared.address.Addr.{Addr}
 use Rattle.desk_text.specs.declared.place.Place.{Place}
 use Rattle.desk_policy.specs.SiteFault.{rule_sentence}
 use Rattle.desk_policy.specs.Warning.{kind_sentence}
-use Rattle.desk_remarks.specs.Remark.{remark_sentence}
+use Rattle.desk_remarks.specs.Remark.{other_of as other_line_of, remark_sentence}
 use Rattle.desk_remarks.specs.declared.remark.Example.{Example}
+use Rattle.desk_remarks.specs.declared.remark.OtherLine.{OtherLine}
+use Rattle.desk_remarks.specs.declared.remark.OtherLine.TheVariants.{First, Grants, Taken}
 use Rattle.desk_remarks.specs.declared.remark.Remark.{Remark}
-use Rattle.desk_remarks.specs.declared.remark.Remark.TheVariants as remark
 use Rattle.desk_findings.specs.Finding.{is_fault, kind_word, line_at, name_of, number_of, slice_at}
 use Rattle.desk_findings.specs.declared.finding.Finding.{Finding}
 use Rattle.desk_findings.specs.declared.finding.Matter.{Matter}
@@ -90,10 +91,13 @@ abbrev pub repeated_text : ℕ → Addr → List ℕ
 repeated_text line address = taken_text line ++ addr_text (addresses.number_of address) ++ codes ": write the directories on one line"
 
 -- what is said of a line, with the line, the address and the directory that show it
+abbrev pub sentence_with : OtherLine → List ℕ → ℕ → Addr → Option (List (List ℕ)) → List ℕ
+sentence_with First sentence line address directory = sentence ++ shown_by line address
+sentence_with Grants sentence line address directory = wider_text line address directory
+sentence_with Taken sentence line address directory = repeated_text line address
+
 abbrev pub remark_with : Remark → ℕ → Addr → Option (List (List ℕ)) → List ℕ
-remark_with remark.ServerGrantsMore line address directory = wider_text line address directory
-remark_with remark.RepeatedClient line address directory = repeated_text line address
-remark_with said line address directory = remark_sentence said ++ shown_by line address
+remark_with said line address directory = sentence_with (other_line_of said) (remark_sentence said) line address directory
 
 -- what is said of a line, with what shows it, if anything does
 abbrev pub remark_text : Remark → Option Example → Option (List (List ℕ)) → List ℕ

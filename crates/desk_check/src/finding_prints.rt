@@ -13,7 +13,7 @@ ghost use Rattle.desk_check.specs.FindingPrints as spec;
 
 use crate::hints::hint;
 use desk_findings::{Finding, Matter};
-use desk_remarks::{Example, Remark};
+use desk_remarks::{Example, OtherLine, Remark};
 use desk_shown::{push_blanks, push_carets, push_shown, push_shown_line};
 use desk_text::{Addr, Path, Place};
 use std::alloc::{AllocError, Global};
@@ -200,10 +200,10 @@ fn push_remark(
         ≡ string_bytes text.old ++ spec.remark_with remark shown.line shown.address (option_copied directory.entry)) }
 {
     let Example { line, address } = shown;
-    match remark {
-        Remark::ServerGrantsMore => push_wider(line, address, directory, text),
-        Remark::RepeatedClient => push_repeated(line, address, text),
-        _ => {
+    match remark.other() {
+        OtherLine::Grants => push_wider(line, address, directory, text),
+        OtherLine::Taken => push_repeated(line, address, text),
+        OtherLine::First => {
             text.push_str(remark.sentence())?;
             push_example(line, address, text)
         }

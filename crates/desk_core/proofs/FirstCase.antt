@@ -1,6 +1,7 @@
 -- Which case of an edit holds first, and what that says of the edit.
-use Rattle.std.proofs.Common.{◌≡◌, ◌∙◌, ◌⊎◌, ◌||◌, inl, inr, sym, ap, subst, refl, ℕ, ◌+◌, ◌==◌, ◌&&◌, Bool, true, false, not, cond, List, [], ◌∷◌, Option, Some, None, length, arith}
-use Rattle.std.specs.Prelude.{find, is_none}
+use Rattle.std.proofs.Common.{◌≡◌, ◌∙◌, ◌⊎◌, ◌||◌, inl, inr, sym, ap, subst, refl, ℕ, ◌+◌, ◌==◌, ◌&&◌, Bool, true, false, not, cond, List, [], ◌∷◌, ◌++◌, Option, Some, None, length, arith}
+use Rattle.std.specs.Prelude.{◌↔◌, is_none}
+use Rattle.std.specs.List.{AllByRecursion}
 use Rattle.std.specs.Option.{option_map_or}
 use Rattle.std.specs.Str.{bytes_eq}
 use Rattle.std.proofs.lemmas.Bool.{and_from, and_parts, or_cases, eq-eqb, eqb-false, eqb-true, le-ltb, ltb-false, ne_eqb, not-false}
@@ -9,114 +10,86 @@ use Rattle.sha2.specs.Sha256.{sha256}
 use Rattle.desk_tables.specs.Custodians.{digest_of}
 use Rattle.desk_core.specs.Edit.{Edit}
 use Rattle.desk_core.specs.Head.{Revision, last_revision, longest_revision, newest_number}
-use Rattle.desk_core.specs.Judging.{cases, first_case, holds, is_guarded_file, is_key, is_of, is_pending, is_repeat, proposes, table_in}
-use Rattle.desk_core.specs.Laws.{IsAllowed, IsProposed, IsRepeat}
+use Rattle.desk_core.specs.Judging.{as_cases, conflicts, first_case, first_held, is_guarded_file, is_key, is_of, is_pending, is_repeat, objections, proposes, table_in}
+use Rattle.desk_core.specs.Laws.{IsAllowed, IsProposed, IsRepeat, MayBeAccepted}
 use Rattle.desk_core.specs.Site.{custodians_of, site_in}
 use Rattle.desk_core.specs.Standing.{Standing}
 use Rattle.desk_core.specs.declared.proposal.Proposal.{Proposal}
 use Rattle.desk_tables.specs.declared.filesystems.Mount.{Mount}
+use Rattle.desk_core.specs.declared.edit.Refusal.{Refusal}
 use Rattle.desk_core.specs.declared.judging.Case.{Case}
 use Rattle.desk_core.specs.declared.judging.Case.TheVariants as case
 
-some_is : {x y : Case} → Some x ≡ Some y → x ≡ y
-some_is e = cc
+-- ---- the first of a list
 
-none_first : (p : Case → Bool) (x : Case) (xs : List Case) → find p (x ∷ xs) ≡ None → (p x ≡ false) × (find p xs ≡ None)
-none_first p x xs e = step (p x) (find p xs) e
-  where
-    step : (b : Bool) (o : Option Case) → cond b (Some x) o ≡ None → (b ≡ false) × (o ≡ None)
-    step true o e = cc
-    step false o e = (refl, e)
+-- none of these holds
+abbrev pub NoneHolds : {A : Type 0} → List (Bool × A) → Type 0
+NoneHolds checks = AllByRecursion (λ check. check.0 ≡ false) checks
 
-later_first : (p : Case → Bool) (x y : Case) (xs : List Case) → (x ≡ y → ⊥) → find p (x ∷ xs) ≡ Some y → (p x ≡ false) × (find p xs ≡ Some y)
-later_first p x y xs apart e = step (p x) (find p xs) e
-  where
-    step : (b : Bool) (o : Option Case) → cond b (Some x) o ≡ Some y → (b ≡ false) × (o ≡ Some y)
-    step true o e = absurd (apart (some_is e))
-    step false o e = (refl, e)
+module _ {A : Type 0} where
+  -- each of these is another than this one
+  abbrev AreOthers : A → List (Bool × A) → Type 0
+  AreOthers own checks = AllByRecursion (λ check. check.1 ≡ own → ⊥) checks
 
-own_first : (p : Case → Bool) (x : Case) (xs : List Case) → find p (x ∷ xs) ≡ Some x → (find p xs ≡ Some x → ⊥) → p x ≡ true
-own_first p x xs e none = step (p x) (find p xs) e none
-  where
-    step : (b : Bool) (o : Option Case) → cond b (Some x) o ≡ Some x → (o ≡ Some x → ⊥) → b ≡ true
-    step true o e none = refl
-    step false o e none = absurd (none e)
+  later_is : (holds : Bool) (x own : A) (later : Option A) → (x ≡ own → ⊥) → cond holds (Some x) later ≡ Some own → (holds ≡ false) × (later ≡ Some own)
+  later_is true x own later other e = absurd (other (let same : Some x ≡ Some own = e in cc))
+  later_is false x own later other e = (refl, e)
 
--- none of the cases that refuse a caller, a file or a text holds
-pub record IsClear (p : Case → Bool) : Type 0 where
-  pub caller : p case.UnknownCaller ≡ false
-  pub key : p case.BadKey ≡ false
-  pub file : p case.UnknownFile ≡ false
-  pub keeper : p case.NotCustodian ≡ false
-  pub large : p case.TooLarge ≡ false
+  own_is : (holds : Bool) (own : A) (later : Option A) → (later ≡ Some own → ⊥) → cond holds (Some own) later ≡ Some own → holds ≡ true
+  own_is true own later none e = refl
+  own_is false own later none e = absurd (none e)
 
--- none of the cases holds
-pub record NoneHolds (p : Case → Bool) : Type 0 where
-  pub clear : IsClear p
-  pub repeat : p case.Already ≡ false
-  pub pending : p case.Pending ≡ false
-  pub stale : p case.Stale ≡ false
-  pub full : p case.Full ≡ false
+  none_is : (holds : Bool) (x : A) (later : Option A) → cond holds (Some x) later ≡ None → (holds ≡ false) × (later ≡ None)
+  none_is true x later e = cc
+  none_is false x later e = (refl, e)
 
-pub none_holds : (p : Case → Bool) → find p cases ≡ None → NoneHolds p
-none_holds p e =
-    let a = none_first p case.UnknownCaller (case.BadKey ∷ case.UnknownFile ∷ case.NotCustodian ∷ case.TooLarge ∷ case.Already ∷ case.Pending ∷ case.Stale ∷ case.Full ∷ []) e in
-    let b = none_first p case.BadKey (case.UnknownFile ∷ case.NotCustodian ∷ case.TooLarge ∷ case.Already ∷ case.Pending ∷ case.Stale ∷ case.Full ∷ []) a.1 in
-    let c = none_first p case.UnknownFile (case.NotCustodian ∷ case.TooLarge ∷ case.Already ∷ case.Pending ∷ case.Stale ∷ case.Full ∷ []) b.1 in
-    let d = none_first p case.NotCustodian (case.TooLarge ∷ case.Already ∷ case.Pending ∷ case.Stale ∷ case.Full ∷ []) c.1 in
-    let f = none_first p case.TooLarge (case.Already ∷ case.Pending ∷ case.Stale ∷ case.Full ∷ []) d.1 in
-    let g = none_first p case.Already (case.Pending ∷ case.Stale ∷ case.Full ∷ []) f.1 in
-    let h = none_first p case.Pending (case.Stale ∷ case.Full ∷ []) g.1 in
-    let i = none_first p case.Stale (case.Full ∷ []) h.1 in
-    let j = none_first p case.Full ([]) i.1 in
-    record { clear = record { caller = a.0; key = b.0; file = c.0; keeper = d.0; large = f.0 }; repeat = g.0; pending = h.0; stale = i.0; full = j.0 }
+  not_among : (own : A) (checks : List (Bool × A)) → AreOthers own checks → first_held checks ≡ Some own → ⊥
+  not_among own [] others e = cc
+  not_among own ((holds, x) ∷ checks) others e = not_among own checks others.1 (later_is holds x own (first_held checks) others.0 e).1
 
-pub none_found : (p : Case → Bool) → NoneHolds p → find p cases ≡ None
-none_found p all = rw (all.clear.caller, all.clear.key, all.clear.file, all.clear.keeper, all.clear.large, all.repeat, all.pending, all.stale, all.full) refl
+  found : (holds : Bool) (own : A) (before after : List (Bool × A)) → NoneHolds before → holds ≡ true → first_held (before ++ (holds, own) ∷ after) ≡ Some own
+  found holds own [] after none is = ap (λ b. cond b (Some own) (first_held after)) is
+  found holds own ((b, x) ∷ before) after none is =
+      ap (λ b. cond b (Some x) (first_held (before ++ (holds, own) ∷ after))) none.0 ∙ found holds own before after none.1 is
 
--- where a repeat comes first
-pub already_first : (p : Case → Bool) → find p cases ≡ Some case.Already → IsClear p × (p case.Already ≡ true)
-already_first p e =
-    let a = later_first p case.UnknownCaller case.Already (case.BadKey ∷ case.UnknownFile ∷ case.NotCustodian ∷ case.TooLarge ∷ case.Already ∷ case.Pending ∷ case.Stale ∷ case.Full ∷ []) (λ h. cc) e in
-    let b = later_first p case.BadKey case.Already (case.UnknownFile ∷ case.NotCustodian ∷ case.TooLarge ∷ case.Already ∷ case.Pending ∷ case.Stale ∷ case.Full ∷ []) (λ h. cc) a.1 in
-    let c = later_first p case.UnknownFile case.Already (case.NotCustodian ∷ case.TooLarge ∷ case.Already ∷ case.Pending ∷ case.Stale ∷ case.Full ∷ []) (λ h. cc) b.1 in
-    let d = later_first p case.NotCustodian case.Already (case.TooLarge ∷ case.Already ∷ case.Pending ∷ case.Stale ∷ case.Full ∷ []) (λ h. cc) c.1 in
-    let f = later_first p case.TooLarge case.Already (case.Already ∷ case.Pending ∷ case.Stale ∷ case.Full ∷ []) (λ h. cc) d.1 in
-    (record { caller = a.0; key = b.0; file = c.0; keeper = d.0; large = f.0 }, own_first p case.Already (case.Pending ∷ case.Stale ∷ case.Full ∷ []) f.1 (λ h. not_behind h))
-  where
-    not_behind : find p (case.Pending ∷ case.Stale ∷ case.Full ∷ []) ≡ Some case.Already → ⊥
-    not_behind h = step (p case.Pending) (p case.Stale) (p case.Full) h
-      where
-        step : (n s f : Bool) → cond n (Some case.Pending) (cond s (Some case.Stale) (cond f (Some case.Full) None)) ≡ Some case.Already → ⊥
-        step true s f h = cc
-        step false true f h = cc
-        step false false true h = cc
-        step false false false h = cc
+  finds : (holds : Bool) (own : A) (before after : List (Bool × A)) → AreOthers own before → AreOthers own after → first_held (before ++ (holds, own) ∷ after) ≡ Some own → NoneHolds before × (holds ≡ true)
+  finds holds own [] after others behind e = (tt, own_is holds own (first_held after) (not_among own after behind) e)
+  finds holds own ((b, x) ∷ before) after others behind e =
+      let later = later_is b x own (first_held (before ++ (holds, own) ∷ after)) others.0 e in
+      let rest = finds holds own before after others.1 behind later.1 in
+      ((later.0, rest.0), rest.1)
 
-pub already_found : (p : Case → Bool) → IsClear p → p case.Already ≡ true → find p cases ≡ Some case.Already
-already_found p clear again = rw (clear.caller, clear.key, clear.file, clear.keeper, clear.large, again) refl
+  -- the first of a list is this one exactly if it holds and none before it does
+  pub is_first : (holds : Bool) (own : A) (before after : List (Bool × A)) → AreOthers own before → AreOthers own after
+      → (first_held (before ++ (holds, own) ∷ after) ≡ Some own) ↔ (NoneHolds before × (holds ≡ true))
+  is_first holds own before after others behind = (finds holds own before after others behind, λ h. found holds own before after h.0 h.1)
 
--- where a proposal that is pending comes first
-pub pending_first : (p : Case → Bool) → find p cases ≡ Some case.Pending → IsClear p × (p case.Already ≡ false) × (p case.Pending ≡ true)
-pending_first p e =
-    let a = later_first p case.UnknownCaller case.Pending (case.BadKey ∷ case.UnknownFile ∷ case.NotCustodian ∷ case.TooLarge ∷ case.Already ∷ case.Pending ∷ case.Stale ∷ case.Full ∷ []) (λ h. cc) e in
-    let b = later_first p case.BadKey case.Pending (case.UnknownFile ∷ case.NotCustodian ∷ case.TooLarge ∷ case.Already ∷ case.Pending ∷ case.Stale ∷ case.Full ∷ []) (λ h. cc) a.1 in
-    let c = later_first p case.UnknownFile case.Pending (case.NotCustodian ∷ case.TooLarge ∷ case.Already ∷ case.Pending ∷ case.Stale ∷ case.Full ∷ []) (λ h. cc) b.1 in
-    let d = later_first p case.NotCustodian case.Pending (case.TooLarge ∷ case.Already ∷ case.Pending ∷ case.Stale ∷ case.Full ∷ []) (λ h. cc) c.1 in
-    let f = later_first p case.TooLarge case.Pending (case.Already ∷ case.Pending ∷ case.Stale ∷ case.Full ∷ []) (λ h. cc) d.1 in
-    let g = later_first p case.Already case.Pending (case.Pending ∷ case.Stale ∷ case.Full ∷ []) (λ h. cc) f.1 in
-    (record { caller = a.0; key = b.0; file = c.0; keeper = d.0; large = f.0 }, g.0, own_first p case.Pending (case.Stale ∷ case.Full ∷ []) g.1 (λ h. not_behind h))
-  where
-    not_behind : find p (case.Stale ∷ case.Full ∷ []) ≡ Some case.Pending → ⊥
-    not_behind h = step (p case.Stale) (p case.Full) h
-      where
-        step : (s f : Bool) → cond s (Some case.Stale) (cond f (Some case.Full) None) ≡ Some case.Pending → ⊥
-        step true f h = cc
-        step false true h = cc
-        step false false h = cc
+  none_found : (checks : List (Bool × A)) → NoneHolds checks → first_held checks ≡ None
+  none_found [] none = refl
+  none_found ((b, x) ∷ checks) none = ap (λ b. cond b (Some x) (first_held checks)) none.0 ∙ none_found checks none.1
 
-pub pending_found : (p : Case → Bool) → IsClear p → p case.Already ≡ false → p case.Pending ≡ true → find p cases ≡ Some case.Pending
-pending_found p clear new again = rw (clear.caller, clear.key, clear.file, clear.keeper, clear.large, new, again) refl
+  finds_none : (checks : List (Bool × A)) → first_held checks ≡ None → NoneHolds checks
+  finds_none [] e = tt
+  finds_none ((b, x) ∷ checks) e = let later = none_is b x (first_held checks) e in (later.0, finds_none checks later.1)
+
+  -- there is no first exactly if none holds
+  pub is_none_first : (checks : List (Bool × A)) → (first_held checks ≡ None) ↔ NoneHolds checks
+  is_none_first checks = (finds_none checks, none_found checks)
+
+  none_of_both : (checks more : List (Bool × A)) → NoneHolds (checks ++ more) → NoneHolds checks × NoneHolds more
+  none_of_both [] more h = (tt, h)
+  none_of_both (check ∷ checks) more h = let parts = none_of_both checks more h.1 in ((h.0, parts.0), parts.1)
+
+  both_of_none : (checks more : List (Bool × A)) → NoneHolds checks → NoneHolds more → NoneHolds (checks ++ more)
+  both_of_none [] more h m = m
+  both_of_none (check ∷ checks) more h m = (h.0, both_of_none checks more h.1 m)
+
+-- a refusal is another case than these two
+refusals_and : (own : Case) → ((refused : Refusal) → case.Refused refused ≡ own → ⊥) → (reasons : List (Bool × Refusal)) (more : List (Bool × Case)) → AreOthers own more → AreOthers own (as_cases reasons ++ more)
+refusals_and own apart [] more others = others
+refusals_and own apart (reason ∷ reasons) more others = (apart reason.1, refusals_and own apart reasons more others)
+
+-- ---- what each case says
 
 key_listed : (key : List ℕ) (listed : Option (List ℕ)) → not (is_key key listed) ≡ false → listed ≡ Some (sha256 key)
 key_listed key None e = cc
@@ -186,69 +159,92 @@ pub parts_pending : (table : List Mount) (e : Edit) (proposal : Proposal) → is
 parts_pending table e proposal guarded base author text = and_from _ _ guarded (and_from _ _ (parts_propose e proposal base text) ((bytes_eq-Decides proposal.author e.caller).1 author))
 
 module _ (standing : Standing) (e : Edit) where
-  -- the cases of the edit
-  abbrev pub p : Case → Bool
-  p = holds (custodians_of (site_in standing.newest)) (table_in standing.newest) (standing.newest e.file) (standing.proposals e.file) e
+  abbrev table : List Mount
+  table = table_in standing.newest
 
-  pub clear_allowed : IsClear p → IsAllowed standing.newest e
-  clear_allowed clear = record {
-    key = key_listed e.key _ clear.key;
-    known = not-false _ clear.file;
-    keeps = not-false _ clear.keeper;
-    short = ltb-false longest_revision (length e.text) clear.large;
+  abbrev newest : Option Revision
+  newest = standing.newest e.file
+
+  abbrev proposal : Option Proposal
+  proposal = standing.proposals e.file
+
+  -- the reasons why the edit is not allowed, and why it cannot follow
+  abbrev objected : List (Bool × Case)
+  objected = as_cases (objections (custodians_of (site_in standing.newest)) table e)
+
+  abbrev conflicting : List (Bool × Case)
+  conflicting = as_cases (conflicts newest e)
+
+  abbrev repeat : Bool × Case
+  repeat = (is_repeat e newest, case.Already)
+
+  abbrev pending : Bool × Case
+  pending = (is_pending table e proposal, case.Pending)
+
+  clear_allowed : NoneHolds objected → IsAllowed standing.newest e
+  clear_allowed (caller, (key, (file, (keeper, (large, done))))) = record {
+    key = key_listed e.key _ key;
+    known = not-false _ file;
+    keeps = not-false _ keeper;
+    short = ltb-false longest_revision (length e.text) large;
   }
 
-  pub allowed_clear : IsAllowed standing.newest e → IsClear p
+  allowed_clear : IsAllowed standing.newest e → NoneHolds objected
   allowed_clear allowed =
       let listed = is_listed e.key (digest_of (custodians_of (site_in standing.newest)) e.caller) allowed.key in
-      record {
-        caller = listed.0;
-        key = listed.1;
-        file = ap not allowed.known;
-        keeper = ap not allowed.keeps;
-        large = le-ltb longest_revision (length e.text) allowed.short;
-      }
+      (listed.0, (listed.1, (ap not allowed.known, (ap not allowed.keeps, (le-ltb longest_revision (length e.text) allowed.short, tt)))))
 
-  pub no_case : IsAllowed standing.newest e → newest_number (standing.newest e.file) ≡ e.base → (e.base ≡ last_revision → ⊥) → is_pending (table_in standing.newest) e (standing.proposals e.file) ≡ false → first_case standing e ≡ None
-  no_case allowed names_newest room fresh = none_found p (record {
-    clear = allowed_clear allowed;
-    repeat = no_repeat e (standing.newest e.file) names_newest;
-    pending = fresh;
-    stale = ap not (eq-eqb (newest_number (standing.newest e.file)) e.base names_newest);
-    full = ne_eqb e.base last_revision room;
-  })
+  -- no case of an edit holds that may be accepted and is not proposed already
+  pub no_case : MayBeAccepted standing e → is_pending table e proposal ≡ false → first_case standing e ≡ None
+  no_case may fresh =
+      let follows : NoneHolds conflicting = (ap not (eq-eqb (newest_number newest) e.base may.names_newest), (ne_eqb e.base last_revision may.room, tt)) in
+      (is_none_first (objected ++ repeat ∷ pending ∷ conflicting)).1
+      (both_of_none objected (repeat ∷ pending ∷ conflicting) (allowed_clear may.allowed) (no_repeat e newest may.names_newest, (fresh, follows)))
 
   -- where no case holds the edit is allowed, names the newest revision, has a further number, and is not proposed
   pub without_case : first_case standing e ≡ None
-      → IsAllowed standing.newest e × (newest_number (standing.newest e.file) ≡ e.base) × (e.base ≡ last_revision → ⊥) × (is_pending (table_in standing.newest) e (standing.proposals e.file) ≡ false)
+      → IsAllowed standing.newest e × (newest_number newest ≡ e.base) × (e.base ≡ last_revision → ⊥) × (is_pending table e proposal ≡ false)
   without_case is =
-      let all = none_holds p is in (
-        clear_allowed all.clear,
-        eqb-true (newest_number (standing.newest e.file)) e.base (not-false _ all.stale),
-        eqb-false e.base last_revision all.full,
-        all.pending,
-      )
+      let none = none_of_both objected (repeat ∷ pending ∷ conflicting) ((is_none_first (objected ++ repeat ∷ pending ∷ conflicting)).0 is) in
+      let follows = none.1.1.1 in
+      (clear_allowed none.0, eqb-true (newest_number newest) e.base (not-false _ follows.0), eqb-false e.base last_revision follows.1.0, none.1.1.0)
+
+  -- where a repeat comes first
+  already_is : (first_case standing e ≡ Some case.Already) ↔ (NoneHolds objected × (repeat.0 ≡ true))
+  already_is =
+      is_first repeat.0 case.Already objected (pending ∷ conflicting)
+      (refusals_and case.Already (λ r h. cc) (objections (custodians_of (site_in standing.newest)) table e) [] tt)
+      ((λ h. cc), refusals_and case.Already (λ r h. cc) (conflicts newest e) [] tt)
+
+  -- where a proposal that is pending comes first
+  pending_is : (first_case standing e ≡ Some case.Pending) ↔ (NoneHolds (objected ++ repeat ∷ []) × (pending.0 ≡ true))
+  pending_is =
+      is_first pending.0 case.Pending (objected ++ repeat ∷ []) conflicting
+      (refusals_and case.Pending (λ r h. cc) (objections (custodians_of (site_in standing.newest)) table e) (repeat ∷ []) ((λ h. cc), tt))
+      (refusals_and case.Pending (λ r h. cc) (conflicts newest e) [] tt)
+
+  repeat_of : IsAllowed standing.newest e → is_repeat e newest ≡ true → IsRepeat standing.newest e
+  repeat_of allowed again =
+      let parts = repeat_parts e newest again in
+      record { allowed = allowed; revision = parts.0; is_newest = parts.1; rev = parts.2; own = parts.3; body = parts.4 }
 
   pub repeat_found : first_case standing e ≡ Some case.Already → IsRepeat standing.newest e
-  repeat_found is =
-      let first = already_first p is in
-      let parts = repeat_parts e (standing.newest e.file) first.1 in
-      record { allowed = clear_allowed first.0; revision = parts.0; is_newest = parts.1; rev = parts.2; own = parts.3; body = parts.4 }
+  repeat_found is = let first = already_is.0 is in repeat_of (clear_allowed first.0) first.1
 
   pub found_repeat : IsRepeat standing.newest e → first_case standing e ≡ Some case.Already
-  found_repeat r =
-      already_found p (allowed_clear r.allowed) (ap (is_repeat e) r.is_newest ∙ parts_repeat e r.revision r.rev r.own r.body)
+  found_repeat r = already_is.1 (allowed_clear r.allowed, ap (is_repeat e) r.is_newest ∙ parts_repeat e r.revision r.rev r.own r.body)
 
   -- the number of a repeat is that of the newest revision
-  pub already_number : first_case standing e ≡ Some case.Already → newest_number (standing.newest e.file) ≡ e.base + 1
+  pub already_number : first_case standing e ≡ Some case.Already → newest_number newest ≡ e.base + 1
   already_number is = let r = repeat_found is in ap newest_number r.is_newest ∙ r.rev
 
   -- an edit of which the newest revision is no repeat is proposed
   pub proposal_found : first_case standing e ≡ Some case.Pending → IsProposed standing e × (IsRepeat standing.newest e → ⊥)
   proposal_found is =
-      let first = pending_first p is in
-      let parts = pending_parts (table_in standing.newest) e (standing.proposals e.file) first.2 in (
-        record { allowed = clear_allowed first.0; guarded = parts.0; proposal = parts.1.0; pending = parts.1.1; base = parts.1.2; author = parts.1.3; text = parts.1.4 },
+      let first = pending_is.0 is in
+      let clear = none_of_both objected (repeat ∷ []) first.0 in
+      let parts = pending_parts table e proposal first.1 in (
+        record { allowed = clear_allowed clear.0; guarded = parts.0; proposal = parts.1.0; pending = parts.1.1; base = parts.1.2; author = parts.1.3; text = parts.1.4 },
         λ r. apart (sym is ∙ found_repeat r),
       )
     where
@@ -257,14 +253,11 @@ module _ (standing : Standing) (e : Edit) where
 
   pub found_proposal : IsProposed standing e → (IsRepeat standing.newest e → ⊥) → first_case standing e ≡ Some case.Pending
   found_proposal q new =
-      pending_found p (allowed_clear q.allowed) (fails (is_repeat e (standing.newest e.file)) (λ h. new (again h)))
-      (ap (is_pending (table_in standing.newest) e) q.pending ∙ parts_pending (table_in standing.newest) e q.proposal q.guarded q.base q.author q.text)
+      pending_is.1 (
+        both_of_none objected (repeat ∷ []) (allowed_clear q.allowed) (fails (is_repeat e newest) (λ again. new (repeat_of q.allowed again)), tt),
+        ap (is_pending table e) q.pending ∙ parts_pending table e q.proposal q.guarded q.base q.author q.text,
+      )
     where
       fails : (b : Bool) → (b ≡ true → ⊥) → b ≡ false
       fails true h = absurd (h refl)
       fails false h = refl
-
-      again : is_repeat e (standing.newest e.file) ≡ true → IsRepeat standing.newest e
-      again h =
-          let parts = repeat_parts e (standing.newest e.file) h in
-          record { allowed = q.allowed; revision = parts.0; is_newest = parts.1; rev = parts.2; own = parts.3; body = parts.4 }

@@ -1,6 +1,6 @@
--- What an edit is answered: by the first of nine cases that holds, or else by the site with its text, and by whether the
+-- What an edit is answered: by the first case that holds, or else by the site with its text, and by whether the
 -- file is guarded. (this project's own)
-use Rattle.std.specs.Prelude.{◌≡◌, ◌⊎◌, ℕ, ◌+◌, ◌==◌, ◌&&◌, ◌||◌, Bool, true, false, not, List, [], ◌∷◌, Option, Some, None, Ok, codes, find, is_none, is_some, length, map, nat_lt, if◌then◌else◌}
+use Rattle.std.specs.Prelude.{◌≡◌, ◌⊎◌, ℕ, ◌+◌, ◌==◌, ◌&&◌, ◌||◌, Bool, true, false, not, List, [], ◌∷◌, Option, Some, None, Ok, ◌++◌, codes, is_none, is_some, length, map, nat_lt, if◌then◌else◌}
 use Rattle.std.specs.Option.{option_map_or}
 use Rattle.std.specs.Str.{bytes_eq}
 use Rattle.sha2.specs.Sha256.{sha256}
@@ -17,6 +17,7 @@ use Rattle.desk_core.specs.Edit.{Already, Answer, Edit, Pending, Proposed, Refus
 use Rattle.desk_core.specs.Head.{Newest, Revision, last_revision, longest_revision, newest_number, put}
 use Rattle.desk_core.specs.Site.{IsConsistent, custodians_of, policy_of, site_in}
 use Rattle.desk_core.specs.Standing.{Standing}
+use Rattle.desk_core.specs.declared.edit.Refusal.{Refusal}
 use Rattle.desk_core.specs.declared.edit.Refusal.TheVariants as refusal
 use Rattle.desk_core.specs.declared.entry.Entry.{Entry}
 use Rattle.desk_core.specs.declared.entry.Entry.TheVariants as entry
@@ -73,38 +74,48 @@ abbrev pub is_pending : List Mount → Edit → Option Proposal → Bool
 is_pending table e None = false
 is_pending table e (Some proposal) = is_guarded_file table e.file && (proposes e proposal && bytes_eq proposal.author e.caller)
 
--- Whether a case holds, by the custodians and file systems in force and the file's newest revision and proposal: the
--- caller is not listed; the key is not the caller's; there is no such file; the caller does not keep it; the text is too
--- long; the newest revision is this edit; the proposal is this edit; the base is not the newest revision's number; there
--- is no further number.
-abbrev pub holds : List Custodian → List Mount → Option Revision → Option Proposal → Edit → Case → Bool
-holds custodians table newest proposal e case.UnknownCaller = is_none (digest_of custodians e.caller)
-holds custodians table newest proposal e case.BadKey = not (is_key e.key (digest_of custodians e.caller))
-holds custodians table newest proposal e case.UnknownFile = not (is_known table e.file)
-holds custodians table newest proposal e case.NotCustodian = not (keeps_file table e.caller e.file)
-holds custodians table newest proposal e case.TooLarge = nat_lt longest_revision (length e.text)
-holds custodians table newest proposal e case.Already = is_repeat e newest
-holds custodians table newest proposal e case.Pending = is_pending table e proposal
-holds custodians table newest proposal e case.Stale = not (newest_number newest == e.base)
-holds custodians table newest proposal e case.Full = e.base == last_revision
+-- Why an edit is not allowed, in this order, each reason with whether it holds, by the custodians and file systems in force:
+-- the caller is not listed; the key is not the caller's; there is no such file; the caller does not keep it; the text is too
+-- long.
+abbrev pub objections : List Custodian → List Mount → Edit → List (Bool × Refusal)
+objections custodians table e =
+    (is_none (digest_of custodians e.caller), refusal.UnknownCaller)
+    ∷ (not (is_key e.key (digest_of custodians e.caller)), refusal.BadKey)
+    ∷ (not (is_known table e.file), refusal.UnknownFile)
+    ∷ (not (keeps_file table e.caller e.file), refusal.NotCustodian)
+    ∷ (nat_lt longest_revision (length e.text), refusal.TooLarge)
+    ∷ []
 
--- the order in which the cases are checked
-abbrev pub cases : List Case
-cases =
-    case.UnknownCaller ∷ case.BadKey ∷ case.UnknownFile ∷ case.NotCustodian ∷ case.TooLarge ∷ case.Already ∷ case.Pending ∷ case.Stale
-    ∷ case.Full ∷ []
+-- Why an edit cannot follow the file's newest revision, likewise: the base is not that revision's number; there is no further
+-- number.
+abbrev pub conflicts : Option Revision → Edit → List (Bool × Refusal)
+conflicts newest e =
+    (not (newest_number newest == e.base), refusal.Stale (newest_number newest))
+    ∷ (e.base == last_revision, refusal.Full)
+    ∷ []
+
+-- reasons to refuse an edit, as cases
+abbrev pub as_cases : List (Bool × Refusal) → List (Bool × Case)
+as_cases reasons = map (λ reason. (reason.0, case.Refused reason.1)) reasons
+
+-- All that is checked of an edit before the site with its text is, in this order, each case with whether it holds, by the
+-- custodians and file systems in force and the file's newest revision and proposal: that it is not allowed; that the newest
+-- revision is this edit; that the proposal is this edit; that it cannot follow the newest revision.
+abbrev pub checks : List Custodian → List Mount → Option Revision → Option Proposal → Edit → List (Bool × Case)
+checks custodians table newest proposal e =
+    as_cases (objections custodians table e)
+    ++ (is_repeat e newest, case.Already) ∷ (is_pending table e proposal, case.Pending) ∷ as_cases (conflicts newest e)
+
+-- the first of these that holds, if one does
+abbrev pub first_held : {A : Type 0} → List (Bool × A) → Option A
+first_held [] = None
+first_held (check ∷ later) = if check.0 then Some check.1 else first_held later
 
 -- the answer in each case
 abbrev pub answer_in : Option Revision → Edit → Case → Answer
-answer_in newest e case.UnknownCaller = Refused refusal.UnknownCaller
-answer_in newest e case.BadKey = Refused refusal.BadKey
-answer_in newest e case.UnknownFile = Refused refusal.UnknownFile
-answer_in newest e case.NotCustodian = Refused refusal.NotCustodian
-answer_in newest e case.TooLarge = Refused refusal.TooLarge
+answer_in newest e (case.Refused refused) = Refused refused
 answer_in newest e case.Already = Already (e.base + 1)
 answer_in newest e case.Pending = Pending (e.base + 1)
-answer_in newest e case.Stale = Refused (refusal.Stale (newest_number newest))
-answer_in newest e case.Full = Refused refusal.Full
 
 -- the file systems in force
 abbrev pub table_in : Newest → List Mount
@@ -112,7 +123,7 @@ table_in newest = (policy_of (site_in newest)).table
 
 -- the first case that holds, by the site in force before the edit
 abbrev pub first_case : Standing → Edit → Option Case
-first_case standing e = find (holds (custodians_of (site_in standing.newest)) (table_in standing.newest) (standing.newest e.file) (standing.proposals e.file) e) cases
+first_case standing e = first_held (checks (custodians_of (site_in standing.newest)) (table_in standing.newest) (standing.newest e.file) (standing.proposals e.file) e)
 
 -- the edit approves a proposal: it has its base and its text, and the proposal's author is another, who still keeps the
 -- file
@@ -147,16 +158,8 @@ answer_of (entry.Proposed proposal) = Proposed (proposal.base + 1)
 abbrev pub AnswersBySite : SiteTexts → Entry → Answer → Type 0
 AnswersBySite site stored (Stored number) = (Stored number ≡ answer_of stored) × IsConsistent site
 AnswersBySite site stored (Proposed number) = (Proposed number ≡ answer_of stored) × IsConsistent site
-AnswersBySite site stored (Already number) = ⊥
-AnswersBySite site stored (Pending number) = ⊥
 AnswersBySite site stored (Refused (refusal.Fault fault)) = HasFault site fault
-AnswersBySite site stored (Refused refusal.UnknownCaller) = ⊥
-AnswersBySite site stored (Refused refusal.BadKey) = ⊥
-AnswersBySite site stored (Refused refusal.UnknownFile) = ⊥
-AnswersBySite site stored (Refused refusal.NotCustodian) = ⊥
-AnswersBySite site stored (Refused refusal.TooLarge) = ⊥
-AnswersBySite site stored (Refused (refusal.Stale number)) = ⊥
-AnswersBySite site stored (Refused refusal.Full) = ⊥
+AnswersBySite site stored other = ⊥
 
 abbrev pub AnswersIn : Option Case → Standing → Edit → Answer → Type 0
 AnswersIn (Some first) standing e answer = answer ≡ answer_in (standing.newest e.file) e first

@@ -15,9 +15,4 @@ numbered_line refused = codes "refused " ++ decimal (refusal_number refused) ++ 
 abbrev pub refusal_line : Refusal → List ℕ
 refusal_line (refusal.Stale newest) = numbered_line (refusal.Stale newest) ++ 32 ∷ decimal newest
 refusal_line (refusal.Fault fault) = fault_line fault
-refusal_line refusal.UnknownCaller = numbered_line refusal.UnknownCaller
-refusal_line refusal.BadKey = numbered_line refusal.BadKey
-refusal_line refusal.UnknownFile = numbered_line refusal.UnknownFile
-refusal_line refusal.NotCustodian = numbered_line refusal.NotCustodian
-refusal_line refusal.TooLarge = numbered_line refusal.TooLarge
-refusal_line refusal.Full = numbered_line refusal.Full
+refusal_line refused = numbered_line refused

@@ -82,7 +82,7 @@ abbrev pub again : ℕ → Bool → Answer
 again number proposed = if proposed then Pending number else Already number
 
 -- An accepted edit is answered as stored or as proposed, and brings what is to be stored and what puts it in force; any
--- other has its answer; and memory runs out only where none of the first nine cases holds.
+-- other has its answer; and memory runs out only where no case holds.
 abbrev pub Judges : {V : Type 0} → (V → Content) → Kept V → Edit → Result (Judged (Ready V)) (ReadError Refusal) → Type 0
 Judges in_force state e (Ok (judged.Accepted ready)) =
     Answers (standing state) e (answer_of ready.entry) × (ready.entry ≡ entry_of (standing state) e) × IsJudged in_force state ready

@@ -1,7 +1,7 @@
-//! The cases of an edit that are checked before the site with its text is, none of which takes memory; and what there is to
-//! store of an edit of which none holds.
+//! What is checked of an edit before the site with its text is, none of which takes memory; and what there is to store of an
+//! edit that passes.
 
-ghost use Rattle.std.specs.Prelude.{◌≡◌, ◌↔◌, ◌<◌, ℕ, IfOk, IsTrue, List, Ok, false, find};
+ghost use Rattle.std.specs.Prelude.{◌≡◌, ◌↔◌, ◌<◌, ℕ, IfOk, IsTrue, List, Ok, false};
 ghost use Rattle.std.specs.Option.{option_copied, option_map_or};
 ghost use Rattle.std.specs.Str.{bytes_eq};
 ghost use Rattle.desk_core.specs.Edit.{approved_revision, asked, proposal_of, revision_by, revision_of};
@@ -9,7 +9,7 @@ ghost use Rattle.desk_core.specs.Head.{last_revision};
 ghost use Rattle.desk_text.specs.Path.{path_text, read_path};
 ghost use Rattle.desk_core.specs.Judging as spec;
 
-use crate::edit::Edit;
+use crate::edit::{Edit, Refusal};
 use crate::entry::Entry;
 use crate::head::{Head, LAST_REVISION, LONGEST_REVISION, newest_number};
 use crate::proposal::Proposal;
@@ -21,42 +21,17 @@ use desk_text::{Path, ReadError, Text};
 use sha2::{Digest, Sha256};
 use std::alloc::{AllocError, Global};
 
-/// What is checked of an edit, in this order, before the site with its text is.
-#[derive(Clone, Copy)]
+/// What an edit can be before the site with its text is judged.
+#[derive(Drop)]
 pub enum Case {
-    /// The caller is not in the custodians file.
-    UnknownCaller,
-    /// The SHA-256 digest of the key is not the one that is listed for the caller.
-    BadKey,
-    /// The file is not one of the seven, nor the exports file of a listed mount point in printed form.
-    UnknownFile,
-    /// The caller does not keep the file.
-    NotCustodian,
-    /// The text has more than 65,536 bytes.
-    TooLarge,
+    /// It is refused.
+    Refused(Refusal),
     /// The newest revision is this edit: its number is base + 1, its author the caller, or who approved it, its text the
-    /// edit's. This is not a refusal.
+    /// edit's.
     Already,
-    /// The file is guarded, and its proposal is this edit: its base, its author and its text. This is not a refusal,
-    /// either.
+    /// The file is guarded, and its proposal is this edit: its base, its author and its text.
     Pending,
-    /// The base is not the number of the newest revision.
-    Stale,
-    /// The base is 2,147,483,647.
-    Full,
 }
-
-const CASES: [Case; 9] = [
-    Case::UnknownCaller,
-    Case::BadKey,
-    Case::UnknownFile,
-    Case::NotCustodian,
-    Case::TooLarge,
-    Case::Already,
-    Case::Pending,
-    Case::Stale,
-    Case::Full,
-];
 
 /// Finds the first case that holds, by the custodians and file systems in force and the file's newest revision and
 /// proposal.
@@ -67,32 +42,54 @@ pub(crate) fn first_case(
     proposal: Option<&Proposal>,
     edit: &Edit<'_>,
 ) -> Option<Case>
-    ensures { result ≡ find (spec.holds custodians.now table.now (option_copied newest.entry) (option_copied proposal.entry) (asked edit.now)) spec.cases }
+    ensures { result ≡ spec.first_held (spec.checks custodians.now table.now (option_copied newest.entry) (option_copied proposal.entry) (asked edit.now)) }
 {
-    CASES.iter().copied().find(|case| holds(custodians, table, newest, proposal, edit, *case))
+    if let Some(refusal) = objection(custodians, table, edit) {
+        return Some(Case::Refused(refusal));
+    }
+    if is_repeat(edit, newest) {
+        return Some(Case::Already);
+    }
+    if is_pending(table, edit, proposal) {
+        return Some(Case::Pending);
+    }
+    match conflict(edit, newest) {
+        Some(refusal) => Some(Case::Refused(refusal)),
+        None => None,
+    }
 }
 
-/// Tests whether a case holds.
-fn holds(
-    custodians: &Custodians,
-    table: &FileSystems,
-    newest: Option<&Head>,
-    proposal: Option<&Proposal>,
-    edit: &Edit<'_>,
-    case: Case,
-) -> bool
-    ensures { result ≡ spec.holds custodians.now table.now (option_copied newest.entry) (option_copied proposal.entry) (asked edit.now) case }
+/// Finds the first reason why an edit is not allowed.
+fn objection(custodians: &Custodians, table: &FileSystems, edit: &Edit<'_>) -> Option<Refusal>
+    ensures { result ≡ spec.first_held (spec.objections custodians.now table.now (asked edit.now)) }
 {
-    match case {
-        Case::UnknownCaller => custodians.digest_of(edit.caller).is_none(),
-        Case::BadKey => !is_key(edit.key, custodians.digest_of(edit.caller)),
-        Case::UnknownFile => !is_known(table, edit.file),
-        Case::NotCustodian => !keeps_file(table, edit.caller, edit.file),
-        Case::TooLarge => edit.text.len() > LONGEST_REVISION,
-        Case::Already => is_repeat(edit, newest),
-        Case::Pending => is_pending(table, edit, proposal),
-        Case::Stale => newest_number(newest) != edit.base,
-        Case::Full => edit.base == LAST_REVISION,
+    let listed = custodians.digest_of(edit.caller);
+    if listed.is_none() {
+        Some(Refusal::UnknownCaller)
+    } else if !is_key(edit.key, listed) {
+        Some(Refusal::BadKey)
+    } else if !is_known(table, edit.file) {
+        Some(Refusal::UnknownFile)
+    } else if !keeps_file(table, edit.caller, edit.file) {
+        Some(Refusal::NotCustodian)
+    } else if edit.text.len() > LONGEST_REVISION {
+        Some(Refusal::TooLarge)
+    } else {
+        None
+    }
+}
+
+/// Finds the first reason why an edit cannot follow the newest revision.
+fn conflict(edit: &Edit<'_>, newest: Option<&Head>) -> Option<Refusal>
+    ensures { result ≡ spec.first_held (spec.conflicts (option_copied newest.entry) (asked edit.now)) }
+{
+    let number = newest_number(newest);
+    if number != edit.base {
+        Some(Refusal::Stale(number))
+    } else if edit.base == LAST_REVISION {
+        Some(Refusal::Full)
+    } else {
+        None
     }
 }
 

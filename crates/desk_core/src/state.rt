@@ -286,29 +286,20 @@ impl<V: PolicyView + Drop> State<V> {
         requires { first_case (standing self.now) (asked edit.now) ≡ Some case }
         ensures { AnswersCase result (answer_in (newest_in self.now.heads edit.now.file.now) (asked edit.now) case) }
     {
-        let newest = newest_among(self.heads.as_slice(), edit.file);
-        let refusal = match case {
+        match case {
+            Case::Refused(refusal) => Err(ReadError::Fault(refusal)),
             Case::Already => {
-                return Ok(Judged::Already {
+                let newest = newest_among(self.heads.as_slice(), edit.file);
+                Ok(Judged::Already {
                     rev: newest_number(newest),
                     proposed: false,
-                });
+                })
             }
-            Case::Pending => {
-                return Ok(Judged::Already {
-                    rev: edit.base + 1,
-                    proposed: true,
-                });
-            }
-            Case::UnknownCaller => Refusal::UnknownCaller,
-            Case::BadKey => Refusal::BadKey,
-            Case::UnknownFile => Refusal::UnknownFile,
-            Case::NotCustodian => Refusal::NotCustodian,
-            Case::TooLarge => Refusal::TooLarge,
-            Case::Stale => Refusal::Stale(newest_number(newest)),
-            Case::Full => Refusal::Full,
-        };
-        Err(ReadError::Fault(refusal))
+            Case::Pending => Ok(Judged::Already {
+                rev: edit.base + 1,
+                proposed: true,
+            }),
+        }
     }
 
     /// Makes an edit of which no case holds ready to be put in force, or gives the fault of the site with its text.
@@ -335,7 +326,7 @@ impl<V: PolicyView + Drop> State<V> {
         }
     }
 
-    /// Makes the change that an edit brings of which none of the nine cases holds, or gives the fault of the site with its text.
+    /// Makes the change that an edit brings of which no case holds, or gives the fault of the site with its text.
     fn change_by(
         &self,
         alloc: Global,

@@ -1,6 +1,7 @@
 -- The rules of a line of expectations. (this project's own)
 use Rattle.std.specs.Prelude.{ℕ, ◌^◌, not, Bool, false, List, [], ◌∷◌, codes, is_none}
 use Rattle.std.specs.List.{list_any, range_with_len}
+use Rattle.desk_text.specs.Said.{Said, row}
 use Rattle.desk_tables.specs.declared.hosts.HostRow.{HostRow}
 use Rattle.desk_netgroup.specs.declared.group_line.GroupLine.{GroupLine}
 use Rattle.desk_expect.specs.Action.{action_of}
@@ -11,35 +12,24 @@ use Rattle.desk_expect.specs.Scope.{read_scope}
 use Rattle.desk_expect.specs.declared.rules.Rule.{Rule}
 use Rattle.desk_expect.specs.declared.rules.Rule.TheVariants as rule
 
--- the number of a rule
+-- what is printed of a rule: its number, its name, and what is said of the slice that breaks it, after the slice
+abbrev pub said : Rule → Said
+said rule.OpenQuote = row 1 (codes "OpenQuote") (codes "begins with a quote that is not closed on its physical line: close it, or write a backslash before a quote in a name")
+said rule.Form = row 2 (codes "Form") (codes "is not where it belongs: write WHOM [but NAME..] may [not] ACTION DIR.., as in everybody but adm may not write /usr/...")
+said rule.BadAction = row 3 (codes "BadAction") (codes "is not an action: write mount, write, root, sys, krb5, krb5i or krb5p")
+said rule.BadPath = row 4 (codes "BadPath") (codes "is not a directory: one begins with /, has no component . or .., has ... after its last / alone, no NUL byte, and at most 1024 bytes before /...")
+said rule.BadAddress = row 5 (codes "BadAddress") (codes "is not an address, a network or a range: write them as 10.0.0.5, 10.0.0.0/8 or 10.0.0.5-10.0.0.9")
+said rule.UnknownName = row 6 (codes "UnknownName") (codes "is not a known netgroup or host: correct it, write blanks between names, or give the tables that have it")
+said rule.Nobody = row 7 (codes "Nobody") (codes "is whom the line is about, and that is nobody: no address is meant")
+
 abbrev pub rule_number : Rule → ℕ
-rule_number rule.OpenQuote = 1
-rule_number rule.Form = 2
-rule_number rule.BadAction = 3
-rule_number rule.BadPath = 4
-rule_number rule.BadAddress = 5
-rule_number rule.UnknownName = 6
-rule_number rule.Nobody = 7
+rule_number rule = (said rule).number
 
--- the name of a rule
 abbrev pub rule_name : Rule → List ℕ
-rule_name rule.OpenQuote = codes "OpenQuote"
-rule_name rule.Form = codes "Form"
-rule_name rule.BadAction = codes "BadAction"
-rule_name rule.BadPath = codes "BadPath"
-rule_name rule.BadAddress = codes "BadAddress"
-rule_name rule.UnknownName = codes "UnknownName"
-rule_name rule.Nobody = codes "Nobody"
+rule_name rule = (said rule).name
 
--- what is said of the slice that breaks a rule, after the slice
 abbrev pub rule_sentence : Rule → List ℕ
-rule_sentence rule.OpenQuote = codes "begins with a quote that is not closed on its physical line: close it, or write a backslash before a quote in a name"
-rule_sentence rule.Form = codes "is not where it belongs: write WHOM [but NAME..] may [not] ACTION DIR.., as in everybody but adm may not write /usr/..."
-rule_sentence rule.BadAction = codes "is not an action: write mount, write, root, sys, krb5, krb5i or krb5p"
-rule_sentence rule.BadPath = codes "is not a directory: one begins with /, has no component . or .., has ... after its last / alone, no NUL byte, and at most 1024 bytes before /..."
-rule_sentence rule.BadAddress = codes "is not an address, a network or a range: write them as 10.0.0.5, 10.0.0.0/8 or 10.0.0.5-10.0.0.9"
-rule_sentence rule.UnknownName = codes "is not a known netgroup or host: correct it, write blanks between names, or give the tables that have it"
-rule_sentence rule.Nobody = codes "is whom the line is about, and that is nobody: no address is meant"
+rule_sentence rule = (said rule).sentence
 
 -- whom a line of these words is about
 abbrev pub subject_of : List (List ℕ) → Subject

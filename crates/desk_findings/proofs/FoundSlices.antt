@@ -27,10 +27,12 @@ use Rattle.desk_policy.specs.declared.site_fault.SiteFault.{SiteFault}
 use Rattle.desk_policy.specs.declared.site_fault.SiteRule.TheVariants as site_rule
 use Rattle.desk_policy.specs.declared.per_table.PerTable.{PerTable}
 use Rattle.desk_exports.specs.Files.{whole_answer}
+use Rattle.desk_tables.specs.Custodians.{read_custodians}
 use Rattle.desk_tables.specs.FileSystemsText.{read_filesystems}
 use Rattle.desk_findings.specs.CheckFaults.{TellTables, Tells, tell_group, tell_line, tell_table}
 use Rattle.desk_findings.proofs.PlacedWords.{on_numbered}
 use Rattle.desk_findings.specs.CheckOdd.{IsOnNumbered, IsSpot, OddLine, TellInOrder, odd_of_spot, tell_spot}
+use Rattle.desk_findings.specs.CheckFolder as folder
 use Rattle.desk_findings.specs.CheckSite as site
 use Rattle.desk_findings.specs.CheckText.{Finds, Gathers, GathersBy, GathersExports, GathersTables, GathersWith, TellOddities, tables_of}
 use Rattle.desk_findings.specs.Finding.{HaveSlices}
@@ -145,3 +147,27 @@ with_custodians_slices opinions sources custodians gathered found = by_filesyste
 
 pub heads_slices : (sources : SiteSources) (gathered : Gathered) → site.GathersHeads sources gathered → HaveSlices gathered.findings
 heads_slices sources gathered found = finds_slices _ _ gathered (heads_within sources) found
+
+-- in a folder of which a file is missing
+one_head_within : (TellOne : List Told → Type 0) → ((all : List Told) → TellOne all → All Within all) → (sources : WholeSources) (all : List Told) → folder.TellOneFirst TellOne sources all → All Within all
+one_head_within TellOne each sources all tells =
+    subst (λ (ones : List Told). All Within ones) (sym tells.are)
+    (All-append Within tells.first tells.tables (each tells.first tells.tell_first) (five_within sources.tables tells.tables tells.tell_tables))
+
+kept_by : (read : Result (List Custodian) TableFault) (opinions : Bool) (source : Source) (table : List Mount) (sources : WholeSources) (gathered : Gathered) → folder.GathersKeptBy read opinions source table sources gathered
+    → HaveSlices gathered.findings
+kept_by (Ok custodians) opinions source table sources gathered found = found_slices opinions sources table gathered found
+kept_by (Err fault) opinions source table sources gathered found =
+    finds_slices _ _ gathered (one_head_within (site.TellCustodians source)
+    (λ all tells. tells_within (λ (one : TablePlacedFault). one.fault) (tables.IsOnLineOrWhole source.text.now) (tell_table source) _ all (line_or_whole source) tells) sources) found
+
+pub kept_slices : (opinions : Bool) (source : Source) (table : List Mount) (sources : WholeSources) (gathered : Gathered) → folder.GathersKept opinions source table sources gathered → HaveSlices gathered.findings
+kept_slices opinions source table sources gathered found = kept_by (read_custodians source.text.now) opinions source table sources gathered found
+
+listed_by : (read : Result (List Mount) TableFault) (opinions : Bool) (source : Source) (sources : WholeSources) (gathered : Gathered) → folder.GathersListedBy read opinions source sources gathered → HaveSlices gathered.findings
+listed_by (Ok table) opinions source sources gathered found = found_slices opinions sources table gathered found
+listed_by (Err fault) opinions source sources gathered found =
+    finds_slices _ _ gathered (one_head_within (site.TellFileSystems source) (λ all tells. on_line source _ all tells) sources) found
+
+pub listed_slices : (opinions : Bool) (source : Source) (sources : WholeSources) (gathered : Gathered) → folder.GathersListed opinions source sources gathered → HaveSlices gathered.findings
+listed_slices opinions source sources gathered found = listed_by (read_filesystems source.text.now) opinions source sources gathered found

@@ -1,6 +1,7 @@
 pub mod CheckFaults
 pub mod CheckOdd
 pub mod CheckSite
+pub mod CheckFolder
 pub mod CheckText
 pub mod Finding
 pub mod OddWords

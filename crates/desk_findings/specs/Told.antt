@@ -3,8 +3,10 @@ use Rattle.std.specs.Prelude.{◌≡◌, ℕ, ◌-◌, Bool, true, false, List, 
 use Rattle.std.specs.Option.{option_copied, option_map}
 use Rattle.std.specs.Str.Lines.{lines}
 use Rattle.desk_text.specs.declared.place.Place.{Place}
+use Rattle.desk_remarks.specs.Remark.{other_of}
+use Rattle.desk_remarks.specs.declared.remark.OtherLine.{OtherLine}
+use Rattle.desk_remarks.specs.declared.remark.OtherLine.TheVariants.{First, Grants, Taken}
 use Rattle.desk_remarks.specs.declared.remark.Remark.{Remark}
-use Rattle.desk_remarks.specs.declared.remark.Remark.TheVariants.{Shadowed, Repeated, NoClient, EveryAddress, WritableByAll, RootForMany, ShadowedHere, ServerGrantsMore, Backslash, V4Line, RepeatedClient}
 use Rattle.desk_findings.specs.Finding.{character_count, column_at}
 use Rattle.desk_findings.specs.declared.check_faults.Front.{Front}
 use Rattle.desk_findings.specs.declared.check_faults.Source.{Source}
@@ -39,18 +41,13 @@ shown_line None = 1
 shown_line (Some place) = place.line
 
 -- the other line of a remark is shown beside its own: mountd(8) grants by it, or takes it alone
+abbrev pub is_by_server : OtherLine → Bool
+is_by_server First = false
+is_by_server Grants = true
+is_by_server Taken = true
+
 abbrev pub shows_other : Remark → Bool
-shows_other Shadowed = false
-shows_other Repeated = false
-shows_other NoClient = false
-shows_other EveryAddress = false
-shows_other WritableByAll = false
-shows_other RootForMany = false
-shows_other ShadowedHere = false
-shows_other ServerGrantsMore = true
-shows_other Backslash = false
-shows_other V4Line = false
-shows_other RepeatedClient = true
+shows_other remark = is_by_server (other_of remark)
 
 -- the number of the line that is shown beside that of a matter, if one is
 abbrev pub other_line : Matter → Option ℕ

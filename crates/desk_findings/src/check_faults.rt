@@ -13,7 +13,7 @@ use desk_exports as exports;
 use desk_netgroup as netgroup;
 use desk_netgroup::Netgroups;
 use desk_policy::{PerTable, SiteRule};
-use desk_remarks::Remark;
+use desk_remarks::{OtherLine, Remark};
 use desk_tables as tables;
 use desk_tables::{Groups, Hosts, Networks, Users};
 use desk_text::{Path, Place, Sequence};
@@ -261,17 +261,9 @@ fn other_line(matter: Matter) -> Option<u32>
 fn shows_other(remark: Remark) -> bool
     ensures { result ≡ shows_other remark }
 {
-    match remark {
-        Remark::ServerGrantsMore | Remark::RepeatedClient => true,
-        Remark::Shadowed
-        | Remark::Repeated
-        | Remark::NoClient
-        | Remark::EveryAddress
-        | Remark::WritableByAll
-        | Remark::RootForMany
-        | Remark::ShadowedHere
-        | Remark::Backslash
-        | Remark::V4Line => false,
+    match remark.other() {
+        OtherLine::Grants | OtherLine::Taken => true,
+        OtherLine::First => false,
     }
 }
 

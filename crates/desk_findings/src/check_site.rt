@@ -108,7 +108,7 @@ fn gather_heads<'a>(alloc: Global, sources: SiteSources<'a>) -> Result<Gathered<
 }
 
 /// Adds the faults of the custodians.
-fn push_custodians<'a>(
+pub fn push_custodians<'a>(
     alloc: Global,
     source: Source<'a>,
     found: &mut Sequence<Finding<'a>>,

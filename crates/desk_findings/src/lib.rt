@@ -1,9 +1,5 @@
-//! What is wrong with an exports text and its tables, or with the files of a site: the findings as data, each with its place.
-//!
-//! Its promise: [`gather`] and [`gather_site`] find just the faulty lines of the tables, or else those of the exports text, or
-//! else its contradictions and the warnings, each at a slice of the line that it shows. [`find_split_fault`],
-//! [`find_line_fault`] and [`find_contradiction`] find likewise the place of one fault that another reading of the same texts
-//! ended with.
+//! What is wrong with an exports text and its tables, or with the files of a site: the findings as data, each with its
+//! place.
 //!
 //! ```text
 //! // with the file system `/usr`, no tables, and `/usr -maprot=root 10.0.0.5` in the file `exports`:
@@ -14,6 +10,7 @@
 #![tactic(auto)]
 
 mod check_faults;
+mod check_folder;
 mod check_odd;
 mod check_site;
 mod check_text;
@@ -24,6 +21,7 @@ mod one_fault;
 mod one_site_fault;
 
 pub use check_faults::{Source, line_at, lines_of};
+pub use check_folder::{Systems, gather_folder};
 pub use check_site::{SiteSources, gather_site};
 pub use check_text::{Gathered, WholeSources, gather, read_sources};
 pub use finding::{Finding, Matter, has_fault};

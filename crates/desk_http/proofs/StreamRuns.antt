@@ -30,14 +30,8 @@ answer_status ends (Stored rev) = refl
 answer_status ends (Proposed rev) = refl
 answer_status ends (Already rev) = refl
 answer_status ends (Pending rev) = refl
-answer_status ends (Refused refusal.UnknownCaller) = refl
-answer_status ends (Refused refusal.BadKey) = refl
-answer_status ends (Refused refusal.UnknownFile) = refl
-answer_status ends (Refused refusal.NotCustodian) = refl
-answer_status ends (Refused refusal.TooLarge) = refl
-answer_status ends (Refused (refusal.Stale newest)) = refl
-answer_status ends (Refused refusal.Full) = refl
 answer_status ends (Refused (refusal.Fault fault)) = refl
+answer_status ends (Refused refused) = refl
 
 memory_status : (ends : Bool) → (has_status 200 (print_reply ends memory_reply) ≡ false) × (has_status 503 (print_reply ends memory_reply) ≡ true)
 unfolding print_reply digits

@@ -22,8 +22,8 @@ abbrev pub EditReply : History → Edit → Reply → List Exchange → Type 0
 EditReply old e reply made =
     (answer : Answer) × Answers (standing_of old) e answer × (reply ≡ answer_reply answer) × (made ≡ record { edit = e; answer = Some answer } ∷ [])
 
--- The reply to an edit that the desk was asked for and that has no answer. None of the nine cases holds of it; and the reply is that
--- there is no memory, or that the store refused a statement, and then the edit could be stored or proposed.
+-- The reply to an edit that the desk was asked for and that has no answer. No case holds of it; and the reply is that there is
+-- no memory, or that the store refused a statement, and then the edit could be stored or proposed.
 abbrev pub UnansweredReply : History → Edit → Reply → Type 0
 UnansweredReply old e reply =
     (first_case (standing_of old) e ≡ None)

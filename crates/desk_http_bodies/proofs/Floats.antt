@@ -84,15 +84,9 @@ fault_has_none error file line number rule (Some address) None = refl
 fault_has_none error file line number rule (Some address) (Some other) = refl
 
 pub refused_has_none : (r : Refusal) → has_float (refused_data r) ≡ false
-refused_has_none refusal.UnknownCaller = refl
-refused_has_none refusal.BadKey = refl
-refused_has_none refusal.UnknownFile = refl
-refused_has_none refusal.NotCustodian = refl
-refused_has_none refusal.TooLarge = refl
-refused_has_none (refusal.Stale current) = refl
-refused_has_none refusal.Full = refl
 refused_has_none (refusal.Fault fault) =
     fault_has_none (codes "Fault") fault.file fault.line 9 (rule_number fault.rule) (option_map (λ a. addr_text (number_of a)) fault.address) fault.other
+refused_has_none refused = refl
 
 -- what was written is the text of the data
 pub text_is : (r : Result (String Global) AllocError) (v d : Data) → v ≡ d → has_float d ≡ false → IfOk r (λ s. has_float v ≡ false → string_bytes s ≡ compact_text v) → IfOk r (λ s. string_bytes s ≡ compact_text d)

@@ -45,11 +45,6 @@ fault_data r fault = fault_entries r fault (option_map (λ a. addr_text (number_
 
 -- an edit that is refused
 abbrev pub refused_data : Refusal → Data
-refused_data refusal.UnknownCaller = plain_data refusal.UnknownCaller
-refused_data refusal.BadKey = plain_data refusal.BadKey
-refused_data refusal.UnknownFile = plain_data refusal.UnknownFile
-refused_data refusal.NotCustodian = plain_data refusal.NotCustodian
-refused_data refusal.TooLarge = plain_data refusal.TooLarge
 refused_data (refusal.Stale current) = stale_data (refusal.Stale current) current
-refused_data refusal.Full = plain_data refusal.Full
 refused_data (refusal.Fault fault) = fault_data (refusal.Fault fault) fault
+refused_data refused = plain_data refused

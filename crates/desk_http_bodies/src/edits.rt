@@ -59,14 +59,9 @@ fn refusal_value(alloc: Global, refusal: &Refusal) -> Result<Value, AllocError>
     ensures { IfOk result (λ value. view value ≡ refused_data refusal.now) }
 {
     match refusal {
-        Refusal::UnknownCaller
-        | Refusal::BadKey
-        | Refusal::UnknownFile
-        | Refusal::NotCustodian
-        | Refusal::TooLarge
-        | Refusal::Full => plain_value(alloc, refusal),
         Refusal::Stale(current) => stale_value(alloc, refusal, *current),
         Refusal::Fault(fault) => fault_value(alloc, refusal, fault),
+        _ => plain_value(alloc, refusal),
     }
 }
 

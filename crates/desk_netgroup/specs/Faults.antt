@@ -4,6 +4,7 @@ use Rattle.std.specs.List.{IsAmong, list_any}
 use Rattle.std.specs.Option.{is_none, is_some, option_map}
 use Rattle.desk_text.specs.Lines.{LogicalLine, logical_lines}
 use Rattle.desk_text.specs.Place.{IsOfLine, LiesIn}
+use Rattle.desk_text.specs.Said.{Said, row}
 use Rattle.desk_netgroup.specs.GroupLine.{group_named, group_on, tokens_of}
 use Rattle.desk_netgroup.specs.declared.faults.GroupFault.{GroupFault}
 use Rattle.desk_netgroup.specs.declared.faults.GroupRule.{GroupRule}
@@ -95,23 +96,18 @@ pub record IsPlaced (text : List ℕ) (placed : PlacedFault) : Type 0 where
   pub own : IsOfLine line placed.place
   pub lies : LiesIn text placed.place
 
--- the number of a rule
+-- what is printed of a rule: its number, its name, and what is said of the slice that breaks it
+abbrev pub said : GroupRule → Said
+said rule.BadTriple = row 1 (codes "BadTriple") (codes "does not fit: a line is a netgroup and its members, each a netgroup or (host,user,domain), in words of at most 255 bytes")
+said rule.Unclosed = row 2 (codes "Unclosed") (codes "is a parenthesis that is not closed")
+said rule.Duplicate = row 3 (codes "Duplicate") (codes "is defined on an earlier line already")
+said rule.StrayComment = row 4 (codes "StrayComment") (codes "begins with # but is not the first word: put a comment on a line of its own")
+
 abbrev pub rule_number : GroupRule → ℕ
-rule_number rule.BadTriple = 1
-rule_number rule.Unclosed = 2
-rule_number rule.Duplicate = 3
-rule_number rule.StrayComment = 4
+rule_number rule = (said rule).number
 
--- the name of a rule
 abbrev pub rule_name : GroupRule → List ℕ
-rule_name rule.BadTriple = codes "BadTriple"
-rule_name rule.Unclosed = codes "Unclosed"
-rule_name rule.Duplicate = codes "Duplicate"
-rule_name rule.StrayComment = codes "StrayComment"
+rule_name rule = (said rule).name
 
--- what is said of the slice that breaks a rule
 abbrev pub rule_sentence : GroupRule → List ℕ
-rule_sentence rule.BadTriple = codes "does not fit: a line is a netgroup and its members, each a netgroup or (host,user,domain), in words of at most 255 bytes"
-rule_sentence rule.Unclosed = codes "is a parenthesis that is not closed"
-rule_sentence rule.Duplicate = codes "is defined on an earlier line already"
-rule_sentence rule.StrayComment = codes "begins with # but is not the first word: put a comment on a line of its own"
+rule_sentence rule = (said rule).sentence

@@ -1,13 +1,12 @@
 //! What is wrong with a line of a netgroup file.
 
 ghost use Rattle.std.specs.Prelude.{◌≡◌};
-ghost use Rattle.desk_netgroup.specs.Faults.{rule_name, rule_number, rule_sentence};
+ghost use Rattle.desk_netgroup.specs.Faults.{rule_name, rule_number, rule_sentence, rules_in_order};
 
-use desk_text::Place;
+use desk_text::{Place, Said};
 use thiserror::Error;
 
-/// Why a line is refused. Of several rules that a line breaks the first in the order StrayComment, Unclosed, BadTriple,
-/// Duplicate is reported.
+/// Why a line is refused.
 #[derive(Clone, Copy, Debug, PartialEq, Eq, Error)]
 #[error("{}", self.sentence())]
 pub enum GroupRule {
@@ -17,37 +16,70 @@ pub enum GroupRule {
     StrayComment,
 }
 
+/// All rules. Of several that a line breaks the first in this order is reported.
+const RULES: &[GroupRule] = &[
+    GroupRule::StrayComment,
+    GroupRule::Unclosed,
+    GroupRule::BadTriple,
+    GroupRule::Duplicate,
+];
+
 impl GroupRule {
+    /// Returns all rules, in the order in which a broken one is reported.
+    pub fn all() -> &'static [GroupRule]
+        ensures { result.now ≡ rules_in_order }
+    {
+        RULES
+    }
+
     /// Gives the number of the rule, from 1.
     pub fn number(self) -> u32
         ensures { result ≡ rule_number self }
     {
-        self as u32 + 1
+        self.said().number
     }
 
     /// Gives the name of the rule.
     pub fn name(self) -> &'static str
         ensures { result.now ≡ rule_name self }
     {
-        match self {
-            GroupRule::BadTriple => "BadTriple",
-            GroupRule::Unclosed => "Unclosed",
-            GroupRule::Duplicate => "Duplicate",
-            GroupRule::StrayComment => "StrayComment",
-        }
+        self.said().name
     }
 
     /// Gives what is said of the slice that breaks the rule, behind the slice.
     pub fn sentence(self) -> &'static str
         ensures { result.now ≡ rule_sentence self }
     {
+        self.said().sentence
+    }
+
+    /// Gives what is printed of the rule.
+    pub fn said(self) -> Said
+        ensures number { result.number ≡ rule_number self }
+        ensures name { result.name.now ≡ rule_name self }
+        ensures sentence { result.sentence.now ≡ rule_sentence self }
+    {
         match self {
-            GroupRule::BadTriple =>
-                "does not fit: a line is a netgroup and its members, each a netgroup or (host,user,domain), in words of at most 255 bytes",
-            GroupRule::Unclosed => "is a parenthesis that is not closed",
-            GroupRule::Duplicate => "is defined on an earlier line already",
-            GroupRule::StrayComment =>
-                "begins with # but is not the first word: put a comment on a line of its own",
+            GroupRule::BadTriple => Said {
+                number: 1,
+                name: "BadTriple",
+                sentence: "does not fit: a line is a netgroup and its members, each a netgroup or (host,user,domain), in words of at most 255 bytes",
+            },
+            GroupRule::Unclosed => Said {
+                number: 2,
+                name: "Unclosed",
+                sentence: "is a parenthesis that is not closed",
+            },
+            GroupRule::Duplicate => Said {
+                number: 3,
+                name: "Duplicate",
+                sentence: "is defined on an earlier line already",
+            },
+            GroupRule::StrayComment => Said {
+                number: 4,
+                name: "StrayComment",
+                sentence: "begins with # but is not the first word: put a comment on a line of its own",
+            },
         }
     }
 }

@@ -1,7 +1,6 @@
 pub mod Amounts
 pub mod Escaping
 pub mod Facts
-pub mod Head
 pub mod Laws
 pub mod Numbers
 pub mod Pieces

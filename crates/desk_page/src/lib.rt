@@ -1,26 +1,19 @@
 //! The pieces of a page in HTML that tells of a site: escaped texts, numbers, ranges and terms.
-//!
-//! Its promise: each text of a file, a name, an author and the word for the database comes onto the page by [`push_escaped`], in a
-//! line of a file by [`push_escaped_line`], or within an attribute by [`push_attribute`]. None of its characters is markup, and two texts
-//! that differ are shown differently. [`push_number`] adds a number, with a comma before each three digits.
 #![tactic(auto)]
 
 pub mod amounts;
 pub mod escaping;
 pub mod facts;
-pub mod head;
 pub mod laws;
 pub mod numbers;
 pub mod pieces;
 pub mod ranges;
-mod style;
 pub mod terms;
 pub mod text_rows;
 
 pub use amounts::{push_and_more, push_part, push_percent, push_plural};
 pub use escaping::{push_attribute, push_escaped, push_escaped_line};
 pub use facts::{push_guarded, push_in_force, push_kept_by, push_revision};
-pub use head::push_page_head;
 pub use laws::{no_text_is_markup, texts_are_told_apart};
 pub use numbers::push_number;
 pub use pieces::{

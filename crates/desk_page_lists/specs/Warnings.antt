@@ -3,9 +3,8 @@ use Rattle.std.specs.Prelude.{ℕ, ◌==◌, List, ◌++◌, Option, Some, None,
 use Rattle.std.specs.Fmt.{decimal}
 use Rattle.std.specs.List.{flat_map}
 use Rattle.desk_page.specs.Pieces.{line_link}
-use Rattle.desk_policy.specs.Warning.{kind_name}
+use Rattle.desk_policy.specs.Warning.{kind_name, kind_sentence}
 use Rattle.desk_policy.specs.declared.warning.WarningKind.{WarningKind}
-use Rattle.desk_policy.specs.declared.warning.WarningKind.TheVariants.{ClassMask, Ipv6, UnknownHost, UnknownMember}
 use Rattle.desk_tables.specs.declared.filesystems.FsId.{FsId}
 use Rattle.desk_page_lists.specs.Tables.{code_cell, long_end, long_start, row_end, row_head, table_end, table_start, words_cell}
 use Rattle.desk_page_lists.specs.declared.tables.Table.TheVariants.{Warnings}
@@ -19,15 +18,9 @@ line_words (Some fs) line = line_link fs.0 line
 abbrev pub line_cell : Option FsId → ℕ → List ℕ
 line_cell fs line = codes "<td>" ++ line_words fs line ++ codes "</td>"
 
--- what a kind means
-abbrev pub meaning_of : WarningKind → List ℕ
-meaning_of ClassMask = codes "a network without prefix and mask, read by the class of its address"
-meaning_of Ipv6 = codes "of IPv6: matches nobody"
-meaning_of UnknownHost = codes "no host or netgroup of this name: matches nobody"
-meaning_of UnknownMember = codes "no netgroup of this name: adds nobody"
-
+-- the name of a kind, and what `check` says of the word
 abbrev pub kind_cells : WarningKind → List ℕ
-kind_cells kind = words_cell (kind_name kind) ++ words_cell (meaning_of kind)
+kind_cells kind = words_cell (kind_name kind) ++ words_cell (kind_sentence kind)
 
 -- a row: the file, the line, the word, and what is odd about it
 abbrev pub row : WarningRow → List ℕ

@@ -101,26 +101,13 @@ fn push_line(fs: Option<FsId>, line: u32, page: &mut String) -> Result<(), Alloc
     }
 }
 
-/// Adds cells with the name of a kind, and what it means.
+/// Adds cells with the name of a kind, and its sentence.
 fn push_kind_cells(kind: WarningKind, page: &mut String) -> Result<(), AllocError>
     ensures { OnOk result (string_bytes page.new ≡ string_bytes page.old ++ spec.kind_cells kind) }
 {
     let name = kind.name();
-    let meaning = meaning_of(kind);
+    let sentence = kind.sentence();
     push_words_cell(name, page)?;
-    push_words_cell(meaning, page)?;
+    push_words_cell(sentence, page)?;
     Ok(())
-}
-
-/// Returns what a kind means.
-fn meaning_of(kind: WarningKind) -> &'static str
-    ensures { result.now ≡ spec.meaning_of kind }
-{
-    match kind {
-        WarningKind::ClassMask =>
-            "a network without prefix and mask, read by the class of its address",
-        WarningKind::Ipv6 => "of IPv6: matches nobody",
-        WarningKind::UnknownHost => "no host or netgroup of this name: matches nobody",
-        WarningKind::UnknownMember => "no netgroup of this name: adds nobody",
-    }
 }

@@ -1,4 +1,5 @@
 -- By profile 2 no network is warned of because its class counts.
+use denote.Enum.Bare.{sameb, same_false}
 use Rattle.std.proofs.Common.{◌≡◌, ◌≢◌, ℕ, ◌+◌, ◌==◌, Bool, true, false, List, [], ◌∷◌, Option, Some, None, Result, Ok, if◌then◌else◌, is_some, arith, filter, length, map, refl, ap, subst}
 use Rattle.std.specs.Prelude.{codes}
 use Rattle.std.specs.List.{AllByRecursion, enumerate_from, flat_map}
@@ -30,19 +31,20 @@ use Rattle.desk_policy.specs.Parsing.{content_with, ExportsFile, in_file, read_a
 use Rattle.desk_policy.specs.Policy.{Content, content_of, with_warnings}
 use Rattle.desk_policy.specs.Site.{SiteTexts}
 use Rattle.desk_policy.specs.SiteFault.{exports_name, line_fault}
-use Rattle.desk_policy.specs.Warning.{clients_warnings, entry_warnings, group_warnings, host_kind, kind_number, member_kind, member_word, name_kind, netgroup_warnings, warning_if, whole_warnings, word_warnings}
+use Rattle.desk_policy.specs.Warning.{clients_warnings, entry_warnings, group_warnings, host_kind, member_kind, member_word, name_kind, netgroup_warnings, warning_if, whole_warnings, word_warnings}
+use Rattle.desk_policy.specs.contracts.warning.WarningKind.{the_type}
 use Rattle.desk_policy.specs.declared.parsing.SiteTables.{SiteTables}
 use Rattle.desk_policy.specs.declared.site.ExportsText.{ExportsText}
 use Rattle.desk_policy.specs.declared.site_fault.SiteFault.{SiteFault}
 use Rattle.desk_policy.specs.declared.warning.Warning.{Warning}
 use Rattle.desk_policy.specs.declared.warning.WarningKind.{WarningKind}
-use Rattle.desk_policy.specs.declared.warning.WarningKind.TheVariants.{ClassMask, Ipv6, UnknownHost, UnknownMember}
+use Rattle.desk_policy.specs.declared.warning.WarningKind.TheVariants as kinds
 use Rattle.desk_policy.proofs.OwnDirectories.{all_of_both}
 use Rattle.desk_policy.proofs.SaidOfLines.{was_answered, was_in_file}
 use Rattle.desk_policy.proofs.SiteLaws.{was_read}
 
 abbrev IsOther : Warning → Type 0
-IsOther warning = warning.kind ≢ ClassMask
+IsOther warning = warning.kind ≢ kinds.ClassMask
 
 -- no list made of each has what none has
 of_each : {X Y : Type 0} (P : Y → Type 0) (f : X → List Y) → ((x : X) → AllByRecursion P (f x)) → (xs : List X) → AllByRecursion P (flat_map f xs)
@@ -53,16 +55,10 @@ of_each P f each (x ∷ xs) = all_of_both P (f x) (flat_map f xs) (each x) (of_e
 
 abbrev IsOtherKind : Option WarningKind → Type 0
 IsOtherKind None = Unit {0}
-IsOtherKind (Some kind) = kind ≢ ClassMask
+IsOtherKind (Some kind) = kind ≢ kinds.ClassMask
 
-ipv6_is_other : Ipv6 ≢ ClassMask
-ipv6_is_other e = let n : kind_number Ipv6 ≡ kind_number ClassMask = ap kind_number e in omega (arith, n)
-
-host_is_other : UnknownHost ≢ ClassMask
-host_is_other e = let n : kind_number UnknownHost ≡ kind_number ClassMask = ap kind_number e in omega (arith, n)
-
-member_is_other : UnknownMember ≢ ClassMask
-member_is_other e = let n : kind_number UnknownMember ≡ kind_number ClassMask = ap kind_number e in omega (arith, n)
+is_other : (kind : WarningKind) → sameb the_type kind kinds.ClassMask ≡ false → kind ≢ kinds.ClassMask
+is_other kind differs = same_false the_type kind kinds.ClassMask differs
 
 of_kind : (file : List ℕ) (line index : ℕ) (word : List ℕ) (kind : Option WarningKind) → IsOtherKind kind → AllByRecursion IsOther (warning_if file line index word kind)
 of_kind file line index word None other = tt
@@ -71,11 +67,11 @@ of_kind file line index word (Some kind) other = (other, tt)
 of_words : {X : Type 0} (file : List ℕ) (line : ℕ) (word : X → List ℕ) (kind : X → Option WarningKind) → ((x : X) → IsOtherKind (kind x)) → (xs : List X) → AllByRecursion IsOther (word_warnings file line word kind xs)
 of_words {X} file line word kind other xs = of_each IsOther (λ (one : ℕ × X). warning_if file line one.0 (word one.1) (kind one.1)) (λ one. of_kind file line one.0 (word one.1) (kind one.1) (other one.1)) (enumerate_from 0 xs)
 
-of_tests : (v6 dotted address unknown : Bool) → IsOtherKind (if v6 then Some Ipv6 else if dotted then (if address then None else Some UnknownHost) else if unknown then Some UnknownHost else None)
-of_tests true dotted address unknown = ipv6_is_other
+of_tests : (v6 dotted address unknown : Bool) → IsOtherKind (if v6 then Some kinds.Ipv6 else if dotted then (if address then None else Some kinds.UnknownHost) else if unknown then Some kinds.UnknownHost else None)
+of_tests true dotted address unknown = is_other kinds.Ipv6 refl
 of_tests false true true unknown = tt
-of_tests false true false unknown = host_is_other
-of_tests false false address true = host_is_other
+of_tests false true false unknown = is_other kinds.UnknownHost refl
+of_tests false false address true = is_other kinds.UnknownHost refl
 of_tests false false address false = tt
 
 if_group : (address_like group : Bool) (kind : Option WarningKind) → IsOtherKind kind → IsOtherKind (if address_like then kind else if group then None else kind)
@@ -83,9 +79,9 @@ if_group true group kind other = other
 if_group false true kind other = tt
 if_group false false kind other = other
 
-if_member : (group : Bool) → IsOtherKind (if group then None else Some UnknownMember)
+if_member : (group : Bool) → IsOtherKind (if group then None else Some kinds.UnknownMember)
 if_member true = tt
-if_member false = member_is_other
+if_member false = is_other kinds.UnknownMember refl
 
 module _ (netgroups : List GroupLine) (hosts : List HostRow) where
   of_host : (name : List ℕ) → IsOtherKind (host_kind hosts name)
@@ -110,7 +106,7 @@ module _ (netgroups : List GroupLine) (hosts : List HostRow) where
   of_clients file line (clients.Hosts names) other = of_words file line (λ name. name) (name_kind netgroups hosts) of_name names
   of_clients file line (clients.Net net None) other = tt
   of_clients file line (clients.Net net (Some value)) other = absurd (cc)
-  of_clients file line (clients.Net6 value) other = (ipv6_is_other, tt)
+  of_clients file line (clients.Net6 value) other = (is_other kinds.Ipv6 refl, tt)
   of_clients file line clients.World other = tt
 
   abbrev HasNoClass : FsId × Entry → Type 0

@@ -3,6 +3,7 @@ use Rattle.std.specs.Prelude.{ℕ, List, [], ◌∷◌, Option, None, Some, ◌+
 use Rattle.std.specs.Fmt.{decimal}
 use Rattle.desk_text.specs.Address.{addr_text, number_of}
 use Rattle.desk_text.specs.Path.{path_text}
+use Rattle.desk_text.specs.Said.{Said, row}
 use Rattle.desk_text.specs.declared.address.Addr.{Addr}
 use Rattle.desk_text.specs.declared.reading.LineFault.{LineFault}
 use Rattle.desk_tables.specs.Rules as tables
@@ -17,26 +18,22 @@ use Rattle.desk_policy.specs.declared.site_fault.SiteFault.{SiteFault}
 use Rattle.desk_policy.specs.declared.site_fault.SiteRule.{SiteRule}
 use Rattle.desk_policy.specs.declared.site_fault.SiteRule.TheVariants as rule
 
--- the number of a rule among those of its file
+-- what is printed of a rule: its number among those of its file, its name, and what is said of the slice that breaks it, or of
+-- the file
+abbrev pub said : SiteRule → Said
+said (rule.Table broken) = tables.said broken
+said (rule.Group broken) = groups.said broken
+said (rule.Line broken) = lines.said broken
+said rule.Contradiction = row 26 (codes "Contradiction") (codes "has other terms than an earlier line")
+
 abbrev pub rule_number : SiteRule → ℕ
-rule_number (rule.Table broken) = tables.rule_number broken
-rule_number (rule.Group broken) = groups.rule_number broken
-rule_number (rule.Line broken) = lines.rule_number broken
-rule_number rule.Contradiction = 26
+rule_number rule = (said rule).number
 
--- the name of a rule
 abbrev pub rule_name : SiteRule → List ℕ
-rule_name (rule.Table broken) = tables.rule_name broken
-rule_name (rule.Group broken) = groups.rule_name broken
-rule_name (rule.Line broken) = lines.rule_name broken
-rule_name rule.Contradiction = codes "Contradiction"
+rule_name rule = (said rule).name
 
--- what is said of the slice that breaks a rule, or of the file
 abbrev pub rule_sentence : SiteRule → List ℕ
-rule_sentence (rule.Table broken) = tables.rule_sentence broken
-rule_sentence (rule.Group broken) = groups.rule_sentence broken
-rule_sentence (rule.Line broken) = lines.rule_sentence broken
-rule_sentence rule.Contradiction = codes "has other terms than an earlier line"
+rule_sentence rule = (said rule).sentence
 
 -- the name of the exports file of a mount point
 abbrev pub exports_name : List (List ℕ) → List ℕ

@@ -3,6 +3,7 @@ use Rattle.std.specs.Prelude.{ℕ, ◌==◌, List, [], ◌∷◌, Option, Some, 
 use Rattle.std.specs.List.{enumerate_from, flat_map}
 use Rattle.desk_text.specs.Address.{is_address, is_dotted}
 use Rattle.desk_text.specs.Bytes.{is_ipv6}
+use Rattle.desk_text.specs.Said.{Said, row}
 use Rattle.desk_tables.specs.Hosts.{addresses_of_host}
 use Rattle.desk_tables.specs.declared.filesystems.FsId.{FsId}
 use Rattle.desk_tables.specs.declared.hosts.HostRow.{HostRow}
@@ -16,36 +17,35 @@ use Rattle.desk_exports.specs.declared.entry.Entry.{Entry}
 use Rattle.desk_policy.specs.Names.{is_address_like}
 use Rattle.desk_policy.specs.declared.warning.Warning.{Warning}
 use Rattle.desk_policy.specs.declared.warning.WarningKind.{WarningKind}
-use Rattle.desk_policy.specs.declared.warning.WarningKind.TheVariants.{ClassMask, Ipv6, UnknownHost, UnknownMember}
+use Rattle.desk_policy.specs.declared.warning.WarningKind.TheVariants as kind
 
--- the number of a kind
+-- what is printed of a kind: its number, its name, and what is said of the word that is odd
+abbrev pub said : WarningKind → Said
+said kind.ClassMask = row 1 (codes "ClassMask") (codes "has neither a prefix nor a mask, so that its class counts, by its first number (/8 up to 127, /16 up to 191, /24 up to 223): write out the prefix that you mean")
+said kind.Ipv6 = row 2 (codes "Ipv6") (codes "has a colon, so it counts as IPv6 and matches nobody: write IPv4, and blanks between hosts")
+said kind.UnknownHost = row 3 (codes "UnknownHost") (codes "is not an address, a known host or (outside a triple) a known netgroup, and matches nobody: correct it, or give the file that has it (--hosts, --netgroup or --site)")
+said kind.UnknownMember = row 4 (codes "UnknownMember") (codes "is not a netgroup of the file, and adds nobody: define it, or write a host as (HOST,,)")
+
 abbrev pub kind_number : WarningKind → ℕ
-kind_number ClassMask = 1
-kind_number Ipv6 = 2
-kind_number UnknownHost = 3
-kind_number UnknownMember = 4
+kind_number kind = (said kind).number
 
--- the name of a kind
 abbrev pub kind_name : WarningKind → List ℕ
-kind_name ClassMask = codes "ClassMask"
-kind_name Ipv6 = codes "Ipv6"
-kind_name UnknownHost = codes "UnknownHost"
-kind_name UnknownMember = codes "UnknownMember"
+kind_name kind = (said kind).name
 
--- what is said of the word that is odd
 abbrev pub kind_sentence : WarningKind → List ℕ
-kind_sentence ClassMask = codes "has neither a prefix nor a mask, so that its class counts, by its first number (/8 up to 127, /16 up to 191, /24 up to 223): write out the prefix that you mean"
-kind_sentence Ipv6 = codes "has a colon, so it counts as IPv6 and matches nobody: write IPv4, and blanks between hosts"
-kind_sentence UnknownHost = codes "is not an address, a known host or (outside a triple) a known netgroup, and matches nobody: correct it, or give the file that has it (--hosts, --netgroup or --site)"
-kind_sentence UnknownMember = codes "is not a netgroup of the file, and adds nobody: define it, or write a host as (HOST,,)"
+kind_sentence kind = (said kind).sentence
+
+-- all kinds, by their numbers
+abbrev pub warning_kinds : List WarningKind
+warning_kinds = kind.ClassMask ∷ kind.Ipv6 ∷ kind.UnknownHost ∷ kind.UnknownMember ∷ []
 
 -- of a host's text: it is of IPv6; it has digits and dots alone and is not an address; or it is no name of the hosts file,
 -- which gives each of its names an address
 abbrev pub host_kind : List HostRow → List ℕ → Option WarningKind
 host_kind hosts name =
-    if is_ipv6 name then Some Ipv6
-    else if is_dotted name then (if is_address name then None else Some UnknownHost)
-    else if length (addresses_of_host hosts name) == 0 then Some UnknownHost
+    if is_ipv6 name then Some kind.Ipv6
+    else if is_dotted name then (if is_address name then None else Some kind.UnknownHost)
+    else if length (addresses_of_host hosts name) == 0 then Some kind.UnknownHost
     else None
 
 -- of a written name, which may be a group's
@@ -57,7 +57,7 @@ name_kind netgroups hosts name =
 
 -- of a member of a group: a group that is not defined, or a host's text
 abbrev pub member_kind : List GroupLine → List HostRow → Member → Option WarningKind
-member_kind netgroups hosts (Group name) = if is_some (group_named netgroups name) then None else Some UnknownMember
+member_kind netgroups hosts (Group name) = if is_some (group_named netgroups name) then None else Some kind.UnknownMember
 member_kind netgroups hosts (Host name) = host_kind hosts name
 
 -- the word of a member
@@ -87,8 +87,8 @@ netgroup_warnings netgroups hosts = flat_map (group_warnings netgroups hosts) ne
 abbrev pub clients_warnings : List GroupLine → List HostRow → List ℕ → ℕ → Clients → List Warning
 clients_warnings netgroups hosts file line (clients.Hosts names) = word_warnings file line (λ name. name) (name_kind netgroups hosts) names
 clients_warnings netgroups hosts file line (clients.Net net None) = []
-clients_warnings netgroups hosts file line (clients.Net net (Some value)) = warning_if file line 0 value (Some ClassMask)
-clients_warnings netgroups hosts file line (clients.Net6 value) = warning_if file line 0 value (Some Ipv6)
+clients_warnings netgroups hosts file line (clients.Net net (Some value)) = warning_if file line 0 value (Some kind.ClassMask)
+clients_warnings netgroups hosts file line (clients.Net6 value) = warning_if file line 0 value (Some kind.Ipv6)
 clients_warnings netgroups hosts file line clients.World = []
 
 -- of the line of an entry

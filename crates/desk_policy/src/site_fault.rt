@@ -6,7 +6,7 @@ ghost use Rattle.desk_policy.specs.SiteFault.{rule_name, rule_number, rule_sente
 use desk_exports::Rule;
 use desk_netgroup::GroupRule;
 use desk_tables::TableRule;
-use desk_text::{Addr, Text};
+use desk_text::{Addr, Said, Text};
 use std::fmt;
 
 /// What a line of a site's files breaks.
@@ -24,35 +24,38 @@ impl SiteRule {
     pub fn number(self) -> u32
         ensures { result ≡ rule_number self }
     {
-        match self {
-            SiteRule::Table(rule) => rule.number(),
-            SiteRule::Group(rule) => rule.number(),
-            SiteRule::Line(rule) => rule.number(),
-            SiteRule::Contradiction => 26,
-        }
+        self.said().number
     }
 
     /// Gives the name of the rule.
     pub fn name(self) -> &'static str
         ensures { result.now ≡ rule_name self }
     {
-        match self {
-            SiteRule::Table(rule) => rule.name(),
-            SiteRule::Group(rule) => rule.name(),
-            SiteRule::Line(rule) => rule.name(),
-            SiteRule::Contradiction => "Contradiction",
-        }
+        self.said().name
     }
 
     /// Gives what is said of the slice that breaks the rule, or of the file, behind it.
     pub fn sentence(self) -> &'static str
         ensures { result.now ≡ rule_sentence self }
     {
+        self.said().sentence
+    }
+
+    /// Gives what is printed of the rule.
+    fn said(self) -> Said
+        ensures number { result.number ≡ rule_number self }
+        ensures name { result.name.now ≡ rule_name self }
+        ensures sentence { result.sentence.now ≡ rule_sentence self }
+    {
         match self {
-            SiteRule::Table(rule) => rule.sentence(),
-            SiteRule::Group(rule) => rule.sentence(),
-            SiteRule::Line(rule) => rule.sentence(),
-            SiteRule::Contradiction => "has other terms than an earlier line",
+            SiteRule::Table(rule) => rule.said(),
+            SiteRule::Group(rule) => rule.said(),
+            SiteRule::Line(rule) => rule.said(),
+            SiteRule::Contradiction => Said {
+                number: 26,
+                name: "Contradiction",
+                sentence: "has other terms than an earlier line",
+            },
         }
     }
 }

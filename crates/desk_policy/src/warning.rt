@@ -8,7 +8,7 @@ use crate::names::is_address_like;
 use desk_exports::{Boxed, Clients, Entry, Names};
 use desk_netgroup::{GroupLine, Member, Netgroups};
 use desk_tables::{FsId, Hosts};
-use desk_text::{Addr, Sequence, Text, is_dotted, is_ipv6};
+use desk_text::{Addr, Said, Sequence, Text, is_dotted, is_ipv6};
 use std::alloc::{AllocError, Global};
 
 /// What is odd about a word.
@@ -24,39 +24,70 @@ pub enum WarningKind {
     UnknownMember,
 }
 
+/// All kinds of warnings.
+const KINDS: &[WarningKind] = &[
+    WarningKind::ClassMask,
+    WarningKind::Ipv6,
+    WarningKind::UnknownHost,
+    WarningKind::UnknownMember,
+];
+
 impl WarningKind {
+    /// Gives all kinds, in the order of their numbers.
+    pub fn all() -> &'static [WarningKind]
+        ensures { result.now ≡ spec.warning_kinds }
+    {
+        KINDS
+    }
+
     /// Gives the number of the kind, from 1.
     pub fn number(self) -> u32
         ensures { result ≡ spec.kind_number self }
     {
-        self as u32 + 1
+        self.said().number
     }
 
     /// Gives the name of the kind.
     pub fn name(self) -> &'static str
         ensures { result.now ≡ spec.kind_name self }
     {
-        match self {
-            WarningKind::ClassMask => "ClassMask",
-            WarningKind::Ipv6 => "Ipv6",
-            WarningKind::UnknownHost => "UnknownHost",
-            WarningKind::UnknownMember => "UnknownMember",
-        }
+        self.said().name
     }
 
     /// Gives what is said of the word that is odd, behind the word.
     pub fn sentence(self) -> &'static str
         ensures { result.now ≡ spec.kind_sentence self }
     {
+        self.said().sentence
+    }
+
+    /// Gives what is printed of the kind.
+    fn said(self) -> Said
+        ensures number { result.number ≡ spec.kind_number self }
+        ensures name { result.name.now ≡ spec.kind_name self }
+        ensures sentence { result.sentence.now ≡ spec.kind_sentence self }
+    {
         match self {
-            WarningKind::ClassMask =>
-                "has neither a prefix nor a mask, so that its class counts, by its first number (/8 up to 127, /16 up to 191, /24 up to 223): write out the prefix that you mean",
-            WarningKind::Ipv6 =>
-                "has a colon, so it counts as IPv6 and matches nobody: write IPv4, and blanks between hosts",
-            WarningKind::UnknownHost =>
-                "is not an address, a known host or (outside a triple) a known netgroup, and matches nobody: correct it, or give the file that has it (--hosts, --netgroup or --site)",
-            WarningKind::UnknownMember =>
-                "is not a netgroup of the file, and adds nobody: define it, or write a host as (HOST,,)",
+            WarningKind::ClassMask => Said {
+                number: 1,
+                name: "ClassMask",
+                sentence: "has neither a prefix nor a mask, so that its class counts, by its first number (/8 up to 127, /16 up to 191, /24 up to 223): write out the prefix that you mean",
+            },
+            WarningKind::Ipv6 => Said {
+                number: 2,
+                name: "Ipv6",
+                sentence: "has a colon, so it counts as IPv6 and matches nobody: write IPv4, and blanks between hosts",
+            },
+            WarningKind::UnknownHost => Said {
+                number: 3,
+                name: "UnknownHost",
+                sentence: "is not an address, a known host or (outside a triple) a known netgroup, and matches nobody: correct it, or give the file that has it (--hosts, --netgroup or --site)",
+            },
+            WarningKind::UnknownMember => Said {
+                number: 4,
+                name: "UnknownMember",
+                sentence: "is not a netgroup of the file, and adds nobody: define it, or write a host as (HOST,,)",
+            },
         }
     }
 }

@@ -11,7 +11,7 @@ use Rattle.desk_exports.specs.declared.entry.Mapping.TheVariants.{Root, All}
 use Rattle.desk_exports.specs.declared.entry.Terms.{Terms}
 use Rattle.desk_remarks.specs.declared.remark.LineRemark.{LineRemark}
 use Rattle.desk_remarks.specs.declared.remark.Remark.{Remark}
-use Rattle.desk_remarks.specs.declared.remark.Remark.TheVariants.{EveryAddress, WritableByAll, RootForMany}
+use Rattle.desk_remarks.specs.declared.remark.Remark.TheVariants as remark
 
 -- clients are a network of every address: its prefix is 0
 abbrev pub is_every_address : Clients → Bool
@@ -64,6 +64,6 @@ remark_if said line remark = if said then record { line = line; remark = remark;
 -- what is said of a line by itself, with opinions or without
 abbrev pub entry_remarks : Bool → Entry → List LineRemark
 entry_remarks opinions entry =
-    remark_if (is_every_address entry.clients) entry.line EveryAddress
-    ++ (remark_if (opinions && is_writable_by_all entry) entry.line WritableByAll
-    ++ remark_if (opinions && is_root_for_many entry) entry.line RootForMany)
+    remark_if (is_every_address entry.clients) entry.line remark.EveryAddress
+    ++ (remark_if (opinions && is_writable_by_all entry) entry.line remark.WritableByAll
+    ++ remark_if (opinions && is_root_for_many entry) entry.line remark.RootForMany)

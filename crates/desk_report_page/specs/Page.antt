@@ -10,7 +10,6 @@ use Rattle.desk_core.specs.Standing.{Standing, standing_in}
 use Rattle.desk_core.specs.declared.head.Head.{Head}
 use Rattle.desk_core.specs.declared.proposal.Proposal.{Proposal}
 use Rattle.desk_openings.specs.Opening.{AreOpenings}
-use Rattle.desk_page.specs.Head.{page_head}
 use Rattle.desk_page_lists.specs.Again.{make_again}
 use Rattle.desk_page_lists.specs.Reading.{how_to_read}
 use Rattle.desk_page_maps.specs.Shapes.{shapes}
@@ -22,6 +21,7 @@ use Rattle.desk_page_summary.specs.Sections.{footer, section_end, section_start}
 use Rattle.desk_page_summary.specs.declared.header.Header.{Header}
 use Rattle.desk_page_summary.specs.declared.sections.Section.{Section}
 use Rattle.desk_page_summary.specs.declared.sections.Section.TheVariants.{Each, Files, Names, Networks, Systems, Warnings}
+use Rattle.page_html.specs.Head.{page_head}
 use Rattle.desk_report_lists.specs.Amounts.{revisions_of}
 use Rattle.desk_report_lists.specs.Files.{AddsFiles}
 use Rattle.desk_report_lists.specs.Hosts.{AddsHosts}

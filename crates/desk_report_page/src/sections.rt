@@ -18,7 +18,6 @@ ghost use Rattle.desk_report_page.specs.PrivateSections.{CanBeWritten, parts_fou
 use desk_core::{Head, Proposal};
 use desk_deciding::Deciding;
 use desk_overview::SiteLine;
-use desk_page::push_page_head;
 use desk_page_lists::{push_how_to_read, push_make_again};
 use desk_page_maps::push_shapes;
 use desk_page_networks::push_networks;
@@ -35,6 +34,7 @@ use desk_report_summary::{
     SystemsData, push_figures_of, push_findings_of, push_flavours_of, push_overview_of,
 };
 use desk_text::Sequence;
+use page_html::push_page_head;
 use std::alloc::{AllocError, Global};
 
 /// What the sections are made of: the policy in force and the tables of its site, the newest revisions and the proposals, and what is

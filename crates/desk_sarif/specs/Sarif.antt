@@ -7,8 +7,8 @@ use Rattle.std.specs.Str.{chars}
 use Rattle.serde_json.specs.Data.{Data, Members, array, item, member, no_items, no_members, number, object, string, unsigned}
 use Rattle.serde_json.specs.View.{items_of}
 use Rattle.serde_json.specs.Written.{compact_text}
+use Rattle.desk_remarks.specs.Remark.{is_opinion}
 use Rattle.desk_remarks.specs.declared.remark.Remark.{Remark}
-use Rattle.desk_remarks.specs.declared.remark.Remark.TheVariants.{Backslash, EveryAddress, NoClient, Repeated, RepeatedClient, RootForMany, ServerGrantsMore, Shadowed, ShadowedHere, V4Line, WritableByAll}
 use Rattle.desk_findings.specs.Finding.{line_at, slice_at}
 use Rattle.desk_findings.specs.declared.finding.Finding.{Finding}
 use Rattle.desk_findings.specs.declared.finding.Matter.{Matter}
@@ -36,17 +36,7 @@ message_text text = flat_map in_message (chars text)
 
 -- an opinion is a note, a fault is an error
 abbrev pub remark_level : Remark → List ℕ
-remark_level Shadowed = codes "warning"
-remark_level Repeated = codes "warning"
-remark_level ShadowedHere = codes "warning"
-remark_level NoClient = codes "warning"
-remark_level EveryAddress = codes "warning"
-remark_level WritableByAll = codes "note"
-remark_level RootForMany = codes "note"
-remark_level ServerGrantsMore = codes "warning"
-remark_level Backslash = codes "warning"
-remark_level V4Line = codes "note"
-remark_level RepeatedClient = codes "warning"
+remark_level remark = if is_opinion remark then codes "note" else codes "warning"
 
 abbrev pub level_of : Matter → List ℕ
 level_of (matter.Fault rule other) = codes "error"

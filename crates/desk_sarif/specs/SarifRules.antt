@@ -3,18 +3,15 @@ use Rattle.std.specs.Prelude.{ℕ, List, [], ◌∷◌, ◌++◌, None, bytes_eq
 use Rattle.std.specs.Fmt.{decimal}
 use Rattle.std.specs.List.{IsAmong, IsDistinct}
 use Rattle.serde_json.specs.Data.{Data, member, no_members, object, string}
-use Rattle.desk_tables.specs.declared.rules.TableRule.TheVariants as table
-use Rattle.desk_netgroup.specs.declared.faults.GroupRule.TheVariants as group
-use Rattle.desk_exports.specs.Rules.{rules_in_order}
+use Rattle.desk_tables.specs.Rules as tables
+use Rattle.desk_netgroup.specs.Faults as groups
+use Rattle.desk_exports.specs.Rules as lines
 use Rattle.desk_policy.specs.SiteFault.{rule_sentence}
-use Rattle.desk_policy.specs.Warning.{kind_sentence}
+use Rattle.desk_policy.specs.Warning.{kind_sentence, warning_kinds}
 use Rattle.desk_policy.specs.declared.site_fault.SiteRule.{SiteRule}
 use Rattle.desk_policy.specs.declared.site_fault.SiteRule.TheVariants as rule
-use Rattle.desk_policy.specs.declared.warning.WarningKind.{WarningKind}
-use Rattle.desk_policy.specs.declared.warning.WarningKind.TheVariants.{ClassMask, Ipv6, UnknownHost, UnknownMember}
-use Rattle.desk_remarks.specs.Remark.{remark_sentence, rule_of}
+use Rattle.desk_remarks.specs.Remark.{remark_sentence, remarks, rule_of}
 use Rattle.desk_remarks.specs.declared.remark.Remark.{Remark}
-use Rattle.desk_remarks.specs.declared.remark.Remark.TheVariants.{Backslash, EveryAddress, NoClient, Repeated, RepeatedClient, RootForMany, ServerGrantsMore, Shadowed, V4Line, WritableByAll}
 use Rattle.desk_findings.specs.Finding.{name_of, number_of}
 use Rattle.desk_findings.specs.declared.finding.Matter.{Matter}
 use Rattle.desk_findings.specs.declared.finding.Matter.TheVariants as matter
@@ -51,26 +48,20 @@ subject_of (matter.Contradiction other address) = codes "it "
 subject_of (matter.Warning kind) = codes "it "
 subject_of (matter.Remark remark example) = []
 
+-- a rule that a fault breaks, and a kind of warning of lines: another line counts for nothing here
+abbrev pub broken : SiteRule → Matter
+broken rule = matter.Fault rule None
+
+abbrev pub remarked : Remark → Matter
+remarked remark = matter.Remark remark None
+
 -- the rules of lines in the order in which they are checked, and the kinds of warnings: those of words, and those of lines
 abbrev pub fault_rules : List SiteRule
-fault_rules =
-    map rule.Line rules_in_order
-    ++ rule.Contradiction ∷ []
-    ++ map rule.Table (table.Fields ∷ table.Number ∷ table.Name ∷ table.Duplicate ∷ table.BadPath ∷ table.Custodian ∷ table.Digest ∷ table.TooMany ∷ table.Guard ∷ [])
-    ++ map rule.Group (group.StrayComment ∷ group.Unclosed ∷ group.BadTriple ∷ group.Duplicate ∷ [])
-
-abbrev pub warning_kinds : List WarningKind
-warning_kinds = ClassMask ∷ Ipv6 ∷ UnknownHost ∷ UnknownMember ∷ []
-
-abbrev pub remarks : List Remark
-remarks = Shadowed ∷ Repeated ∷ NoClient ∷ EveryAddress ∷ WritableByAll ∷ RootForMany ∷ ServerGrantsMore ∷ Backslash ∷ V4Line ∷ RepeatedClient ∷ []
+fault_rules = map rule.Line lines.rules_in_order ++ rule.Contradiction ∷ [] ++ map rule.Table tables.rules_in_order ++ map rule.Group groups.rules_in_order
 
 -- each of them
 abbrev pub log_rules : List Matter
-log_rules =
-    map (λ broken. matter.Fault broken None) fault_rules
-    ++ map matter.Warning warning_kinds
-    ++ map (λ remark. matter.Remark remark None) remarks
+log_rules = map broken fault_rules ++ map matter.Warning warning_kinds ++ map remarked remarks
 
 -- an object with one member, and one with a text
 abbrev pub only : List ℕ → Data → Data

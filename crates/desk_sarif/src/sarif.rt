@@ -136,16 +136,10 @@ fn level_of(matter: Matter) -> &'static str
 fn remark_level(remark: Remark) -> &'static str
     ensures { result.now ≡ spec.remark_level remark }
 {
-    match remark {
-        Remark::WritableByAll | Remark::RootForMany | Remark::V4Line => "note",
-        Remark::Shadowed
-        | Remark::Repeated
-        | Remark::ShadowedHere
-        | Remark::NoClient
-        | Remark::EveryAddress
-        | Remark::ServerGrantsMore
-        | Remark::Backslash
-        | Remark::RepeatedClient => "warning",
+    if remark.is_opinion() {
+        "note"
+    } else {
+        "warning"
     }
 }
 

@@ -1,8 +1,10 @@
 //! The rules of a log of SARIF: all that a finding may be about, each with an id, a name and a help.
 
-ghost use Rattle.std.specs.Prelude.{◌≡◌, ◌++◌, IfOk, codes, map};
+ghost use Rattle.std.specs.Prelude.{◌≡◌, ◌++◌, IfOk, OnOk, codes, map};
 ghost use Rattle.std.specs.String.{string_bytes};
 ghost use Rattle.serde_json.specs.View.{view};
+ghost use Rattle.desk_policy.specs.declared.site_fault.SiteRule.TheVariants.{Group, Line, Table};
+ghost use Rattle.desk_findings.specs.declared.finding.Matter.TheVariants.{Warning};
 ghost use Rattle.desk_sarif.specs.SarifRules.{EachHasItsRule, IdsDiffer};
 ghost use Rattle.desk_sarif.specs.SarifRules as spec;
 
@@ -15,70 +17,85 @@ use desk_tables::TableRule;
 use serde_json::{Value, json};
 use std::alloc::{AllocError, Global};
 
-/// All that a finding may be about: the rules of the lines of exports files, of tables and of netgroup files, each in the
-/// order in which they are checked, and the kinds of warnings. (Another line counts for nothing here.)
-const RULES: [Matter; 54] = [
-    Matter::Fault(SiteRule::Line(Rule::OpenQuote), None),
-    Matter::Fault(SiteRule::Line(Rule::StrayComment), None),
-    Matter::Fault(SiteRule::Line(Rule::NotAbsolute), None),
-    Matter::Fault(SiteRule::Line(Rule::DirectoryLate), None),
-    Matter::Fault(SiteRule::Line(Rule::BadPath), None),
-    Matter::Fault(SiteRule::Line(Rule::DirectoryElsewhere), None),
-    Matter::Fault(SiteRule::Line(Rule::UnknownOption), None),
-    Matter::Fault(SiteRule::Line(Rule::OptionLeftOut), None),
-    Matter::Fault(SiteRule::Line(Rule::ValueMissing), None),
-    Matter::Fault(SiteRule::Line(Rule::RepeatedOption), None),
-    Matter::Fault(SiteRule::Line(Rule::BadAddress), None),
-    Matter::Fault(SiteRule::Line(Rule::BadMask), None),
-    Matter::Fault(SiteRule::Line(Rule::MaskTwice), None),
-    Matter::Fault(SiteRule::Line(Rule::MaskAlone), None),
-    Matter::Fault(SiteRule::Line(Rule::NoClass), None),
-    Matter::Fault(SiteRule::Line(Rule::NoMask), None),
-    Matter::Fault(SiteRule::Line(Rule::NetAndHost), None),
-    Matter::Fault(SiteRule::Line(Rule::RootAndAll), None),
-    Matter::Fault(SiteRule::Line(Rule::BadFlavour), None),
-    Matter::Fault(SiteRule::Line(Rule::UnknownUser), None),
-    Matter::Fault(SiteRule::Line(Rule::UnknownGroup), None),
-    Matter::Fault(SiteRule::Line(Rule::TooManyGroups), None),
-    Matter::Fault(SiteRule::Line(Rule::EmptyElement), None),
-    Matter::Fault(SiteRule::Line(Rule::Range), None),
-    Matter::Fault(SiteRule::Line(Rule::AlldirsMany), None),
-    Matter::Fault(SiteRule::Line(Rule::AlldirsNotRoot), None),
-    Matter::Fault(SiteRule::Contradiction, None),
-    Matter::Fault(SiteRule::Table(TableRule::Fields), None),
-    Matter::Fault(SiteRule::Table(TableRule::Number), None),
-    Matter::Fault(SiteRule::Table(TableRule::Name), None),
-    Matter::Fault(SiteRule::Table(TableRule::Duplicate), None),
-    Matter::Fault(SiteRule::Table(TableRule::BadPath), None),
-    Matter::Fault(SiteRule::Table(TableRule::Custodian), None),
-    Matter::Fault(SiteRule::Table(TableRule::Digest), None),
-    Matter::Fault(SiteRule::Table(TableRule::TooMany), None),
-    Matter::Fault(SiteRule::Table(TableRule::Guard), None),
-    Matter::Fault(SiteRule::Group(GroupRule::StrayComment), None),
-    Matter::Fault(SiteRule::Group(GroupRule::Unclosed), None),
-    Matter::Fault(SiteRule::Group(GroupRule::BadTriple), None),
-    Matter::Fault(SiteRule::Group(GroupRule::Duplicate), None),
-    Matter::Warning(WarningKind::ClassMask),
-    Matter::Warning(WarningKind::Ipv6),
-    Matter::Warning(WarningKind::UnknownHost),
-    Matter::Warning(WarningKind::UnknownMember),
-    Matter::Remark(Remark::Shadowed, None),
-    Matter::Remark(Remark::Repeated, None),
-    Matter::Remark(Remark::NoClient, None),
-    Matter::Remark(Remark::EveryAddress, None),
-    Matter::Remark(Remark::WritableByAll, None),
-    Matter::Remark(Remark::RootForMany, None),
-    Matter::Remark(Remark::ServerGrantsMore, None),
-    Matter::Remark(Remark::Backslash, None),
-    Matter::Remark(Remark::V4Line, None),
-    Matter::Remark(Remark::RepeatedClient, None),
-];
-
 /// Makes the objects of all rules.
 pub(crate) fn all_rule_values(alloc: Global) -> Result<Vec<Value>, AllocError>
     ensures { IfOk result (λ values. map view values.items ≡ map spec.rule_data spec.log_rules) }
 {
-    rule_values(alloc, &RULES)
+    let rules = log_rules(alloc)?;
+    rule_values(alloc, rules.as_slice())
+}
+
+/// Lists all that a finding may be about: the rules of the lines of exports files, of tables and of netgroup files, each in the
+/// order in which they are checked, and the kinds of warnings. (Another line counts for nothing here.)
+fn log_rules(alloc: Global) -> Result<Vec<Matter>, AllocError>
+    ensures { IfOk result (λ rules. rules.items ≡ spec.log_rules) }
+{
+    let mut rules = Vec::new(alloc);
+    add_faults(alloc, &mut rules)?;
+    add_kinds(WarningKind::all(), &mut rules)?;
+    add_remarks(Remark::all(), &mut rules)?;
+    Ok(rules)
+}
+
+/// Adds the rules that a fault breaks.
+fn add_faults(alloc: Global, rules: &mut Vec<Matter>) -> Result<(), AllocError>
+    ensures { OnOk result (rules.new.items ≡ rules.old.items ++ map spec.broken spec.fault_rules) }
+{
+    let lines = Rule::all(alloc)?;
+    add_line_rules(lines.as_slice(), rules)?;
+    rules.push(Matter::Fault(SiteRule::Contradiction, None))?;
+    add_table_rules(TableRule::all(), rules)?;
+    add_group_rules(GroupRule::all(), rules)
+}
+
+/// Adds rules of lines of exports files.
+fn add_line_rules(lines: &[Rule], rules: &mut Vec<Matter>) -> Result<(), AllocError>
+    ensures { OnOk result (rules.new.items ≡ rules.old.items ++ map (λ rule. spec.broken (Line rule)) lines.now) }
+{
+    for rule in lines {
+        rules.push(Matter::Fault(SiteRule::Line(*rule), None))?;
+    }
+    Ok(())
+}
+
+/// Adds rules of tables.
+fn add_table_rules(tables: &[TableRule], rules: &mut Vec<Matter>) -> Result<(), AllocError>
+    ensures { OnOk result (rules.new.items ≡ rules.old.items ++ map (λ rule. spec.broken (Table rule)) tables.now) }
+{
+    for rule in tables {
+        rules.push(Matter::Fault(SiteRule::Table(*rule), None))?;
+    }
+    Ok(())
+}
+
+/// Adds rules of netgroup files.
+fn add_group_rules(groups: &[GroupRule], rules: &mut Vec<Matter>) -> Result<(), AllocError>
+    ensures { OnOk result (rules.new.items ≡ rules.old.items ++ map (λ rule. spec.broken (Group rule)) groups.now) }
+{
+    for rule in groups {
+        rules.push(Matter::Fault(SiteRule::Group(*rule), None))?;
+    }
+    Ok(())
+}
+
+/// Adds kinds of warnings of words.
+fn add_kinds(kinds: &[WarningKind], rules: &mut Vec<Matter>) -> Result<(), AllocError>
+    ensures { OnOk result (rules.new.items ≡ rules.old.items ++ map Warning kinds.now) }
+{
+    for kind in kinds {
+        rules.push(Matter::Warning(*kind))?;
+    }
+    Ok(())
+}
+
+/// Adds kinds of warnings of lines.
+fn add_remarks(remarks: &[Remark], rules: &mut Vec<Matter>) -> Result<(), AllocError>
+    ensures { OnOk result (rules.new.items ≡ rules.old.items ++ map spec.remarked remarks.now) }
+{
+    for remark in remarks {
+        rules.push(Matter::Remark(*remark, None))?;
+    }
+    Ok(())
 }
 
 /// Makes the objects of rules.

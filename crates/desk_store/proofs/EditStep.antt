@@ -94,15 +94,9 @@ number_told other (Pending number) = number
 number_told other (Refused refusal) = other
 
 case_number : (newest : Option Revision) (e : Edit) (first : Case) → number_told (e.base + 1) (answer_in newest e first) ≡ e.base + 1
-case_number newest e case.UnknownCaller = refl
-case_number newest e case.BadKey = refl
-case_number newest e case.UnknownFile = refl
-case_number newest e case.NotCustodian = refl
-case_number newest e case.TooLarge = refl
+case_number newest e (case.Refused refused) = refl
 case_number newest e case.Already = refl
 case_number newest e case.Pending = refl
-case_number newest e case.Stale = refl
-case_number newest e case.Full = refl
 
 again_number : (st : Standing) (e : Edit) (number : ℕ) (proposed : Bool) (first : Option Case) → AnswersIn first st e (again number proposed) → number ≡ e.base + 1
 again_number st e number true None h = absurd h
@@ -157,15 +151,9 @@ is_accepted (Pending number) = false
 is_accepted (Refused refusal) = false
 
 case_refuses : (newest : Option Revision) (e : Edit) (first : Case) → is_accepted (answer_in newest e first) ≡ false
-case_refuses newest e case.UnknownCaller = refl
-case_refuses newest e case.BadKey = refl
-case_refuses newest e case.UnknownFile = refl
-case_refuses newest e case.NotCustodian = refl
-case_refuses newest e case.TooLarge = refl
+case_refuses newest e (case.Refused refused) = refl
 case_refuses newest e case.Already = refl
 case_refuses newest e case.Pending = refl
-case_refuses newest e case.Stale = refl
-case_refuses newest e case.Full = refl
 
 entry_accepted : (stored : Entry) → is_accepted (answer_of stored) ≡ true
 entry_accepted (entry.Revised r) = refl

@@ -13,6 +13,7 @@ pub mod Inserting
 pub mod Placed
 pub mod SelectText
 pub mod Reading
+pub mod Gathering
 pub mod QueryText
 pub mod NamedText
 pub mod KeysText
@@ -45,6 +46,8 @@ pub mod SameTables
 pub mod SiteRows
 pub mod SortedNumbers
 pub mod StoredRows
+pub mod Kept
+pub mod Restored
 pub mod TreesApart
 pub mod FirstHistory
 pub mod FirstSite

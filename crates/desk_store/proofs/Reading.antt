@@ -40,7 +40,7 @@ query_failed old new sql params e (inl h) = not_run old new sql params e h
 query_failed old new sql params e (inr h) = failed_by old new sql h.0 _ e h.0.returning h.2
 
 -- the statement that showed the rows, as it was compiled
-compiled_in : (old new : State) (sql : List ℕ) (params : Row) (rows : List Row) → Shown sql params old new rows → (c : Compiled) × (understood old.now.schema sql ≡ Ok c)
+pub compiled_in : (old new : State) (sql : List ℕ) (params : Row) (rows : List Row) → Shown sql params old new rows → (c : Compiled) × (understood old.now.schema sql ≡ Ok c)
 unfolding Shown
 compiled_in old new sql params rows h = (h.0, h.1.is)
 

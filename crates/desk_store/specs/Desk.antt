@@ -122,7 +122,7 @@ pending_after pending standing e (Some (Pending number)) = pending
 pending_after pending standing e (Some (Refused refusal)) = pending
 
 -- What an edit is answered by how files stand, whatever the disk does: what the definition says. The store refuses only an edit
--- that could be stored or proposed, and memory runs out only where none of the nine cases holds.
+-- that could be stored or proposed, and memory runs out only where no case holds.
 abbrev pub AnswersBy : Standing → Edit → Result Done DeskError → Type 0
 AnswersBy standing e (Ok done) = Answers standing e (answer_told done)
 AnswersBy standing e (Err (error.Refused refusal)) = Answers standing e (Refused refusal)

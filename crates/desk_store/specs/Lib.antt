@@ -11,3 +11,4 @@ pub mod Newest
 pub mod Looks
 pub mod Keys
 pub mod Error
+pub mod PrivateGathered

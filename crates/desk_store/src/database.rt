@@ -27,7 +27,7 @@ use crate::keys::are_keys;
 use crate::opening::{accept_version, state_in};
 use crate::rows::not_stored;
 use crate::tables::{
-    read_approvals, read_proposal_keys, read_proposals, read_revisions, read_version_keys,
+    gather_revisions, read_approvals, read_proposal_keys, read_proposals, read_version_keys,
     read_versions, seen_tables,
 };
 use desk_core::State;
@@ -112,8 +112,8 @@ fn read_history<S: Alter, V: PolicyView + Drop>(
     ensures said { HasCleanDisk (state S.Store conn.new) → IfErr result (TellsOpening S.Store conn.old conn.new) }
     ensures proposals_once { IfOk result (λ state'. PendOnce state'.proposals) }
 {
-    let revisions = match read_revisions(conn) {
-        Ok(rows) => rows,
+    let revisions = match gather_revisions(alloc, conn) {
+        Ok(gathered) => gathered,
         Err(e) => return Err(not_stored(Task::ReadRevisions, e)),
     };
     let approvals = match read_approvals(conn) {
@@ -121,12 +121,7 @@ fn read_history<S: Alter, V: PolicyView + Drop>(
         Err(e) => return Err(not_stored(Task::ReadRevisions, e)),
     };
     match read_proposals(conn) {
-        Ok(proposals) => state_in(
-            alloc,
-            revisions.as_slice(),
-            approvals.as_slice(),
-            proposals.as_slice(),
-        ),
+        Ok(proposals) => state_in(alloc, revisions, approvals.as_slice(), proposals.as_slice()),
         Err(e) => Err(not_stored(Task::ReadRevisions, e)),
     }
 }
@@ -153,8 +148,8 @@ fn read_first<S: Alter, V: PolicyView + Drop>(
 {
     check_version(conn, Version::First)?;
     check_version_keys(alloc, conn)?;
-    match read_revisions(conn) {
-        Ok(revisions) => state_in(alloc, revisions.as_slice(), &[], &[]),
+    match gather_revisions(alloc, conn) {
+        Ok(revisions) => state_in(alloc, revisions, &[], &[]),
         Err(e) => Err(not_stored(Task::ReadRevisions, e)),
     }
 }

@@ -2,6 +2,7 @@
 
 ghost use Rattle.std.specs.Prelude.{◌≡◌, ◌↔◌, ◌∷◌, [], pos, Err, IfErr, IfOk, IsPermutation, IsTrue, List, OnOk, All, map};
 ghost use Rattle.std.specs.List.{filter_map, list_all};
+ghost use Rattle.sqlite.specs.Order.{Row as Values};
 ghost use Rattle.sqlite.specs.declared.types.Value.TheVariants.{Int};
 ghost use Rattle.desk_core.specs.Head.{CanBeKept, Revision, StandOnce, newest_in};
 ghost use Rattle.desk_core.specs.History.{IsHistory, standing_of};
@@ -14,13 +15,15 @@ ghost use Rattle.desk_store.specs.Desk.{History, IsSiteHistory, IsStorable};
 ghost use Rattle.desk_store.specs.History.{approval_of, row_of};
 ghost use Rattle.desk_store.specs.Newest.{has_revision};
 ghost use Rattle.desk_store.specs.Open.{IsOfRows, version_number, version_rows};
+ghost use Rattle.desk_store.specs.PrivateGathered.{IsGathered, WasGathered};
 ghost use Rattle.desk_store.specs.StoredRows.{AreNewestOf, AreRowsOf};
 ghost use Rattle.desk_store.specs.declared.error.DeskError.TheVariants as error;
 
 use crate::error::DeskError;
+use crate::gathered::Gathered;
 use crate::newest::newest_heads;
 use crate::pending::{approve, may_follow};
-use crate::stored::{approvals_in, number_in, proposals_in, revisions_in};
+use crate::stored::{approvals_in, number_in, proposals_in};
 use desk_core::{Head, Proposal, State, consistent_sites_have_no_fault};
 use desk_policy::PolicyView;
 use desk_schema::Version;
@@ -107,14 +110,16 @@ fn state_of<V: PolicyView + Drop>(
 /// Makes the state that the rows of a database stand for; `Schema` if they are not those of the history of a site.
 pub(crate) fn state_in<V: PolicyView + Drop>(
     alloc: Global,
-    revisions: &[Row],
+    revisions: Gathered,
     approvals: &[Row],
     proposals: &[Row],
 ) -> Result<State<V>, DeskError>
-    ensures history { IfOk result (λ state. (history : History) × IsSiteHistory history × AreRowsOf history revisions.now approvals.now proposals.now × (standing state ≡ standing_of history)) }
+    requires { WasGathered revisions }
+    ensures history { (rows : List Values) → IsGathered rows revisions
+        → IfOk result (λ state. (history : History) × IsSiteHistory history × AreRowsOf history rows approvals.now proposals.now × (standing state ≡ standing_of history)) }
     ensures once { IfOk result (λ state. StandOnce state.heads) }
     ensures proposals_once { IfOk result (λ state. PendOnce state.proposals) }
-    ensures foreign { result ≡ Err error.Schema → (history : History) → IsSiteHistory history → AreRowsOf history revisions.now approvals.now proposals.now → ⊥ }
+    ensures foreign { result ≡ Err error.Schema → (rows : List Values) → IsGathered rows revisions → (history : History) → IsSiteHistory history → AreRowsOf history rows approvals.now proposals.now → ⊥ }
     ensures errors { IfErr result IsOfRows }
 {
     let heads = heads_in(alloc, revisions, approvals)?;
@@ -138,15 +143,16 @@ pub(crate) fn state_in<V: PolicyView + Drop>(
 }
 
 /// Makes the newest revisions that rows say, with who approved them; `Schema` if the rows are not those of a history.
-fn heads_in(alloc: Global, revisions: &[Row], approvals: &[Row]) -> Result<Vec<Head>, DeskError>
-    ensures newest { IfOk result (λ heads. (history : List Revision) × AreNewestOf revisions.now approvals.now heads.items history) }
+fn heads_in(alloc: Global, revisions: Gathered, approvals: &[Row]) -> Result<Vec<Head>, DeskError>
+    requires { WasGathered revisions }
+    ensures newest { IfOk result (λ heads. (rows : List Values) → IsGathered rows revisions → (history : List Revision) × AreNewestOf rows approvals.now heads.items history) }
     ensures once { IfOk result (λ heads. StandOnce heads.items) }
     ensures kept { IfOk result (λ heads. All CanBeKept heads.items) }
-    ensures foreign { result ≡ Err error.Schema → (history : List Revision) → All IsStorable history → IsHistory (map Revised history)
-        → IsPermutation (map row_of history) revisions.now → IsPermutation (filter_map approval_of history) approvals.now → ⊥ }
+    ensures foreign { result ≡ Err error.Schema → (rows : List Values) → IsGathered rows revisions → (history : List Revision) → All IsStorable history → IsHistory (map Revised history)
+        → IsPermutation (map row_of history) rows → IsPermutation (filter_map approval_of history) approvals.now → ⊥ }
     ensures errors { IfErr result IsOfRows }
 {
-    let mut revisions = revisions_in(alloc, revisions)?;
+    let mut revisions = revisions.into_heads()?;
     let approvals = approvals_in(alloc, approvals)?;
     approve(&mut revisions, approvals)?;
     newest_heads(alloc, revisions)

@@ -25,29 +25,8 @@ use sqlite::Row;
 use sqlite_value::value::ValueRef;
 use std::alloc::{AllocError, Global};
 
-/// Reads the revisions in rows; `Schema` if a row is not that of a revision that a database of this project may hold.
-pub(crate) fn revisions_in(alloc: Global, rows: &[Row]) -> Result<Vec<Head>, DeskError>
-    ensures read { IfOk result (λ heads. map row_of heads.items ≡ rows.now) }
-    ensures bare { IfOk result (λ heads. All IsUnapproved heads.items) }
-    ensures storable { IfOk result (λ heads. All IsStorable heads.items) }
-    ensures foreign { result ≡ Err error.Schema → (history : List Revision) → All IsStorable history → IsPermutation (map row_of history) rows.now → ⊥ }
-    ensures errors { IfErr result IsOfRows }
-{
-    let mut heads: Vec<Head> = Vec::new(alloc);
-    for row in rows {
-        let head = match revision_in(alloc, row) {
-            Ok(head) => head,
-            Err(e) => return Err(e),
-        };
-        if heads.push(head).is_err() {
-            return Err(DeskError::Memory);
-        }
-    }
-    Ok(heads)
-}
-
 /// Reads the revision in a row; `Schema` if it is not one that a database of this project may hold.
-fn revision_in(alloc: Global, row: &Row) -> Result<Head, DeskError>
+pub(crate) fn revision_in(alloc: Global, row: &Row) -> Result<Head, DeskError>
     ensures read { IfOk result (λ head. row_of head ≡ row.now) }
     ensures bare { IfOk result IsUnapproved }
     ensures storable { IfOk result IsStorable }

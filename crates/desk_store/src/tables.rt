@@ -2,18 +2,23 @@
 
 ghost use Rattle.std.specs.Prelude.{◌≡◌, ◌∷◌, [], Bool, false, IsTrue, List, OnOk, IfOk, codes, pos};
 ghost use Rattle.sqlite.specs.Effect.{Database, IsDatabase};
+ghost use Rattle.sqlite.specs.Given.{IsPlain};
+ghost use Rattle.sqlite.specs.Listing.{understood};
 ghost use Rattle.sqlite.specs.Order.{Row as Values};
 ghost use Rattle.sqlite.specs.State.{HasCleanDisk};
 ghost use Rattle.sqlite.specs.Held.{state};
 ghost use Rattle.sqlite.specs.Values.{bound};
 ghost use Rattle.sqlite.specs.declared.types.Value.TheVariants.{Int, Text as Words};
 ghost use Rattle.desk_store.specs.Error.{FailsAsSaid, Query};
+ghost use Rattle.desk_store.specs.PrivateGathered.{GathersRows, GathersShown};
 ghost use Rattle.desk_store.specs.Looks.{ChangesNothing, IsLook, ReadsRows, SeesTables, approver_in, approvers_in, numbers_in, revision_in, select_approver, select_approvers, select_nothing, select_numbers, select_revision};
 ghost use Rattle.desk_store.specs.Tables.{IsAtRest, IsAtRestWith, rowids_of, rows_of, select_approvals, select_proposal_keys, select_proposals, select_revisions, select_version, select_version_keys};
 
+use crate::gathered::Gathered;
 use desk_schema::{Version, declared_version};
-use sqlite::{Alter, Connection, Error, Row, params};
+use sqlite::{Alter, Connection, Error, Row, Statement, params};
 use sqlite_value::value::ValueRef;
+use std::alloc::Global;
 
 /// Reads the rows that a query shows. (It is prepared, so that it is compiled once.)
 fn read<S: Alter>(
@@ -30,12 +35,38 @@ fn read<S: Alter>(
     }
 }
 
-/// Reads the rows of all revisions, in any order.
-pub(crate) fn read_revisions<S: Alter>(conn: &mut Connection<S>) -> Result<Vec<Row>, Error>
+/// Gathers the revisions in the rows of all revisions, in any order. (It is prepared, so that it is compiled once.)
+pub(crate) fn gather_revisions<S: Alter>(
+    alloc: Global,
+    conn: &mut Connection<S>,
+) -> Result<Gathered, Error>
     requires { HasCleanDisk (state S.Store conn.old) → IsAtRestWith false (state S.Store conn.old) }
-    ensures { ReadsRows S.Store (λ db. rows_of db (codes "file_rev")) (Query select_revisions []) conn.old conn.new result }
+    ensures { GathersRows S.Store (λ db. rows_of db (codes "file_rev")) (Query select_revisions []) conn.old conn.new result }
 {
-    read(conn, "SELECT * FROM file_rev", &[])
+    match conn.prepare("SELECT * FROM file_rev") {
+        Ok(select) => gather_shown(alloc, conn, &select),
+        Err(e) => Err(e),
+    }
+}
+
+/// Gathers the revisions in the rows that a query shows, one after another.
+fn gather_shown<S: Alter>(
+    alloc: Global,
+    conn: &mut Connection<S>,
+    select: &Statement,
+) -> Result<Gathered, Error>
+    ensures { (HasCleanDisk (state S.Store conn.old) → IsPlain (understood conn.old.schema select.now.text)) → GathersShown S.Store select.now.text conn.old conn.new result }
+{
+    let mut gathered = Gathered::new(alloc);
+    let mut rows = conn.query_prepared(select, &[])?;
+    'rows: for _ in 0..u64::MAX {
+        let Some(row) = rows.next()? else {
+            return Ok(gathered);
+        };
+        gathered.add(alloc, row);
+    }
+    gathered.fill();
+    Ok(gathered)
 }
 
 /// Reads the numbers, authors and profiles of a file's revisions, in any order.

@@ -28,3 +28,4 @@ pub mod PathLaws
 pub mod WrittenPaths
 pub mod AddrLaws
 pub mod AtomsAreUnique
+pub mod Variants

@@ -1,7 +1,4 @@
 //! The texts of an export policy: addresses, networks, paths, logical lines and their words. (exports(5))
-//!
-//! Each reader gives the value that its text spells by a definition of `specs/`, or the first fault of the text, in an
-//! order that is fixed: `Addr::read("10.0.0.5")` is that address, and `Addr::read("10.0.0.05")` is `LeadingZero`.
 #![tactic(auto)]
 
 pub mod addr_set;
@@ -14,6 +11,7 @@ pub mod path;
 pub mod place;
 pub mod raw_word;
 pub mod reading;
+pub mod said;
 pub mod sequence;
 pub mod text;
 pub mod word;
@@ -26,6 +24,7 @@ pub use network::{Net, NetText, Prefix};
 pub use path::{Path, PathFault};
 pub use place::Place;
 pub use reading::{LineFault, ReadError};
+pub use said::Said;
 pub use sequence::Sequence;
 pub use text::{Text, split_at};
 pub use word::{OpenQuote, Word, unquote, words, words_into};

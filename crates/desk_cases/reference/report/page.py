@@ -19,6 +19,7 @@ from reference.report.text import (
     CLASS_WORDS, and_more, class_badge, code, codes, count_words, escaped, escaped_attribute, escaped_line, flavour_words,
     network_text, number, part_words, plural, shell_word,
 )  # fmt: skip
+from reference.sarif import RULES
 from reference.warnings import NAMES, site_warnings
 
 # So many findings stand in the open; so many networks of the site are listed, file systems named in a cell, and lines that write a
@@ -34,12 +35,7 @@ PARTS = {
     "files": "Files and revisions",
     "read": "How to read this",
 }
-WARNING_WORDS = {
-    1: "a network without prefix and mask, read by the class of its address",
-    2: "of IPv6: matches nobody",
-    3: "no host or netgroup of this name: matches nobody",
-    4: "no netgroup of this name: adds nobody",
-}
+SENTENCES = {number: sentence for group, number, _, sentence in RULES if group == "warning"}
 
 
 class Report:
@@ -262,7 +258,7 @@ def warnings_table(report):
     rows = []
     for name, line, kind, word in report.warnings:
         where = line_link(systems[name], line) if name in systems else f"line {line}"
-        rows.append([code(name), where, code(word), NAMES[kind], WARNING_WORDS[kind]])
+        rows.append([code(name), where, code(word), NAMES[kind], SENTENCES[kind]])
     made = table("Warnings about words", ["File", "Line", "Word", "Name", "What it means"], rows)
     return folded_if_long(made, len(rows), plural(len(rows), "warning"))
 

@@ -1,38 +1,51 @@
--- The files are read first.
-use Rattle.std.proofs.Common.{◌∙◌, Err, List, Ok, codes, inl, inr, refl, subst, sym, ℕ}
+-- The custodians are read first, then the file systems, and then the other files.
+use Rattle.std.proofs.Common.{◌∙◌, Err, Ok, ap, codes, refl, subst}
 use Rattle.std.proofs.lemmas.Result.{err_from_is_err_and}
-use Rattle.cli_files.specs.Files.{ReadsInTurn}
-use Rattle.cli_files.specs.SiteFolder.{site_list, site_paths, site_words}
-use Rattle.cli_output.specs.declared.failure.Failure.TheVariants.{Memory}
+use Rattle.std.specs.Option.{option_map}
+use Rattle.std.specs.String.{string_bytes}
+use Rattle.cli_files.specs.FolderSystems.{LeavesBehind, ReadsSystems, SystemsPaths}
 use Rattle.cli_texts.proofs.check_site_files.check_site.Goals as goal
 
-pub returns-in_err-paths : goal.returns-in_err-paths
-returns-in_err-paths g c =
+pub returns-in_err-kept : goal.returns-in_err-kept
+returns-in_err-kept g c =
     let p = err_from_is_err_and c.from_residual.result c.from_residual.ensures.1 in
-    rw (p.1, p.2) (record { step = Err Memory; is = inl refl; next = refl })
+    rw (p.1, p.2) (record { step = Err c.in_err-kept.field-0.0; is = c.in_err-kept.ensures.text; next = refl })
 
-pub returns-in_err-texts : goal.returns-in_err-texts
-returns-in_err-texts g c =
-    let p = err_from_is_err_and c.from_residual-in_err-texts.result c.from_residual-in_err-texts.ensures.1 in
+pub returns-in_err-systems : goal.returns-in_err-systems
+returns-in_err-systems g c =
+    let p = err_from_is_err_and c.from_residual-in_err-systems.result c.from_residual-in_err-systems.ensures.1 in
     let known = g.I.Read.remaining c.args.input.now in
-    let failure = c.in_err-texts.field-0.0 in
-    rw (p.1, p.2)
-    (record {
-      step = Err failure;
-      is = inr (subst (λ (paths : List (List ℕ)). ReadsInTurn (site_words (codes "--site") paths) known (Err failure)) c.in_ok-paths.ensures c.in_err-texts.ensures.texts);
-      next = refl;
+    let left = g.I.Read.remaining c.read_systems.new.input in
+    rw (p.1, p.2) (record {
+      step = Ok (option_map string_bytes c.in_ok-kept.kept);
+      is = c.in_ok-kept.ensures.text;
+      next = record {
+        left = left;
+        leaves = λ named. subst (λ (paths : SystemsPaths). LeavesBehind paths known left) c.systems_files.ensures
+            (λ filesystems mounts. c.read_systems.ensures.left filesystems mounts ∙ ap g.I.Read.remaining (c.read_custodians.ensures.untouched named));
+        after = record {
+          step = Err c.in_err-systems.field-0.0;
+          is = subst (λ (paths : SystemsPaths). ReadsSystems (codes "--site") paths (Err c.in_err-systems.field-0.0)) c.systems_files.ensures c.in_err-systems.ensures.systems;
+          next = refl;
+        };
+      };
     })
 
 pub returns : goal.returns
 returns g c =
     let known = g.I.Read.remaining c.args.input.now in
-    let texts = site_list c.in_ok-texts.texts in
+    let left = g.I.Read.remaining c.read_systems.new.input in
     record {
-      step = Ok c.sources_of.result;
-      is = (
-        c.sources_of.ensures.paths ∙ c.in_ok-paths.ensures,
-        subst (λ (found : List (List ℕ)). ReadsInTurn (site_words (codes "--site") (site_paths c.args.folder.now)) known (Ok found)) (sym c.sources_of.ensures.texts)
-            (subst (λ (paths : List (List ℕ)). ReadsInTurn (site_words (codes "--site") paths) known (Ok texts)) c.in_ok-paths.ensures c.in_ok-texts.ensures.texts),
-      );
-      next = c.check_site_texts.ensures;
+      step = Ok (option_map string_bytes c.in_ok-kept.kept);
+      is = c.in_ok-kept.ensures.text;
+      next = record {
+        left = left;
+        leaves = λ named. subst (λ (paths : SystemsPaths). LeavesBehind paths known left) c.systems_files.ensures
+            (λ filesystems mounts. c.read_systems.ensures.left filesystems mounts ∙ ap g.I.Read.remaining (c.read_custodians.ensures.untouched named));
+        after = record {
+          step = Ok c.in_ok-systems.systems;
+          is = subst (λ (paths : SystemsPaths). ReadsSystems (codes "--site") paths (Ok c.in_ok-systems.systems)) c.systems_files.ensures c.in_ok-systems.ensures.systems;
+          next = record { custodians = c.custodians_of.result; are = c.custodians_of.ensures.are; answers = c.check_folder.ensures };
+        };
+      };
     }

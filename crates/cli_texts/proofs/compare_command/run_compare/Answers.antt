@@ -1,33 +1,12 @@
--- The words are parsed, and then the files are read.
-use Rattle.std.proofs.Common.{Bool, Err, Ok, refl, subst}
+-- What is asked of is found first.
+use Rattle.std.proofs.Common.{Err, Ok, refl}
 use Rattle.std.proofs.lemmas.Result.{err_from_is_err_and}
-use Rattle.cli_words.specs.Words.{rows_in}
-use Rattle.cli_texts.specs.CompareCommand.{AnswersTexts, compared_files}
-use Rattle.cli_texts.specs.TwoFiles.{two_list, two_texts}
-use Rattle.cli_texts.proofs.FilesInTurn.{lent}
-use Rattle.cli_texts.proofs.FoundWords.{by_found}
 use Rattle.cli_texts.proofs.compare_command.run_compare.Goals as goal
 
-pub returns-in_err-texts : goal.returns-in_err-texts
-returns-in_err-texts g c =
-    let p = err_from_is_err_and c.from_residual-in_err-texts.result c.from_residual-in_err-texts.ensures.1 in
-    rw (p.1, p.2) (by_found _ _ _ _ _ c.in_ok-before.ensures (by_found _ _ _ _ _ c.in_ok-after.ensures
-    (record {
-      step = Ok c.in_ok-filesystems.filesystems;
-      is = c.in_ok-filesystems.ensures;
-      next = record { step = Err c.in_err-texts.field-0.0; is = c.in_err-texts.ensures.texts; next = refl };
-    })))
+pub returns-in_err-subject : goal.returns-in_err-subject
+returns-in_err-subject g c =
+    let p = err_from_is_err_and c.from_residual.result c.from_residual.ensures.1 in
+    rw (p.1, p.2) (record { step = Err c.in_err-subject.field-0.0; is = c.in_err-subject.ensures; next = refl })
 
 pub returns : goal.returns
-returns g c =
-    let sources = c.two_sources-sources in
-    by_found _ _ _ _ _ c.in_ok-before.ensures (by_found _ _ _ _ _ c.in_ok-after.ensures
-    (record {
-      step = Ok c.in_ok-filesystems.filesystems;
-      is = c.in_ok-filesystems.ensures;
-      next = record {
-        step = Ok sources.result;
-        is = lent (compared_files (rows_in c.args.words.now) c.in_ok-before.before.now c.in_ok-after.after.now) (g.I.Read.remaining c.args.input.now) (two_texts c.in_ok-texts.texts) (two_list sources.result) sources.ensures.paths sources.ensures.texts c.in_ok-texts.ensures.texts;
-        next = subst (λ (all : Bool). AnswersTexts all c.in_ok-filesystems.filesystems sources.result c.answer_texts.result) c.is_set.ensures c.answer_texts.ensures;
-      };
-    }))
+returns g c = record { step = Ok c.in_ok-subject.subject; is = c.in_ok-subject.ensures; next = c.answer_subject.ensures }

@@ -22,22 +22,24 @@ fault_tried Gives tables read same question Memory is tries = tt
 pub returns-in_err-tried : goal.returns-in_err-tried
 returns-in_err-tried c =
     let p = err_from_is_err_and c.from_residual-in_err-tried.result c.from_residual-in_err-tried.ensures.1 in
-    let request = c.args.request.now in
-    let question = question_in request c.args.own.now c.args.asking in
+    let request = c.args.asked.request.now in
+    let table = c.args.asked.filesystems.now in
+    let question = question_in request c.args.own.now c.args.asked.asking in
     rw (p.1, p.2)
-    (fault_tried (PrintsVerdict c.args.sources request.filesystems question) c.in_ok-tables.tables (policy_of c.args.sources request.filesystems) (read_whole_with Two c.in_ok-tables.tables c.in_ok-filesystems.filesystems c.args.sources.exports.text.now) question c.in_err-tried.field-0.0
-    (read_known c.args.sources request.filesystems c.in_ok-filesystems.filesystems c.in_ok-tables.tables c.in_ok-tables.ensures c.in_ok-filesystems.ensures) c.in_err-tried.ensures)
+    (fault_tried (PrintsVerdict c.args.sources table question) c.in_ok-tables.tables (policy_of c.args.sources table) (read_whole_with Two c.in_ok-tables.tables c.in_ok-filesystems.filesystems c.args.sources.exports.text.now) question c.in_err-tried.field-0.0
+    (read_known c.args.sources table c.in_ok-filesystems.filesystems c.in_ok-tables.tables c.in_ok-tables.ensures c.in_ok-filesystems.ensures) c.in_err-tried.ensures)
 
 pub returns : goal.returns
 returns c =
-    let request = c.args.request.now in
+    let request = c.args.asked.request.now in
+    let table = c.args.asked.filesystems.now in
     let tried = c.in_ok-tried.tried in
     record {
       tables = c.in_ok-tables.tables;
       tables_are = c.in_ok-tables.ensures;
       tried = tried;
       answers =
-          subst (λ (read : Result Content SiteFault). IsAnswerBy c.in_ok-tables.tables read (question_in request c.args.own.now c.args.asking) tried)
-          (sym (read_known c.args.sources request.filesystems c.in_ok-filesystems.filesystems c.in_ok-tables.tables c.in_ok-tables.ensures c.in_ok-filesystems.ensures)) c.in_ok-tried.ensures;
+          subst (λ (read : Result Content SiteFault). IsAnswerBy c.in_ok-tables.tables read (question_in request c.args.own.now c.args.asked.asking) tried)
+          (sym (read_known c.args.sources table c.in_ok-filesystems.filesystems c.in_ok-tables.tables c.in_ok-tables.ensures c.in_ok-filesystems.ensures)) c.in_ok-tried.ensures;
       prints = c.print_tried.ensures;
     }

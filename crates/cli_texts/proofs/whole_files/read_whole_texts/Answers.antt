@@ -1,32 +1,34 @@
--- FILE is read after the tables, and at most one file is standard input.
-use Rattle.std.proofs.Common.{◌∷◌, [], Some, codes, inl, map, refl}
+-- The exports text is read after the tables, and at most one file is standard input.
+use Rattle.std.proofs.Common.{◌∷◌, [], inl, map, refl}
 use Rattle.std.proofs.lemmas.Result.{err_from_is_err_and}
 use Rattle.std.specs.String.{string_bytes}
-use Rattle.cli_words.specs.Words.{rows_in}
-use Rattle.cli_texts.specs.TableFiles.{table_files, table_list}
-use Rattle.cli_texts.specs.WholeFiles.{whole_files}
+use Rattle.cli_texts.specs.TableFiles.{named, table_list}
+use Rattle.cli_texts.specs.WholeFiles.{file_list}
 use Rattle.cli_texts.proofs.FilesInTurn.{fails_before, fails_on, once, reads_on}
 use Rattle.cli_texts.proofs.whole_files.read_whole_texts.Goals as goal
 
 pub returns-in_err-tables-clause-texts : goal.returns-in_err-tables-clause-texts
 returns-in_err-tables-clause-texts g c =
     let p = err_from_is_err_and c.from_residual.result c.from_residual.ensures.1 in
-    let rows = rows_in c.args.words.now in
+    let tables = map named (table_list c.args.files.tables) in
+    let exports = named c.args.files.exports ∷ [] in
     rw (p.1, p.2)
-    (once (whole_files rows c.args.file.now) (g.I.Read.remaining c.args.input.now) _ _ c.names_input_twice.ensures c.if-names_input_twice.false
-    (fails_before (table_files rows) ((codes "FILE", Some c.args.file.now) ∷ []) (g.I.Read.remaining c.args.input.now) c.in_err-tables.field-0.0 c.in_err-tables.ensures.texts))
+    (once (map named (file_list c.args.files)) (g.I.Read.remaining c.args.input.now) _ _ c.names_input_twice.ensures c.if-names_input_twice.false
+    (fails_before tables exports (g.I.Read.remaining c.args.input.now) c.in_err-tables.field-0.0 c.in_err-tables.ensures.texts))
 
 pub returns-in_err-exports-clause-texts : goal.returns-in_err-exports-clause-texts
 returns-in_err-exports-clause-texts g c =
     let p = err_from_is_err_and c.from_residual-in_err-exports.result c.from_residual-in_err-exports.ensures.1 in
-    let rows = rows_in c.args.words.now in
+    let tables = map named (table_list c.args.files.tables) in
+    let exports = named c.args.files.exports ∷ [] in
     rw (p.1, p.2)
-    (once (whole_files rows c.args.file.now) (g.I.Read.remaining c.args.input.now) _ _ c.names_input_twice.ensures c.if-names_input_twice.false
-    (fails_on (table_files rows) ((codes "FILE", Some c.args.file.now) ∷ []) (g.I.Read.remaining c.args.input.now) (g.I.Read.remaining c.read_tables.new.input) (map string_bytes (table_list c.in_ok-tables.tables)) c.in_err-exports.field-0.0 c.in_ok-tables.ensures.texts (inl c.in_err-exports.ensures.text)))
+    (once (map named (file_list c.args.files)) (g.I.Read.remaining c.args.input.now) _ _ c.names_input_twice.ensures c.if-names_input_twice.false
+    (fails_on tables exports (g.I.Read.remaining c.args.input.now) (g.I.Read.remaining c.read_tables.new.input) (map string_bytes (table_list c.in_ok-tables.tables)) c.in_err-exports.field-0.0 c.in_ok-tables.ensures.texts (inl c.in_err-exports.ensures.text)))
 
 pub returns-clause-texts : goal.returns-clause-texts
 returns-clause-texts g c =
-    let rows = rows_in c.args.words.now in
-    once (whole_files rows c.args.file.now) (g.I.Read.remaining c.args.input.now) _ _ c.names_input_twice.ensures c.if-names_input_twice.false
-    (reads_on (table_files rows) ((codes "FILE", Some c.args.file.now) ∷ []) (g.I.Read.remaining c.args.input.now) (g.I.Read.remaining c.read_tables.new.input) (map string_bytes (table_list c.in_ok-tables.tables)) (string_bytes c.in_ok-exports.exports ∷ []) c.in_ok-tables.ensures.texts
-    (c.in_ok-exports.ensures.text, (g.I.Read.remaining c.read_if_given.new.input, (c.read_if_given.ensures.left, refl))))
+    let tables = map named (table_list c.args.files.tables) in
+    let exports = named c.args.files.exports ∷ [] in
+    once (map named (file_list c.args.files)) (g.I.Read.remaining c.args.input.now) _ _ c.names_input_twice.ensures c.if-names_input_twice.false
+    (reads_on tables exports (g.I.Read.remaining c.args.input.now) (g.I.Read.remaining c.read_tables.new.input) (map string_bytes (table_list c.in_ok-tables.tables)) (string_bytes c.in_ok-exports.exports ∷ []) c.in_ok-tables.ensures.texts
+    (c.in_ok-exports.ensures.text, (g.I.Read.remaining c.read_file.new.input, (c.read_file.ensures.left, refl))))

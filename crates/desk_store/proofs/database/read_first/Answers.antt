@@ -1,51 +1,57 @@
-use Rattle.std.proofs.Common.{◌∙◌, ◌≡◌, [], Err, ap, arith, codes, false, inr, refl}
+use Rattle.std.proofs.Common.{◌∙◌, ◌≡◌, [], Err, IsPermutation, ap, arith, codes, false, inr, refl, subst}
+use Rattle.sqlite.specs.Effect.{Database}
 use Rattle.std.proofs.lemmas.Result.{err_from_is_err_and}
 use Rattle.sqlite.specs.Held.{state}
 use Rattle.desk_store.specs.Error.{Query}
-use Rattle.desk_store.specs.Tables.{select_revisions}
+use Rattle.desk_store.specs.Tables.{rows_of, select_revisions}
 use Rattle.desk_schema.specs.declared.declared.Version.TheVariants.{First}
 use Rattle.desk_store.specs.declared.error.DeskError.TheVariants as error
 use Rattle.desk_store.specs.declared.error.Task.TheVariants as tasks
 use Rattle.desk_store.proofs.ChangesNothing.{early, rest_after, same_after}
 use Rattle.desk_store.proofs.OpeningSaid.{later_told, rows_told, told_query}
 use Rattle.desk_store.proofs.Said.{both}
-use Rattle.desk_store.proofs.RowsRead.{first_before, first_read, read_in}
+use Rattle.desk_store.proofs.RowsRead.{first_before, first_read}
 use Rattle.desk_store.proofs.database.read_first.Goals as goal
 
 pub check_version_keys-requires : goal.check_version_keys-requires
 check_version_keys-requires g c = rest_after false (state g.S.Store c.args.conn.now) (state g.S.Store c.check_version.new.conn) c.check_version.ensures.look c.requires.rest
 
-pub read_revisions-requires : goal.read_revisions-requires
-read_revisions-requires g c =
+pub gather_revisions-requires : goal.gather_revisions-requires
+gather_revisions-requires g c =
     let one = state g.S.Store c.check_version.new.conn in
     rest_after false one (state g.S.Store c.check_version_keys.new.conn) c.check_version_keys.ensures.look (rest_after false (state g.S.Store c.args.conn.now) one c.check_version.ensures.look c.requires.rest)
+
+pub state_in-requires : goal.state_in-requires
+state_in-requires g c = (c.in-Ok.ensures.rows.0, c.in-Ok.ensures.rows.1)
 
 pub returns-in-Ok-clause-history : goal.returns-in-Ok-clause-history
 returns-in-Ok-clause-history g c clean =
     let before = state g.S.Store c.args.conn.now in
     let one = state g.S.Store c.check_version.new.conn in
     let two = state g.S.Store c.check_version_keys.new.conn in
-    let clean_two = early two (state g.S.Store c.read_revisions.new.conn) c.read_revisions.ensures.look clean in
+    let clean_two = early two (state g.S.Store c.gather_revisions.new.conn) c.gather_revisions.ensures.look clean in
     let clean_one = early one two c.check_version_keys.ensures.look clean_two in
     let clean_before = early before one c.check_version.ensures.look clean_one in
     let live = c.in_ok-check_version.ensures.live clean_one in
     let same = same_after one two c.check_version_keys.ensures.look clean_two (c.in_ok-check_version_keys.ensures.live clean_two) ∙ same_after before one c.check_version.ensures.look clean_one live in
-    let revised = read_in (codes "file_rev") before.committed two.committed c.in-Ok.revisions.items c.as_slice.result.now same c.as_slice.ensures.value (c.in-Ok.ensures.rows clean) in
+    let gathered = c.in-Ok.ensures.rows in
+    let revised = subst (λ (db : Database). IsPermutation (rows_of db (codes "file_rev")) gathered.0) same (gathered.2 clean) in
     let tables = (c.requires.rest clean_before).tables (c.check_version.ensures.look.opened clean_one live) in
-    first_before before.committed c.as_slice.result.now revised c.state_in.result tables (c.requires.alone clean_before) (c.in_ok-check_version.ensures.version clean_one) c.state_in.ensures.history
+    first_before before.committed gathered.0 revised c.state_in.result tables (c.requires.alone clean_before) (c.in_ok-check_version.ensures.version clean_one) (c.state_in.ensures.history gathered.0 gathered.1)
 
 pub returns-in-Ok-clause-foreign : goal.returns-in-Ok-clause-foreign
 returns-in-Ok-clause-foreign g c clean told history site holds =
     let before = state g.S.Store c.args.conn.now in
     let one = state g.S.Store c.check_version.new.conn in
     let two = state g.S.Store c.check_version_keys.new.conn in
-    let clean_two = early two (state g.S.Store c.read_revisions.new.conn) c.read_revisions.ensures.look clean in
+    let clean_two = early two (state g.S.Store c.gather_revisions.new.conn) c.gather_revisions.ensures.look clean in
     let clean_one = early one two c.check_version_keys.ensures.look clean_two in
     let clean_before = early before one c.check_version.ensures.look clean_one in
     let live = c.in_ok-check_version.ensures.live clean_one in
     let same = same_after one two c.check_version_keys.ensures.look clean_two (c.in_ok-check_version_keys.ensures.live clean_two) ∙ same_after before one c.check_version.ensures.look clean_one live in
-    let revised = read_in (codes "file_rev") before.committed two.committed c.in-Ok.revisions.items c.as_slice.result.now same c.as_slice.ensures.value (c.in-Ok.ensures.rows clean) in
-    c.state_in.ensures.foreign told history site (first_read before.committed c.as_slice.result.now revised history holds)
+    let gathered = c.in-Ok.ensures.rows in
+    let revised = subst (λ (db : Database). IsPermutation (rows_of db (codes "file_rev")) gathered.0) same (gathered.2 clean) in
+    c.state_in.ensures.foreign told gathered.0 gathered.1 history site (first_read before.committed gathered.0 revised history holds)
 
 pub returns-in_err-check_version-clause-said : goal.returns-in_err-check_version-clause-said
 returns-in_err-check_version-clause-said g c clean =
@@ -77,11 +83,11 @@ returns-in_err-check_version_keys-clause-memory g c clean memory =
     inr (First, c.in_ok-check_version.ensures.version clean_one)
 
 pub returns-in-Ok-clause-said : goal.returns-in-Ok-clause-said
-returns-in-Ok-clause-said g c clean = rows_told g.S.Store c.args.conn.now c.read_revisions.new.conn c.state_in.result c.state_in.ensures.errors
+returns-in-Ok-clause-said g c clean = rows_told g.S.Store c.args.conn.now c.gather_revisions.new.conn c.state_in.result c.state_in.ensures.errors
 
 pub returns-in-Ok-clause-memory : goal.returns-in-Ok-clause-memory
 returns-in-Ok-clause-memory g c clean memory =
-    let clean_two = early (state g.S.Store c.check_version_keys.new.conn) (state g.S.Store c.read_revisions.new.conn) c.read_revisions.ensures.look clean in
+    let clean_two = early (state g.S.Store c.check_version_keys.new.conn) (state g.S.Store c.gather_revisions.new.conn) c.gather_revisions.ensures.look clean in
     let clean_one = early (state g.S.Store c.check_version.new.conn) (state g.S.Store c.check_version_keys.new.conn) c.check_version_keys.ensures.look clean_two in
     inr (First, c.in_ok-check_version.ensures.version clean_one)
 
@@ -90,10 +96,10 @@ returns-in-Err-clause-said g c clean =
     let old = c.args.conn.now in
     let one = c.check_version.new.conn in
     let two = c.check_version_keys.new.conn in
-    let new = c.read_revisions.new.conn in
+    let new = c.gather_revisions.new.conn in
     let first = c.check_version.ensures.look in
     let then = c.check_version_keys.ensures.look in
-    let clean_two = early (state g.S.Store two) (state g.S.Store new) c.read_revisions.ensures.look clean in
+    let clean_two = early (state g.S.Store two) (state g.S.Store new) c.gather_revisions.ensures.look clean in
     let clean_one = early (state g.S.Store one) (state g.S.Store two) then clean_two in
     let same = same_after (state g.S.Store one) (state g.S.Store two) then clean_two (c.in_ok-check_version_keys.ensures.live clean_two)
     ∙ same_after (state g.S.Store old) (state g.S.Store one) first clean_one (c.in_ok-check_version.ensures.live clean_one) in
@@ -102,6 +108,6 @@ returns-in-Err-clause-said g c clean =
 
 pub returns-in-Err-clause-memory : goal.returns-in-Err-clause-memory
 returns-in-Err-clause-memory g c clean memory =
-    let clean_two = early (state g.S.Store c.check_version_keys.new.conn) (state g.S.Store c.read_revisions.new.conn) c.read_revisions.ensures.look clean in
+    let clean_two = early (state g.S.Store c.check_version_keys.new.conn) (state g.S.Store c.gather_revisions.new.conn) c.gather_revisions.ensures.look clean in
     let clean_one = early (state g.S.Store c.check_version.new.conn) (state g.S.Store c.check_version_keys.new.conn) c.check_version_keys.ensures.look clean_two in
     inr (First, c.in_ok-check_version.ensures.version clean_one)

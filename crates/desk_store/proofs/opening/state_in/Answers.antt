@@ -15,41 +15,43 @@ use Rattle.desk_store.proofs.SiteRows.{can_be_pending, if_both, lacks_one, may_r
 use Rattle.desk_store.proofs.opening.state_in.Goals as goal
 
 pub returns-in_err-heads-clause-foreign : goal.returns-in_err-heads-clause-foreign
-returns-in_err-heads-clause-foreign g c = λ schema history site same.
+returns-in_err-heads-clause-foreign g c = λ schema rows is_gathered history site same.
     let p = err_from_is_err_and c.from_residual.result c.from_residual.ensures.1 in
     let is = p.1 in
     let from = p.2 in
     let told : c.in_err-heads.field-0.0 ≡ error.Schema = cc in
-    c.in_err-heads.ensures.foreign (ap Err told) (revisions_in history) site.each (history_of (revisions_in history) site.numbered.numbered) same.revised same.approved
+    c.in_err-heads.ensures.foreign (ap Err told) rows is_gathered (revisions_in history) site.each (history_of (revisions_in history) site.numbered.numbered) same.revised same.approved
 
 pub returns-then-not-has_the_seven-clause-foreign :
     goal.returns-then-not-has_the_seven-clause-foreign
-returns-then-not-has_the_seven-clause-foreign g c = λ schema history site same.
+returns-then-not-has_the_seven-clause-foreign g c = λ schema rows is_gathered history site same.
     let of_heads = ap (λ (heads : List Revision). list_all (has_revision heads) seven) (sym c.as_slice.ensures.value) in
-    lacks_one c.args.revisions.now c.args.approvals.now c.args.proposals.now c.in_ok-heads.heads.items c.in_ok-heads.ensures.newest history site same
+    lacks_one rows c.args.approvals.now c.args.proposals.now c.in_ok-heads.heads.items (c.in_ok-heads.ensures.newest rows is_gathered) history site same
     (of_heads ∙ sym c.has_the_seven.ensures ∙ c.if-not-has_the_seven.true)
 
 pub returns-in-Err-clause-foreign : goal.returns-in-Err-clause-foreign
-returns-in-Err-clause-foreign g c = λ schema history site same.
+returns-in-Err-clause-foreign g c = λ schema rows is_gathered history site same.
     let told : c.in-Err.e ≡ error.Schema = cc in
     c.in-Err.ensures.foreign (ap Err told) (pending_in history) site.pending
-    (pending_low c.args.revisions.now c.args.approvals.now c.args.proposals.now c.in_ok-heads.heads.items c.in_ok-heads.ensures.newest history site same) same.proposed
+    (pending_low rows c.args.approvals.now c.args.proposals.now c.in_ok-heads.heads.items (c.in_ok-heads.ensures.newest rows is_gathered) history site same) same.proposed
 
 pub returns-then-not-may_follow-clause-foreign : goal.returns-then-not-may_follow-clause-foreign
-returns-then-not-may_follow-clause-foreign g c = λ schema history site same.
-    not_following c.args.revisions.now c.args.approvals.now c.args.proposals.now c.in_ok-heads.heads.items c.in_ok-heads.ensures.newest history site same c.in-Ok.proposals.items c.in-Ok.ensures.read
+returns-then-not-may_follow-clause-foreign g c = λ schema rows is_gathered history site same.
+    not_following rows c.args.approvals.now c.args.proposals.now c.in_ok-heads.heads.items (c.in_ok-heads.ensures.newest rows is_gathered) history site same c.in-Ok.proposals.items c.in-Ok.ensures.read
     (λ may. false≢true (sym c.if-not-may_follow.true ∙ c.may_follow.ensures.1 (not_read c.as_slice-2.ensures.value c.as_slice-3.ensures.value may)))
 
 pub state_of-requires-clause-proposals : goal.state_of-requires-clause-proposals
 state_of-requires-clause-proposals g c =
-    can_be_pending c.args.revisions.now c.args.approvals.now c.args.proposals.now c.in_ok-heads.heads.items c.in_ok-heads.ensures.newest c.in-Ok.proposals.items
+    let rows = c.requires.0 in
+    let is_gathered = c.requires.1 in
+    can_be_pending rows c.args.approvals.now c.args.proposals.now c.in_ok-heads.heads.items (c.in_ok-heads.ensures.newest rows is_gathered) c.in-Ok.proposals.items
     (may_read c.as_slice-2.ensures.value c.as_slice-3.ensures.value (c.may_follow.ensures.0 c.if-not-may_follow.false))
 
 pub returns-clause-history : goal.returns-clause-history
-returns-clause-history g c =
+returns-clause-history g c = λ rows is_gathered.
     let of_heads = ap (λ (heads : List Revision). list_all (has_revision heads) seven) (sym c.as_slice.ensures.value) in
     if_both c.state_of.result _ _ _
-    (λ state made consistent. site_history c.args.revisions.now c.args.approvals.now c.args.proposals.now c.in_ok-heads.heads.items c.in_ok-heads.ensures.newest c.in-Ok.proposals.items c.in-Ok.ensures.read
+    (λ state made consistent. site_history rows c.args.approvals.now c.args.proposals.now c.in_ok-heads.heads.items (c.in_ok-heads.ensures.newest rows is_gathered) c.in-Ok.proposals.items c.in-Ok.ensures.read
     (may_read c.as_slice-2.ensures.value c.as_slice-3.ensures.value (c.may_follow.ensures.0 c.if-not-may_follow.false)) c.in-Ok.ensures.pending
     (of_heads ∙ sym c.has_the_seven.ensures ∙ c.if-not-has_the_seven.false) consistent (standing state) made)
     c.state_of.ensures.made c.state_of.ensures.consistent
@@ -64,5 +66,5 @@ returns-clause-proposals_once g c =
     if_both c.state_of.result _ _ _ (λ state pending pending'. subst PendOnce (sym pending) may.once) c.state_of.ensures.pending c.state_of.ensures.pending
 
 pub returns-clause-foreign : goal.returns-clause-foreign
-returns-clause-foreign g c = λ schema history site same.
-    not_consistent c.args.revisions.now c.args.approvals.now c.args.proposals.now c.in_ok-heads.heads.items c.in_ok-heads.ensures.newest history site same (c.state_of.ensures.foreign schema)
+returns-clause-foreign g c = λ schema rows is_gathered history site same.
+    not_consistent rows c.args.approvals.now c.args.proposals.now c.in_ok-heads.heads.items (c.in_ok-heads.ensures.newest rows is_gathered) history site same (c.state_of.ensures.foreign schema)

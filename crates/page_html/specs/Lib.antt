@@ -1,0 +1,10 @@
+pub mod Amounts
+pub mod Blocks
+pub mod Head
+pub mod Items
+pub mod Laws
+pub mod Pages
+pub mod Parts
+pub mod Pieces
+pub mod Tables
+pub mod Titles
