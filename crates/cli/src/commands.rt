@@ -17,7 +17,7 @@ use cli_output::failure::{Failure, ReadFailure};
 use cli_output::printed::Printed;
 use cli_questions::audit_command::run_audit;
 use cli_questions::question_commands::{
-    run_ask, run_cat, run_exports, run_files, run_impact, run_log, run_proposal, run_show, run_who,
+    run_ask, run_cat, run_exports, run_files, run_impact, run_of_file, run_show, run_who,
 };
 use cli_report::report_command::run_report;
 use cli_serve::serve_command::{Service, run_serve};
@@ -33,6 +33,7 @@ use cli_words::line_words::{command_words, words_of};
 use cli_words::words::found_command;
 use cli_write::copy_command::run_copy;
 use cli_write::write_command::run_write;
+use desk_service::FileQuestion;
 use std::alloc::Global;
 use std::convert::AsSlice;
 use std::io::BufRead;
@@ -125,9 +126,9 @@ fn run_command<I: BufRead>(
         Subcommand::Put => run_put(rt, words, input),
         Subcommand::Impact => run_impact(rt, words, input),
         Subcommand::Audit => run_audit(rt, words, input),
-        Subcommand::Log => run_log(rt, words),
+        Subcommand::Log => run_of_file(rt, words, FileQuestion::Revisions),
         Subcommand::Cat => run_cat(rt, words),
-        Subcommand::Proposal => run_proposal(rt, words),
+        Subcommand::Proposal => run_of_file(rt, words, FileQuestion::Proposal),
         Subcommand::Files => run_files(rt, words),
         Subcommand::Report => run_report(rt, words),
         Subcommand::Write => run_write(rt, words),

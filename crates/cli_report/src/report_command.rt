@@ -16,6 +16,7 @@ use cli_words::words::required;
 use desk_core::{Head, can_be_kept};
 use desk_index::Index;
 use desk_report_page::page_of_state;
+use desk_service::lend_state;
 use desk_store::Desk;
 use sqlite::Alter;
 use std::alloc::Global;
@@ -51,10 +52,11 @@ fn print_page<S: Alter + Drop>(
 ) -> Result<Printed, Failure>
     ensures { PrintsOnDesk S.Store desk.now db.now result }
 {
-    if !can_be_kept(desk.heads()) || !stand_once(desk.heads()) {
+    let state = lend_state(desk);
+    if !can_be_kept(state.heads()) || !stand_once(state.heads()) {
         return Err(Failure::Memory);
     }
-    match page_of_state(alloc, db, desk.current()) {
+    match page_of_state(alloc, db, state) {
         Ok(text) => Ok(Printed {
             status: 0,
             text,

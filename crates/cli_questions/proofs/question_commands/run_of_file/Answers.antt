@@ -2,7 +2,7 @@
 use Rattle.std.proofs.Common.{subst}
 use Rattle.std.proofs.lemmas.Result.{err_from_is_err_and}
 use Rattle.cli_questions.specs.Questions.{Asked, AnswersQuestion}
-use Rattle.cli_questions.proofs.question_commands.run_proposal.Goals as goal
+use Rattle.cli_questions.proofs.question_commands.run_of_file.Goals as goal
 
 pub returns-in_err-db : goal.returns-in_err-db
 returns-in_err-db c =
@@ -16,4 +16,4 @@ returns-in_err-name c =
 
 pub returns : goal.returns
 returns c =
-    rw (c.in_ok-db.ensures, c.in_ok-name.ensures) (subst (λ (asked : Asked). AnswersQuestion c.in_ok-db.db.now asked c.answer_question.result) c.asking.ensures c.answer_question.ensures)
+    rw (c.in_ok-db.ensures, c.in_ok-name.ensures) (subst (λ (asked : Asked). AnswersQuestion c.in_ok-db.db.now asked c.answer_question.result) c.plainly.ensures c.answer_question.ensures)
