@@ -1,10 +1,5 @@
 //! The commands of the program: from words and input to what is printed and an exit status.
 //!
-//! Its promise: [`run`] returns the status of an answer to just its words, and prints just this answer. Help is printed
-//! only if the words ask for it, and a mount is granted only if the verdict over the bytes of its files grants it. What only
-//! the system decides, as the bytes of a file that is opened by name, is left open; and a run may end with the status 4,
-//! as if memory ran out.
-//!
 //! ```
 //! // `try FILE HOST DIR MOUNT...`, with FILE as the rest of the input:
 //! let mut input = b"/usr 10.0.0.5\n".as_slice();

@@ -1,9 +1,4 @@
-//! The commands on texts: `try`, `split`, `check`, `clients`, `compare` and `test`. They are asked of files, or of a site's folder.
-//!
-//! Its promise: [`try_command::run_try`] grants a mount only if the verdict over the bytes of its files grants it;
-//! [`split_command::run_split`], [`check_command::run_check`], [`clients_command::run_clients`],
-//! [`compare_command::run_compare`] and [`test_command::run_test`] print likewise what the bytes of the files that their words
-//! name come to, or say why a file has no text.
+//! The commands on texts: `try`, `split`, `check`, `clients`, `compare` and `test`.
 //!
 //! ```text
 //! // for the words `split - filesystems`

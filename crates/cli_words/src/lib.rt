@@ -1,8 +1,5 @@
-//! The table of the commands: the command line that `clap` parses, what it finds, and what words mean that are more than texts.
-//!
-//! Its promise: [`line::command_line`] has just the commands of the table in `specs/Commands.antt`, a row each;
-//! [`words::found_command`] gives the command that `clap` found, and its words by their names; [`values`] gives what words
-//! mean, or names the first that cannot be parsed. It knows nothing of what the commands answer.
+//! The table of the commands: the command line that `clap` parses, what it finds, and what words mean that are more
+//! than texts.
 //!
 //! ```text
 //! let matches = command_line(alloc)?.try_get_matches_from(&["exportdesk", "log", "site.db", "hosts"])?;

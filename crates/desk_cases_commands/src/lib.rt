@@ -1,6 +1,4 @@
-//! Tries the worked cases of the libraries and of the commands. Each file where the program runs whose name ends in `.cases` or
-//! `.commands` holds cases; one whose name ends in `.by_hand` holds cases that are tried by hand, and the others are files that
-//! the commands read.
+//! Tries the worked cases of the libraries and of the commands.
 #![tactic(auto)]
 
 mod cases;

@@ -1,5 +1,5 @@
-//! Tries desks on files that fail, requests over HTTP to such desks, and connections whose reader or writer fails, ends after each
-//! byte, or has no end. What is answered while they work is in the worked cases.
+//! Tries desks on files that fail, requests over HTTP to such desks, and connections whose reader or writer fails, ends
+//! after each byte, or has no end.
 #![tactic(auto)]
 
 mod connections;

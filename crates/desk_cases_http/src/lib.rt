@@ -1,9 +1,4 @@
-//! Tries the worked cases of the service over HTTP. Each file of a folder whose name ends in `.cases` holds cases; `site` holds the
-//! texts of the site at which they are tried.
-//!
-//! Each case is tried in three ways: the stream comes in one piece, it comes byte by byte, and it comes in two pieces, cut after each
-//! of its bytes. A stream of more than 1,024 bytes is cut after each of its first and last 128 bytes, and in about 6 places in between;
-//! cases of like form are cut in different ones.
+//! Tries the worked cases of the service over HTTP.
 #![tactic(auto)]
 
 mod cases;

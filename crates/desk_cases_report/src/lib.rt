@@ -1,4 +1,4 @@
-//! Tries the worked cases on what a report tells of a site, and on its page. Each file of a folder whose name ends in `.cases` holds cases.
+//! Tries the worked cases on what a report tells of a site, and on its page.
 #![tactic(auto)]
 
 mod cases;

@@ -1,7 +1,5 @@
-//! Tries connections on loopback: peers connect and write, the desk serves so many connections, beside one another, and then what
-//! each peer received, what was reported and what the desk holds is compared. Then peers write, read and end between the turns of a
-//! service. Then the command is tried, and copies of a database that is written meanwhile. Replies over memory are in the worked cases over
-//! HTTP.
+//! Tries connections on loopback: peers connect and write, the desk serves so many connections, beside one another, and
+//! then what each peer received, what was reported and what the desk holds is compared.
 #![tactic(auto)]
 
 mod command;

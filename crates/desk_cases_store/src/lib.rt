@@ -1,6 +1,4 @@
-//! Answers to the questions of worked cases on the revisions of a site's files: edits, databases and desks. Those on texts and
-//! tables are handed on to `desk_cases_texts`. They are asked of any store in which a new database can be opened, and of any view
-//! by keys.
+//! Answers to the questions of worked cases on the revisions of a site's files: edits, databases and desks.
 //!
 //! ```text
 //! let mut subject: Subject<MemStore, Index> = Subject::new(alloc);

@@ -1,5 +1,4 @@
-//! Answers to the questions of worked cases on texts, tables, exports and policies. `desk_cases` asks them, and those on the
-//! revisions of a site's files. (It is a library of its own so that it is proved beside what those stand on.)
+//! Answers to the questions of worked cases on texts, tables, exports and policies.
 //!
 //! ```text
 //! let is_known = desk_cases_texts::answer(alloc, &mut site, &mut out, "path", "/usr//local")?;

@@ -1,7 +1,5 @@
-//! What `check` prints of findings, as text, with its hints, or as JSON; and of one fault of other commands, beside its line.
-//!
-//! Its promise: [`report_found`] prints just what was found, and says whether the texts pass. [`tell_fault`],
-//! [`tell_split_fault`] and [`tell_site_fault`] give what `check` prints of that fault.
+//! What `check` prints of findings, as text, with its hints, or as JSON; and of one fault of other commands, beside its
+//! line.
 //!
 //! ```text
 //! // with the file system `/usr`, no tables, and `/usr -maprot=root 10.0.0.5` in the file `exports`:

@@ -1,11 +1,5 @@
-//! Edits of a site's files: who may change which file, what an edit is answered, and what it puts in force or leaves as a
-//! proposal. (this project's own)
-//!
-//! Its promise: an edit takes effect exactly if its caller is listed with the key's digest and keeps the file, it names
-//! the file's newest revision, it is within the limits, the site with its text is consistent, and if the file is guarded,
-//! another custodian's proposal of that text is pending. Nothing else changes anything but a file's one proposal.
-//! [`State::foresee`] and [`State::foresee_site`] say what would be in force if a file had another text, and change nothing.
-//! [`held_files`] lists the files that have a revision or a proposal.
+//! Edits of a site's files: who may change which file, what an edit is answered, and what it puts in force or leaves as
+//! a proposal. (this project's own)
 //!
 //! ```text
 //! let mut state: State<Plain> = State::from_heads(alloc, heads, proposals)?;

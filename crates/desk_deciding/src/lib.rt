@@ -1,9 +1,5 @@
 //! Which lines decide for the clients of a line that decides nothing.
 //!
-//! Its promise: [`deciding_lines`] lists, for each line of a file system that matches somebody but decides nothing, just the lines that
-//! decide for its clients: those that some verdict names, at an address that the line matches. Lines for the same clients share one
-//! list, so that many of them cost little more than one.
-//!
 //! ```text
 //! let found = deciding_lines(alloc, policy, fs, system.sections.as_slice(), reasons.as_slice())?;
 //! found.of_line(4)        // [2, 3]: line 4 never decides, lines 2 and 3 decide for all its clients

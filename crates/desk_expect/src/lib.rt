@@ -1,13 +1,5 @@
 //! Expectations: what a site promises of its policy, written down in a text, and whether a policy keeps it.
 //!
-//! Its promise: [`read_expectations`] reads what the lines of a text expect, each with just the addresses that its names mean, or
-//! reports the first faulty line and the first rule that it breaks. [`find_broken`] finds the expectations that a policy breaks,
-//! each with where and for whom: at each place of its directories the longest ranges of addresses, with the verdict that breaks
-//! it. What is forbidden is broken by this desk's verdict or by that of the server (mountd), what is expected by this desk's alone.
-//! [`test_report`] prints them, and counts them. Its laws say that nothing is reported of a line exactly if the line holds: at
-//! each address that it is about, and for each path of its directories. [`find_outside`] finds the directories that no file system
-//! has anything of: a line that forbids something there holds whatever the policy says.
-//!
 //! ```text
 //! let expectations = read_expectations(alloc, "everybody may not write /usr/...\n", &netgroups, &hosts)?;
 //! test_report(alloc, &index, "promises", expectations.as_slice())?.text

@@ -1,9 +1,5 @@
-//! What is wrong with an exports text and its tables, or with the files of a site: the findings as data, each with its place.
-//!
-//! Its promise: [`gather`] and [`gather_site`] find just the faulty lines of the tables, or else those of the exports text, or
-//! else its contradictions and the warnings, each at a slice of the line that it shows. [`find_split_fault`],
-//! [`find_line_fault`] and [`find_contradiction`] find likewise the place of one fault that another reading of the same texts
-//! ended with.
+//! What is wrong with an exports text and its tables, or with the files of a site: the findings as data, each with its
+//! place.
 //!
 //! ```text
 //! // with the file system `/usr`, no tables, and `/usr -maprot=root 10.0.0.5` in the file `exports`:

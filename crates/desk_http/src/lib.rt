@@ -1,8 +1,5 @@
-//! The service of a desk over a connection of HTTP/1.1, one message after another: questions and edits, answered with JSON.
-//! (this project's own, over RFC 9110 and RFC 9112)
-//!
-//! Its promise: the bytes written are the replies to the bytes read, however they are cut, and the desk stands at the history
-//! after them. What is answered is desk_service's; this crate prints it.
+//! The service of a desk over a connection of HTTP/1.1, one message after another: questions and edits, answered with
+//! JSON. (this project's own, over RFC 9110 and RFC 9112)
 //!
 //! ```text
 //! serve(alloc, &mut desk, &mut reader, &mut writer)    // Served { replies: 1, written: 187, end: End::Input }

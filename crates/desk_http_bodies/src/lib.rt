@@ -1,9 +1,5 @@
 //! The bodies of HTTP replies, as compact JSON with the keys of each object in byte order. (RFC 8259)
 //!
-//! Its promise: each body is the text of the JSON value that the definitions give for what is answered: for a verdict, for what a
-//! client may mount, for who may mount a directory, for a revision or the list of them, for a proposal, for an edit that is stored
-//! or proposed, and for one that is refused.
-//!
 //! ```text
 //! verdict_body(alloc, policy, &verdict, &None)?    // {"fs":"/usr","line":3,"reason":3,"verdict":"denied"}
 //! done_body(alloc, false, 2)?                      // {"already":false,"rev":2}

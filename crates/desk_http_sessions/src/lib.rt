@@ -1,7 +1,5 @@
-//! A peer that is served beside others: its connection, the reply that it has not taken yet, and a wire of which no call waits.
-//!
-//! Its promise: whatever a wire gives at once, what was sent to a peer and what waits to be sent are the replies to what came from it,
-//! each once and whole, in their order. The law `interleavings_serve` of desk_http says what these are beside other peers.
+//! A peer that is served beside others: its connection, the reply that it has not taken yet, and a wire of which no
+//! call waits.
 //!
 //! ```text
 //! session.receive(&mut room);                       // Received::Bytes(false)

@@ -1,9 +1,5 @@
 //! The lines of a file system that decide nothing: no verdict names them, for whatever client and directory.
 //!
-//! Its promise: [`idle_lines`] lists just these lines, in order, each with the reason: it matches nobody; wherever it matches,
-//! heavier lines are selected; or, wherever it is selected, earlier lines list all that it lists. With any of them made comments
-//! every verdict stays.
-//!
 //! ```text
 //! // with `/a -network 10.0.0.0/31` and `/a 10.0.0.0 10.0.0.1`:
 //! let found = idle_lines(alloc, &index, fs)?;

@@ -1,12 +1,5 @@
-//! What another policy would change, for the clients of one directory and of every directory; and what is found at a directory and
-//! at all below it.
-//!
-//! Its promise: [`impact`] lists just the addresses of which two policies say something else, [`those_that_matter`] those at which
-//! a mount is granted by one of them alone, or on other terms. [`impact_report`] tells these, place by place, and how many ranges
-//! of them matter to a client. Its laws say that no path is left out: one under a mount point is decided on as one of the places
-//! is, and any other is in no file system. [`lines_report`] gives the same report of policies that differ in the lines of one file
-//! system, and asks for verdicts there alone. [`changes_at`] lists the changes of one place, for who tells them in another form.
-//! [`found_in`] lists, place by place, the addresses at which a search finds something: none exactly if there is nothing to find.
+//! What another policy would change, for the clients of one directory and of every directory; and what is found at a
+//! directory and at all below it.
 //!
 //! ```text
 //! let changes = impact(alloc, &old, &new, &path)?;    // none, if both policies say the same of every client

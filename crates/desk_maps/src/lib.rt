@@ -1,10 +1,5 @@
 //! The maps of a report: which maps of networks show where the most that clients may changes, and the cells of each.
 //!
-//! Its promise: [`maps_of`] lists just the maps that are needed, so that each address at which the class changes lies on the grid of
-//! one of them; [`with_fixed_maps`] puts those first that each file system has. [`cells_of`] lists the 256 cells of a map, each with
-//! the least and the most that its addresses may. The maps say all: two lists of runs with the same maps, and the same cells on each,
-//! are the same. [`written_networks`] and [`written_in_site`] list the networks that lines write.
-//!
 //! ```text
 //! let maps = maps_of(alloc, runs)?;                   // 0.0.0.0/0, 10.0.0.0/8, 10.20.0.0/16
 //! let cells = cells_of(alloc, runs, maps[1])?;

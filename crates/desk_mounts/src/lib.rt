@@ -1,9 +1,5 @@
 //! Mount points that a text lists: paths, lines of zfs mount, or lines of mount -p. (zfs-mount(8), mount(8))
 //!
-//! Its promise: [`read_mounts`] gives just the mount points that the lines of a text list, in their order, or the first faulty line
-//! with the first rule that it breaks, and the word that breaks it. [`table_of`] makes the file systems of them, or tells how many
-//! different ones there are, if these are too many. [`site_text`] writes them as the text of file systems that `site` keeps.
-//!
 //! ```text
 //! read_mounts(alloc, "zroot/usr /usr\n/dev/ada0p2 /var ufs rw 1 1\ndevfs /dev devfs rw 0 0\n")?; // /usr and /var
 //! read_mounts(alloc, "/usr rw 1\n"); // line 1, rule 2 Words, at word 3

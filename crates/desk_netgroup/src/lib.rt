@@ -1,12 +1,7 @@
 //! Netgroup files: the groups, their members, and the hosts of each. (netgroup(5))
 //!
-//! What this crate promises: a file is its groups in the order of their lines, or the first faulty line with the first rule
-//! that it breaks; and the hosts of a group are those of its own triples and of its member groups at any depth, without duplicates,
-//! in the order in which they are first met, depth first and from left to right.
-//!
-//! For example, with the lines `staff (a,,) admins` and `admins (b,,) staff`:
-//!
 //! ```text
+//! // With the lines `staff (a,,) admins` and `admins (b,,) staff`:
 //! let netgroups = Netgroups::read(alloc, text)?;
 //! netgroups.hosts_of(alloc, "staff")?       // Some of `a` and `b`: a group that is met again adds nothing
 //! netgroups.hosts_of(alloc, "a")?           // None: no line defines it

@@ -1,9 +1,5 @@
 //! What a report tells of a site as a whole, as data: the lines that stand out, the key figures and the flavours.
 //!
-//! Its promise: [`lines_of_site`] lists the lines of all file systems, each with to how many addresses it grants something and why it
-//! stands out. Of these [`findings_of_site`] lists those that stand out, in the order in which to look at them, [`figures_of_site`]
-//! counts what the key figures say, and [`flavours_in_use`] lists the flavours of those that grant something.
-//!
 //! ```text
 //! let server = server_of_site(alloc, &index)?;
 //! let reasons = reasons_of_site(alloc, policy, systems.as_slice(), server.as_slice())?;

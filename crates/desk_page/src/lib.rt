@@ -1,8 +1,4 @@
 //! The pieces of a page in HTML that tells of a site: escaped texts, numbers, ranges and terms.
-//!
-//! Its promise: each text of a file, a name, an author and the word for the database comes onto the page by [`push_escaped`], in a
-//! line of a file by [`push_escaped_line`], or within an attribute by [`push_attribute`]. None of its characters is markup, and two texts
-//! that differ are shown differently. [`push_number`] adds a number, with a comma before each three digits.
 #![tactic(auto)]
 
 pub mod amounts;

@@ -1,8 +1,4 @@
 //! The part of the report page that tells of one file system, in HTML, given its maps as HTML.
-//!
-//! Its promise: each function adds to a page just the text that its definition gives of the data. [`push_file_system`] adds all of it:
-//! the facts, what stands out, what waits, the text in force, where clients are, and who may mount which directory. Of these
-//! [`push_text_block`] shows a text, each line with what it grants, and [`push_changes`] what a proposal would change, and for whom.
 #![tactic(auto)]
 
 pub mod changes;

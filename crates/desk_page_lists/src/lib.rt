@@ -1,8 +1,5 @@
-//! The lists of the page of a report: warnings, netgroups and names of hosts, and files; and how the page is made again and read.
-//!
-//! Its promise: each function adds just the text that its definition says, over plain data that it is given. Every row is printed, and
-//! folded are lists of many rows; of what a cell names, and does not list, the number is said. The word for the database is quoted for a
-//! shell so that it is taken for that word. What all tables of the page have in common is here too: how they begin, and what they name.
+//! The lists of the page of a report: warnings, netgroups and names of hosts, and files; and how the page is made again
+//! and read.
 //!
 //! ```text
 //! push_warnings(alloc, warnings, &mut page)?;

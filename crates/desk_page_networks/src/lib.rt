@@ -1,9 +1,5 @@
 //! The table of the networks of a site on the page of a report: what their addresses may mount, on which file systems.
 //!
-//! Its promise: [`network_rows`] tells of each network on which file systems all its addresses may the same, and on which others some may
-//! something, and how many of them what. [`push_networks`] adds the table of those that lines write, but for /0 and those of IPv6, the
-//! widest first; of very many networks, or file systems in a cell, the first are named, and of the others the number is said.
-//!
 //! ```text
 //! push_networks(alloc, policy, &systems, &mut page)?;
 //! ```

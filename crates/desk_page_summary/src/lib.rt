@@ -1,9 +1,5 @@
 //! The header and the summary of the page, its table of file systems, and how its sections begin and end.
 //!
-//! Its promise: each function adds just the text that its definition says, over plain data that it is given. Every row is printed: of
-//! many lines that stand out the first stand in the open, and all others are folded; of what a cell names, and does not list, the number
-//! is said.
-//!
 //! ```text
 //! push_header(alloc, &Header { database: "site.db", revisions: 23, files: 19, state }, &mut page)?;
 //! push_findings(alloc, findings, &mut page)?;

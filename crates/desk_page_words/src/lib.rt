@@ -1,8 +1,5 @@
 //! What several parts of the page say alike: badges, levels, counts by class, and why a line stands out.
 //!
-//! Its promise: each function adds just the text that its definition says. Of the lines that decide in place of another one the first are
-//! named, and of the others the number is said.
-//!
 //! ```text
 //! push_badge(Class::RootKept, &mut page)?;              // <span class="b r">root kept</span>
 //! push_finding_words(alloc, &finding, &mut page)?;      // for everybody, read-write, sec=sys

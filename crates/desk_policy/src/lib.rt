@@ -1,10 +1,5 @@
-//! The policy of a site: the lines in force, their contradictions, who may mount what, and as whom a client acts. (exports(5))
-//!
-//! Its promise: [`parse`] reads the policy that the texts of a site write, each exports file by its own profile, or reports
-//! the first faulty file, its first faulty line and the first rule that the line breaks. [`compile`] puts that policy in force
-//! exactly if no two of its lines contradict each other, and else reports the least contradiction. [`decide`] grants a mount
-//! exactly if, among the lines of the path's file system that match the client's address with the greatest weight, one lists
-//! the path. It names the first such line, or else says why not.
+//! The policy of a site: the lines in force, their contradictions, who may mount what, and as whom a client acts.
+//! (exports(5))
 //!
 //! ```text
 //! let view: Plain = compile(alloc, &site)?;    // if site.is_readable()

@@ -1,10 +1,5 @@
-//! What is said of lines that break no rule: those that decide nothing, networks of every address, those where mountd(8) decides
-//! otherwise, and opinions.
-//!
-//! Its promise: [`find_remarks`] lists of a policy that does not contradict itself just the lines that decide nothing, each with the
-//! reason, and the networks of prefix 0; and, if they are asked for, opinions: the lines that let everybody write, and those that
-//! let the root of many clients act as root. It says nothing of that of a line one of whose words is warned of. Whatever is warned
-//! of, it lists just the lines to whose clients mountd(8) grants more, and those that it leaves out.
+//! What is said of lines that break no rule: those that decide nothing, networks of every address, those where
+//! mountd(8) decides otherwise, and opinions.
 //!
 //! ```text
 //! // with `/a 10.0.0.5` and `/a 10.0.0.5` once more:

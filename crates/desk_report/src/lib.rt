@@ -1,12 +1,5 @@
-//! What a report tells of a site, as data: what clients may at the most, what each line grants and why it stands out, and which
-//! places are granted alike.
-//!
-//! Its promise: [`systems_of_site`] lists, by file system, each place with all verdicts at it, the most that clients may on it, and to
-//! how many addresses each line grants something; [`classes_of_site`] the most that they may at all. [`classes_from`] lists what the
-//! verdicts at a place come to, and [`counts_within`] counts the addresses of a range by class. [`groups_of`] puts the places into
-//! groups that are granted alike, and [`table_of`] who may mount those of a group, and who may not, into a table; [`rows_of`] puts the
-//! verdicts at a place into rows, which hold every address once. [`reasons_of_lines`] says why each line stands out, and
-//! [`level_of_reasons`] whether to look at it first.
+//! What a report tells of a site, as data: what clients may at the most, what each line grants and why it stands out,
+//! and which places are granted alike.
 //!
 //! ```text
 //! let classes = classes_from(alloc, section.ranges.as_slice())?;      // 10.0.0.0-10.255.255.255 ReadOnly, ..

@@ -1,9 +1,5 @@
 //! The part of the report page on one file system, made of what is found of it, but for its groups of directories.
 //!
-//! Its promise: [`push_file_system_of`] adds the part of the page that is made of just this: the notes on the text in force, of which
-//! [`notes_of`] makes one for each logical line; how many addresses are of which class, by [`all_counts`]; and the shares of the
-//! private networks and of those that lines write, by [`shares_of`]. Maps, groups, findings and the proposal come as they are.
-//!
 //! ```text
 //! let notes = notes_of(alloc, lines_in(lines, fs), text)?;        // line 4: grants read-only for everybody; line 5: not read
 //! let shares = shares_of(alloc, classes, policy.rows(fs))?;

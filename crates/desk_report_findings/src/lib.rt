@@ -1,8 +1,5 @@
 //! The lines of a site that stand out, with all that the words of the page of a report tell of each.
 //!
-//! Its promise: [`site_findings`] lists those of the lines that stand out, in the order given, each with just what is found of it, and with
-//! the lines that decide in its place if it never does: [`named_lines_decide`] says that they are just those.
-//!
 //! ```text
 //! let found = findings_of_site(alloc, lines.as_slice())?;
 //! site_findings(alloc, found.as_slice(), deciding.as_slice())?        // /u2 line 4: root stays root, 65,536 addresses; ..

@@ -1,8 +1,5 @@
-//! The rows of the lists of the page, made from a policy, its tables and the newest revisions; and the digest of the state.
-//!
-//! Its promise: each list has just the rows that its definition says, of the policy in force, of its tables and of the files of a
-//! database, in their order, and is added as desk_page_lists says. The digest of the state is that of a line for each newest revision
-//! and each proposal.
+//! The rows of the lists of the page, made from a policy, its tables and the newest revisions; and the digest of the
+//! state.
 //!
 //! ```text
 //! let index = index_of_names(alloc, policy)?;       // if the policy has at most 256 file systems

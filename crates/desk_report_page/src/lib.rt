@@ -1,7 +1,5 @@
-//! The page of a report, as a whole: it shows who may mount which directory of a site, on what terms, by which line and by whose hand.
-//!
-//! Its promise: [`page_of_state`] makes the page of newest revisions and proposals, for the word that names their database. Each of its parts
-//! tells just what is found of the site that they write, in one order.
+//! The page of a report, as a whole: it shows who may mount which directory of a site, on what terms, by which line and
+//! by whose hand.
 //!
 //! ```text
 //! page_of_state(alloc, "site.db", &state)?      // <!DOCTYPE html> ..

@@ -1,9 +1,5 @@
 //! The groups of directories on the page, and what a proposal would change at them.
 //!
-//! Its promise: [`listed_groups`] puts the places of a file system into groups of those that are granted alike, each with its table and
-//! its maps; the first hundred are listed, and of the others the directories are counted. [`changes_of`] lists what lines that are proposed
-//! for a file system would change for its clients, at each of its places, and counts what would change of lines or reasons alone.
-//!
 //! ```text
 //! let listed = listed_groups(alloc, openings, system.sections.into_vec())?;
 //! push_groups(alloc, fs, listed.groups.as_slice(), &mut page)?;

@@ -1,9 +1,5 @@
 //! The summary of the page of a report, made of what is found of a site.
 //!
-//! Its promise: each function adds just the part of the page that its definition gives, made of the site's own lines, flavours, file
-//! systems and newest revisions. No count of them is left out, and each line that stands out is printed as its file has it, up to its
-//! first line feed.
-//!
 //! ```text
 //! let lines = lines_of_site(alloc, policy, systems.as_slice(), reasons.as_slice())?;
 //! push_figures_of(alloc, policy, lines.as_slice(), proposals, &mut page)?;

@@ -1,8 +1,5 @@
 //! What `check` prints of findings as a log of SARIF 2.1.0, the form that code hosts show beside a change.
 //!
-//! Its promise: [`report_log`] prints just what was found, each finding with what `check` says of it, its place and its rule,
-//! and says whether the texts pass. Whatever a finding is about has its rule in each log, and no two rules have one id.
-//!
 //! ```text
 //! // with the file system `/usr`, no tables, and `/usr -maprot=root 10.0.0.5` in the file `exports`:
 //! let gathered = gather(alloc, sources, filesystems, false)?;

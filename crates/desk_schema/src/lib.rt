@@ -1,8 +1,5 @@
-//! The tables of the desk's database: how they are declared, and whether a schema declares them, and of which version. (this
-//! project's own)
-//!
-//! Its promise: the version that is told of a schema is the one whose tables it declares, column by column, with the keys and
-//! rules of each and no others; a database of another program is not taken for a desk.
+//! The tables of the desk's database: how they are declared, and whether a schema declares them, and of which version.
+//! (this project's own)
 //!
 //! ```text
 //! declared_version(conn.schema())                           // Some(Version::Second)

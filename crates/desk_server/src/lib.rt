@@ -1,10 +1,5 @@
 //! Who may mount what by the rule of mountd(8), and where that grants more than this desk does.
 //!
-//! Its promise: [`server_decide`] decides by all lines that name a client, where the desk decides by the most specific alone. By that
-//! rule, over all lines, what the desk grants is granted on the same terms. [`wider_grants`] lists just the lines where it grants
-//! more, and [`repeated_clients`] just those that have a client of an earlier line, among them each that mountd leaves out. In a file
-//! system of which neither lists a line, the desk's verdicts are those of the rule by the lines that mountd puts in force.
-//!
 //! ```text
 //! // with `/a/x 10.0.0.5` and `/a -network 10.0.0.0/24`:
 //! let found = wider_grants(alloc, &index, fs)?;

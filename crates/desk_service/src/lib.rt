@@ -1,11 +1,5 @@
 //! What a desk is asked and answers, as data: questions on the policy in force and on a site's files, and edits.
 //!
-//! Its promise: each answer is that of the definitions by the history at which the desk stands; a question changes nothing; and an
-//! edit that is stored or proposed is always answered, with a reply that was made before.
-//!
-//! A question has two calls, since its answer lends from the desk: [`look_up`] makes the statements that it takes, if it takes any,
-//! and [`answer`] answers it. For a report [`lend_state`] lends all that the desk keeps.
-//!
 //! ```text
 //! let question = Question::Mount(address, &path);
 //! let looked = look_up(alloc, &mut desk, question)?;

@@ -1,9 +1,5 @@
 //! Exports texts of a whole site, split into one for each file system, and joined again.
 //!
-//! Its promise: each line of a text that is split goes, with its words, to the file system of its first directory, and to no other.
-//! The joined text has the lines of the files, in order, and no other; so if each file can be split, the joined text can be, and each
-//! line then goes where it went. Nothing but the text of a file becomes a line of exports.
-//!
 //! ```
 //! // # exports:/u1 rev 2 (ulf)
 //! // /u1 -ro 10.0.0.5

@@ -1,7 +1,5 @@
-//! A desk: a site's files with all their revisions, in a database of SQLite, and the policy in force. (this project's own)
-//!
-//! Its promise: the answers to edits are those of the definitions, and what was answered with a revision is kept, whatever
-//! moment the program or the machine stops at.
+//! A desk: a site's files with all their revisions, in a database of SQLite, and the policy in force. (this project's
+//! own)
 //!
 //! ```text
 //! let done = desk.edit(alloc, &edit)?;                      // judged, stored in one commit, put in force

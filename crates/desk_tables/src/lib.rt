@@ -1,11 +1,7 @@
 //! The tables of a site: hosts, networks, users, groups, file systems, custodians; and credential texts. (exports(5))
 //!
-//! What this crate promises: a table is the rows of its text, or the first faulty line with the first rule that it breaks; and
-//! each look-up answers as if it went over the rows one by one.
-//!
-//! For example, with the file systems `/ site` and `/usr ulf`:
-//!
 //! ```text
+//! // With the file systems `/ site` and `/usr ulf`:
 //! let filesystems = FileSystems::read(alloc, text)?;
 //! filesystems.of(&path)                     // for /usr/local: FsId(1), the longer of the two mount points above it
 //! filesystems.keeps("ulf", FsId(1))         // true

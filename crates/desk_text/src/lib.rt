@@ -1,7 +1,4 @@
 //! The texts of an export policy: addresses, networks, paths, logical lines and their words. (exports(5))
-//!
-//! Each reader gives the value that its text spells by a definition of `specs/`, or the first fault of the text, in an
-//! order that is fixed: `Addr::read("10.0.0.5")` is that address, and `Addr::read("10.0.0.05")` is `LeadingZero`.
 #![tactic(auto)]
 
 pub mod addr_set;

@@ -1,10 +1,5 @@
 //! Who may mount a directory: the verdict of every address, by ranges; and at which addresses something is found.
 //!
-//! Its promise: [`longest_runs`] lists the runs of whatever values are found for addresses: they ascend, leave out no address and
-//! hold none twice; each address has the value of its run, and neighbouring runs have different ones. There is just one such
-//! list. [`who`] is that of the verdicts on a path, over whichever view. [`found_runs`] lists just the addresses at which a
-//! [`Search`] finds something, each with what it finds. Between the addresses that [`starts_among`] gathers, no line begins or ceases to match.
-//!
 //! ```text
 //! let ranges = who(alloc, &view, &path)?;
 //! who_text(alloc, view.policy(), ranges.as_slice())?      // "0.0.0.0-255.255.255.255 denied 2 NoLine /a\n"

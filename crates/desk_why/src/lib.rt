@@ -1,9 +1,5 @@
-//! Why a mount is granted or denied: the lines of the directory's file system that match the client, heaviest first, and which of
-//! them decides.
-//!
-//! Its promise: [`matching`] lists each line that matches an address, heaviest first, those of one weight in their order, and
-//! [`why_text`] prints them, with what each matches by, which one the verdict names, and whether it lists the directory. Its laws
-//! say that the verdict is what these lines say, and that those as heavy as the first are the selected ones.
+//! Why a mount is granted or denied: the lines of the directory's file system that match the client, heaviest first,
+//! and which of them decides.
 //!
 //! ```text
 //! let below = why_text(alloc, &view, asked)?;

@@ -1,8 +1,5 @@
 //! Pages of HTML: rows of typed parts, and one renderer of them.
 //!
-//! Its promise: what each part, row and table of a page comes to is said once. A page is made of tags and words of its own, which are the
-//! same whatever a site's texts say, and of these texts, of which no character is markup. The head lets a browser fetch and run nothing.
-//!
 //! ```text
 //! push_table_start(alloc, &FILES, &[Title::Said("Files")], &mut page)?;
 //! push_row(alloc, &FILES, &[&[Part::Code(name)], &[Part::Digits(revision), Part::Words(" by "), Part::Code(author)]], &mut page)?;
