@@ -1,4 +1,4 @@
--- What the private contracts of the readers of a query cite.
+-- What the private contracts of `calls` cite.
 use Rattle.std.specs.Prelude.{◌≡◌, None, Option, Some}
 use Rattle.desk_service.specs.Questions.{question_of}
 use Rattle.desk_http_requests.specs.Calls.{Asks, Query}

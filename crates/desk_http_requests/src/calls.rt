@@ -6,16 +6,17 @@ ghost use Rattle.std.specs.Str.{is_utf8};
 ghost use Rattle.httparse.specs.Spans.{IsHeaderWithin};
 ghost use Rattle.desk_core.specs.Head.{last_revision};
 ghost use Rattle.desk_http_messages.specs.Asked.{asked_of};
-ghost use Rattle.desk_http_requests.specs.Calls.{IsCall, Puts, action_of, base_in, header_text, is_put, path_in, put_in, query_asked, utf8_text};
+ghost use Rattle.desk_http_requests.specs.Calls.{IsCall, Puts, action_of, asked_in, base_in, header_text, is_put, path_in, put_in, query_asked, utf8_text};
 ghost use Rattle.desk_http_requests.specs.Parameters.{pairs};
 ghost use Rattle.desk_http_requests.specs.Parameters as spec;
+ghost use Rattle.desk_http_requests.specs.PrivateCalls.{AsksFor};
 ghost use Rattle.desk_http_requests.specs.Routes.{action_in};
 ghost use Rattle.desk_http_requests.specs.Target.{query_of};
 
 use crate::faults::RequestFault;
 use crate::parameters::{Parameter, number_in, one_of};
-use crate::queries::{are_named, asked_in};
-use crate::routes::{Action, Purpose};
+use crate::queries::{are_named, credential_in, question_in};
+use crate::routes::{Action, Purpose, Reader};
 use desk_core::{Edit, LAST_REVISION};
 use desk_http_messages::{Request, Values, values_of};
 use desk_service::Question;
@@ -76,6 +77,25 @@ pub fn read_call<'a>(
     match action.purpose {
         Purpose::Ask(reader) => asked_in(alloc, reader, parameters, path),
         Purpose::Put => Ok(edit_in(request, parameters)),
+    }
+}
+
+/// Reads what a request asks: a question, and the client's credential, if it is told.
+fn asked_in<'a>(
+    alloc: Global,
+    reader: Reader,
+    parameters: &'a [Parameter],
+    path: &'a Option<Path>,
+) -> Result<Call<'a>, AllocError>
+    requires { path.now ≡ path_in (pairs parameters.now) }
+    ensures { IfOk result (AsksFor (asked_in reader (pairs parameters.now))) }
+{
+    let Some(question) = question_in(reader, parameters, path) else {
+        return Ok(Call::Refused(RequestFault::BadQuery));
+    };
+    match credential_in(alloc, parameters)? {
+        Some(own) => Ok(Call::Asks(question, own)),
+        None => Ok(Call::Refused(RequestFault::BadQuery)),
     }
 }
 

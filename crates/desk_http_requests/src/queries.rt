@@ -9,10 +9,7 @@ ghost use Rattle.desk_tables.specs.Credentials.{at_most_16};
 ghost use Rattle.desk_http_requests.specs.Calls as spec;
 ghost use Rattle.desk_service.specs.Questions.{question_of};
 ghost use Rattle.desk_http_requests.specs.Parameters.{pairs};
-ghost use Rattle.desk_http_requests.specs.PrivateCalls.{AsksFor};
 
-use crate::calls::Call;
-use crate::faults::RequestFault;
 use crate::parameters::{Parameter, number_if_given, numbers_in, one_of};
 use crate::routes::Reader;
 use desk_core::LAST_REVISION;
@@ -63,7 +60,7 @@ fn cred_in(uid: Option<u32>, gids: &[u32]) -> Option<Option<Cred>>
 }
 
 /// Reads the client's credential, if the query tells one.
-fn credential_in(
+pub(crate) fn credential_in(
     alloc: Global,
     parameters: &[Parameter],
 ) -> Result<Option<Option<Cred>>, AllocError>
@@ -79,7 +76,7 @@ fn credential_in(
 }
 
 /// Reads the question that parameters say to a reader, which lends the path that they tell. `None` if it cannot be read.
-fn question_in<'a>(
+pub(crate) fn question_in<'a>(
     reader: Reader,
     parameters: &'a [Parameter],
     path: &'a Option<Path>,
@@ -115,25 +112,6 @@ fn text_in<'a>(parameters: &'a [Parameter]) -> Option<Question<'a>>
     let name = one_of(parameters, "name")?;
     let rev = number_if_given(parameters, "rev", LAST_REVISION)?;
     Some(Question::Text(name, rev))
-}
-
-/// Reads what a request asks: a question, and the client's credential, if it is told.
-pub(crate) fn asked_in<'a>(
-    alloc: Global,
-    reader: Reader,
-    parameters: &'a [Parameter],
-    path: &'a Option<Path>,
-) -> Result<Call<'a>, AllocError>
-    requires { path.now ≡ spec.path_in (pairs parameters.now) }
-    ensures { IfOk result (AsksFor (spec.asked_in reader (pairs parameters.now))) }
-{
-    let Some(question) = question_in(reader, parameters, path) else {
-        return Ok(Call::Refused(RequestFault::BadQuery));
-    };
-    match credential_in(alloc, parameters)? {
-        Some(own) => Ok(Call::Asks(question, own)),
-        None => Ok(Call::Refused(RequestFault::BadQuery)),
-    }
 }
 
 /// Tests whether this is one of these names.

@@ -1,5 +1,5 @@
 -- The file is that which the query names.
-use Rattle.std.proofs.Common.{◌∙◌, ℕ, Bor, List, Option, ap, option_and_then, sym}
+use Rattle.std.proofs.Common.{◌∙◌, ℕ, Bor, List, ap, option_and_then, sym}
 use Rattle.std.specs.Option.{option_map}
 use Rattle.desk_http_messages.specs.Asked.{asked_of}
 use Rattle.desk_http_requests.specs.Calls.{Puts, base_in}

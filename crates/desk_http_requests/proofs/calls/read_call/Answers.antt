@@ -1,9 +1,9 @@
 -- A question and an edit are what the query says, and a parameter of another name is a fault.
-use Rattle.std.proofs.Common.{◌≡◌, ◌∙◌, List, ap, false, sym, true}
+use Rattle.std.proofs.Common.{◌≡◌, ◌∙◌, ap, sym, true}
 use Rattle.std.proofs.lemmas.Result.{IfOk-weaker}
 use Rattle.desk_http_messages.specs.Asked.{Asked, asked_of}
 use Rattle.desk_http_requests.specs.Calls.{IsCall, are_named, asked_in, is_put, put_in, puts}
-use Rattle.desk_http_requests.specs.Parameters.{Parameter, pairs, parameters_of}
+use Rattle.desk_http_requests.specs.Parameters.{pairs, parameters_of}
 use Rattle.desk_http_requests.specs.Routes.{Action, action_in}
 use Rattle.desk_http_requests.specs.Target.{query_of}
 use Rattle.desk_http_requests.specs.declared.routes.Purpose.TheVariants.{Ask, Put}
