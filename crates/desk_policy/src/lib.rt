@@ -11,6 +11,7 @@
 pub mod acting;
 pub mod contradiction;
 mod first_lines;
+mod known_names;
 pub mod laws;
 pub mod listing_prints;
 pub mod listings;

@@ -1,7 +1,7 @@
 use Rattle.std.proofs.Common.{[], ◌∷◌, ◌∙◌}
 use Rattle.desk_policy.specs.Names.{stands_for}
 use Rattle.desk_policy.proofs.RowAddresses.{gains_one, gathered}
-use Rattle.desk_policy.proofs.names.addresses_of.Goals as goal
+use Rattle.desk_policy.proofs.names.addresses_of_name.Goals as goal
 
 pub returns : goal.returns
 returns c =
@@ -9,5 +9,5 @@ returns c =
     let hosts = c.args.hosts.now in
     let name = c.args.name.now in
     let items = c.push_name.new.addresses.items in
-    c.into_vec.ensures.value ∙ c.from_vec.ensures
+    c.from_vec.ensures
     ∙ gathered c.sorted_sets_are_unique.ensures netgroups hosts (name ∷ []) items (gains_one c.new-addresses.result.items items (stands_for netgroups hosts name) c.new-addresses.ensures.items c.in_ok-push_name.ensures)
