@@ -1,4 +1,4 @@
-//! The commands on texts: `try`, `split`, `check`, `clients`, `compare` and `test`.
+//! The commands on texts: `try`, `split`, `check`, `clients`, `lists`, `compare` and `test`.
 //!
 //! ```text
 //! // for the words `split - filesystems`
@@ -13,6 +13,7 @@ pub mod compare_command;
 mod fault_line;
 mod faulty_texts;
 mod findings_form;
+pub mod lists_command;
 mod printing;
 pub mod split_command;
 mod split_text;

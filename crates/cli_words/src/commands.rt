@@ -16,6 +16,7 @@ pub enum Subcommand {
     Split,
     Check,
     Clients,
+    Lists,
     Compare,
     Test,
     Init,
@@ -193,7 +194,7 @@ pub static TABLES: [Argument; 7] = [
 ];
 
 /// The commands, in the order of the help.
-pub static COMMANDS: [CommandRow; 22] = [
+pub static COMMANDS: [CommandRow; 23] = [
     CommandRow {
         command: Subcommand::Try,
         name: "try",
@@ -262,6 +263,13 @@ pub static COMMANDS: [CommandRow; 22] = [
         words: &[GIVEN_FILE, GIVEN_CLIENTS_DIR, GIVEN_MOUNTS],
         tables: true,
         options: &[MOUNTD],
+    },
+    CommandRow {
+        command: Subcommand::Lists,
+        name: "lists",
+        words: &[GIVEN_FILE, GIVEN_HOST, GIVEN_MOUNTS],
+        tables: true,
+        options: &[],
     },
     CommandRow {
         command: Subcommand::Compare,

@@ -65,6 +65,18 @@ pub(crate) fn help_of(command: Subcommand) -> Help {
              by its rule.",
             ),
         },
+        Subcommand::Lists => Help {
+            about: "Lists what a client may mount by an exports file",
+            usage: Some(
+                "exportdesk lists [OPTIONS] <FILE> <HOST> <MOUNT>...\n       exportdesk lists [OPTIONS] --mounts <FILE> <FILE> <HOST>\n       exportdesk lists [OPTIONS] --site <DIR> <HOST>",
+            ),
+            end: Some(
+                "For each file system of which a line matches the client it prints a line `MOUNT [alldirs] TERMS lines\n\
+             LINE,LINE`, and below it, after two blanks, each directory that its lines write and that the client may\n\
+             mount; with alldirs it may mount all others, too. A table that is not given is empty. One file may be -,\n\
+             standard input.",
+            ),
+        },
         Subcommand::Compare => Help {
             about: "Tells what another exports file would change",
             usage: Some(

@@ -1,0 +1,5 @@
+-- The listing is by the policy that the text writes.
+use Rattle.cli_texts.proofs.lists_command.print_listing.Goals as goal
+
+pub returns : goal.returns
+returns c = record { policy = c.in_ok-view.view; written = c.in_ok-view.ensures; prints = c.print_alone.ensures }
