@@ -508,6 +508,20 @@ COMMANDS = {
             3,
         ),
     ],
+    "terms": [
+        tried(
+            ["terms", "-", "/usr"],
+            FRIENDS,
+            f"/usr friends {STANDARD}\n/usr 131.104.48.0/24 {STANDARD}\n",
+            with_tables=True,
+        ),
+        tried(
+            ["terms", "-", "/a"],
+            CONTRADICTION.format(" -ro"),
+            "fault line 2 rule 26 Contradiction line 1 address 192.168.0.0\n",
+            3,
+        ),
+    ],
     "compare": [
         Command(
             ["compare", "TEXT", "-", "/usr", "/home"],

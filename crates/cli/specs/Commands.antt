@@ -15,13 +15,14 @@ use Rattle.cli_output.specs.declared.printed.Printed.{Printed}
 use Rattle.cli_words.specs.Commands.{AskForHelp, command_found, faults_of}
 use Rattle.cli_words.specs.LineWords.{IsBadWord, words_of}
 use Rattle.cli_words.specs.declared.commands.Subcommand.{Subcommand}
-use Rattle.cli_words.specs.declared.commands.Subcommand.TheVariants.{Ask, Audit, Cat, Check, Clients, Compare, Copy, Exports, Files, Impact, Init, Lists, Log, Proposal, Put, Report, Serve, Show, Split, Test, Try, Who, Write}
+use Rattle.cli_words.specs.declared.commands.Subcommand.TheVariants.{Ask, Audit, Cat, Check, Clients, Compare, Copy, Exports, Files, Impact, Init, Lists, Log, Proposal, Put, Report, Serve, Show, Split, Terms, Test, Try, Who, Write}
 use Rattle.cli_files.specs.Input.{first_line}
 use Rattle.cli_texts.specs.CheckCommand.{AnswersCheck}
 use Rattle.cli_texts.specs.ClientsCommand.{AnswersClients}
 use Rattle.cli_texts.specs.CompareCommand.{AnswersCompare}
 use Rattle.cli_texts.specs.ListsCommand.{AnswersLists}
 use Rattle.cli_texts.specs.SplitCommand.{AnswersSplit}
+use Rattle.cli_texts.specs.TermsCommand.{AnswersTerms}
 use Rattle.cli_texts.specs.TestCommand.{AnswersTest}
 use Rattle.cli_texts.specs.TryCommand.{AnswersTry}
 use Rattle.cli_questions.specs.AuditCommand.{AnswersAudit}
@@ -54,6 +55,7 @@ AnswersGiven Split rows known result = AnswersSplit rows known result
 AnswersGiven Check rows known result = AnswersCheck rows known result
 AnswersGiven Clients rows known result = AnswersClients rows known result
 AnswersGiven Lists rows known result = AnswersLists rows known result
+AnswersGiven Terms rows known result = AnswersTerms rows known result
 AnswersGiven Compare rows known result = AnswersCompare rows known result
 AnswersGiven Test rows known result = AnswersTest rows known result
 AnswersGiven Init rows known result = AnswersInit rows known result

@@ -13,6 +13,7 @@ pub mod SplitText
 pub mod Subject
 pub mod Systems
 pub mod TableFiles
+pub mod TermsCommand
 pub mod TestCommand
 pub mod TryCommand
 pub mod TwoFiles

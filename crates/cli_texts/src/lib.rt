@@ -1,4 +1,4 @@
-//! The commands on texts: `try`, `split`, `check`, `clients`, `lists`, `compare` and `test`.
+//! The commands on texts: `try`, `split`, `check`, `clients`, `lists`, `terms`, `compare` and `test`.
 //!
 //! ```text
 //! // for the words `split - filesystems`
@@ -20,6 +20,7 @@ mod split_text;
 mod subject;
 mod systems;
 mod table_files;
+pub mod terms_command;
 pub mod test_command;
 pub mod try_command;
 mod two_files;

@@ -10,7 +10,7 @@ use Rattle.cli_words.specs.declared.arguments.Kind.{Kind}
 use Rattle.cli_words.specs.declared.arguments.Kind.TheVariants as kind
 use Rattle.cli_words.specs.declared.commands.CommandRow as code
 use Rattle.cli_words.specs.declared.commands.Subcommand.{Subcommand}
-use Rattle.cli_words.specs.declared.commands.Subcommand.TheVariants.{Ask, Audit, Cat, Check, Clients, Compare, Copy, Exports, Files, Impact, Init, Lists, Log, Proposal, Put, Report, Serve, Show, Split, Test, Try, Who, Write}
+use Rattle.cli_words.specs.declared.commands.Subcommand.TheVariants.{Ask, Audit, Cat, Check, Clients, Compare, Copy, Exports, Files, Impact, Init, Lists, Log, Proposal, Put, Report, Serve, Show, Split, Terms, Test, Try, Who, Write}
 
 -- a word that is required, and taken as it is
 abbrev pub word : List ℕ → Rule
@@ -59,6 +59,7 @@ commands =
     ∷ row Check (codes "check") (optional_word (codes "FILE") ∷ optional_words (codes "MOUNT") ∷ []) true (flag (codes "brief") ∷ flag (codes "strict") ∷ flag (codes "json") ∷ flag (codes "sarif") ∷ flag (codes "opinions") ∷ [])
     ∷ row Clients (codes "clients") (optional_word (codes "FILE") ∷ optional_word (codes "DIR") ∷ optional_words (codes "MOUNT") ∷ []) true (flag (codes "mountd") ∷ [])
     ∷ row Lists (codes "lists") (optional_word (codes "FILE") ∷ optional_word (codes "HOST") ∷ optional_words (codes "MOUNT") ∷ []) true []
+    ∷ row Terms (codes "terms") (optional_word (codes "FILE") ∷ optional_words (codes "MOUNT") ∷ []) true []
     ∷ row Compare (codes "compare") (optional_word (codes "OLD") ∷ optional_word (codes "NEW") ∷ optional_words (codes "MOUNT") ∷ []) true (flag (codes "all") ∷ [])
     ∷ row Test (codes "test") (optional_word (codes "FILE") ∷ optional_word (codes "EXPECTATIONS") ∷ optional_words (codes "MOUNT") ∷ []) true (flag (codes "json") ∷ [])
     ∷ row Init (codes "init") (word (codes "DB") ∷ word (codes "DIR") ∷ []) false []

@@ -17,6 +17,7 @@ pub enum Subcommand {
     Check,
     Clients,
     Lists,
+    Terms,
     Compare,
     Test,
     Init,
@@ -194,7 +195,7 @@ pub static TABLES: [Argument; 7] = [
 ];
 
 /// The commands, in the order of the help.
-pub static COMMANDS: [CommandRow; 23] = [
+pub static COMMANDS: [CommandRow; 24] = [
     CommandRow {
         command: Subcommand::Try,
         name: "try",
@@ -268,6 +269,13 @@ pub static COMMANDS: [CommandRow; 23] = [
         command: Subcommand::Lists,
         name: "lists",
         words: &[GIVEN_FILE, GIVEN_HOST, GIVEN_MOUNTS],
+        tables: true,
+        options: &[],
+    },
+    CommandRow {
+        command: Subcommand::Terms,
+        name: "terms",
+        words: &[GIVEN_FILE, GIVEN_MOUNTS],
         tables: true,
         options: &[],
     },

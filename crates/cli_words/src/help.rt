@@ -77,6 +77,17 @@ pub(crate) fn help_of(command: Subcommand) -> Help {
              standard input.",
             ),
         },
+        Subcommand::Terms => Help {
+            about: "Lists whom each directory of an exports file is for, and on what terms",
+            usage: Some(
+                "exportdesk terms [OPTIONS] <FILE> <MOUNT>...\n       exportdesk terms [OPTIONS] --mounts <FILE> <FILE>\n       exportdesk terms [OPTIONS] --site <DIR>",
+            ),
+            end: Some(
+                "For each directory of each line, by mount point and line, it prints a line `DIRECTORY CLIENTS [alldirs]\n\
+             TERMS`. CLIENTS is the names of the line, its network, (ipv6) or (everyone); TERMS is as try prints it. A\n\
+             table that is not given is empty. One file may be -, standard input.",
+            ),
+        },
         Subcommand::Compare => Help {
             about: "Tells what another exports file would change",
             usage: Some(
