@@ -120,7 +120,7 @@ fn check_texts<'a>(
     whole: WholeSources<'a>,
 ) -> Result<Printed, Failure>
     requires custodians { IsReadableIfThere asked.custodians }
-    requires systems { AreReadableSystems systems.entry }
+    requires systems { AreReadableSystems systems }
     requires tables { AreReadable whole.tables }
     requires exports { IsReadable whole.exports.text.now }
     ensures { AnswersFolderTexts asked.entry (systems_of systems.entry) whole.entry result }

@@ -57,7 +57,7 @@ pub fn subject_of<'a>(
     words: &ArgMatches<'a>,
     places: Places,
 ) -> Result<Subject<'a>, Failure>
-    ensures { ReadsSubject (places_of places.entry) (rows_in words.now) result }
+    ensures { ReadsSubject (places_of places) (rows_in words.now) result }
 {
     match given(words, "site") {
         Some(folder) => match beside_site(words, places) {
@@ -73,7 +73,7 @@ pub fn subject_of<'a>(
 
 /// Names what is given and cannot be given with `--site`.
 fn beside_site(words: &ArgMatches<'_>, places: Places) -> Option<&'static str>
-    ensures { option_map (λ name. name.now) result ≡ spec.beside_site (places_of places.entry) (rows_in words.now) }
+    ensures { option_map (λ name. name.now) result ≡ spec.beside_site (places_of places) (rows_in words.now) }
 {
     if given(words, places.last).is_some() {
         return Some(places.beside);

@@ -134,7 +134,7 @@ fn read_listed(
     source: Source<'_>,
 ) -> Result<Result<FileSystems, Printed>, AllocError>
     requires { IsReadable source.text.now }
-    ensures { IfOk result (AnswersText source.entry (read_filesystems source.text.now)) }
+    ensures { IfOk result (AnswersText source.entry (read_filesystems source.entry.text.now)) }
 {
     match ReadError::split(FileSystems::read(alloc, source.text))? {
         Ok(filesystems) => Ok(Ok(filesystems)),

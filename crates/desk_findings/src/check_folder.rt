@@ -30,8 +30,8 @@ pub fn gather_folder<'a>(
     whole: WholeSources<'a>,
     opinions: bool,
 ) -> Result<Gathered<'a>, AllocError>
-    requires custodians { IsReadableIfThere custodians.entry }
-    requires systems { AreReadableSystems systems.entry }
+    requires custodians { IsReadableIfThere custodians }
+    requires systems { AreReadableSystems systems }
     requires tables { AreReadable whole.tables }
     requires exports { IsReadable whole.exports.text.now }
     ensures found { IfOk result (GathersFolder opinions custodians.entry (systems_of systems.entry) whole.entry) }
