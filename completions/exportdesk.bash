@@ -16,9 +16,9 @@ _exportdesk()
         # (a folder stands for the first word)
         no:--site) is_value=yes count=$((count + 1)) ;;
         no:--as | no:--base | no:--caller | no:--connections | \
-            no:--group | no:--hosts | no:--key | no:--key-file | \
-            no:--mounts | no:--netgroup | no:--networks | no:--passwd | \
-            no:--port | no:--rev | no:--timeout) is_value=yes ;;
+            no:--group | no:--hosts | no:--ignore | no:--key | \
+            no:--key-file | no:--mounts | no:--netgroup | no:--networks | \
+            no:--passwd | no:--port | no:--rev | no:--timeout) is_value=yes ;;
         yes:=) ;;
         yes:*) is_value=no ;;
         no::) count=$((count - 1)) ;;
@@ -28,7 +28,7 @@ _exportdesk()
     done
     case $command in
     try) choices='--hosts --networks --passwd --group --netgroup --mounts --site --as --why --mountd --help' ;;
-    check) choices='--hosts --networks --passwd --group --netgroup --mounts --site --brief --strict --json --sarif --opinions --help' ;;
+    check) choices='--hosts --networks --passwd --group --netgroup --mounts --site --brief --strict --json --sarif --opinions --ignore --help' ;;
     clients) choices='--hosts --networks --passwd --group --netgroup --mounts --site --mountd --help' ;;
     lists) choices='--hosts --networks --passwd --group --netgroup --mounts --site --help' ;;
     terms) choices='--hosts --networks --passwd --group --netgroup --mounts --site --help' ;;
@@ -73,9 +73,9 @@ _exportdesk()
         compopt -o filenames
         mapfile -t COMPREPLY < <(compgen -d -- "$word")
         ;;
-    ask:--as:* | cat:--rev:* | put:--base:* | put:--caller:* | \
-        put:--key:* | serve:--connections:* | serve:--port:* | serve:--timeout:* | \
-        try:--as:*) ;;
+    ask:--as:* | cat:--rev:* | check:--ignore:* | put:--base:* | \
+        put:--caller:* | put:--key:* | serve:--connections:* | serve:--port:* | \
+        serve:--timeout:* | try:--as:*) ;;
     *:-?*) mapfile -t COMPREPLY < <(compgen -W "$choices" -- "$word") ;;
     *)
         case $command:$count in

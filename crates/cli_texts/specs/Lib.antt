@@ -4,6 +4,7 @@ pub mod CompareCommand
 pub mod FaultLine
 pub mod FaultyTexts
 pub mod FindingsForm
+pub mod IgnoredNumbers
 pub mod ListsCommand
 pub mod MountWords
 pub mod Printing

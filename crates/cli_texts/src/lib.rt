@@ -13,6 +13,7 @@ pub mod compare_command;
 mod fault_line;
 mod faulty_texts;
 mod findings_form;
+mod ignored_numbers;
 pub mod lists_command;
 mod printing;
 pub mod split_command;

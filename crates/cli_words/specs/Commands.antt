@@ -56,7 +56,7 @@ abbrev pub commands : List CommandRow
 commands =
     row Try (codes "try") (optional_word (codes "FILE") ∷ optional_word (codes "HOST") ∷ optional_word (codes "DIR") ∷ optional_words (codes "MOUNT") ∷ []) true (option (codes "as") ∷ flag (codes "why") ∷ flag (codes "mountd") ∷ [])
     ∷ row Split (codes "split") (word (codes "FILE") ∷ word (codes "FILESYSTEMS") ∷ []) false []
-    ∷ row Check (codes "check") (optional_word (codes "FILE") ∷ optional_words (codes "MOUNT") ∷ []) true (flag (codes "brief") ∷ flag (codes "strict") ∷ flag (codes "json") ∷ flag (codes "sarif") ∷ flag (codes "opinions") ∷ [])
+    ∷ row Check (codes "check") (optional_word (codes "FILE") ∷ optional_words (codes "MOUNT") ∷ []) true (flag (codes "brief") ∷ flag (codes "strict") ∷ flag (codes "json") ∷ flag (codes "sarif") ∷ flag (codes "opinions") ∷ option (codes "ignore") ∷ [])
     ∷ row Clients (codes "clients") (optional_word (codes "FILE") ∷ optional_word (codes "DIR") ∷ optional_words (codes "MOUNT") ∷ []) true (flag (codes "mountd") ∷ [])
     ∷ row Lists (codes "lists") (optional_word (codes "FILE") ∷ optional_word (codes "HOST") ∷ optional_words (codes "MOUNT") ∷ []) true []
     ∷ row Terms (codes "terms") (optional_word (codes "FILE") ∷ optional_words (codes "MOUNT") ∷ []) true []

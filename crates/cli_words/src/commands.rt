@@ -256,6 +256,11 @@ pub static COMMANDS: [CommandRow; 24] = [
                 kind: Kind::Flag,
                 help: "Adds opinions on lines that let everybody write, or root of many hosts act as root",
             },
+            Argument {
+                name: "ignore",
+                kind: Kind::Valued("NUMBERS"),
+                help: "Leaves out the warnings of these numbers, as 2,11, and counts them in the last line",
+            },
         ],
     },
     CommandRow {
