@@ -1,6 +1,6 @@
 //! The files of an exports text and of its tables.
 
-ghost use Rattle.std.specs.Prelude.{◌≡◌, IfOk, map};
+ghost use Rattle.std.specs.Prelude.{◌≡◌, ◌≤◌, IfOk, map};
 ghost use Rattle.std.specs.Result.{result_map_both};
 ghost use Rattle.desk_text.specs.Lines.{IsReadable};
 ghost use Rattle.desk_findings.specs.CheckFaults.{AreReadable};
@@ -69,7 +69,8 @@ fn exports_file<'w: 'a, 'a>(subject: &'a Subject<'w>, argument: &'static str) ->
 
 /// Counts the files that are standard input.
 pub fn whole_inputs(files: WholeFiles<'_>) -> u32
-    ensures { result ≡ input_count (map named (file_list files.entry)) }
+    ensures small { result ≤ 6 }
+    ensures counted { result ≡ input_count (map named (file_list files.entry)) }
 {
     table_inputs(files.tables) + file_inputs(files.exports)
 }

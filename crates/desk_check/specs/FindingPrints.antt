@@ -12,7 +12,7 @@ use Rattle.desk_text.specs.declared.address.Addr.{Addr}
 use Rattle.desk_text.specs.declared.place.Place.{Place}
 use Rattle.desk_policy.specs.SiteFault.{rule_sentence}
 use Rattle.desk_policy.specs.Warning.{kind_sentence}
-use Rattle.desk_remarks.specs.Remark.{other_of, remark_sentence}
+use Rattle.desk_remarks.specs.Remark.{other_of as other_line_of, remark_sentence}
 use Rattle.desk_remarks.specs.declared.remark.Example.{Example}
 use Rattle.desk_remarks.specs.declared.remark.OtherLine.{OtherLine}
 use Rattle.desk_remarks.specs.declared.remark.OtherLine.TheVariants.{First, Grants, Taken}
@@ -97,7 +97,7 @@ sentence_with Grants sentence line address directory = wider_text line address d
 sentence_with Taken sentence line address directory = repeated_text line address
 
 abbrev pub remark_with : Remark → ℕ → Addr → Option (List (List ℕ)) → List ℕ
-remark_with said line address directory = sentence_with (other_of said) (remark_sentence said) line address directory
+remark_with said line address directory = sentence_with (other_line_of said) (remark_sentence said) line address directory
 
 -- what is said of a line, with what shows it, if anything does
 abbrev pub remark_text : Remark → Option Example → Option (List (List ℕ)) → List ℕ
