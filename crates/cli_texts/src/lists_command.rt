@@ -1,8 +1,11 @@
 //! The command `lists`: what a client may mount, by an exports text.
 
-ghost use Rattle.std.specs.Prelude.{◌≡◌, map};
+ghost use Rattle.std.specs.Prelude.{◌≡◌, IfOk, map};
+ghost use Rattle.std.specs.String.{string_bytes};
 ghost use Rattle.desk_text.specs.Address.{number_of};
 ghost use Rattle.desk_text.specs.Lines.{IsReadable};
+ghost use Rattle.desk_policy.specs.ListingPrints.{listing_text};
+ghost use Rattle.desk_policy.specs.Listings.{listing_of};
 ghost use Rattle.desk_findings.specs.CheckFaults.{AreReadable};
 ghost use Rattle.cli_words.specs.Words.{rows_in};
 ghost use Rattle.cli_texts.specs.ListsCommand.{AnswersFiles, AnswersHost, AnswersLists, AnswersSubject, PrintsListing, ReadsHost};
@@ -10,6 +13,7 @@ ghost use Rattle.cli_texts.specs.TableFiles.{named};
 ghost use Rattle.cli_texts.specs.WholeFiles.{file_list};
 ghost use Rattle.cli_texts.specs.WholeTables.{GivesOrFault, policy_of};
 
+use crate::View;
 use crate::faulty_texts::answer_error;
 use crate::printing::print_alone;
 use crate::subject::{Places, Subject, subject_of, word_of};
@@ -24,7 +28,7 @@ use desk_findings::{WholeSources, read_sources};
 use desk_policy::{PolicyView, SiteFault, listing, listing_text};
 use desk_tables::FileSystems;
 use desk_text::{Addr, ReadError};
-use std::alloc::Global;
+use std::alloc::{AllocError, Global};
 use std::io::BufRead;
 
 /// The names of the words: `lists FILE HOST MOUNT...`, or with `--site` just HOST.
@@ -119,7 +123,14 @@ fn print_listing(
 {
     let tables = read_sources(alloc, sources.tables)?;
     let view = view_of(alloc, sources, &tables, filesystems)?;
-    let listing = listing(alloc, &view, address)?;
-    let text = listing_text(alloc, view.policy(), listing.as_slice())?;
+    let text = listed_text(alloc, &view, address)?;
     Ok(print_alone(alloc, 0, text))
+}
+
+/// Writes what a client may mount.
+fn listed_text(alloc: Global, view: &View, address: Addr) -> Result<String, AllocError>
+    ensures { let policy = view.now in IfOk result (λ text. string_bytes text ≡ listing_text policy (listing_of policy (number_of address))) }
+{
+    let shown = listing(alloc, view, address)?;
+    listing_text(alloc, view.policy(), shown.as_slice())
 }
