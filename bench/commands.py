@@ -494,6 +494,34 @@ COMMANDS = {
             3,
         ),
     ],
+    "lists": [
+        tried(
+            ["lists", "-", "131.104.48.20", "/usr"],
+            FRIENDS,
+            f"/usr {STANDARD} lines 1\n  /usr\n",
+            with_tables=True,
+        ),
+        tried(
+            ["lists", "-", "192.168.0.1", "/a"],
+            CONTRADICTION.format(" -ro"),
+            "fault line 2 rule 26 Contradiction line 1 address 192.168.0.0\n",
+            3,
+        ),
+    ],
+    "terms": [
+        tried(
+            ["terms", "-", "/usr"],
+            FRIENDS,
+            f"/usr friends {STANDARD}\n/usr 131.104.48.0/24 {STANDARD}\n",
+            with_tables=True,
+        ),
+        tried(
+            ["terms", "-", "/a"],
+            CONTRADICTION.format(" -ro"),
+            "fault line 2 rule 26 Contradiction line 1 address 192.168.0.0\n",
+            3,
+        ),
+    ],
     "compare": [
         Command(
             ["compare", "TEXT", "-", "/usr", "/home"],

@@ -24,7 +24,9 @@ use cli_serve::serve_command::{Service, run_serve};
 use cli_texts::check_command::run_check;
 use cli_texts::clients_command::run_clients;
 use cli_texts::compare_command::run_compare;
+use cli_texts::lists_command::run_lists;
 use cli_texts::split_command::run_split;
+use cli_texts::terms_command::run_terms;
 use cli_texts::test_command::run_test;
 use cli_texts::try_command::run_try;
 use cli_words::commands::Subcommand;
@@ -116,6 +118,8 @@ fn run_command<I: BufRead>(
         Subcommand::Split => run_split(rt, words, input),
         Subcommand::Check => run_check(rt, words, input),
         Subcommand::Clients => run_clients(rt, words, input),
+        Subcommand::Lists => run_lists(rt, words, input),
+        Subcommand::Terms => run_terms(rt, words, input),
         Subcommand::Compare => run_compare(rt, words, input),
         Subcommand::Test => run_test(rt, words, input),
         Subcommand::Init => run_init(rt, words, input),

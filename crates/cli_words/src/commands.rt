@@ -16,6 +16,8 @@ pub enum Subcommand {
     Split,
     Check,
     Clients,
+    Lists,
+    Terms,
     Compare,
     Test,
     Init,
@@ -193,7 +195,7 @@ pub static TABLES: [Argument; 7] = [
 ];
 
 /// The commands, in the order of the help.
-pub static COMMANDS: [CommandRow; 22] = [
+pub static COMMANDS: [CommandRow; 24] = [
     CommandRow {
         command: Subcommand::Try,
         name: "try",
@@ -254,6 +256,11 @@ pub static COMMANDS: [CommandRow; 22] = [
                 kind: Kind::Flag,
                 help: "Adds opinions on lines that let everybody write, or root of many hosts act as root",
             },
+            Argument {
+                name: "ignore",
+                kind: Kind::Valued("NUMBERS"),
+                help: "Leaves out the warnings of these numbers, as 2,11, and counts them in the last line",
+            },
         ],
     },
     CommandRow {
@@ -262,6 +269,20 @@ pub static COMMANDS: [CommandRow; 22] = [
         words: &[GIVEN_FILE, GIVEN_CLIENTS_DIR, GIVEN_MOUNTS],
         tables: true,
         options: &[MOUNTD],
+    },
+    CommandRow {
+        command: Subcommand::Lists,
+        name: "lists",
+        words: &[GIVEN_FILE, GIVEN_HOST, GIVEN_MOUNTS],
+        tables: true,
+        options: &[],
+    },
+    CommandRow {
+        command: Subcommand::Terms,
+        name: "terms",
+        words: &[GIVEN_FILE, GIVEN_MOUNTS],
+        tables: true,
+        options: &[],
     },
     CommandRow {
         command: Subcommand::Compare,
