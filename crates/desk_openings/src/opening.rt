@@ -63,6 +63,10 @@ impl<'a> Search<Opening> for Openings<'a> {
     fn find(&self, address: Addr, path: &Path) -> Option<Opening> {
         opening_at(self.index, address, path)
     }
+
+    fn may_find(&self, _address: Addr) -> bool {
+        true
+    }
 }
 
 /// Finds by which line the server grants a mount, if it is denied here.
