@@ -16,11 +16,7 @@ use Rattle.cli_output.specs.declared.printed.Printed.{Printed}
 use Rattle.cli_words.specs.Commands.{AskForHelp, command_found, faults_of}
 use Rattle.cli_words.specs.LineWords.{IsBadWord, words_of}
 use Rattle.cli_words.specs.declared.commands.Subcommand.{Subcommand}
-<<<<<<< HEAD
 use Rattle.cli_words.specs.declared.commands.Subcommand.TheVariants as subcommand
-=======
-use Rattle.cli_words.specs.declared.commands.Subcommand.TheVariants.{Ask, Audit, Cat, Check, Clients, Compare, Copy, Exports, Files, Impact, Init, Lists, Log, Proposal, Put, Report, Serve, Show, Split, Terms, Test, Try, Who, Write}
->>>>>>> 9d88d0a54a9a0a37ea9b5791d62eace34a54727e
 use Rattle.cli_files.specs.Input.{first_line}
 use Rattle.cli_texts.specs.CheckCommand.{AnswersCheck}
 use Rattle.cli_texts.specs.ClientsCommand.{AnswersClients}
@@ -55,11 +51,12 @@ IsNoCommand words (Err failure) = IsBadWord words failure
 
 -- the answer to a command with these words over an input that has these bytes, if a contract can name them
 abbrev pub AnswersGiven : Subcommand → List Row → Option (List ℕ) → Result Printed Failure → Type 0
-<<<<<<< HEAD
 AnswersGiven subcommand.Try rows known result = AnswersTry rows known result
 AnswersGiven subcommand.Split rows known result = AnswersSplit rows known result
 AnswersGiven subcommand.Check rows known result = AnswersCheck rows known result
 AnswersGiven subcommand.Clients rows known result = AnswersClients rows known result
+AnswersGiven subcommand.Lists rows known result = AnswersLists rows known result
+AnswersGiven subcommand.Terms rows known result = AnswersTerms rows known result
 AnswersGiven subcommand.Compare rows known result = AnswersCompare rows known result
 AnswersGiven subcommand.Test rows known result = AnswersTest rows known result
 AnswersGiven subcommand.Init rows known result = AnswersInit rows known result
@@ -78,32 +75,6 @@ AnswersGiven subcommand.Report rows known result = AnswersReport rows result
 AnswersGiven subcommand.Write rows known result = AnswersWrite rows result
 AnswersGiven subcommand.Copy rows known result = AnswersCopy rows result
 AnswersGiven subcommand.Serve rows known result = AnswersServe rows result
-=======
-AnswersGiven Try rows known result = AnswersTry rows known result
-AnswersGiven Split rows known result = AnswersSplit rows known result
-AnswersGiven Check rows known result = AnswersCheck rows known result
-AnswersGiven Clients rows known result = AnswersClients rows known result
-AnswersGiven Lists rows known result = AnswersLists rows known result
-AnswersGiven Terms rows known result = AnswersTerms rows known result
-AnswersGiven Compare rows known result = AnswersCompare rows known result
-AnswersGiven Test rows known result = AnswersTest rows known result
-AnswersGiven Init rows known result = AnswersInit rows known result
-AnswersGiven Ask rows known result = AnswersAsk rows result
-AnswersGiven Show rows known result = AnswersShow rows result
-AnswersGiven Exports rows known result = AnswersExports rows result
-AnswersGiven Who rows known result = AnswersWho rows result
-AnswersGiven Put rows known result = AnswersPut rows known result
-AnswersGiven Impact rows known result = AnswersImpact rows known result
-AnswersGiven Audit rows known result = AnswersAudit rows known result
-AnswersGiven Log rows known result = AnswersLog rows result
-AnswersGiven Cat rows known result = AnswersCat rows result
-AnswersGiven Proposal rows known result = AnswersProposal rows result
-AnswersGiven Files rows known result = AnswersFiles rows result
-AnswersGiven Report rows known result = AnswersReport rows result
-AnswersGiven Write rows known result = AnswersWrite rows result
-AnswersGiven Copy rows known result = AnswersCopy rows result
-AnswersGiven Serve rows known result = AnswersServe rows result
->>>>>>> 9d88d0a54a9a0a37ea9b5791d62eace34a54727e
 
 -- the answer to what clap finds: that to the command, or that there is none
 abbrev pub AnswersFound : Option (Subcommand × List Row) → Option (List ℕ) → Result Printed Failure → Type 0

@@ -32,7 +32,6 @@ returns-in_err-systems g c =
     })
 
 pub returns : goal.returns
-<<<<<<< HEAD
 returns g c =
     let known = g.I.Read.remaining c.args.input.now in
     let left = g.I.Read.remaining c.read_systems.new.input in
@@ -46,22 +45,7 @@ returns g c =
         after = record {
           step = Ok c.in_ok-systems.systems;
           is = subst (λ (paths : SystemsPaths). ReadsSystems (codes "--site") paths (Ok c.in_ok-systems.systems)) c.systems_files.ensures c.in_ok-systems.ensures.systems;
-          next = record { custodians = c.custodians_of.result; are = c.custodians_of.ensures.are; answers = c.check_folder.ensures };
+          next = record { asked = _; opinions_are = refl; form_is = refl; ignored_are = refl; are = c.custodians_of.ensures.are; answers = c.check_folder.ensures };
         };
       };
     }
-=======
-returns g c = record {
-  step = Ok (option_map string_bytes c.in_ok-kept.kept);
-  is = c.in_ok-kept.ensures.text;
-  next = record {
-    left = g.I.Read.remaining c.read_systems.new.input;
-    leaves = λ named filesystems mounts. c.read_systems.ensures.left filesystems mounts ∙ ap g.I.Read.remaining (c.read_custodians.ensures.untouched named);
-    after = record {
-      step = Ok c.in_ok-systems.systems;
-      is = c.in_ok-systems.ensures.systems;
-      next = record { asked = _; opinions_are = refl; form_is = refl; ignored_are = refl; are = c.custodians_of.ensures.are; answers = c.check_folder.ensures };
-    };
-  };
-}
->>>>>>> 9d88d0a54a9a0a37ea9b5791d62eace34a54727e
