@@ -37,7 +37,7 @@ use Rattle.cli_words.specs.LineWords.{words_of}
 use Rattle.cli_words.specs.Values.{revision_number}
 use Rattle.cli_words.specs.Words.{After, AnswersBy, Continues}
 use Rattle.cli_words.specs.declared.commands.Subcommand.{Subcommand}
-use Rattle.cli_words.specs.declared.commands.Subcommand.TheVariants.{Ask, Audit, Cat, Check, Clients, Compare, Copy, Exports, Files, Impact, Init, Log, Proposal, Put, Report, Serve, Show, Split, Test, Try, Who, Write}
+use Rattle.cli_words.specs.declared.commands.Subcommand.TheVariants.{Ask, Audit, Cat, Check, Clients, Compare, Copy, Exports, Files, Impact, Init, Lists, Log, Proposal, Put, Report, Serve, Show, Split, Terms, Test, Try, Who, Write}
 use Rattle.cli_files.specs.Input.{first_line}
 use Rattle.cli_verdict.specs.Asking.{asking_in}
 use Rattle.cli_verdict.specs.Ranges.{PrintsRanges}
@@ -49,10 +49,12 @@ use Rattle.cli_texts.specs.CheckCommand as check
 use Rattle.cli_texts.specs.ClientsCommand as clients
 use Rattle.cli_texts.specs.CompareCommand as compare
 use Rattle.cli_texts.specs.FaultyTexts.{AnswersOrFault}
+use Rattle.cli_texts.specs.ListsCommand as lists
 use Rattle.cli_texts.specs.SplitCommand as split
 use Rattle.cli_texts.specs.SplitText.{split_answer}
 use Rattle.cli_texts.specs.Subject.{word_at}
 use Rattle.cli_texts.specs.Systems as systems
+use Rattle.cli_texts.specs.TermsCommand as terms
 use Rattle.cli_texts.specs.TestCommand as test
 use Rattle.cli_texts.specs.TryCommand as try
 use Rattle.cli_texts.specs.declared.findings_form.FindingsForm.{FindingsForm}
@@ -225,6 +227,16 @@ lists_clients : (rows : List Row) (known : Option (List ℕ)) (result : Result P
 lists_clients rows known result is =
     after result is (λ subject is. after result is (λ path is. with_systems subject rows _ known _ result is (λ left table is. after result is (λ sources is.
     or_fault _ _ _ result is (λ printed is. ranges _ is.policy path printed is.prints)))))
+
+lists_listing : (rows : List Row) (known : Option (List ℕ)) (result : Result Printed Failure) → lists.AnswersLists rows known result → Fine result
+lists_listing rows known result is =
+    after result is (λ subject is. after result is (λ address is. with_systems subject rows _ known _ result is (λ left table is. after result is (λ sources is.
+    or_fault _ _ _ result is (λ printed is. prints _ 0 printed not_0 is.prints.prints)))))
+
+lists_terms : (rows : List Row) (known : Option (List ℕ)) (result : Result Printed Failure) → terms.AnswersTerms rows known result → Fine result
+lists_terms rows known result is =
+    after result is (λ subject is. with_systems subject rows _ known _ result is (λ left table is. after result is (λ sources is.
+    or_fault _ _ _ result is (λ printed is. prints _ 0 printed not_0 is.prints.prints))))
 
 compared : (before : Content) (read : Result Content SiteFault) (all : Bool) (printed : Printed) → compare.PrintsChanges before read all printed → Fine (Ok printed)
 compared before read all printed is = prints _ _ printed (none_of _ 0 1 not_0 not_1) is.prints
@@ -452,6 +464,8 @@ by_command Try rows known result is = tries (asking_in rows) rows known result i
 by_command Split rows known result is = splits rows known result is
 by_command Check rows known result is = checks (check.beside_sarif rows) rows known result is
 by_command Clients rows known result is = lists_clients rows known result is
+by_command Lists rows known result is = lists_listing rows known result is
+by_command Terms rows known result is = lists_terms rows known result is
 by_command Compare rows known result is = compares rows known result is
 by_command Test rows known result is = tests_texts rows known result is
 by_command Init rows known result is = makes rows known result is
