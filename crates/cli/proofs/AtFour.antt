@@ -211,17 +211,17 @@ splits rows known result is =
     word _ _ (first_of (codes "FILE") rows) result is (λ file is. word _ _ (first_of (codes "FILESYSTEMS") rows) result is (λ filesystems is. after result is (λ sources is.
     either _ _ result is (λ printed is. split_prints sources (split_answer sources.file.text.now sources.filesystems.text.now) printed is))))
 
-found : (IsFound : Gathered → Type 0) (form : FindingsForm) (result : Result Printed Failure) → check.AnswersFound IsFound form result → Fine result
-found IsFound form result is = either _ _ result is (λ printed is. let shown = is.1.1 in prints _ _ printed (none_of shown.checked.passes 0 3 not_0 not_3) shown.prints.prints)
+found : (IsFound : Gathered → Type 0) (form : FindingsForm) (ignored : Option (List ℕ)) (result : Result Printed Failure) → check.AnswersFound IsFound form ignored result → Fine result
+found IsFound form ignored result is = either _ _ result is (λ printed is. let shown = is.1.1 in prints _ _ printed (none_of shown.checked.passes 0 3 not_0 not_3) shown.prints.prints)
 
-checks_subject : (subject : Subject) (rows : List Row) (known : Option (List ℕ)) (result : Result Printed Failure) → check.AnswersSubject rows known subject result → Fine result
-checks_subject (File file) rows known result is = with_systems (File file) rows _ known _ result is (λ left table is. after result is (λ sources is. found _ _ result is))
-checks_subject (Site folder) rows known result is =
-    after result is (λ custodians is. after result is.after (λ both is. after result is.answers (λ sources is. found _ _ result is.answers)))
+checks_subject : (subject : Subject) (rows : List Row) (ignored known : Option (List ℕ)) (result : Result Printed Failure) → check.AnswersSubject rows ignored known subject result → Fine result
+checks_subject (File file) rows ignored known result is = with_systems (File file) rows _ known _ result is (λ left table is. after result is (λ sources is. found _ _ _ result is))
+checks_subject (Site folder) rows ignored known result is =
+    after result is (λ custodians is. after result is.after (λ both is. after result is.answers (λ sources is. found _ _ _ result is.answers)))
 
 checks : (option : Option (List ℕ)) (rows : List Row) (known : Option (List ℕ)) (result : Result Printed Failure) → check.AnswersCheckIf option rows known result → Fine result
 checks (Some option) rows known result is = err_and _ result is
-checks None rows known result is = after result is (λ subject is. checks_subject subject rows known result is)
+checks None rows known result is = after result is (λ ignored is. after result is (λ subject is. checks_subject subject rows ignored known result is))
 
 lists_clients : (rows : List Row) (known : Option (List ℕ)) (result : Result Printed Failure) → clients.AnswersClients rows known result → Fine result
 lists_clients rows known result is =
