@@ -39,7 +39,11 @@ use Rattle.cli_words.specs.LineWords.{words_of}
 use Rattle.cli_words.specs.Values.{revision_number}
 use Rattle.cli_words.specs.Words.{After, AnswersBy, Continues}
 use Rattle.cli_words.specs.declared.commands.Subcommand.{Subcommand}
+<<<<<<< HEAD
 use Rattle.cli_words.specs.declared.commands.Subcommand.TheVariants as subcommand
+=======
+use Rattle.cli_words.specs.declared.commands.Subcommand.TheVariants.{Ask, Audit, Cat, Check, Clients, Compare, Copy, Exports, Files, Impact, Init, Lists, Log, Proposal, Put, Report, Serve, Show, Split, Terms, Test, Try, Who, Write}
+>>>>>>> 22ebe4352fe4ad126665e4f7b7d7583f2a53c8a2
 use Rattle.cli_files.specs.Input.{first_line}
 use Rattle.cli_verdict.specs.Asking.{asking_in}
 use Rattle.cli_verdict.specs.Ranges.{PrintsRanges}
@@ -51,10 +55,12 @@ use Rattle.cli_texts.specs.CheckCommand as check
 use Rattle.cli_texts.specs.ClientsCommand as clients
 use Rattle.cli_texts.specs.CompareCommand as compare
 use Rattle.cli_texts.specs.FaultyTexts.{AnswersOrFault}
+use Rattle.cli_texts.specs.ListsCommand as lists
 use Rattle.cli_texts.specs.SplitCommand as split
 use Rattle.cli_texts.specs.SplitText.{split_answer}
 use Rattle.cli_texts.specs.Subject.{word_at}
 use Rattle.cli_texts.specs.Systems as systems
+use Rattle.cli_texts.specs.TermsCommand as terms
 use Rattle.cli_texts.specs.TestCommand as test
 use Rattle.cli_texts.specs.TryCommand as try
 use Rattle.cli_texts.specs.declared.findings_form.FindingsForm.{FindingsForm}
@@ -211,22 +217,32 @@ splits rows known result is =
     word _ _ (first_of (codes "FILE") rows) result is (λ file is. word _ _ (first_of (codes "FILESYSTEMS") rows) result is (λ filesystems is. after result is (λ sources is.
     either _ _ result is (λ printed is. split_prints sources (split_answer sources.file.text.now sources.filesystems.text.now) printed is))))
 
-found : (IsFound : Gathered → Type 0) (form : FindingsForm) (result : Result Printed Failure) → check.AnswersFound IsFound form result → Fine result
-found IsFound form result is = either _ _ result is (λ printed is. let shown = is.1.1 in prints _ _ printed (none_of shown.checked.passes 0 3 not_0 not_3) shown.prints.prints)
+found : (IsFound : Gathered → Type 0) (form : FindingsForm) (ignored : Option (List ℕ)) (result : Result Printed Failure) → check.AnswersFound IsFound form ignored result → Fine result
+found IsFound form ignored result is = either _ _ result is (λ printed is. let shown = is.1.1 in prints _ _ printed (none_of shown.checked.passes 0 3 not_0 not_3) shown.prints.prints)
 
-checks_subject : (subject : Subject) (rows : List Row) (known : Option (List ℕ)) (result : Result Printed Failure) → check.AnswersSubject rows known subject result → Fine result
-checks_subject (File file) rows known result is = with_systems (File file) rows _ known _ result is (λ left table is. after result is (λ sources is. found _ _ result is))
-checks_subject (Site folder) rows known result is =
-    after result is (λ custodians is. after result is.after (λ both is. after result is.answers (λ sources is. found _ _ result is.answers)))
+checks_subject : (subject : Subject) (rows : List Row) (ignored known : Option (List ℕ)) (result : Result Printed Failure) → check.AnswersSubject rows ignored known subject result → Fine result
+checks_subject (File file) rows ignored known result is = with_systems (File file) rows _ known _ result is (λ left table is. after result is (λ sources is. found _ _ _ result is))
+checks_subject (Site folder) rows ignored known result is =
+    after result is (λ custodians is. after result is.after (λ both is. after result is.answers (λ sources is. found _ _ _ result is.answers)))
 
 checks : (option : Option (List ℕ)) (rows : List Row) (known : Option (List ℕ)) (result : Result Printed Failure) → check.AnswersCheckIf option rows known result → Fine result
 checks (Some option) rows known result is = err_and _ result is
-checks None rows known result is = after result is (λ subject is. checks_subject subject rows known result is)
+checks None rows known result is = after result is (λ ignored is. after result is (λ subject is. checks_subject subject rows ignored known result is))
 
 lists_clients : (rows : List Row) (known : Option (List ℕ)) (result : Result Printed Failure) → clients.AnswersClients rows known result → Fine result
 lists_clients rows known result is =
     after result is (λ subject is. after result is (λ path is. with_systems subject rows _ known _ result is (λ left table is. after result is (λ sources is.
     or_fault _ _ _ result is (λ printed is. ranges _ is.policy path printed is.prints)))))
+
+lists_listing : (rows : List Row) (known : Option (List ℕ)) (result : Result Printed Failure) → lists.AnswersLists rows known result → Fine result
+lists_listing rows known result is =
+    after result is (λ subject is. after result is (λ address is. with_systems subject rows _ known _ result is (λ left table is. after result is (λ sources is.
+    or_fault _ _ _ result is (λ printed is. prints _ 0 printed not_0 is.prints.prints)))))
+
+lists_terms : (rows : List Row) (known : Option (List ℕ)) (result : Result Printed Failure) → terms.AnswersTerms rows known result → Fine result
+lists_terms rows known result is =
+    after result is (λ subject is. with_systems subject rows _ known _ result is (λ left table is. after result is (λ sources is.
+    or_fault _ _ _ result is (λ printed is. prints _ 0 printed not_0 is.prints.prints))))
 
 compared : (before : Content) (read : Result Content SiteFault) (all : Bool) (printed : Printed) → compare.PrintsChanges before read all printed → Fine (Ok printed)
 compared before read all printed is = prints _ _ printed (none_of _ 0 1 not_0 not_1) is.prints
@@ -454,6 +470,7 @@ serves rows result (inr is) = after result is (λ asked is. serves_not _ _ resul
 -- ---- the program
 
 by_command : (command : Subcommand) (rows : List Row) (known : Option (List ℕ)) (result : Result Printed Failure) → AnswersGiven command rows known result → Fine result
+<<<<<<< HEAD
 by_command subcommand.Try rows known result is = tries (asking_in rows) rows known result is
 by_command subcommand.Split rows known result is = splits rows known result is
 by_command subcommand.Check rows known result is = checks (check.beside_sarif rows) rows known result is
@@ -476,6 +493,32 @@ by_command subcommand.Report rows known result is = word _ _ (first_of (codes "D
 by_command subcommand.Write rows known result is = writes rows result is
 by_command subcommand.Copy rows known result is = copies rows result is
 by_command subcommand.Serve rows known result is = serves rows result is
+=======
+by_command Try rows known result is = tries (asking_in rows) rows known result is
+by_command Split rows known result is = splits rows known result is
+by_command Check rows known result is = checks (check.beside_sarif rows) rows known result is
+by_command Clients rows known result is = lists_clients rows known result is
+by_command Lists rows known result is = lists_listing rows known result is
+by_command Terms rows known result is = lists_terms rows known result is
+by_command Compare rows known result is = compares rows known result is
+by_command Test rows known result is = tests_texts rows known result is
+by_command Init rows known result is = makes rows known result is
+by_command Ask rows known result is = asks_if (asking_in rows) rows result is
+by_command Show rows known result is = shows rows result is
+by_command Exports rows known result is = lists_exports rows result is
+by_command Who rows known result is = lists_who rows result is
+by_command Put rows known result is = puts rows known result is
+by_command Impact rows known result is = foresees rows known result is
+by_command Audit rows known result is = audits rows known result is
+by_command Log rows known result is = lists_log rows result is
+by_command Cat rows known result is = prints_file rows result is
+by_command Proposal rows known result is = prints_proposal rows result is
+by_command Files rows known result is = lists_files rows result is
+by_command Report rows known result is = word _ _ (first_of (codes "DB") rows) result is (λ db is. reports db result is)
+by_command Write rows known result is = writes rows result is
+by_command Copy rows known result is = copies rows result is
+by_command Serve rows known result is = serves rows result is
+>>>>>>> 22ebe4352fe4ad126665e4f7b7d7583f2a53c8a2
 
 by_found : (found : Option (Subcommand × List Row)) (known : Option (List ℕ)) (result : Result Printed Failure) → AnswersFound found known result → Fine result
 by_found (Some found) known result is = by_command found.0 found.1 known result is
