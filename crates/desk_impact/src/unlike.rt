@@ -35,10 +35,7 @@ pub(crate) fn starts_of_changes(
 fn homes_of(before: &Policy, after: &Policy, path: &Path) -> Option<(FsId, FsId)>
     ensures { IfSome result (λ homes. AreHomes before.now after.now path.now homes.0.0 homes.1.0) }
 {
-    match (
-        before.filesystems().of(path),
-        after.filesystems().of(path),
-    ) {
+    match (before.filesystems().of(path), after.filesystems().of(path)) {
         (Some(old), Some(new)) if same_mount(before, after, old, new) => Some((old, new)),
         _ => None,
     }
