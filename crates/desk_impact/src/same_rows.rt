@@ -30,8 +30,9 @@ fn are_same_clients(clients: &Clients, others: &Clients) -> bool
 {
     match (clients, others) {
         (Clients::Hosts(names), Clients::Hosts(others)) => are_same_names(names, others),
-        (Clients::Net(net, value), Clients::Net(other, other_value)) => is_same_network(*net, *other)
-            && is_same_value(value, other_value),
+        (Clients::Net(net, value), Clients::Net(other, other_value)) => is_same_network(
+            *net, *other,
+        ) && is_same_value(value, other_value),
         (Clients::Net6(value), Clients::Net6(other)) => is_same_text(value, other),
         (Clients::World, Clients::World) => true,
         _ => false,

@@ -72,7 +72,10 @@ pub fn found_starts<T: Alike, S: Search<T>>(
 {
     let policy = search.policy();
     match policy.filesystems().of(path) {
-        Some(fs) => joined(sought_among(alloc, search, policy.rows(fs))?, search.starts()),
+        Some(fs) => joined(
+            sought_among(alloc, search, policy.rows(fs))?,
+            search.starts(),
+        ),
         None => joined(AddrSet::new(alloc), search.starts()),
     }
 }
