@@ -39,11 +39,7 @@ use Rattle.cli_words.specs.LineWords.{words_of}
 use Rattle.cli_words.specs.Values.{revision_number}
 use Rattle.cli_words.specs.Words.{After, AnswersBy, Continues}
 use Rattle.cli_words.specs.declared.commands.Subcommand.{Subcommand}
-<<<<<<< HEAD
 use Rattle.cli_words.specs.declared.commands.Subcommand.TheVariants as subcommand
-=======
-use Rattle.cli_words.specs.declared.commands.Subcommand.TheVariants.{Ask, Audit, Cat, Check, Clients, Compare, Copy, Exports, Files, Impact, Init, Lists, Log, Proposal, Put, Report, Serve, Show, Split, Terms, Test, Try, Who, Write}
->>>>>>> 22ebe4352fe4ad126665e4f7b7d7583f2a53c8a2
 use Rattle.cli_files.specs.Input.{first_line}
 use Rattle.cli_verdict.specs.Asking.{asking_in}
 use Rattle.cli_verdict.specs.Ranges.{PrintsRanges}
@@ -470,11 +466,12 @@ serves rows result (inr is) = after result is (λ asked is. serves_not _ _ resul
 -- ---- the program
 
 by_command : (command : Subcommand) (rows : List Row) (known : Option (List ℕ)) (result : Result Printed Failure) → AnswersGiven command rows known result → Fine result
-<<<<<<< HEAD
 by_command subcommand.Try rows known result is = tries (asking_in rows) rows known result is
 by_command subcommand.Split rows known result is = splits rows known result is
 by_command subcommand.Check rows known result is = checks (check.beside_sarif rows) rows known result is
 by_command subcommand.Clients rows known result is = lists_clients rows known result is
+by_command subcommand.Lists rows known result is = lists_listing rows known result is
+by_command subcommand.Terms rows known result is = lists_terms rows known result is
 by_command subcommand.Compare rows known result is = compares rows known result is
 by_command subcommand.Test rows known result is = tests_texts rows known result is
 by_command subcommand.Init rows known result is = makes rows known result is
@@ -493,32 +490,6 @@ by_command subcommand.Report rows known result is = word _ _ (first_of (codes "D
 by_command subcommand.Write rows known result is = writes rows result is
 by_command subcommand.Copy rows known result is = copies rows result is
 by_command subcommand.Serve rows known result is = serves rows result is
-=======
-by_command Try rows known result is = tries (asking_in rows) rows known result is
-by_command Split rows known result is = splits rows known result is
-by_command Check rows known result is = checks (check.beside_sarif rows) rows known result is
-by_command Clients rows known result is = lists_clients rows known result is
-by_command Lists rows known result is = lists_listing rows known result is
-by_command Terms rows known result is = lists_terms rows known result is
-by_command Compare rows known result is = compares rows known result is
-by_command Test rows known result is = tests_texts rows known result is
-by_command Init rows known result is = makes rows known result is
-by_command Ask rows known result is = asks_if (asking_in rows) rows result is
-by_command Show rows known result is = shows rows result is
-by_command Exports rows known result is = lists_exports rows result is
-by_command Who rows known result is = lists_who rows result is
-by_command Put rows known result is = puts rows known result is
-by_command Impact rows known result is = foresees rows known result is
-by_command Audit rows known result is = audits rows known result is
-by_command Log rows known result is = lists_log rows result is
-by_command Cat rows known result is = prints_file rows result is
-by_command Proposal rows known result is = prints_proposal rows result is
-by_command Files rows known result is = lists_files rows result is
-by_command Report rows known result is = word _ _ (first_of (codes "DB") rows) result is (λ db is. reports db result is)
-by_command Write rows known result is = writes rows result is
-by_command Copy rows known result is = copies rows result is
-by_command Serve rows known result is = serves rows result is
->>>>>>> 22ebe4352fe4ad126665e4f7b7d7583f2a53c8a2
 
 by_found : (found : Option (Subcommand × List Row)) (known : Option (List ℕ)) (result : Result Printed Failure) → AnswersFound found known result → Fine result
 by_found (Some found) known result is = by_command found.0 found.1 known result is
