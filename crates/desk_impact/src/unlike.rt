@@ -35,9 +35,12 @@ pub(crate) fn starts_of_changes(
 fn homes_of(before: &Policy, after: &Policy, path: &Path) -> Option<(FsId, FsId)>
     ensures { IfSome result (λ homes. AreHomes before.now after.now path.now homes.0.0 homes.1.0) }
 {
-    match (before.filesystems().of(path), after.filesystems().of(path)) {
-        (Some(old), Some(new)) if same_mount(before, after, old, new) => Some((old, new)),
-        _ => None,
+    let old = before.filesystems().of(path)?;
+    let new = after.filesystems().of(path)?;
+    if same_mount(before, after, old, new) {
+        Some((old, new))
+    } else {
+        None
     }
 }
 
@@ -112,9 +115,11 @@ fn past_first<'a>(
 fn behind_row<'a>(row: &Row, rest: &'a [Row]) -> Option<&'a [Row]>
     ensures { IfSome result (λ left. rest.now ≡ row.now ∷ left.now) }
 {
-    match rest.split_first() {
-        Some((first, left)) if is_same_row(row, first) => Some(left),
-        _ => None,
+    let (first, left) = rest.split_first()?;
+    if is_same_row(row, first) {
+        Some(left)
+    } else {
+        None
     }
 }
 

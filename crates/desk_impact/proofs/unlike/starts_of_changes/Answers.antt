@@ -20,8 +20,8 @@ returns-in-Some c =
     let new = c.in-Some.new.0 in
     let homes : AreHomes before after path old new = c.in-Some.ensures in
     let are : IfOk c.starts_of_unlike.result (AreStartsOfUnlike (rows_of before old) (rows_of after new) starts) =
-    subst (λ rows. IfOk c.starts_of_unlike.result (AreStartsOfUnlike (rows_of before old) rows starts)) c.rows-2.ensures
-    (subst (λ rows. IfOk c.starts_of_unlike.result (AreStartsOfUnlike rows c.rows-2.result.now starts)) c.rows.ensures c.starts_of_unlike.ensures) in
+    subst (λ rows. IfOk c.starts_of_unlike.result (AreStartsOfUnlike (rows_of before old) rows starts)) c.rows-in-Some.ensures
+    (subst (λ rows. IfOk c.starts_of_unlike.result (AreStartsOfUnlike rows c.rows-in-Some.result.now starts)) c.rows.ensures c.starts_of_unlike.ensures) in
     IfOk-weaker c.starts_of_unlike.result (AreStartsOfUnlike (rows_of before old) (rows_of after new) starts) (AreStartsOfChanges before after path)
     (λ decided are. unlike_starts before after path starts c.in_ok-starts.ensures old new homes decided are) are
 

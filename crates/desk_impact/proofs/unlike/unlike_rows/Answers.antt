@@ -15,7 +15,7 @@ loop-row-preserved c =
     let old = c.args.old.now in
     let i = c.loop-row.row-index in
     let row = c.row-item.result in
-    balanced_next (take i old) _ row _ _ c.args.new.now _ _ (take_next old i row c.loop-row-test.true c.row-item.is) c.in_ok-past_row.ensures c.loop-row.invariant
+    balanced_next (take i old) _ row _ _ c.args.new.now _ _ (take_next old i row c.loop-row-test.true c.row-item.is) c.in_ok-rest.ensures c.loop-row.invariant
 
 pub returns : goal.returns
 returns c =
