@@ -1,5 +1,5 @@
 -- Where no line matches that only one of two policies has, both say the same.
-use Rattle.std.proofs.Common.{◌≡◌, ℕ, ◌+◌, ◌<◌, ◌^◌, ◌&&◌, not, Bool, true, false, cond, List, [], ◌∷◌, ◌++◌, append-nil, length, take, get_or, refl, sym, ap, ◌∙◌, subst, arith, inl, inr}
+use Rattle.std.proofs.Common.{◌≡◌, ℕ, ◌+◌, ◌<◌, ◌^◌, ◌&&◌, not, Bool, false, cond, List, [], ◌∷◌, ◌++◌, append-nil, length, take, get_or, refl, sym, ap, ◌∙◌, subst, inl, inr}
 use Rattle.std.specs.Prelude.{Option, Some, None, filter, find, is_none}
 use Rattle.std.specs.List.{AllByRecursion, list_all}
 use Rattle.std.proofs.lemmas.Bool.{cases_Bool}
@@ -12,7 +12,6 @@ use Rattle.desk_policy.specs.Verdict.{granted_by, lists, lists_here, verdict_amo
 use Rattle.desk_policy.specs.Weights.{is_at_most, is_greatest, selected, weight_of}
 use Rattle.desk_policy.specs.declared.row.Row.{Row}
 use Rattle.desk_policy.proofs.VerdictLines.{among_agree, lists_same}
-use Rattle.desk_who.specs.Beside.{AreStartsWithin}
 use Rattle.desk_who.specs.Starts.{IsSteadyLine}
 use Rattle.desk_impact.specs.Impact.{AreStartsOfBoth, AreStartsOfChanges, HasNoLine, IsNotListed, mount_at, saying}
 use Rattle.desk_impact.specs.PrivateUnlike.{AreHomes, AreStartsOfUnlike, AreUnlike, IsPast, NoneMatches, matching}

@@ -1,5 +1,5 @@
 -- The names so far are the same.
-use Rattle.std.proofs.Common.{◌≡◌, length, take}
+use Rattle.std.proofs.Common.{◌≡◌, take}
 use Rattle.desk_impact.proofs.same_rows.are_same_names.Given as goal
 
 abbrev pub invariant-loop-place : goal.invariant-loop-place

@@ -1,7 +1,6 @@
 use Rattle.std.proofs.Common.{IfOk, refl, subst}
 use Rattle.std.proofs.lemmas.Result.{IfOk-weaker}
 use Rattle.desk_policy.specs.Policy.{rows_of}
-use Rattle.desk_policy.specs.declared.row.Row.{Row}
 use Rattle.desk_impact.specs.Impact.{AreStartsOfChanges}
 use Rattle.desk_impact.specs.PrivateUnlike.{AreHomes, AreStartsOfUnlike}
 use Rattle.desk_impact.proofs.UnlikeLines.{all_starts, unlike_starts}
