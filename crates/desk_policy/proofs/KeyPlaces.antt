@@ -26,7 +26,7 @@ pub on_ok : {A E : Type 0} {P Q : Type 0} → (result : Result A E) → (P → Q
 on_ok (Ok value) f h = f h
 on_ok (Err error) f h = tt
 
-or_none : {X : Type 0} (o : Option X) → o ≡ option_or o None
+pub or_none : {X : Type 0} (o : Option X) → o ≡ option_or o None
 or_none None = refl
 or_none (Some x) = refl
 

@@ -15,6 +15,7 @@ pub mod SelectedByKeys
 pub mod Places
 pub mod KeyClashes
 pub mod KeyPlaces
+pub mod SameLine
 pub mod Lesser
 pub mod FilesRead
 pub mod Chain

@@ -1,14 +1,15 @@
 -- What the private contracts of the search for contradictions cite: the keys under which lines of a file system may clash.
 -- Two lines match an address with equal weight exactly if they have one key that matches it.
-use Rattle.std.specs.Prelude.{◌≡◌, ◌≢◌, ◌⊎◌, ℕ, ◌<◌, ◌≤◌, Bool, true, nat_lt, List, [], ◌∷◌, Option, Some, None, find, if◌then◌else◌}
-use Rattle.std.specs.BTreeMap.{get}
+use Rattle.std.specs.Prelude.{◌≡◌, ◌≢◌, ◌⊎◌, ℕ, ◌<◌, ◌≤◌, Bool, true, nat_lt, IsSome, List, [], ◌∷◌, Option, Some, None, find, length, slice_get, take, if◌then◌else◌}
+use Rattle.std.specs.BTreeMap.{BTreeMap, get}
 use Rattle.std.specs.List.{position}
 use Rattle.std.specs.Option.{option_or}
 use Rattle.std.specs.Ordering.{nat_cmp, ordering_then}
 use Rattle.std.specs.declared.cmp.Ordering.{Ordering}
 use Rattle.desk_text.specs.Address.{number_of}
+use Rattle.desk_text.specs.AddrSet.{is_among}
 use Rattle.desk_exports.specs.declared.entry.Terms.{Terms}
-use Rattle.desk_policy.specs.Keys.{LineKey, Host, Network, Everybody, IsLineKey, least_of, has_key}
+use Rattle.desk_policy.specs.Keys.{LineKey, Host, Network, Everybody, IsLineKey, is_host_among, least_of, has_key}
 use Rattle.desk_policy.specs.declared.contradiction.Contradiction.{Contradiction}
 use Rattle.desk_policy.specs.declared.first_lines.Clash.{Clash}
 use Rattle.desk_policy.specs.declared.first_lines.FirstLines.{FirstLines}
@@ -77,3 +78,17 @@ AreFirsts firsts rows = (key : LineKey) → place_at firsts key ≡ position (ha
 -- the line at this place is added under each of its keys that no line had
 abbrev pub AddsLine : FirstLines → FirstLines → ℕ → Row → Type 0
 AddsLine old new place row = (key : LineKey) → place_at new key ≡ option_or (place_at old key) (if has_key key row then Some place else None)
+
+-- of each line its least clash with those before it is kept
+pub record AreClashes (firsts : FirstLines) (rows : List Row) : Type 0 where
+  pub each : length firsts.clashes.items ≡ length rows
+  pub least : (place : ℕ) (row : Row) (clash : Option Clash) → slice_get rows place ≡ Some row → slice_get firsts.clashes.items place ≡ Some clash → IsLeastClash (take place rows) row clash
+
+-- the other line has the same terms, and the keys of these addresses
+pub record IsAlike (row other : Row) : Type 0 where
+  pub terms : row.entry.terms ≡ other.entry.terms
+  pub keys : (key : LineKey) → has_key key other ≡ is_host_among row.addrs key
+
+-- each of these addresses has a place
+abbrev pub HasAll : BTreeMap ℕ ℕ → List ℕ → Type 0
+HasAll hosts addresses = (address : ℕ) → is_among address addresses ≡ true → IsSome (get nat_cmp hosts address)

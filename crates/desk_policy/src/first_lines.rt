@@ -2,9 +2,10 @@
 //!
 //! Two lines match an address with equal weight exactly if they have one key that matches it. While the earlier lines
 //! contradict each other nowhere, all of them under one key have the same terms; so a new line is compared with the first
-//! one alone.
+//! one alone. And a line with the terms and the addresses of an earlier one clashes just as that one does: so of the lines
+//! that name one large group, only the first is looked at address by address.
 
-ghost use Rattle.std.specs.Prelude.{◌≡◌, ℕ, IfOk, None, OnOk, Some, [], length, slice_get, unwrap_or, if◌then◌else◌};
+ghost use Rattle.std.specs.Prelude.{◌≡◌, ◌++◌, ℕ, IfOk, IfSome, IsTrue, None, OnOk, Some, [], ◌∷◌, length, slice_get, unwrap_or, if◌then◌else◌};
 ghost use Rattle.std.specs.BTreeMap.{get};
 ghost use Rattle.std.specs.List.{position};
 ghost use Rattle.std.specs.Option.{option_or};
@@ -12,7 +13,7 @@ ghost use Rattle.std.specs.Ordering.{is_eq, nat_cmp};
 ghost use Rattle.desk_text.specs.Address.{number_of};
 ghost use Rattle.desk_text.specs.AddrSet.{is_among};
 ghost use Rattle.desk_policy.specs.Keys.{HasBlock, Host, has_key, is_host_among};
-ghost use Rattle.desk_policy.specs.PrivateFirstLines.{AddsLine, AreFirsts, IsClashAmong, IsClashWith, IsLeastClash, earlier_clash};
+ghost use Rattle.desk_policy.specs.PrivateFirstLines.{AddsLine, AreClashes, AreFirsts, HasAll, IsAlike, IsClashAmong, IsClashWith, IsLeastClash, earlier_clash};
 
 use crate::row::Row;
 use crate::terms::same_terms;
@@ -21,12 +22,14 @@ use desk_text::Addr;
 use std::alloc::{AllocError, Global};
 use std::collections::BTreeMap;
 
-/// Under each key the place of the first line that has it. A network's key is its prefix and its first address.
+/// Under each key the place of the first line that has it, and of each line so far the clash that was found. A network's key
+/// is its prefix and its first address.
 #[derive(Drop)]
 pub struct FirstLines {
     hosts: BTreeMap<u32, usize>,
     networks: BTreeMap<(u8, u32), usize>,
     everybody: Option<usize>,
+    clashes: Vec<Option<Clash>>,
 }
 
 /// An earlier line that contradicts a line, and the least address at which it does.
@@ -39,25 +42,47 @@ pub struct Clash {
 impl FirstLines {
     /// Makes the keys of no line.
     pub fn new(alloc: Global) -> FirstLines
-        ensures { AreFirsts result [] }
+        ensures firsts { AreFirsts result [] }
+        ensures clashes { AreClashes result [] }
     {
         FirstLines {
             hosts: BTreeMap::new(alloc),
             networks: BTreeMap::new(alloc),
             everybody: None,
+            clashes: Vec::new(alloc),
         }
     }
 
     /// Adds a line under each of its keys that no earlier line has, and finds its least clash with the first of the earlier
     /// ones under each of its keys.
     pub fn add_line(&mut self, earlier: &[Row], row: &Row) -> Result<Option<Clash>, AllocError>
-        requires { AreFirsts self.old earlier.now }
+        requires firsts { AreFirsts self.old earlier.now }
+        requires clashes { AreClashes self.old earlier.now }
         ensures clash { IfOk result (IsLeastClash earlier.now row.now) }
         ensures adds { OnOk result (AddsLine self.old self.new (length earlier.now) row.now) }
+        ensures kept { IfOk result (λ clash. self.new.clashes.items ≡ self.old.clashes.items ++ clash ∷ []) }
+        ensures block { HasBlock row.now.entry.clients }
+    {
+        let clash = self.put_line(earlier, row)?;
+        self.clashes.push(clash)?;
+        Ok(clash)
+    }
+
+    /// Puts a line under each of its keys that no earlier line has, and finds its least clash.
+    fn put_line(&mut self, earlier: &[Row], row: &Row) -> Result<Option<Clash>, AllocError>
+        requires firsts { AreFirsts self.old earlier.now }
+        requires clashes { AreClashes self.old earlier.now }
+        ensures clash { IfOk result (IsLeastClash earlier.now row.now) }
+        ensures adds { OnOk result (AddsLine self.old self.new (length earlier.now) row.now) }
+        ensures kept { self.new.clashes ≡ self.old.clashes }
         ensures block { HasBlock row.now.entry.clients }
     {
         match &row.entry.clients {
-            Clients::Hosts(_) => add_hosts(&mut self.hosts, earlier, row),
+            Clients::Hosts(_) => match self.clash_of_alike(earlier, row) {
+                // (All its addresses have a place then.)
+                Some(clash) => Ok(clash),
+                None => add_hosts(&mut self.hosts, earlier, row),
+            },
             Clients::Net(net, _) => {
                 let key = (net.prefix().get(), net.first().number());
                 let place = first_under(&mut self.networks, key, earlier.len())?;
@@ -70,6 +95,38 @@ impl FirstLines {
                 Ok(clash_at(earlier, place, row, Addr::from_number(0)))
             }
         }
+    }
+
+    /// Finds the clash of a line of several addresses, if the first line that has the least of them has its addresses and terms.
+    fn clash_of_alike(&self, earlier: &[Row], row: &Row) -> Option<Option<Clash>>
+        requires firsts { AreFirsts self.now earlier.now }
+        requires clashes { AreClashes self.now earlier.now }
+        ensures clash { IfSome result (IsClashAmong earlier.now row.now.entry.terms (is_host_among row.now.addrs)) }
+        ensures adds { IfSome result (λ clash. HasAll self.now.hosts row.now.addrs) }
+    {
+        let [least, _, ..] = row.addrs.as_slice() else {
+            return None;
+        };
+        let place = *self.hosts.get(&least.number())?;
+        let other = earlier.get(place)?;
+        if !are_alike(row, other) {
+            return None;
+        }
+        let clash = self.clashes.get(place)?;
+        Some(*clash)
+    }
+}
+
+/// Tests whether two lines have the same terms and the same addresses of names.
+fn are_alike(row: &Row, other: &Row) -> bool
+    ensures { IsTrue result → IsAlike row.now other.now }
+{
+    match &other.entry.clients {
+        Clients::Hosts(_) => {
+            row.addrs.as_slice() == other.addrs.as_slice()
+                && same_terms(&row.entry.terms, &other.entry.terms)
+        }
+        Clients::Net(_, _) | Clients::Net6(_) | Clients::World => false,
     }
 }
 

@@ -9,6 +9,7 @@ use Rattle.desk_policy.proofs.Contradicting.{blocks_more}
 use Rattle.desk_policy.proofs.FirstDiffers.{next}
 use Rattle.desk_policy.proofs.LeastOfAll.{first_is_least}
 use Rattle.desk_policy.proofs.KeyPlaces.{firsts_more}
+use Rattle.desk_policy.proofs.SameLine.{clashes_more}
 use Rattle.desk_policy.proofs.contradiction.contradictions.Goals as goal
 
 none_yet : (rows : List Row) (found : List Contradiction) → found ≡ [] → AreContradictions rows [] found
@@ -21,7 +22,8 @@ none_yet rows found is = subst (AreContradictions rows []) (sym is) (record {
 pub loop-place-init : goal.loop-place-init
 loop-place-init c = record {
   listed = none_yet c.args.rows.now c.new-found.result c.new-found.ensures;
-  firsts = c.new-firsts.ensures;
+  firsts = c.new-firsts.ensures.firsts;
+  clashes = c.new-firsts.ensures.clashes;
   blocks = λ k d l. absurd (omega arith);
 }
 
@@ -38,6 +40,7 @@ loop-place-preserved c =
       listed = subst (AreContradictions rows (take (i + 1) rows)) (sym pushed)
           (next rows c.requires i row c.loop-place-test.true c.index-rows-place.is kept.blocks c.in_ok-clash.ensures.block c.loop-place.found clash kept.listed c.in_ok-clash.ensures.clash);
       firsts = firsts_more rows i row c.loop-place.firsts c.add_line.new.self c.loop-place-test.true c.index-rows-place.is kept.firsts c.in_ok-clash.ensures.adds;
+      clashes = clashes_more rows i row c.loop-place.firsts c.add_line.new.self clash c.loop-place-test.true c.index-rows-place.is kept.clashes c.in_ok-clash.ensures.clash c.in_ok-clash.ensures.kept;
       blocks = blocks_more rows c.requires i row c.loop-place-test.true c.index-rows-place.is kept.blocks c.in_ok-clash.ensures.block;
     }
 
