@@ -15,3 +15,4 @@ pub mod Lighter
 pub mod OneDirectory
 pub mod ByGroups
 pub mod Asked
+pub mod SameClients

@@ -1,8 +1,9 @@
 -- What the private contracts of repeated cite: the first line that has one of some clients.
-use Rattle.std.specs.Prelude.{◌≡◌, ◌⊎◌, ℕ, ◌<◌, ◌≤◌, Bool, true, nat_lt, Contains, List, [], ◌∷◌, Option, Some, None, if◌then◌else◌}
+use Rattle.std.specs.Prelude.{◌≡◌, ◌⊎◌, ℕ, ◌<◌, ◌≤◌, Bool, true, nat_lt, Contains, List, [], ◌∷◌, Option, Some, None, slice_get, if◌then◌else◌}
 use Rattle.desk_text.specs.Address.{number_of}
 use Rattle.desk_policy.specs.Keys.{Everybody, Host, LineKey, Network, has_key, is_everybody, is_host_among, is_network, least_of}
 use Rattle.desk_policy.specs.declared.row.Row.{Row}
+use Rattle.desk_server.specs.declared.repeated.RepeatedClient.{RepeatedClient}
 use Rattle.desk_server.specs.declared.repeated.Sharing.{Sharing}
 
 -- this key alone passes
@@ -38,3 +39,18 @@ abbrev pub earlier_of : Option Sharing → Option Sharing → Option Sharing
 earlier_of None other = other
 earlier_of (Some found) None = Some found
 earlier_of (Some found) (Some other) = if nat_lt other.other found.other then Some other else Some found
+
+-- what was found for the lines at these places
+abbrev pub AreSharings : List Row → List (Option Sharing) → Type 0
+AreSharings rows known =
+    (place : ℕ) (row : Row) (found : Option Sharing) → slice_get rows place ≡ Some row → slice_get known place ≡ Some found
+    → IsSharing rows row.entry.line (λ client. has_key client row) found
+
+-- the clients of another line are these addresses
+abbrev pub HasSameClients : Row → Row → Type 0
+HasSameClients row other = (client : LineKey) → has_key client other ≡ is_host_among row.addrs client
+
+-- a line, if it has a client of an earlier one
+abbrev pub repeated_of : ℕ → Option Sharing → List RepeatedClient
+repeated_of line None = []
+repeated_of line (Some found) = record { line = line; other = found.other; address = found.address } ∷ []

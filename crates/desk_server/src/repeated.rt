@@ -1,12 +1,12 @@
 //! Lines that have a client of an earlier line of their file system. mountd leaves such a line out if it has put that one in force.
 
-ghost use Rattle.std.specs.Prelude.{◌≡◌, IfOk, map, slice_get};
+ghost use Rattle.std.specs.Prelude.{◌≡◌, ◌++◌, IfOk, IfSome, IsTrue, OnOk, Some, map, slice_get};
 ghost use Rattle.std.specs.List.Sorted.{IsStrictlyIncreasing};
 ghost use Rattle.desk_text.specs.Address.{number_of};
 ghost use Rattle.desk_policy.specs.Keys.{has_key, is_host_among, least_of};
 ghost use Rattle.desk_policy.specs.Policy.{AreAscending, rows_of};
 ghost use Rattle.desk_index.specs.Keys.{fs_of_key, line_key, lines_with};
-ghost use Rattle.desk_server.specs.PrivateRepeated.{IsSharing, earlier_of, is_key};
+ghost use Rattle.desk_server.specs.PrivateRepeated.{AreSharings, HasSameClients, IsSharing, earlier_of, is_key, repeated_of};
 ghost use Rattle.desk_server.specs.RepeatedClients.{AreRepeatedClients};
 
 use desk_exports::Clients;
@@ -39,22 +39,37 @@ pub fn repeated_clients(
     repeated_among(alloc, index, fs)
 }
 
-/// Lists them by the lines under each of their keys.
+/// Lists them by the lines under each of their keys, and those with the addresses of an earlier line by that line.
 fn repeated_among(alloc: Global, index: &Index, fs: FsId) -> Result<Vec<RepeatedClient>, AllocError>
     requires { AreAscending (rows_of index.now fs.0) }
     ensures { IfOk result (λ found. AreRepeatedClients (rows_of index.now fs.0) found.items) }
 {
     let mut found = Vec::new(alloc);
+    let mut known = Vec::new(alloc);
     for row in index.policy().rows(fs) {
-        if let Some(sharing) = sharing_of(index, fs, row) {
-            found.push(RepeatedClient {
-                line: row.entry.line,
-                other: sharing.other,
-                address: sharing.address,
-            })?;
-        }
+        let sharing = sharing_of(index, fs, known.as_slice(), row);
+        push_repeated(&mut found, row.entry.line, sharing)?;
+        known.push(sharing)?;
     }
     Ok(found)
+}
+
+/// Adds a line, if it has a client of an earlier one.
+fn push_repeated(
+    found: &mut Vec<RepeatedClient>,
+    line: u32,
+    sharing: Option<Sharing>,
+) -> Result<(), AllocError>
+    ensures { OnOk result (found.new.items ≡ found.old.items ++ repeated_of line sharing) }
+{
+    if let Some(sharing) = sharing {
+        found.push(RepeatedClient {
+            line,
+            other: sharing.other,
+            address: sharing.address,
+        })?;
+    }
+    Ok(())
 }
 
 /// The first line that has a client of another, and the least address of such a client.
@@ -64,17 +79,61 @@ struct Sharing {
     address: Addr,
 }
 
-/// Finds the first line that has a client of this one, if it is an earlier line.
-fn sharing_of(index: &Index, fs: FsId, row: &Row) -> Option<Sharing>
-    requires { AreAscending (rows_of index.now fs.0) }
+/// Finds the first line that has a client of this one, if it is an earlier line, given what was found for the first lines.
+fn sharing_of(index: &Index, fs: FsId, known: &[Option<Sharing>], row: &Row) -> Option<Sharing>
+    requires rows { AreAscending (rows_of index.now fs.0) }
+    requires known { AreSharings (rows_of index.now fs.0) known.now }
     ensures { IsSharing (rows_of index.now fs.0) row.now.entry.line (λ client. has_key client row.now) result }
 {
     let line = row.entry.line;
     match &row.entry.clients {
-        Clients::Hosts(_) => sharing_hosts(index, fs, line, row.addrs.as_slice()),
+        Clients::Hosts(_) => match sharing_of_alike(index, fs, known, row) {
+            Some(sharing) => Some(sharing),
+            None => sharing_hosts(index, fs, line, row.addrs.as_slice()),
+        },
         Clients::Net(net, _) => sharing_key(index, Key::Net(fs, *net), line, net.first()),
         Clients::Net6(_) => None,
         Clients::World => sharing_key(index, Key::World(fs), line, Addr::from_number(0)),
+    }
+}
+
+/// Finds the first line that has a client of a line of several addresses, if the first line that has the least of them is an
+/// earlier one and has the same: so of the lines that name one large group, only the first is looked at address by address.
+fn sharing_of_alike(
+    index: &Index,
+    fs: FsId,
+    known: &[Option<Sharing>],
+    row: &Row,
+) -> Option<Sharing>
+    requires { AreSharings (rows_of index.now fs.0) known.now }
+    ensures { IfSome result (λ found. IsSharing (rows_of index.now fs.0) row.now.entry.line (is_host_among row.now.addrs) (Some found)) }
+{
+    let [least, _, ..] = row.addrs.as_slice() else {
+        return None;
+    };
+    let line = first_under(index, Key::Host(fs, *least))?;
+    let rows = index.policy().rows(fs);
+    let place = rows.partition_point(|other| other.entry.line < line);
+    let other = rows.get(place)?;
+    if other.entry.line >= row.entry.line || !have_same_addresses(row, other) {
+        return None;
+    }
+    match known.get(place)? {
+        Some(sharing) => Some(*sharing),
+        None => Some(Sharing {
+            other: other.entry.line,
+            address: *least,
+        }),
+    }
+}
+
+/// Tests whether another line has just the addresses of this one as its clients.
+fn have_same_addresses(row: &Row, other: &Row) -> bool
+    ensures { IsTrue result → HasSameClients row.now other.now }
+{
+    match &other.entry.clients {
+        Clients::Hosts(_) => row.addrs.as_slice() == other.addrs.as_slice(),
+        Clients::Net(_, _) | Clients::Net6(_) | Clients::World => false,
     }
 }
 
