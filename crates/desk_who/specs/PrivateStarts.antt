@@ -1,9 +1,13 @@
 -- What the private contracts of starts cite.
-use Rattle.std.specs.Prelude.{ℕ, ◌+◌, ◌^◌, ◌&&◌, Bool, nat_le, nat_lt, List, [], ◌∷◌, filter}
+use Rattle.std.specs.Prelude.{◌≡◌, ℕ, ◌+◌, ◌^◌, ◌&&◌, Bool, nat_le, nat_lt, List, [], ◌∷◌, filter, map}
 use Rattle.std.specs.List.{flat_map}
+use Rattle.desk_text.specs.Address.{number_of}
+use Rattle.desk_text.specs.AddrSet.{is_among}
 use Rattle.desk_text.specs.Network.{last_of}
+use Rattle.desk_text.specs.declared.address.Addr.{Addr}
 use Rattle.desk_exports.specs.declared.entry.Clients.{Clients}
 use Rattle.desk_exports.specs.declared.entry.Clients.TheVariants.{Hosts, Net, Net6, World}
+use Rattle.desk_policy.specs.Keys.{HasBlock}
 use Rattle.desk_policy.specs.declared.row.Row.{Row}
 
 -- an address that has one before it
@@ -27,6 +31,15 @@ starts_by World addresses = []
 
 abbrev pub starts_of : Row → List ℕ
 starts_of row = starts_by row.entry.clients row.addrs
+
+-- the addresses are those of these lines, in any order, and as often as may be
+abbrev pub AreGathered : List Row → List Addr → Type 0
+AreGathered rows starts = (n : ℕ) → is_among n (map number_of starts) ≡ is_among n (flat_map starts_of rows)
+
+-- a line begins and ceases to match where another does
+pub record IsAgain (row other : Row) : Type 0 where
+  pub starts : starts_of row ≡ starts_of other
+  pub block : HasBlock row.entry.clients
 
 -- a number is one of those from the first to the last
 abbrev pub is_between : ℕ → ℕ → ℕ → Bool

@@ -1,6 +1,6 @@
 //! The addresses at which something may change.
 
-ghost use Rattle.std.specs.Prelude.{◌≡◌, ◌++◌, ◌+◌, ◌∷◌, ◌≤◌, ◌^◌, [], IfOk, OnOk, false, filter, map};
+ghost use Rattle.std.specs.Prelude.{◌≡◌, ◌++◌, ◌+◌, ◌∷◌, ◌≤◌, ◌^◌, [], IfOk, IsTrue, OnOk, false, filter, map};
 ghost use Rattle.std.specs.List.{flat_map};
 ghost use Rattle.std.specs.List.Sorted.{IsStrictlyIncreasing};
 ghost use Rattle.desk_text.specs.Address.{number_of};
@@ -8,7 +8,7 @@ ghost use Rattle.desk_text.specs.AddrSet.{is_among};
 ghost use Rattle.desk_text.specs.Network.{IsBlock, last_of};
 ghost use Rattle.desk_policy.specs.Keys.{HasBlock};
 ghost use Rattle.desk_who.specs.Beside.{AreStartsWithin};
-ghost use Rattle.desk_who.specs.PrivateStarts.{around, is_between, kept, starts_of, within};
+ghost use Rattle.desk_who.specs.PrivateStarts.{AreGathered, IsAgain, around, is_between, kept, starts_of, within};
 ghost use Rattle.desk_who.specs.Starts.{AreJoined, AreStarts, AreStartsUnder};
 
 use desk_exports::Clients;
@@ -24,8 +24,8 @@ pub fn starts_among(alloc: Global, rows: &[Row]) -> Result<AddrSet, AllocError>
     covers_between_first_and_last();
     sorted_sets_are_unique();
     let mut starts = Vec::new(alloc);
-    for row in rows {
-        push_row(&mut starts, row)?;
+    for index in 0..rows.len() {
+        push_next(&mut starts, &rows[..index], &rows[index])?;
     }
     Ok(AddrSet::from_vec(starts))
 }
@@ -65,6 +65,39 @@ pub fn joined(starts: AddrSet, others: &AddrSet) -> Result<AddrSet, AllocError>
     let mut all = starts.into_vec();
     all.extend_from_slice(others.as_slice())?;
     Ok(AddrSet::from_vec(all))
+}
+
+/// Adds those of a line to those of the lines before it, unless the last of these has the same addresses: so of lines that name
+/// one large group one after the other, only the first is gone through.
+fn push_next(starts: &mut Vec<Addr>, before: &[Row], row: &Row) -> Result<(), AllocError>
+    requires { AreGathered before.now starts.old.items }
+    ensures gathered { OnOk result (AreGathered (before.now ++ row.now ∷ []) starts.new.items) }
+    ensures block { HasBlock row.now.entry.clients }
+{
+    match before.last() {
+        Some(last) if have_same_addresses(row, last) => Ok(()),
+        _ => push_row(starts, row),
+    }
+}
+
+/// Tests whether two lines name clients, and these stand for the same addresses.
+fn have_same_addresses(row: &Row, other: &Row) -> bool
+    ensures { IsTrue result → IsAgain row.now other.now }
+{
+    match &row.entry.clients {
+        Clients::Hosts(_) => names_addresses(other, row.addrs.as_slice()),
+        Clients::Net(_, _) | Clients::Net6(_) | Clients::World => false,
+    }
+}
+
+/// Tests whether a line names clients, and these stand for these addresses.
+fn names_addresses(row: &Row, addresses: &[Addr]) -> bool
+    ensures { IsTrue result → starts_of row.now ≡ flat_map around (map number_of addresses.now) }
+{
+    match &row.entry.clients {
+        Clients::Hosts(_) => row.addrs.as_slice() == addresses,
+        Clients::Net(_, _) | Clients::Net6(_) | Clients::World => false,
+    }
 }
 
 /// Adds those of a line.
