@@ -67,8 +67,14 @@ fn times(numbers: &[u32], number: u32) -> usize
 pub fn is_ignored(numbers: &[u32], finding: &Finding) -> bool
     ensures { result ≡ spec.is_ignored numbers.now finding.now }
 {
-    let number = finding.matter.number();
-    !finding.matter.is_fault() && numbers.iter().any(|one| *one == number)
+    !finding.matter.is_fault() && has_number(numbers, finding.matter.number())
+}
+
+/// Tests whether a number stands among these.
+fn has_number(numbers: &[u32], number: u32) -> bool
+    ensures { result ≡ list_any (λ one. one == number) numbers.now }
+{
+    numbers.iter().any(|one| *one == number)
 }
 
 /// Counts the findings that are ignored.
