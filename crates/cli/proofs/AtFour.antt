@@ -68,7 +68,7 @@ use Rattle.desk_findings.specs.declared.check_faults.Source.{Source}
 use Rattle.desk_findings.specs.declared.check_text.WholeSources.{WholeSources}
 use Rattle.cli_questions.specs.AuditCommand as audit
 use Rattle.cli_questions.specs.QuestionCommands as question
-use Rattle.cli_questions.specs.Questions.{AnswersQuestion, Asked, Breaches, Changes, Mounts, Plain, Printer, PrintsAnswer, PrintsSite, PrintsWhy, Ranges, mount_in}
+use Rattle.cli_questions.specs.Questions.{AnswersQuestion, Asked, Breaches, Changes, Mounts, Plain, Printer, PrintsAnswer, PrintsSite, PrintsWhy, Ranges, Terms, mount_in}
 use Rattle.cli_report.specs.ReportCommand as report
 use Rattle.cli_edits.specs.InitCommand as init
 use Rattle.cli_edits.specs.PutCommand as put
@@ -260,6 +260,7 @@ tests_texts rows known result is =
 
 prints_site : (site : WholeSite) (printer : Printer) (printed : Printed) → PrintsSite site printer printed → Fine (Ok printed)
 prints_site site Plain printed is = prints _ 0 printed not_0 is
+prints_site site Terms printed is = prints _ 0 printed not_0 is
 prints_site site (Changes all) printed is = prints _ 0 printed not_0 is
 prints_site site (Breaches expected) printed is = tested site.tables site.content expected printed is
 prints_site site (Mounts question) printed is = tried is.0 printed is.2
@@ -303,7 +304,7 @@ shows rows result is =
     word _ _ (first_of (codes "DB") rows) result is (λ db is. word _ _ (first_of (codes "HOST") rows) result is (λ host is. after result is (λ address is. asks db (question.plainly (given.Listing address.number)) result is)))
 
 lists_exports : (rows : List Row) (result : Result Printed Failure) → question.AnswersExports rows result → Fine result
-lists_exports rows result is = word _ _ (first_of (codes "DB") rows) result is (λ db is. asks db (question.plainly given.Exports) result is)
+lists_exports rows result is = word _ _ (first_of (codes "DB") rows) result is (λ db is. asks db (question.of_exports _) result is)
 
 lists_who : (rows : List Row) (result : Result Printed Failure) → question.AnswersWho rows result → Fine result
 lists_who rows result is =

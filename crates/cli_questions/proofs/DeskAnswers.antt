@@ -2,7 +2,6 @@
 use Rattle.std.proofs.Common.{◌≡◌, ℕ, Bool, true, false, List, [], ◌∷◌, codes, inl, inr, Option, Some, None, Result, Ok, Err, ap, cond, refl, subst, sym}
 use Rattle.sqlite_trees.specs.View.{doubt}
 use Rattle.sqlite_trees.specs.declared.store.Store.{Ghosts}
-use Rattle.desk_policy.specs.ListingPrints.{all_exports}
 use Rattle.desk_policy.specs.Policy.{Content}
 use Rattle.desk_core.specs.Head.{Newest, Revision}
 use Rattle.desk_core.specs.History.{newest_of, standing_of}
@@ -33,7 +32,7 @@ use Rattle.cli_desk.specs.Desks.{HasNoCopiedDesk, IsCopied}
 use Rattle.cli_desk.specs.RefusalNotes.{IsRefusedBy, copy_error}
 use Rattle.cli_desk.specs.RefusalLines.{IsRefused}
 use Rattle.cli_questions.specs.PrivateAnswering.{AnswersOnDesk, AnswersWith, HasHistory, IsSound, TriesToPrint, TriesToPrintWhy}
-use Rattle.cli_questions.specs.Questions.{AnswersQuestion, Asked, Breaches, Changes, Mounts, Plain, Printer, PrintsAnswer, PrintsSite, PrintsWhy, Ranges, mount_in}
+use Rattle.cli_questions.specs.Questions.{AnswersQuestion, Asked, Breaches, Changes, Mounts, Plain, Printer, PrintsAnswer, PrintsSite, PrintsWhy, Ranges, Terms, exports_text, mount_in}
 
 -- a connection whose disk told no lie
 pub good_disk : (is_clean : Bool) → is_clean ≡ true → doubt is_clean ≡ 0
@@ -147,20 +146,22 @@ alone content reasons (Err failure) is = is
 -- a printer that is not for sites
 abbrev pub shows_exports : Printer → Bool
 shows_exports Plain = true
+shows_exports Terms = true
 shows_exports (Changes all) = true
 shows_exports (Breaches expected) = false
 shows_exports (Mounts question) = false
 shows_exports (Ranges path mountd) = false
 
-exports_shown : (site : WholeSite) (printer : Printer) (printed : Printed) → shows_exports printer ≡ true → Prints 0 (all_exports site.content) printed → PrintsSite site printer printed
+exports_shown : (site : WholeSite) (printer : Printer) (printed : Printed) → shows_exports printer ≡ true → Prints 0 (exports_text printer site.content) printed → PrintsSite site printer printed
 exports_shown site Plain printed e is = is
+exports_shown site Terms printed e is = is
 exports_shown site (Changes all) printed e is = is
 exports_shown site (Breaches expected) printed e is = absurd (cc)
 exports_shown site (Mounts question) printed e is = absurd (cc)
 exports_shown site (Ranges path mountd) printed e is = absurd (cc)
 
 -- all exports of a site are printed
-pub exports_printed : (asked : Asked) (site : WholeSite) (result : Result Printed Failure) → shows_exports asked.printer ≡ true → PrintsText 0 (all_exports site.content) result → TriesToPrint asked (SiteIs site) result
+pub exports_printed : (asked : Asked) (site : WholeSite) (result : Result Printed Failure) → shows_exports asked.printer ≡ true → PrintsText 0 (exports_text asked.printer site.content) result → TriesToPrint asked (SiteIs site) result
 exports_printed asked site (Ok printed) e is = exports_shown site asked.printer printed e is
 exports_printed asked site (Err failure) e is = is
 

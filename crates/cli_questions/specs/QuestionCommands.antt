@@ -1,5 +1,5 @@
 -- The answers of the commands that ask a database, by their words. (this project's own)
-use Rattle.std.specs.Prelude.{◌≡◌, ℕ, Bool, true, false, codes, List, [], Option, Some, None, Result, Ok, Err, IsErrAnd}
+use Rattle.std.specs.Prelude.{◌≡◌, ℕ, Bool, true, false, codes, List, [], Option, Some, None, Result, Ok, Err, IsErrAnd, if◌then◌else◌}
 use Rattle.clap.specs.Words.{Row, first_of}
 use Rattle.desk_text.specs.Address.{number_of, read_addr}
 use Rattle.desk_text.specs.Path.{read_path}
@@ -21,7 +21,7 @@ use Rattle.cli_verdict.specs.Asking.{asking_in}
 use Rattle.cli_verdict.specs.TryText.{MountQuestion}
 use Rattle.cli_verdict.specs.declared.asking.Asking.{Asking}
 use Rattle.cli_verdict.specs.declared.asking.Asking.TheVariants.{Reasons, Server, Verdict}
-use Rattle.cli_questions.specs.Questions.{AnswersQuestion, Asked, Changes, Mounts, Plain, Printer, Ranges}
+use Rattle.cli_questions.specs.Questions.{AnswersQuestion, Asked, Changes, Mounts, Plain, Printer, Ranges, Terms}
 
 -- HOST is parsed as an address, or refused
 abbrev pub ParsesHost : List ℕ → Result Addr Failure → Type 0
@@ -89,9 +89,13 @@ AnswersShow rows =
     ByWord (codes "DB") rows (λ db. ByWord (codes "HOST") rows (λ host.
     After (ParsesHost host) (λ address. AnswersQuestion db (plainly (Listing (number_of address))))))
 
--- `exports DB`
+-- a question on all exports, which are printed with their terms or without
+abbrev pub of_exports : Bool → Asked
+of_exports terms = record { question = Exports; printer = if terms then Terms else Plain }
+
+-- `exports DB [--terms]`
 abbrev pub AnswersExports : List Row → Result Printed Failure → Type 0
-AnswersExports rows = ByWord (codes "DB") rows (λ db. AnswersQuestion db (plainly Exports))
+AnswersExports rows = ByWord (codes "DB") rows (λ db. AnswersQuestion db (of_exports (is_set (codes "terms") rows)))
 
 -- `who DB DIR [--mountd]`
 abbrev pub AnswersWho : List Row → Result Printed Failure → Type 0

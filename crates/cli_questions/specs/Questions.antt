@@ -2,7 +2,7 @@
 use Rattle.std.specs.Prelude.{◌⊎◌, ℕ, ◌==◌, Bool, true, false, List, [], None, Option, Result, Ok, Err, Some, codes, if◌then◌else◌}
 use Rattle.std.specs.String.{string_bytes}
 use Rattle.sqlite.specs.Effect.{Database}
-use Rattle.desk_policy.specs.ListingPrints.{all_exports, listing_text}
+use Rattle.desk_policy.specs.ListingPrints.{all_exports, all_terms, listing_text}
 use Rattle.desk_policy.specs.Policy.{Content}
 use Rattle.desk_who.specs.WhoPrints.{who_text}
 use Rattle.desk_impact.specs.Report.{IsReport}
@@ -30,10 +30,11 @@ use Rattle.cli_questions.specs.declared.answering.Asked.{Asked as LentAsked}
 use Rattle.cli_questions.specs.declared.answering.Printer.{Printer as LentPrinter}
 use Rattle.cli_questions.specs.declared.answering.Printer.TheVariants as lent
 
--- how an answer is printed: as it is; what would change, with the changes that matter to no client, too, if that is asked; and of a site
+-- how an answer is printed: as it is; all exports, with their terms; what would change, with the changes that matter to no client, too, if that is asked; and of a site
 -- which of these expectations it breaks, whether a client may mount a path, or who may, by the rule of mountd(8) if that is asked
 pub data Printer : Type 0 where
   Plain : Printer
+  Terms : Printer
   Changes : Bool → Printer
   Breaches : Expected → Printer
   Mounts : MountQuestion → Printer
@@ -42,6 +43,7 @@ pub data Printer : Type 0 where
 -- the same by value
 abbrev pub printer_of : LentPrinter → Printer
 printer_of lent.Plain = Plain
+printer_of lent.Terms = Terms
 printer_of (lent.Changes file all) = Changes all
 printer_of (lent.Breaches file expected) = Breaches (expected_of expected)
 printer_of (lent.Mount question) = Mounts (mount_question_of question)
@@ -81,13 +83,18 @@ abbrev pub PrintsWhy : Option MountQuestion → Content → List ℕ → Printed
 PrintsWhy (Some question) content reasons printed = (tried : Tried) × TellsAbove (shown_lines reasons) content question tried × PrintsTried tried printed
 PrintsWhy None content reasons printed = Prints 0 (shown_lines reasons) printed
 
+-- all exports of a policy as they are printed: as `terms` prints those of a text, to whom asks this; and else without their terms
+abbrev pub exports_text : Printer → Content → List ℕ
+exports_text Terms content = all_terms content
+exports_text printer content = all_exports content
+
 -- A site is printed: which expectations it breaks; the verdict by its policy; the ranges of its verdicts; or else all its exports. Names
 -- are looked up in its own tables.
 abbrev pub PrintsSite : WholeSite → Printer → Printed → Type 0
 PrintsSite site (Breaches expected) printed = PrintsTested site.tables site.content expected printed
 PrintsSite site (Mounts question) printed = (tried : Tried) × Answers site.tables site.content question tried × PrintsTried tried printed
 PrintsSite site (Ranges path mountd) printed = PrintsRanges mountd site.content path printed
-PrintsSite site printer printed = Prints 0 (all_exports site.content) printed
+PrintsSite site printer printed = Prints 0 (exports_text printer site.content) printed
 
 -- a report of what would change is printed as it is shown: status 0 if nothing changes for a client, else 1
 pub record PrintsChanges (printer : Printer) (foreseen : Foreseen) (printed : Printed) : Type 0 where
@@ -101,7 +108,7 @@ abbrev pub PrintsAnswer : Asked → Given → Printed → Type 0
 PrintsAnswer asked (given.VerdictIs content verdict) printed = PrintsVerdict (answer_on content None verdict) printed
 PrintsAnswer asked (given.WhyIs content reasons) printed = PrintsWhy (mount_in asked.printer) content reasons printed
 PrintsAnswer asked (given.ListingIs content listing) printed = Prints 0 (listing_text content listing) printed
-PrintsAnswer asked (given.ExportsAre content) printed = Prints 0 (all_exports content) printed
+PrintsAnswer asked (given.ExportsAre content) printed = Prints 0 (exports_text asked.printer content) printed
 PrintsAnswer asked (given.RangesAre content ranges) printed = Prints 0 (who_text content ranges) printed
 PrintsAnswer asked (given.TextIs stored) printed = Prints 0 stored.body printed
 PrintsAnswer asked (given.RevisionsAre revisions) printed = Prints 0 (log_text (file_in asked.question) revisions) printed

@@ -21,6 +21,8 @@ use std::alloc::Global;
 pub enum Printer<'a> {
     /// As it is; of a site, all its exports.
     Plain,
+    /// All exports, with their terms.
+    Terms,
     /// What would change, with the changes that matter to no client, too, if this is set. The word names the file of the text that is
     /// foreseen, unless that is a proposal.
     Changes(Option<&'a str>, bool),

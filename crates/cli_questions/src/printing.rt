@@ -4,7 +4,6 @@ ghost use Rattle.std.specs.Prelude.{◌≡◌, ℕ, IfOk, List, None, Some};
 ghost use Rattle.std.specs.Option.{option_map};
 ghost use Rattle.std.specs.String.{string_bytes};
 ghost use Rattle.desk_impact.specs.Report.{IsReport};
-ghost use Rattle.desk_policy.specs.ListingPrints.{all_exports};
 ghost use Rattle.desk_policy.specs.Verdict.{verdict_result};
 ghost use Rattle.desk_service.specs.Foreseeing.{content_after, foreseen_of};
 ghost use Rattle.desk_service.specs.Questions.{ForeseenIs, SiteIs, answer_of, question_of};
@@ -13,7 +12,7 @@ ghost use Rattle.cli_output.specs.Printed.{PrintsText};
 ghost use Rattle.cli_verdict.specs.TryText as told;
 ghost use Rattle.cli_verdict.specs.TryText.{mount_question_of};
 ghost use Rattle.cli_questions.specs.PrivateAnswering.{IsSound, TriesToPrint, TriesToPrintVerdict, TriesToPrintWhy};
-ghost use Rattle.cli_questions.specs.Questions.{asked_of, file_in, mount_in, printer_of, prints_all};
+ghost use Rattle.cli_questions.specs.Questions.{asked_of, exports_text, file_in, mount_in, printer_of, prints_all};
 
 use crate::answering::{Asked, Printer};
 use crate::file_lines::files_text;
@@ -31,7 +30,7 @@ use cli_verdict::{
 };
 use desk_core::Foresight;
 use desk_impact::{Report, impact_report, lines_report};
-use desk_policy::{Policy, PolicyView, Verdict, all_exports, listing_text};
+use desk_policy::{Policy, PolicyView, Verdict, all_exports, all_terms, listing_text};
 use desk_server_notes::news_note;
 use desk_service::{
     Answer, FileText, Foreseen, Looked, ProposalText, Question, Refused, WholeSite, answer,
@@ -60,7 +59,7 @@ pub(crate) fn print_answer(
         Answer::Listing(policy, listing) => {
             print_text(alloc, listing_text(alloc, policy, listing.as_slice()))
         }
-        Answer::Exports(policy) => print_text(alloc, all_exports(alloc, policy)),
+        Answer::Exports(policy) => print_text(alloc, exports_text(alloc, policy, asked.printer)),
         Answer::Who(policy, ranges) => {
             print_text(alloc, who_text(alloc, policy, ranges.as_slice()))
         }
@@ -105,6 +104,16 @@ fn print_text(alloc: Global, text: Result<String, AllocError>) -> Result<Printed
             note: String::new(alloc),
         }),
         Err(_) => Err(Failure::Memory),
+    }
+}
+
+/// Writes all exports of a policy, with their terms, as `terms` does, if the printer is for these.
+fn exports_text(alloc: Global, policy: &Policy, printer: Printer<'_>) -> Result<String, AllocError>
+    ensures { IfOk result (λ text. string_bytes text ≡ exports_text (printer_of printer.entry) policy.now) }
+{
+    match printer {
+        Printer::Terms => all_terms(alloc, policy),
+        _ => all_exports(alloc, policy),
     }
 }
 
@@ -254,14 +263,19 @@ fn print_site(
             Ok(print_tried(tried))
         }
         Printer::Ranges(path, mountd) => Ok(print_ranges(alloc, site.view(), path, mountd)?),
-        Printer::Plain => print_exports(alloc, site),
-        Printer::Changes(_, _) => print_exports(alloc, site),
+        Printer::Plain => print_exports(alloc, site, asked.printer),
+        Printer::Terms => print_exports(alloc, site, asked.printer),
+        Printer::Changes(_, _) => print_exports(alloc, site, asked.printer),
     }
 }
 
 /// Prints all exports of a site.
-fn print_exports(alloc: Global, site: &WholeSite<'_, View>) -> Result<Printed, Failure>
-    ensures { PrintsText 0 (all_exports (site_of (λ content. content) site.now).content) result }
+fn print_exports(
+    alloc: Global,
+    site: &WholeSite<'_, View>,
+    printer: Printer<'_>,
+) -> Result<Printed, Failure>
+    ensures { PrintsText 0 (exports_text (printer_of printer.entry) (site_of (λ content. content) site.now).content) result }
 {
-    print_text(alloc, all_exports(alloc, site.view().policy()))
+    print_text(alloc, exports_text(alloc, site.view().policy(), printer))
 }

@@ -94,12 +94,27 @@ pub fn run_show(rt: &HostRuntime, words: &ArgMatches<'_>) -> Result<Printed, Fai
     answer_question(rt, db, plainly(Question::Listing(address)))
 }
 
-/// Answers `exports DB`.
+/// Answers `exports DB [--terms]`.
 pub fn run_exports(rt: &HostRuntime, words: &ArgMatches<'_>) -> Result<Printed, Failure>
     ensures { spec.AnswersExports (rows_in words.now) result }
 {
     let db = required(words, "DB")?;
-    answer_question(rt, db, plainly(Question::Exports))
+    let terms = is_set(words, "terms");
+    answer_question(rt, db, of_exports(terms))
+}
+
+/// Returns a question on all exports, which are printed with their terms or without.
+fn of_exports<'a>(terms: bool) -> Asked<'a>
+    ensures { asked_of result ≡ spec.of_exports terms }
+{
+    Asked {
+        question: Question::Exports,
+        printer: if terms {
+            Printer::Terms
+        } else {
+            Printer::Plain
+        },
+    }
 }
 
 /// Answers `who DB DIR [--mountd]`.

@@ -65,7 +65,7 @@ commands =
     ∷ row subcommand.Init (codes "init") (word (codes "DB") ∷ word (codes "DIR") ∷ []) false []
     ∷ row subcommand.Ask (codes "ask") (word (codes "DB") ∷ word (codes "HOST") ∷ word (codes "DIR") ∷ []) false (option (codes "as") ∷ flag (codes "why") ∷ flag (codes "mountd") ∷ [])
     ∷ row subcommand.Show (codes "show") (word (codes "DB") ∷ word (codes "HOST") ∷ []) false []
-    ∷ row subcommand.Exports (codes "exports") (word (codes "DB") ∷ []) false []
+    ∷ row subcommand.Exports (codes "exports") (word (codes "DB") ∷ []) false (flag (codes "terms") ∷ [])
     ∷ row subcommand.Who (codes "who") (word (codes "DB") ∷ word (codes "DIR") ∷ []) false (flag (codes "mountd") ∷ [])
     ∷ row subcommand.Put (codes "put") (word (codes "DB") ∷ word (codes "NAME") ∷ word (codes "FILE") ∷ []) false (required_option (codes "base") ∷ required_option (codes "caller") ∷ option (codes "key") ∷ option (codes "key-file") ∷ [])
     ∷ row subcommand.Impact (codes "impact") (word (codes "DB") ∷ word (codes "NAME") ∷ optional_word (codes "FILE") ∷ []) false (flag (codes "all") ∷ flag (codes "proposal") ∷ [])

@@ -351,7 +351,11 @@ pub static COMMANDS: [CommandRow; 24] = [
         name: "exports",
         words: &[DB],
         tables: false,
-        options: &[],
+        options: &[Argument {
+            name: "terms",
+            kind: Kind::Flag,
+            help: "Adds the terms on which each is exported, as terms prints them",
+        }],
     },
     CommandRow {
         command: Subcommand::Who,

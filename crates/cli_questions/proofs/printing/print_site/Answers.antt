@@ -33,6 +33,11 @@ returns-in-Plain c =
     exports_printed (asked_of c.args.asked) (site_of (λ content. content) c.args.site.now) c.print_exports.result
     (ap (λ (printer : LentPrinter). shows_exports (printer_of printer)) c.in-Plain.is) c.print_exports.ensures
 
+pub returns-in-Terms : goal.returns-in-Terms
+returns-in-Terms c =
+    exports_printed (asked_of c.args.asked) (site_of (λ content. content) c.args.site.now) c.print_exports-in-Terms.result
+    (ap (λ (printer : LentPrinter). shows_exports (printer_of printer)) c.in-Terms.is) c.print_exports-in-Terms.ensures
+
 pub returns-in-Changes : goal.returns-in-Changes
 returns-in-Changes c =
     exports_printed (asked_of c.args.asked) (site_of (λ content. content) c.args.site.now) c.print_exports-in-Changes.result
