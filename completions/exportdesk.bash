@@ -35,6 +35,7 @@ _exportdesk()
     compare) choices='--hosts --networks --passwd --group --netgroup --mounts --site --all --help' ;;
     test) choices='--hosts --networks --passwd --group --netgroup --mounts --site --json --help' ;;
     ask) choices='--as --why --mountd --help' ;;
+    exports) choices='--terms --help' ;;
     who) choices='--mountd --help' ;;
     put) choices='--base --caller --key --key-file --help' ;;
     impact) choices='--all --proposal --help' ;;
