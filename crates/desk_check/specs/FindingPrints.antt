@@ -12,7 +12,7 @@ use Rattle.desk_text.specs.declared.address.Addr.{Addr}
 use Rattle.desk_text.specs.declared.place.Place.{Place}
 use Rattle.desk_policy.specs.SiteFault.{rule_sentence}
 use Rattle.desk_policy.specs.Warning.{kind_sentence}
-use Rattle.desk_remarks.specs.Remark.{other_of as other_line_of, remark_sentence}
+use Rattle.desk_remarks.specs.Remark.{other_line_of, remark_sentence}
 use Rattle.desk_remarks.specs.declared.remark.Example.{Example}
 use Rattle.desk_remarks.specs.declared.remark.OtherLine.{OtherLine}
 use Rattle.desk_remarks.specs.declared.remark.OtherLine.TheVariants.{First, Grants, Taken}
