@@ -1,5 +1,5 @@
 -- The addresses at which something may be found, among those at which lines begin or cease to match.
-use Rattle.std.proofs.Common.{◌≡◌, ◌∙◌, ◌⊎◌, ℕ, ◌+◌, ◌||◌, Bool, true, false, List, [], ◌∷◌, ◌++◌, Option, None, Some, ap, arith, eqb, inl, inr, refl, subst, sym}
+use Rattle.std.proofs.Common.{◌≡◌, ◌∙◌, ◌⊎◌, ℕ, ◌+◌, ◌||◌, Bool, true, false, List, [], ◌∷◌, ◌++◌, Option, None, Some, ap, eqb, inl, inr, refl, subst, sym}
 use Rattle.std.proofs.lemmas.Bool.{cases_Bool, eq-eqb, eqb-true, or_left, or_right, true≢false, false_from_ne_true}
 use Rattle.desk_text.specs.AddrSet.{is_among}
 use Rattle.desk_text.specs.declared.address.Addr.{Addr}

@@ -1,6 +1,5 @@
 -- What the private contracts of searching cite.
 use Rattle.std.specs.Prelude.{◌≡◌, ℕ, true, false, List, Option}
-use Rattle.std.specs.List.Sorted.{IsStrictlyIncreasing}
 use Rattle.desk_text.specs.AddrSet.{is_among}
 use Rattle.desk_text.specs.declared.address.Addr.{Addr}
 use Rattle.desk_policy.specs.declared.row.Row.{Row}

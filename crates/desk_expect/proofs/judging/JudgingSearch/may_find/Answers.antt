@@ -1,10 +1,11 @@
 -- The line is not about the address, nor about the one before it, unless it begins or ceases to be.
-use Rattle.std.proofs.Common.{◌≡◌, ◌+◌, ◌<◌, ◌^◌, ◌∙◌, None, ap, arith, cond, false, subst, sym}
+use Rattle.std.proofs.Common.{◌≡◌, ℕ, ◌+◌, ◌<◌, ◌^◌, ◌∙◌, List, None, ap, arith, cond, false, sym}
+use Rattle.desk_text.specs.Address.{number_of}
+use Rattle.desk_text.specs.AddrSet.{is_among}
 use Rattle.desk_policy.specs.Verdict.{verdict_of}
 use Rattle.desk_server.specs.Server.{server_verdict_of}
-use Rattle.desk_text.specs.Address.{number_of}
 use Rattle.desk_expect.specs.Audience.{contains}
-use Rattle.desk_expect.specs.Judging.{judged}
+use Rattle.desk_expect.specs.Judging.{judged, judged_of}
 use Rattle.desk_expect.proofs.judging.JudgingSearch.may_find.Goals as goal
 
 pub returns : goal.returns
@@ -13,7 +14,8 @@ returns c silent =
     let expectation = judging.expectation.now in
     let content = judging.index.now in
     let away : contains expectation.audience (number_of c.args.address) ≡ false = sym c.contains.ensures ∙ silent in
-    let nothing = λ path own. ap (λ about. cond about (judged expectation.forbids expectation.action (verdict_of content own path) (server_verdict_of content own path)) None) in
+    let nothing : (path : List (List ℕ)) (own : ℕ) → contains expectation.audience own ≡ false → judged_of expectation content path own ≡ None =
+    λ path own none. ap (λ about. cond about (judged expectation.forbids expectation.action (verdict_of content own path) (server_verdict_of content own path)) None) none in
     record {
       here = λ own path is. sym (nothing path (number_of own) (ap (contains expectation.audience) is ∙ away));
       before = λ none own path is.
