@@ -12,7 +12,7 @@ use Rattle.desk_core.specs.Head.{Newest, newest_in}
 use Rattle.desk_core.specs.Site.{HasLinesOf, IsInForce, policy_of, policy_read, site_in}
 use Rattle.desk_core.specs.declared.head.Head.{Head}
 use Rattle.desk_core.specs.declared.proposal.Proposal.{Proposal}
-use Rattle.desk_openings.specs.Opening.{AreOpenings}
+use Rattle.desk_report.specs.Opening.{AreOpenings}
 use Rattle.desk_report_page.specs.Found.{Source}
 use Rattle.desk_report_page.specs.Given.{HasReadableText}
 use Rattle.desk_report_page.specs.Page.{IsSource}

@@ -10,7 +10,7 @@ use Rattle.desk_policy.specs.declared.site_fault.SiteFault.{SiteFault}
 use Rattle.desk_core.specs.Head.{newest_in}
 use Rattle.desk_core.specs.declared.head.Head.{Head}
 use Rattle.desk_impact.specs.Sections.{PlaceBreaches, PlaceFound}
-use Rattle.desk_openings.specs.declared.opening.Opening.{Opening}
+use Rattle.desk_report.specs.declared.opening.Opening.{Opening}
 use Rattle.desk_report.specs.Classes.{class_run}
 use Rattle.desk_report.specs.Systems.{SystemValue}
 use Rattle.desk_overview.specs.Lines.{LineValue, line_value}

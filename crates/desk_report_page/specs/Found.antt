@@ -5,7 +5,7 @@ use Rattle.desk_policy.specs.declared.parsing.SiteTables.{SiteTables}
 use Rattle.desk_who.specs.Runs.{Run}
 use Rattle.desk_core.specs.declared.head.Head.{Head}
 use Rattle.desk_impact.specs.Sections.{PlaceFound}
-use Rattle.desk_openings.specs.declared.opening.Opening.{Opening}
+use Rattle.desk_report.specs.declared.opening.Opening.{Opening}
 use Rattle.desk_core.specs.declared.proposal.Proposal.{Proposal}
 use Rattle.desk_report.specs.Classes.{AreClassesOfSite}
 use Rattle.desk_report.specs.Systems.{AreSystems, SystemValue}

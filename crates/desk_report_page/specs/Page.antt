@@ -9,7 +9,7 @@ use Rattle.desk_core.specs.Site.{site_in}
 use Rattle.desk_core.specs.Standing.{Standing, standing_in}
 use Rattle.desk_core.specs.declared.head.Head.{Head}
 use Rattle.desk_core.specs.declared.proposal.Proposal.{Proposal}
-use Rattle.desk_openings.specs.Opening.{AreOpenings}
+use Rattle.desk_report.specs.Opening.{AreOpenings}
 use Rattle.desk_page_lists.specs.Again.{make_again}
 use Rattle.desk_page_lists.specs.Reading.{how_to_read}
 use Rattle.desk_page_maps.specs.Shapes.{shapes}

@@ -10,7 +10,7 @@ use Rattle.desk_report.specs.Sections.{AreSections}
 use Rattle.desk_report.specs.Systems.{IsSystem, SystemValue}
 use Rattle.desk_overview.specs.Lines.{AreLinesOfSite, line_value}
 use Rattle.desk_deciding.specs.Deciding.{AreInLineOrder, deciding_value}
-use Rattle.desk_openings.specs.Opening.{opening_section}
+use Rattle.desk_report.specs.Opening.{opening_section}
 use Rattle.desk_page_places.specs.Groups.{HasToldSizes}
 use Rattle.desk_page_filesystem.specs.Parts.{file_system}
 use Rattle.desk_page_filesystem.specs.declared.parts.FileSystemPart.{FileSystemPart}

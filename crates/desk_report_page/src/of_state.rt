@@ -11,10 +11,9 @@ use crate::foreseen::waiting_of;
 use crate::page::{ReportedSite, report_page};
 use desk_core::{State, compile_heads};
 use desk_index::Index;
-use desk_openings::openings_of_site;
 use desk_overview::server_of_site;
 use desk_policy::{PolicyView, SiteFault};
-use desk_report::sites_are_sound;
+use desk_report::{openings_of_site, sites_are_sound};
 use desk_text::{Path, ReadError};
 use std::alloc::{AllocError, Global};
 

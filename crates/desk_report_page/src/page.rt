@@ -27,12 +27,11 @@ use crate::waiting::Waiting;
 use desk_core::{Head, Proposal};
 use desk_deciding::Deciding;
 use desk_impact::Section as PlaceSection;
-use desk_openings::Opening;
 use desk_overview::{SiteLine, lines_of_site, reasons_of_site};
 use desk_page_summary::{Section, push_section_end, push_section_start};
 use desk_policy::{Policy, PolicyView, SiteTables};
 use desk_report::{
-    FileSystemReport, LineReasons, ServerFindings, sites_are_sound, systems_of_site,
+    FileSystemReport, LineReasons, Opening, ServerFindings, sites_are_sound, systems_of_site,
 };
 use desk_text::{Path, Sequence};
 use std::alloc::{AllocError, Global};

@@ -3,8 +3,8 @@ use Rattle.desk_core.specs.Head.{newest_in}
 use Rattle.desk_core.specs.Site.{site_in}
 use Rattle.desk_policy.specs.Policy.{Content}
 use Rattle.desk_impact.specs.declared.sections.Section.{Section}
-use Rattle.desk_openings.specs.Opening.{AreOpenings, opening_section}
-use Rattle.desk_openings.specs.declared.opening.Opening.{Opening}
+use Rattle.desk_report.specs.Opening.{AreOpenings, opening_section}
+use Rattle.desk_report.specs.declared.opening.Opening.{Opening}
 use Rattle.desk_report.specs.Laws.{IsSoundIfRead}
 use Rattle.desk_report_page.specs.Waiting.{waiting_value}
 use Rattle.desk_report_page.specs.PrivateForeseen.{AreForeseen}

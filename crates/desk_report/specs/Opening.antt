@@ -9,7 +9,7 @@ use Rattle.desk_who.specs.Searching.{Rule}
 use Rattle.desk_impact.specs.Sections.{AreFoundIn, PlaceFound, place_found}
 use Rattle.desk_impact.specs.declared.sections.Section.{Section}
 use Rattle.desk_server.specs.Server.{server_verdict_among, server_verdict_of}
-use Rattle.desk_openings.specs.declared.opening.Opening.{Opening}
+use Rattle.desk_report.specs.declared.opening.Opening.{Opening}
 
 -- the line by which the server grants what a line's denial names, if it grants it
 abbrev pub opening_by : ℕ → Result Grant Denial → Option Opening

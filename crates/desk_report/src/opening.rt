@@ -5,9 +5,9 @@ ghost use Rattle.std.specs.Bool.{Decides};
 ghost use Rattle.std.specs.Option.{option_map};
 ghost use Rattle.desk_text.specs.Address.{number_of};
 ghost use Rattle.desk_policy.specs.Verdict.{verdict_result};
-ghost use Rattle.desk_openings.specs.Opening as spec;
-ghost use Rattle.desk_openings.specs.Opening.{AreOpenings, opening_section, opening_value};
-ghost use Rattle.desk_openings.specs.declared.opening.Opening.{Opening};
+ghost use Rattle.desk_report.specs.Opening as spec;
+ghost use Rattle.desk_report.specs.Opening.{AreOpenings, opening_section, opening_value};
+ghost use Rattle.desk_report.specs.declared.opening.Opening.{Opening};
 
 use desk_impact::{Section, found_in};
 use desk_index::Index;

@@ -1,9 +1,9 @@
 use Rattle.std.proofs.Common.{true, map, subst}
 use Rattle.std.proofs.lemmas.Result.{IfOk-weaker}
 use Rattle.desk_impact.specs.Sections.{AreFoundIn}
-use Rattle.desk_openings.specs.Opening.{AreOpenings, opening_rule, opening_section}
-use Rattle.desk_openings.proofs.Found.{is_rule}
-use Rattle.desk_openings.proofs.opening.openings_of_site.Goals as goal
+use Rattle.desk_report.specs.Opening.{AreOpenings, opening_rule, opening_section}
+use Rattle.desk_report.proofs.OpeningsFound.{is_rule}
+use Rattle.desk_report.proofs.opening.openings_of_site.Goals as goal
 
 pub returns : goal.returns
 returns c =

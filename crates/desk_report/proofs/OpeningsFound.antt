@@ -13,7 +13,7 @@ use Rattle.desk_who.specs.Searching.{IsRuleOf, found_at, found_in}
 use Rattle.desk_who.proofs.Asked.{own_asks, own_steady}
 use Rattle.desk_server.specs.Server.{server_verdict_among, server_verdict_in, server_verdict_of}
 use Rattle.desk_server.proofs.Asked.{server_asks, server_steady}
-use Rattle.desk_openings.specs.Opening.{opening, opening_of, opening_rule, opening_value}
+use Rattle.desk_report.specs.Opening.{opening, opening_of, opening_rule, opening_value}
 
 found_by : (content : Content) (path : List (List ℕ)) (address : ℕ) (fs : Option ℕ)
     → found_in opening_rule content path fs address ≡ opening (verdict_in content address path fs) (server_verdict_in content address path fs)
