@@ -25,8 +25,8 @@ use Rattle.desk_page_words.specs.declared.finding_words.Finding.{Finding}
 use Rattle.desk_report_filesystem.specs.OwnLines.{lines_in}
 use Rattle.desk_report_filesystem.specs.Parts.{IsPartOf}
 use Rattle.desk_report_filesystem.specs.declared.parts.FileSystemData.{FileSystemData}
-use Rattle.desk_report_findings.specs.Findings.{finding_value, findings_among}
-use Rattle.desk_report_findings.specs.declared.findings.SiteFinding.{SiteFinding}
+use Rattle.desk_report_summary.specs.SiteFinding.{finding_value, findings_among}
+use Rattle.desk_report_summary.specs.declared.site_finding.SiteFinding.{SiteFinding}
 use Rattle.desk_report_places.specs.Changes.{AreChangesIn, ChangesValue, row_value}
 use Rattle.desk_report_places.specs.Groups.{AreListedGroups, listed_value}
 use Rattle.desk_report_places.specs.declared.groups.ListedGroups.{ListedGroups}

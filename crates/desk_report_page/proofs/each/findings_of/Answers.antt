@@ -1,7 +1,7 @@
 use Rattle.std.proofs.Common.{◌++◌, ◌∙◌, [], ◌∷◌, ap, map, sym, take, take_all}
 use Rattle.std.proofs.lemmas.List.{map_more}
 use Rattle.desk_page_words.specs.declared.finding_words.Finding.{Finding}
-use Rattle.desk_report_findings.specs.declared.findings.SiteFinding.{SiteFinding}
+use Rattle.desk_report_summary.specs.declared.site_finding.SiteFinding.{SiteFinding}
 use Rattle.desk_report_page.proofs.each.findings_of.Goals as goal
 
 abbrev finding_in : SiteFinding → Finding

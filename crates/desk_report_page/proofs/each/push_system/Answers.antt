@@ -8,8 +8,8 @@ use Rattle.desk_report.specs.Classes.{class_run}
 use Rattle.desk_report.specs.Laws.{TellVerdicts}
 use Rattle.desk_report.specs.Systems.{system_value}
 use Rattle.desk_report_filesystem.proofs.Standing.{by_filesystem}
-use Rattle.desk_report_findings.specs.Findings.{findings_among}
-use Rattle.desk_report_findings.specs.declared.findings.SiteFinding.{SiteFinding}
+use Rattle.desk_report_summary.specs.SiteFinding.{findings_among}
+use Rattle.desk_report_summary.specs.declared.site_finding.SiteFinding.{SiteFinding}
 use Rattle.desk_report_places.specs.Groups.{AreListedGroups, listed_value}
 use Rattle.desk_report_page.specs.PrivateEach.{telling_value}
 use Rattle.desk_report_page.proofs.Parts.{told_is}

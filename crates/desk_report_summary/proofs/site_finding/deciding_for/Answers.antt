@@ -1,6 +1,6 @@
 use Rattle.std.proofs.Common.{◌≤◌, ◌∙◌, length}
-use Rattle.desk_report_findings.proofs.Looking.{none_told, own_ascend, own_told}
-use Rattle.desk_report_findings.proofs.findings.deciding_for.Goals as goal
+use Rattle.desk_report_summary.proofs.Looking.{none_told, own_ascend, own_told}
+use Rattle.desk_report_summary.proofs.site_finding.deciding_for.Goals as goal
 
 pub of_line-requires : goal.of_line-requires
 of_line-requires c =

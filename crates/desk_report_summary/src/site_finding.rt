@@ -3,8 +3,8 @@
 ghost use Rattle.std.specs.Prelude.{◌≡◌, ◌++◌, All, IfOk, OnOk, map};
 ghost use Rattle.desk_deciding.specs.Deciding.{AreInLineOrder, deciding_value};
 ghost use Rattle.desk_overview.specs.Lines.{line_value};
-ghost use Rattle.desk_report_findings.specs.Findings as spec;
-ghost use Rattle.desk_report_findings.specs.Findings.{finding_value};
+ghost use Rattle.desk_report_summary.specs.SiteFinding as spec;
+ghost use Rattle.desk_report_summary.specs.SiteFinding.{finding_value};
 
 use desk_deciding::Deciding;
 use desk_exports::Clients;

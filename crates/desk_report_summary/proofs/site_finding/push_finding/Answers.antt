@@ -2,8 +2,8 @@ use Rattle.std.proofs.Common.{◌≡◌, ◌++◌, ◌∙◌, Bool, cond, false,
 use Rattle.std.proofs.lemmas.List.{append-nil, map-append}
 use Rattle.desk_deciding.specs.Deciding.{deciding_value}
 use Rattle.desk_overview.specs.Lines.{line_value}
-use Rattle.desk_report_findings.specs.Findings.{finding_of, finding_value}
-use Rattle.desk_report_findings.proofs.findings.push_finding.Goals as goal
+use Rattle.desk_report_summary.specs.SiteFinding.{finding_of, finding_value}
+use Rattle.desk_report_summary.proofs.site_finding.push_finding.Goals as goal
 
 pub returns-in_ok-push : goal.returns-in_ok-push
 returns-in_ok-push c =

@@ -4,7 +4,7 @@ use Rattle.std.specs.Prelude.{All}
 use Rattle.std.proofs.lemmas.List.{get_or-map, get_or_past, length-map}
 use Rattle.desk_deciding.specs.Deciding.{AreInLineOrder, deciding_of, deciding_value}
 use Rattle.desk_deciding.specs.declared.deciding.Deciding.{Deciding}
-use Rattle.desk_report_findings.specs.Findings.{deciding_for}
+use Rattle.desk_report_summary.specs.SiteFinding.{deciding_for}
 
 module _ (deciding : List Deciding) (fs : ℕ) where
   pub own_ascend : (own : Deciding) → fs < length deciding → own ≡ get_or deciding fs own → All AreInLineOrder (map deciding_value deciding) → AreInLineOrder (deciding_value own)

@@ -7,7 +7,7 @@ use Rattle.desk_deciding.specs.Deciding.{DecidedFor, deciding_of}
 use Rattle.desk_overview.specs.Findings.{stands_out}
 use Rattle.desk_overview.specs.Lines.{LineValue}
 use Rattle.desk_report.specs.declared.reasons.Reason.{Reason}
-use Rattle.desk_report_findings.specs.declared.findings.SiteFinding.{SiteFinding}
+use Rattle.desk_report_summary.specs.declared.site_finding.SiteFinding.{SiteFinding}
 
 -- what is told of a line that stands out: its file system, its number, why it stands out, its terms, whether it writes a network of IPv4
 -- that does not have every address, the lines that decide in its place, and to how many addresses it grants something

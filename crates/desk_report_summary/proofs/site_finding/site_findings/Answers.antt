@@ -6,9 +6,9 @@ use Rattle.desk_deciding.specs.Deciding.{deciding_value}
 use Rattle.desk_overview.specs.Lines.{line_value}
 use Rattle.desk_overview.specs.declared.lines.SiteLine.{SiteLine}
 use Rattle.desk_report.proofs.Gathered.{writes}
-use Rattle.desk_report_findings.specs.Findings.{finding_if, finding_value}
-use Rattle.desk_report_findings.proofs.Standing.{standing_out}
-use Rattle.desk_report_findings.proofs.findings.site_findings.Goals as goal
+use Rattle.desk_report_summary.specs.SiteFinding.{finding_if, finding_value}
+use Rattle.desk_report_summary.proofs.Standing.{standing_out}
+use Rattle.desk_report_summary.proofs.site_finding.site_findings.Goals as goal
 
 pub loop-line-preserved : goal.loop-line-preserved
 loop-line-preserved c =

@@ -5,7 +5,7 @@ use Rattle.std.proofs.lemmas.List.Concat.{flat_map-cons}
 use Rattle.desk_deciding.specs.Deciding.{DecidedFor}
 use Rattle.desk_overview.specs.Findings.{stands_out}
 use Rattle.desk_overview.specs.Lines.{LineValue}
-use Rattle.desk_report_findings.specs.Findings.{FindingValue, finding_if, finding_of, findings_among}
+use Rattle.desk_report_summary.specs.SiteFinding.{FindingValue, finding_if, finding_of, findings_among}
 
 pub standing_out : (decided : List (List DecidedFor)) (lines : List LineValue) → flat_map (finding_if decided) lines ≡ findings_among decided lines
 standing_out decided [] = refl
