@@ -156,7 +156,7 @@ const NAME: Argument = Argument {
 };
 
 /// The options that name the files of tables and of mount points, and the folder that has them all.
-pub static TABLES: [Argument; 7] = [
+pub const TABLES: &[Argument] = &[
     Argument {
         name: "hosts",
         kind: Kind::Valued("FILE"),
@@ -195,7 +195,7 @@ pub static TABLES: [Argument; 7] = [
 ];
 
 /// The commands, in the order of the help.
-pub static COMMANDS: [CommandRow; 24] = [
+pub const COMMANDS: &[CommandRow] = &[
     CommandRow {
         command: Subcommand::Try,
         name: "try",
@@ -545,14 +545,14 @@ pub static COMMANDS: [CommandRow; 24] = [
 pub fn table_options() -> &'static [Argument]
     ensures { map rule_for result.now ≡ table_options }
 {
-    &TABLES
+    TABLES
 }
 
 /// Lends the rows of the commands.
 pub fn command_rows() -> &'static [CommandRow]
     ensures { map row_of result.now ≡ commands }
 {
-    &COMMANDS
+    COMMANDS
 }
 
 /// Finds the command of this name.

@@ -51,7 +51,7 @@ pub struct Route {
 }
 
 /// The routes, by path.
-const ROUTES: [Route; 6] = [
+const ROUTES: &[Route] = &[
     Route {
         path: "/v1/exports",
         actions: &[Action {
@@ -140,7 +140,7 @@ impl Routes {
 fn table() -> &'static [Route]
     ensures { map spec.route_in result.now ≡ spec.routes }
 {
-    &ROUTES
+    ROUTES
 }
 
 /// Makes the router of the service, which finds the place of a path.
