@@ -69,7 +69,7 @@ use Rattle.desk_findings.specs.declared.check_text.WholeSources.{WholeSources}
 use Rattle.cli_questions.specs.AuditCommand as audit
 use Rattle.cli_questions.specs.QuestionCommands as question
 use Rattle.cli_questions.specs.Questions.{AnswersQuestion, Asked, Breaches, Changes, Mounts, Plain, Printer, PrintsAnswer, PrintsSite, PrintsWhy, Ranges, Terms, mount_in}
-use Rattle.cli_report.specs.ReportCommand as report
+use Rattle.cli_questions.specs.ReportCommand as report
 use Rattle.cli_edits.specs.InitCommand as init
 use Rattle.cli_edits.specs.PutCommand as put
 use Rattle.cli_serve.specs.ServeCommand as serve

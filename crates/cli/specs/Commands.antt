@@ -28,7 +28,7 @@ use Rattle.cli_texts.specs.TestCommand.{AnswersTest}
 use Rattle.cli_texts.specs.TryCommand.{AnswersTry}
 use Rattle.cli_questions.specs.AuditCommand.{AnswersAudit}
 use Rattle.cli_questions.specs.QuestionCommands.{AnswersAsk, AnswersCat, AnswersExports, AnswersFiles, AnswersImpact, AnswersOfFile, AnswersShow, AnswersWho}
-use Rattle.cli_report.specs.ReportCommand.{AnswersReport}
+use Rattle.cli_questions.specs.ReportCommand.{AnswersReport}
 use Rattle.cli_edits.specs.InitCommand.{AnswersInit}
 use Rattle.cli_edits.specs.PutCommand.{AnswersPut}
 use Rattle.cli_serve.specs.ServeCommand.{AnswersServe}

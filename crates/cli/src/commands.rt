@@ -19,7 +19,7 @@ use cli_questions::audit_command::run_audit;
 use cli_questions::question_commands::{
     run_ask, run_cat, run_exports, run_files, run_impact, run_of_file, run_show, run_who,
 };
-use cli_report::report_command::run_report;
+use cli_questions::report_command::run_report;
 use cli_serve::serve_command::{Service, run_serve};
 use cli_texts::check_command::run_check;
 use cli_texts::clients_command::run_clients;

@@ -7,7 +7,7 @@ use Rattle.desk_store.specs.Desk.{History, Shown, StandsAt}
 use Rattle.cli_output.specs.declared.failure.Failure.{Failure}
 use Rattle.cli_output.specs.declared.failure.Failure.TheVariants.{Memory}
 use Rattle.cli_output.specs.declared.printed.Printed.{Printed}
-use Rattle.cli_report.specs.ReportCommand.{PrintsPage}
+use Rattle.cli_questions.specs.ReportCommand.{PrintsPage}
 
 -- the page by each history at which the desk stands; or memory ran out
 abbrev pub PrintsOnDesk : {S V : Type 0} → Ghosts S → Shown S V → List ℕ → Result Printed Failure → Type 0

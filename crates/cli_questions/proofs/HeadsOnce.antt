@@ -8,7 +8,7 @@ use Rattle.std.proofs.lemmas.List.Quantifiers.{all_pairs_push}
 use Rattle.std.proofs.lemmas.List.Sums.{AllPass-from_list_all, list_all-from_AllPass}
 use Rattle.std.proofs.lemmas.Slice.Eq.{bytes_eq-Decides}
 use Rattle.desk_core.specs.declared.head.Head.{Head}
-use Rattle.cli_report.specs.PrivateReport.{is_apart}
+use Rattle.cli_questions.specs.PrivateReport.{is_apart}
 
 abbrev pub Apart : Head → Head → Type 0
 Apart head later = head.file ≢ later.file

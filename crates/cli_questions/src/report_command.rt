@@ -5,8 +5,8 @@ ghost use Rattle.std.specs.List.{list_all};
 ghost use Rattle.sqlite.specs.Files.{over_files};
 ghost use Rattle.desk_core.specs.Head.{StandOnce};
 ghost use Rattle.cli_words.specs.Words.{rows_in};
-ghost use Rattle.cli_report.specs.PrivateReport.{PrintsOnDesk, is_apart};
-ghost use Rattle.cli_report.specs.ReportCommand.{AnswersOn, AnswersReport};
+ghost use Rattle.cli_questions.specs.PrivateReport.{PrintsOnDesk, is_apart};
+ghost use Rattle.cli_questions.specs.ReportCommand.{AnswersOn, AnswersReport};
 
 use clap::ArgMatches;
 use cli_desk::desks::open_copied_desk;

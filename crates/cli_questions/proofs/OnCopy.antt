@@ -6,8 +6,8 @@ use Rattle.cli_output.specs.Failure.{IsUnread}
 use Rattle.cli_output.specs.declared.failure.Failure.{Failure}
 use Rattle.cli_output.specs.declared.printed.Printed.{Printed}
 use Rattle.cli_desk.specs.Desks.{HasNoCopiedDesk, IsCopied}
-use Rattle.cli_report.specs.PrivateReport.{PrintsOnDesk}
-use Rattle.cli_report.specs.ReportCommand.{AnswersOn}
+use Rattle.cli_questions.specs.PrivateReport.{PrintsOnDesk}
+use Rattle.cli_questions.specs.ReportCommand.{AnswersOn}
 
 pub at_path : {S V : Type 0} (g : Ghosts S) (desk : Shown S V) (path : List ℕ) (result : Result Printed Failure) → IsCopied g desk → PrintsOnDesk g desk path result → AnswersOn path result
 at_path g desk path (Ok printed) copied by = inr (copied.0, inr (copied.1.0, λ history project. by history (copied.1.1 history project)))

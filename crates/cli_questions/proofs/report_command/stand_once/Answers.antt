@@ -2,8 +2,8 @@ use Rattle.std.proofs.Common.{◌∙◌, sym, subst, arith, rules}
 use Rattle.std.specs.List.{AllPairs}
 use Rattle.std.proofs.lemmas.Bool.{false≢true}
 use Rattle.std.proofs.lemmas.List.{take_all}
-use Rattle.cli_report.proofs.HeadsOnce.{Apart, not_apart, one_more_apart}
-use Rattle.cli_report.proofs.report_command.stand_once.Goals as goal
+use Rattle.cli_questions.proofs.HeadsOnce.{Apart, not_apart, one_more_apart}
+use Rattle.cli_questions.proofs.report_command.stand_once.Goals as goal
 
 pub returns-then-not-is_first : goal.returns-then-not-is_first
 returns-then-not-is_first c = (
