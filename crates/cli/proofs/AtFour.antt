@@ -1,6 +1,6 @@
 -- No command prints anything but a refusal with the status 4, for `laws::four_is_refused`.
-use Rattle.std.proofs.Common.{◌≡◌, ◌⊎◌, ◌∙◌, ◌∷◌, ℕ, Bool, true, false, List, [], Option, Some, None, Result, Ok, Err, arith, inl, inr, refl, subst, sym}
-use Rattle.std.specs.Prelude.{IsErrAnd, MatchResult, codes, find, is_some, option_map, if◌then◌else◌}
+use Rattle.std.proofs.Common.{◌≡◌, ◌∙◌, ◌∷◌, ℕ, Bool, true, false, List, [], Option, Some, None, Result, Ok, Err, arith, inl, inr, subst, sym}
+use Rattle.std.specs.Prelude.{IsErrAnd, MatchResult, codes, if◌then◌else◌}
 use Rattle.std.specs.String.{string_bytes}
 use Rattle.clap.specs.Words.{Row, first_of}
 use Rattle.desk_text.specs.declared.reading.LineFault.{LineFault}
@@ -32,7 +32,7 @@ use Rattle.cli_output.specs.declared.failure.Failure.{Failure}
 use Rattle.cli_output.specs.declared.failure.TextFault.{TextFault}
 use Rattle.cli_output.specs.declared.printed.Printed.{Printed}
 use Rattle.cli_desk.specs.Desks.{HasNoCopiedDesk, HasNoDesk}
-use Rattle.cli_desk.specs.RefusalLines.{IsRefused, Says, refused_line, refused_status}
+use Rattle.cli_desk.specs.RefusalLines.{IsRefused, Says}
 use Rattle.cli_desk.specs.RefusalNotes.{IsRefusedBy}
 use Rattle.cli_words.specs.Commands.{command_found}
 use Rattle.cli_words.specs.LineWords.{words_of}

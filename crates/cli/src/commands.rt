@@ -1,6 +1,6 @@
 //! From words to what the program prints.
 
-ghost use Rattle.std.specs.Prelude.{◌≡◌, map};
+ghost use Rattle.std.specs.Prelude.{map};
 ghost use Rattle.clap.specs.Words.{kind_of, subcommand_rows_of};
 ghost use Rattle.cli_words.specs.Commands.{command_of};
 ghost use Rattle.cli_words.specs.Words.{rows_in};

@@ -24,7 +24,6 @@ use Rattle.cli_output.specs.Failure.{IsUnread}
 use Rattle.cli_output.specs.Printed.{Prints, PrintsText}
 use Rattle.cli_output.specs.Shown.{shown_lines}
 use Rattle.cli_output.specs.declared.failure.Failure.{Failure}
-use Rattle.cli_output.specs.declared.failure.Failure.TheVariants.{Memory}
 use Rattle.cli_output.specs.declared.printed.Printed.{Printed}
 use Rattle.cli_verdict.specs.TryText.{MountQuestion}
 use Rattle.cli_database_files.specs.Copy.{is_out_of_memory}

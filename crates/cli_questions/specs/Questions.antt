@@ -1,5 +1,5 @@
 -- What is asked of a database without changing it, and what is printed of the answers. (this project's own)
-use Rattle.std.specs.Prelude.{◌⊎◌, ℕ, ◌==◌, Bool, true, false, List, [], None, Option, Result, Ok, Err, Some, codes, if◌then◌else◌}
+use Rattle.std.specs.Prelude.{◌⊎◌, ℕ, ◌==◌, Bool, false, List, [], None, Option, Result, Ok, Err, Some, codes, if◌then◌else◌}
 use Rattle.std.specs.String.{string_bytes}
 use Rattle.sqlite.specs.Effect.{Database}
 use Rattle.desk_policy.specs.ListingPrints.{all_exports, all_terms, listing_text}

@@ -19,7 +19,6 @@ use cli_verdict::{Asking, MountQuestion, read_asking};
 use cli_words::values::{read_credential, read_host, read_number, read_path};
 use cli_words::words::{given, is_set, required};
 use desk_service::{FileQuestion, Question};
-use desk_text::{Addr, Path};
 use std::alloc::Global;
 use std::io::BufRead;
 

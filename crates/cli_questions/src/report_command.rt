@@ -2,7 +2,6 @@
 
 ghost use Rattle.std.specs.Prelude.{◌≡◌, ◌↔◌, IsTrue};
 ghost use Rattle.std.specs.List.{list_all};
-ghost use Rattle.sqlite.specs.Files.{over_files};
 ghost use Rattle.desk_core.specs.Head.{StandOnce};
 ghost use Rattle.cli_words.specs.Words.{rows_in};
 ghost use Rattle.cli_questions.specs.PrivateReport.{PrintsOnDesk, is_apart};

@@ -1,5 +1,5 @@
 -- The words are looked up, and parsed from left to right.
-use Rattle.std.proofs.Common.{◌∙◌, Bool, ap, subst}
+use Rattle.std.proofs.Common.{◌∙◌, ap, subst}
 use Rattle.std.proofs.lemmas.Result.{err_from_is_err_and}
 use Rattle.cli_questions.specs.QuestionCommands.{of_exports}
 use Rattle.cli_questions.specs.Questions.{Asked, AnswersQuestion}
