@@ -15,7 +15,7 @@ use Rattle.desk_policy.specs.declared.site_fault.SiteFault.{SiteFault}
 use Rattle.desk_policy.specs.declared.verdict.Denial.{Denial}
 use Rattle.desk_server.specs.Server.{server_verdict_of}
 use Rattle.desk_server_prints.specs.LeftOutNote.{TellsLeftOut}
-use Rattle.desk_server_prints.specs.Wider.{wider_line, wider_note}
+use Rattle.desk_server_prints.specs.GrantingLine.{wider_line, wider_note}
 use Rattle.desk_why.specs.WhyPrints.{why_text}
 use Rattle.cli_output.specs.Printed.{Prints}
 use Rattle.cli_output.specs.Shown.{shown_lines}

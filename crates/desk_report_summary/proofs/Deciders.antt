@@ -15,8 +15,8 @@ use Rattle.desk_report.specs.Class.{keeps_root}
 use Rattle.desk_report.specs.Lines.{IsToldOf}
 use Rattle.desk_report.specs.Reasons.{are_all, are_names, narrow, reasons_on}
 use Rattle.desk_report.specs.Server.{AreServerReasons, server_reasons}
-use Rattle.desk_server.specs.declared.repeated.RepeatedClient.{RepeatedClient as Repeated}
-use Rattle.desk_server.specs.declared.wider.WiderGrant.{WiderGrant}
+use Rattle.desk_server.specs.declared.repeated_client.RepeatedClient.{RepeatedClient as Repeated}
+use Rattle.desk_server.specs.declared.wider_grant.WiderGrant.{WiderGrant}
 use Rattle.desk_report.specs.declared.lines.LineReasons.{LineReasons}
 use Rattle.desk_report.specs.declared.reasons.Reason.{Reason}
 use Rattle.desk_report.specs.declared.reasons.Reason.TheVariants.{ForEverybodyReadOnly, ForEverybodyReadWrite, NoClient, RootKeptForNames, RootKeptForNetworks, Wide}
