@@ -8,10 +8,10 @@ use Rattle.sqlite.specs.Order.{Row}
 use Rattle.desk_core.specs.Head.{Revision}
 use Rattle.desk_store.specs.Desk.{IsStorable}
 use Rattle.desk_store.specs.History.{row_of}
-use Rattle.desk_store.specs.PrivateGathered.{AreKept, AreOf, IsForeign, IsGatheredAs, IsKept, IsOlderAt, IsOutdated, bare, with_bare}
+use Rattle.desk_store.specs.PrivateGatheredRevisions.{AreKept, AreOf, IsForeign, IsGatheredAs, IsKept, IsOlderAt, IsOutdated, bare, with_bare}
 use Rattle.desk_store.specs.StoredRows.{IsUnapproved}
-use Rattle.desk_store.specs.declared.gathered.Ungathered.{Ungathered}
-use Rattle.desk_store.specs.declared.gathered.Ungathered.TheVariants.{Foreign, Memory}
+use Rattle.desk_store.specs.declared.gathered_revisions.Ungathered.{Ungathered}
+use Rattle.desk_store.specs.declared.gathered_revisions.Ungathered.TheVariants.{Foreign, Memory}
 use Rattle.desk_store.proofs.Members.{default, from_map, in_map, shift}
 
 -- what is found at a place is there

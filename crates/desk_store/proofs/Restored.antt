@@ -15,7 +15,7 @@ use Rattle.desk_core.specs.Head.{Revision}
 use Rattle.desk_core.specs.History.{IsHistory, newest_of}
 use Rattle.desk_core.specs.declared.entry.Entry.TheVariants.{Revised}
 use Rattle.desk_store.specs.Desk.{IsStorable}
-use Rattle.desk_store.specs.PrivateGathered.{AreKept, AreOf, IsForeign, IsKept, IsOutdated}
+use Rattle.desk_store.specs.PrivateGatheredRevisions.{AreKept, AreOf, IsForeign, IsKept, IsOutdated}
 use Rattle.desk_store.specs.History.{approval_of, row_of}
 use Rattle.desk_store.specs.StoredRows.{AreNewestOf}
 use Rattle.desk_store.proofs.Kept.{found_in, same_file, same_rev}
