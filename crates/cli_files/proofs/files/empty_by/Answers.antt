@@ -3,7 +3,7 @@ use Rattle.std.proofs.Common.{◌≡◌, ◌≢◌, ℕ, List, [], Option, Resul
 use Rattle.std.specs.Str.{chars, is_utf8}
 use Rattle.cli_output.specs.declared.failure.TextFault.{TextFault}
 use Rattle.cli_files.specs.Files.{HasText}
-use Rattle.cli_files.proofs.files.read_or_empty.Goals as goal
+use Rattle.cli_files.proofs.files.empty_by.Goals as goal
 
 nothing : (argument : List ℕ) (word : List ℕ) (known : Option (List ℕ)) (text : List ℕ) → word ≢ codes "-" → text ≡ [] → HasText argument word known text
 unfolding is_utf8 chars
