@@ -1,6 +1,6 @@
 //! The files that words name, read whole as texts. A failure names the argument as the usage does.
 
-ghost use Rattle.std.specs.Prelude.{◌≡◌, ◌≢◌, ◌≤◌, ◌==◌, IfErr, IfOk, IfSome, None, Some, codes, false, length, take, true};
+ghost use Rattle.std.specs.Prelude.{◌≡◌, ◌≢◌, ◌≤◌, ◌==◌, IfErr, IfOk, IfSome, None, Some, codes, false, length, take};
 ghost use Rattle.std.specs.String.{string_bytes};
 ghost use Rattle.cli_files.specs.Files as spec;
 ghost use Rattle.std.specs.IoError.{error_kind};
