@@ -3,12 +3,13 @@
 ghost use Rattle.std.specs.Prelude.{◌≡◌, ◌≢◌, ◌≤◌, ◌==◌, IfErr, IfOk, IfSome, None, Some, codes, false, length, take};
 ghost use Rattle.std.specs.String.{string_bytes};
 ghost use Rattle.cli_files.specs.Files as spec;
+ghost use Rattle.std.specs.Bool.{Decides};
 ghost use Rattle.std.specs.IoError.{error_kind};
 ghost use Rattle.std.specs.Option.{option_map};
+ghost use Rattle.std.specs.declared.io.ErrorKind.TheVariants.{NotFound};
 ghost use Rattle.cli_output.specs.Failure.{IsUnread};
 ghost use Rattle.cli_files.specs.Files.{FindsIfThere, FindsOrEmpty, Leaves, ReadsIfGiven, ReadsIfThere, ReadsNamed, ReadsText, TakesText};
 ghost use Rattle.cli_files.specs.Input.{text_of};
-ghost use Rattle.cli_files.specs.Opening.{is_not_found};
 ghost use Rattle.cli_files.specs.PrivateFiles.{OpensBy};
 
 use crate::input::{read_bytes, text_of};
@@ -231,7 +232,7 @@ fn read_opened<R: Read + Drop>(alloc: Global, reader: R, room: usize) -> Result<
 
 /// Tests whether a file cannot be opened by this error because it is not there.
 fn is_missing(error: io::Error) -> bool
-    ensures { result ≡ is_not_found (error_kind error) }
+    ensures { Decides result (error_kind error ≡ NotFound) }
 {
-    matches!(error.kind(), ErrorKind::NotFound)
+    error.kind() == ErrorKind::NotFound
 }
