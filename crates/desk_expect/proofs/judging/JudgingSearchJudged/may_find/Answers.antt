@@ -6,7 +6,7 @@ use Rattle.desk_policy.specs.Verdict.{verdict_of}
 use Rattle.desk_server.specs.Server.{server_verdict_of}
 use Rattle.desk_expect.specs.Audience.{contains}
 use Rattle.desk_expect.specs.Judging.{judged, judged_of}
-use Rattle.desk_expect.proofs.judging.JudgingSearch.may_find.Goals as goal
+use Rattle.desk_expect.proofs.judging.JudgingSearchJudged.may_find.Goals as goal
 
 pub returns : goal.returns
 returns c silent =
