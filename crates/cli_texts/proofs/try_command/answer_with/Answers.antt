@@ -12,14 +12,14 @@ returns-in_err-own c =
     rw (p.1, p.2)
     (record {
       step = Err c.in_err-own.field-0.0;
-      is = own_read (option_map (λ word. word.now) c.args.asked.word) c.args.sources c.args.tables.now _ c.requires.known c.in_err-own.ensures;
+      is = own_read (option_map (λ word. word.now) c.args.asked.word) c.args.sources c.args.tables.now (Err c.in_err-own.field-0.0) c.requires.known c.in_err-own.ensures;
       next = refl;
     })
 
 pub returns-in-Ok : goal.returns-in-Ok
 returns-in-Ok c = record {
   step = Ok c.in_ok-own.own;
-  is = own_read (option_map (λ word. word.now) c.args.asked.word) c.args.sources c.args.tables.now _ c.requires.known c.in_ok-own.ensures;
+  is = own_read (option_map (λ word. word.now) c.args.asked.word) c.args.sources c.args.tables.now (Ok c.in_ok-own.own) c.requires.known c.in_ok-own.ensures;
   next = inl c.in-Ok.ensures;
 }
 
@@ -29,6 +29,6 @@ returns-in-Err c =
     let Gives = PrintsVerdict c.args.sources table (question_in c.args.asked.request.now c.in_ok-own.own c.args.asked.asking) in
     record {
       step = Ok c.in_ok-own.own;
-      is = own_read (option_map (λ word. word.now) c.args.asked.word) c.args.sources c.args.tables.now _ c.requires.known c.in_ok-own.ensures;
+      is = own_read (option_map (λ word. word.now) c.args.asked.word) c.args.sources c.args.tables.now (Ok c.in_ok-own.own) c.requires.known c.in_ok-own.ensures;
       next = fault_told Gives Gives c.args.sources table c.in-Err.error c.answer_error.result c.in-Err.ensures c.answer_error.ensures;
     }
