@@ -34,10 +34,10 @@ prints_answer e replies (Err failed) result has number prints = prints
 
 -- an edit is put into a desk
 pub puts_into : {S V A : Type 0} (g : Ghosts S) (old new : Shown S V) (e : Edit) (replies : Replies (String A)) (result : Result Printed Failure) → HasReplies (e.base + 1) replies → PrintsPut g old new e replies result → PutsInto e result
-puts_into g old new e replies result has (answer, edited, prints) = record {
+puts_into g old new e replies result has put = record {
   standing = standing old.state;
-  consistent = edited.judged.consistent;
-  answer = answer;
-  answers = edited.judged.answers;
-  prints = prints_answer e replies answer result has edited.number prints;
+  consistent = put.edited.judged.consistent;
+  answer = put.answer;
+  answers = put.edited.judged.answers;
+  prints = prints_answer e replies put.answer result has put.edited.number put.prints;
 }

@@ -59,9 +59,10 @@ PrintsReply (Ok reply) (Err failure) = ⊥
 PrintsReply (Err failed) result = IsRefusedBy failed result
 
 -- An edit was put into an opened desk, as desk_store says of edits, and the reply to its answer, one of these, is printed.
-abbrev pub PrintsPut : {S V A : Type 0} → Ghosts S → Shown S V → Shown S V → Edit → Replies (String A) → Result Printed Failure → Type 0
-PrintsPut g old new e replies result =
-    (answer : Result Done DeskError) × IsEdited (state g old.conn) (state g new.conn) old.state new.state e answer × PrintsReply (reply_to replies answer) result
+pub record PrintsPut {S V A : Type 0} (g : Ghosts S) (old new : Shown S V) (e : Edit) (replies : Replies (String A)) (result : Result Printed Failure) : Type 0 where
+  pub answer : Result Done DeskError
+  pub edited : IsEdited (state g old.conn) (state g new.conn) old.state new.state e answer
+  pub prints : PrintsReply (reply_to replies answer) result
 
 -- An edit is judged by how files stand in some desk, whose newest revisions write a consistent site, and its answer is printed. Which
 -- desk that was, no clause can name, since the connection to its database is made and dropped inside.

@@ -8,7 +8,7 @@ use Rattle.cli_edits.proofs.put_command.put_edit.Goals as goal
 pub returns-in-Ok : goal.returns-in-Ok
 returns-in-Ok c =
     let has : HasReplies (c.args.edit.now.base + 1) c.in_ok-replies.replies = subst (λ (base : ℕ). HasReplies (base + 1) c.in_ok-replies.replies) c.from.ensures c.in_ok-replies.ensures in
-    inr (puts_into _ c.in-Ok.opened.desk c.put_into-answer.new.opened.desk (asked c.args.edit.now) c.in_ok-replies.replies c.put_into-answer.result has c.put_into-answer.ensures)
+    inr (puts_into _ _ _ (asked c.args.edit.now) c.in_ok-replies.replies c.put_into-answer.result has c.put_into-answer.ensures)
 
 pub returns-in-Err : goal.returns-in-Err
 returns-in-Err c = inl c.in-Err.ensures.refused

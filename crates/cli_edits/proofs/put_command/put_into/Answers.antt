@@ -7,4 +7,8 @@ use Rattle.cli_edits.proofs.put_command.put_into.Goals as goal
 pub returns : goal.returns
 returns g c =
     let put = c.put-reply.ensures.edited in
-    (put.0, put.1, subst (λ (reply : Result (String Global) DeskError). PrintsReply reply c.reply_printed.result) put.2 c.reply_printed.ensures)
+    record {
+      answer = put.0;
+      edited = put.1;
+      prints = subst (λ (reply : Result (String Global) DeskError). PrintsReply reply c.reply_printed.result) put.2 c.reply_printed.ensures;
+    }
