@@ -37,7 +37,7 @@ use Rattle.cli_desk.specs.RefusalNotes.{IsRefusedBy}
 use Rattle.cli_words.specs.Commands.{command_found}
 use Rattle.cli_words.specs.LineWords.{words_of}
 use Rattle.cli_words.specs.Values.{revision_number}
-use Rattle.cli_words.specs.Words.{After, AnswersBy, Continues}
+use Rattle.cli_words.specs.Words.{After, AnswersBy, Continues, is_set}
 use Rattle.cli_words.specs.declared.commands.Subcommand.{Subcommand}
 use Rattle.cli_words.specs.declared.commands.Subcommand.TheVariants as subcommand
 use Rattle.cli_files.specs.Input.{first_line}
@@ -308,7 +308,7 @@ lists_exports rows result is = word _ _ (first_of (codes "DB") rows) result is (
 
 lists_who : (rows : List Row) (result : Result Printed Failure) → question.AnswersWho rows result → Fine result
 lists_who rows result is =
-    word _ _ (first_of (codes "DB") rows) result is (λ db is. word _ _ (first_of (codes "DIR") rows) result is (λ dir is. after result is (λ path is. asks _ (question.of_site _) result is)))
+    word _ _ (first_of (codes "DB") rows) result is (λ db is. word _ _ (first_of (codes "DIR") rows) result is (λ dir is. after result is (λ path is. asks db (question.of_site (Ranges path (is_set (codes "mountd") rows))) result is)))
 
 asks_file : (what : FileQuestion) (rows : List Row) (result : Result Printed Failure) → question.AnswersOfFile what rows result → Fine result
 asks_file what rows result is = word _ _ (first_of (codes "DB") rows) result is (λ db is. word _ _ (first_of (codes "NAME") rows) result is (λ name is. asks db (question.plainly (given.OfFile name what)) result is))
