@@ -180,6 +180,20 @@ EXPORTS = """\
 /usr grumpy.example,131.104.48.16
 /usr (everyone)
 """
+TERMS = """\
+/a 192.168.0.0/24 rw sec=sys root=65534:65533
+/a (ipv6) rw sec=sys root=65534:65533
+/cdrom 192.168.33.0/24 alldirs ro sec=sys root=65534:65533
+/private (everyone) rw sec=krb5i root=65534:65533
+/secret (everyone) rw sec=krb5p root=65534:65533
+/u 131.104.48.0/24 rw sec=sys root=3:
+/u2 friends rw sec=sys root=0:0:5
+/u2 131.104.48.0/24 alldirs rw sec=sys root=65534:65533
+/usr friends rw sec=sys root=0:10
+/usr/local friends rw sec=sys root=0:10
+/usr grumpy.example,131.104.48.16 rw sec=sys root=1:1:5
+/usr (everyone) ro sec=sys all=65534:65534
+"""
 
 NESTED = "/a -network 10.0.0.0/8 -ro\n/a -network 10.255.255.255/32 -ro\n/a -sec=krb5\n"
 NO_PROPOSAL = "refused 111 NoRevision\n"
@@ -416,7 +430,10 @@ COMMANDS = {
         asked_of("approved", ["ask", "DB", "192.0.2.1", "/u"], f"granted line 1 {STANDARD.replace('rw', 'ro')}\n"),
     ],
     "show": [asked_of(name, ["show", "DB", "131.104.48.20"], SHOWN) for name in ("first", "old")],
-    "exports": [asked_of(name, ["exports", "DB"], EXPORTS) for name in ("first", "old")],
+    "exports": [
+        *(asked_of(name, ["exports", "DB"], EXPORTS) for name in ("first", "old")),
+        asked_of("first", ["exports", "DB", "--terms"], TERMS),
+    ],
     "log": [
         asked_of("later", ["log", "DB", "hosts"], "rev 1 site\nrev 2 site\n"),
         asked_of("old", ["log", "DB", "exports:/u"], "rev 1 site, profile 1\n"),
@@ -489,6 +506,34 @@ COMMANDS = {
         ),
         tried(
             ["clients", "-", "/a", "/a"],
+            CONTRADICTION.format(" -ro"),
+            "fault line 2 rule 26 Contradiction line 1 address 192.168.0.0\n",
+            3,
+        ),
+    ],
+    "lists": [
+        tried(
+            ["lists", "-", "131.104.48.20", "/usr"],
+            FRIENDS,
+            f"/usr {STANDARD} lines 1\n  /usr\n",
+            with_tables=True,
+        ),
+        tried(
+            ["lists", "-", "192.168.0.1", "/a"],
+            CONTRADICTION.format(" -ro"),
+            "fault line 2 rule 26 Contradiction line 1 address 192.168.0.0\n",
+            3,
+        ),
+    ],
+    "terms": [
+        tried(
+            ["terms", "-", "/usr"],
+            FRIENDS,
+            f"/usr friends {STANDARD}\n/usr 131.104.48.0/24 {STANDARD}\n",
+            with_tables=True,
+        ),
+        tried(
+            ["terms", "-", "/a"],
             CONTRADICTION.format(" -ro"),
             "fault line 2 rule 26 Contradiction line 1 address 192.168.0.0\n",
             3,

@@ -5,7 +5,7 @@ _exportdesk()
     local command=${COMP_WORDS[1]} count=0 is_value=no place
     COMPREPLY=()
     if [ "$COMP_CWORD" -eq 1 ]; then
-        choices='try split check clients compare test init ask show exports who put impact audit log cat proposal files report write copy serve --help --version'
+        choices='try split check clients lists terms compare test init ask show exports who put impact audit log cat proposal files report write copy serve --help --version'
         mapfile -t COMPREPLY < <(compgen -W "$choices" -- "$word")
         return
     fi
@@ -16,9 +16,9 @@ _exportdesk()
         # (a folder stands for the first word)
         no:--site) is_value=yes count=$((count + 1)) ;;
         no:--as | no:--base | no:--caller | no:--connections | \
-            no:--group | no:--hosts | no:--key | no:--key-file | \
-            no:--mounts | no:--netgroup | no:--networks | no:--passwd | \
-            no:--port | no:--rev | no:--timeout) is_value=yes ;;
+            no:--group | no:--hosts | no:--ignore | no:--key | \
+            no:--key-file | no:--mounts | no:--netgroup | no:--networks | \
+            no:--passwd | no:--port | no:--rev | no:--timeout) is_value=yes ;;
         yes:=) ;;
         yes:*) is_value=no ;;
         no::) count=$((count - 1)) ;;
@@ -28,11 +28,14 @@ _exportdesk()
     done
     case $command in
     try) choices='--hosts --networks --passwd --group --netgroup --mounts --site --as --why --mountd --help' ;;
-    check) choices='--hosts --networks --passwd --group --netgroup --mounts --site --brief --strict --json --sarif --opinions --help' ;;
+    check) choices='--hosts --networks --passwd --group --netgroup --mounts --site --brief --strict --json --sarif --opinions --ignore --help' ;;
     clients) choices='--hosts --networks --passwd --group --netgroup --mounts --site --mountd --help' ;;
+    lists) choices='--hosts --networks --passwd --group --netgroup --mounts --site --help' ;;
+    terms) choices='--hosts --networks --passwd --group --netgroup --mounts --site --help' ;;
     compare) choices='--hosts --networks --passwd --group --netgroup --mounts --site --all --help' ;;
     test) choices='--hosts --networks --passwd --group --netgroup --mounts --site --json --help' ;;
     ask) choices='--as --why --mountd --help' ;;
+    exports) choices='--terms --help' ;;
     who) choices='--mountd --help' ;;
     put) choices='--base --caller --key --key-file --help' ;;
     impact) choices='--all --proposal --help' ;;
@@ -56,21 +59,24 @@ _exportdesk()
         check:--networks:* | check:--passwd:* | clients:--group:* | clients:--hosts:* | \
         clients:--mounts:* | clients:--netgroup:* | clients:--networks:* | clients:--passwd:* | \
         compare:--group:* | compare:--hosts:* | compare:--mounts:* | compare:--netgroup:* | \
-        compare:--networks:* | compare:--passwd:* | put:--key-file:* | test:--group:* | \
+        compare:--networks:* | compare:--passwd:* | lists:--group:* | lists:--hosts:* | \
+        lists:--mounts:* | lists:--netgroup:* | lists:--networks:* | lists:--passwd:* | \
+        put:--key-file:* | terms:--group:* | terms:--hosts:* | terms:--mounts:* | \
+        terms:--netgroup:* | terms:--networks:* | terms:--passwd:* | test:--group:* | \
         test:--hosts:* | test:--mounts:* | test:--netgroup:* | test:--networks:* | \
         test:--passwd:* | try:--group:* | try:--hosts:* | try:--mounts:* | \
         try:--netgroup:* | try:--networks:* | try:--passwd:*)
         compopt -o filenames
         mapfile -t COMPREPLY < <(compgen -f -- "$word")
         ;;
-    check:--site:* | clients:--site:* | compare:--site:* | test:--site:* | \
-        try:--site:*)
+    check:--site:* | clients:--site:* | compare:--site:* | lists:--site:* | \
+        terms:--site:* | test:--site:* | try:--site:*)
         compopt -o filenames
         mapfile -t COMPREPLY < <(compgen -d -- "$word")
         ;;
-    ask:--as:* | cat:--rev:* | put:--base:* | put:--caller:* | \
-        put:--key:* | serve:--connections:* | serve:--port:* | serve:--timeout:* | \
-        try:--as:*) ;;
+    ask:--as:* | cat:--rev:* | check:--ignore:* | put:--base:* | \
+        put:--caller:* | put:--key:* | serve:--connections:* | serve:--port:* | \
+        serve:--timeout:* | try:--as:*) ;;
     *:-?*) mapfile -t COMPREPLY < <(compgen -W "$choices" -- "$word") ;;
     *)
         case $command:$count in
@@ -83,15 +89,15 @@ _exportdesk()
         esac
         compopt -o filenames
         case $command:$count in
-        try:0 | split:0 | split:1 | check:0 | clients:0 | compare:0 | compare:1 | test:0 | \
-            test:1 | init:0 | ask:0 | show:0 | exports:0 | who:0 | put:0 | put:2 | \
-            impact:0 | impact:2 | audit:0 | audit:1 | audit:3 | log:0 | cat:0 | proposal:0 | \
-            files:0 | report:0 | write:0 | copy:0 | copy:1 | serve:0)
+        try:0 | split:0 | split:1 | check:0 | clients:0 | lists:0 | terms:0 | compare:0 | \
+            compare:1 | test:0 | test:1 | init:0 | ask:0 | show:0 | exports:0 | who:0 | \
+            put:0 | put:2 | impact:0 | impact:2 | audit:0 | audit:1 | audit:3 | log:0 | \
+            cat:0 | proposal:0 | files:0 | report:0 | write:0 | copy:0 | copy:1 | serve:0)
             mapfile -t COMPREPLY < <(compgen -f -- "$word")
             ;;
-        try:1 | ask:1 | show:1) ;;
+        try:1 | lists:1 | ask:1 | show:1) ;;
         try:2 | clients:1 | init:1 | ask:2 | who:1 | write:1 | try:* | check:* | \
-            clients:* | compare:* | test:*)
+            clients:* | lists:* | terms:* | compare:* | test:*)
             mapfile -t COMPREPLY < <(compgen -d -- "$word")
             ;;
         esac

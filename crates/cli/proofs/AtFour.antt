@@ -1,6 +1,6 @@
 -- No command prints anything but a refusal with the status 4, for `laws::four_is_refused`.
-use Rattle.std.proofs.Common.{◌≡◌, ◌⊎◌, ◌∙◌, ◌∷◌, ℕ, Bool, true, false, List, [], Option, Some, None, Result, Ok, Err, arith, inl, inr, refl, subst, sym}
-use Rattle.std.specs.Prelude.{IsErrAnd, MatchResult, codes, find, is_some, option_map, if◌then◌else◌}
+use Rattle.std.proofs.Common.{◌≡◌, ◌∙◌, ◌∷◌, ℕ, Bool, true, false, List, [], Option, Some, None, Result, Ok, Err, arith, inl, inr, subst, sym}
+use Rattle.std.specs.Prelude.{IsErrAnd, MatchResult, codes, if◌then◌else◌}
 use Rattle.std.specs.String.{string_bytes}
 use Rattle.clap.specs.Words.{Row, first_of}
 use Rattle.desk_text.specs.declared.reading.LineFault.{LineFault}
@@ -23,6 +23,8 @@ use Rattle.desk_store.specs.declared.error.DeskError.TheVariants as error
 use Rattle.desk_service.specs.Questions as given
 use Rattle.desk_service.specs.Refused.{refused_by}
 use Rattle.desk_service.specs.Sites.{WholeSite}
+use Rattle.desk_service.specs.declared.questions.FileQuestion.{FileQuestion}
+use Rattle.desk_service.specs.declared.questions.FileQuestion.TheVariants as of_file
 use Rattle.desk_service.specs.declared.refused.Refused.{Refused}
 use Rattle.desk_service.specs.declared.refused.Refused.TheVariants as refused
 use Rattle.cli_output.specs.Printed.{Prints, PrintsText}
@@ -30,18 +32,18 @@ use Rattle.cli_output.specs.declared.failure.Failure.{Failure}
 use Rattle.cli_output.specs.declared.failure.TextFault.{TextFault}
 use Rattle.cli_output.specs.declared.printed.Printed.{Printed}
 use Rattle.cli_desk.specs.Desks.{HasNoCopiedDesk, HasNoDesk}
-use Rattle.cli_desk.specs.RefusalLines.{IsRefused, Says, refused_line, refused_status}
+use Rattle.cli_desk.specs.RefusalLines.{IsRefused, Says}
 use Rattle.cli_desk.specs.RefusalNotes.{IsRefusedBy}
 use Rattle.cli_words.specs.Commands.{command_found}
 use Rattle.cli_words.specs.LineWords.{words_of}
 use Rattle.cli_words.specs.Values.{revision_number}
-use Rattle.cli_words.specs.Words.{After, AnswersBy, Continues}
+use Rattle.cli_words.specs.Words.{After, AnswersBy, Continues, is_set}
 use Rattle.cli_words.specs.declared.commands.Subcommand.{Subcommand}
-use Rattle.cli_words.specs.declared.commands.Subcommand.TheVariants.{Ask, Audit, Cat, Check, Clients, Compare, Copy, Exports, Files, Impact, Init, Log, Proposal, Put, Report, Serve, Show, Split, Test, Try, Who, Write}
+use Rattle.cli_words.specs.declared.commands.Subcommand.TheVariants as subcommand
 use Rattle.cli_files.specs.Input.{first_line}
 use Rattle.cli_verdict.specs.Asking.{asking_in}
 use Rattle.cli_verdict.specs.Ranges.{PrintsRanges}
-use Rattle.cli_verdict.specs.TryText.{PrintsTried}
+use Rattle.cli_verdict.specs.TryText.{MountQuestion, PrintsTried}
 use Rattle.cli_verdict.specs.declared.asking.Asking.{Asking}
 use Rattle.cli_verdict.specs.declared.try_text.Tried.{Tried}
 use Rattle.cli_expectations.specs.Tested.{Expected, PrintsTested}
@@ -49,10 +51,12 @@ use Rattle.cli_texts.specs.CheckCommand as check
 use Rattle.cli_texts.specs.ClientsCommand as clients
 use Rattle.cli_texts.specs.CompareCommand as compare
 use Rattle.cli_texts.specs.FaultyTexts.{AnswersOrFault}
+use Rattle.cli_texts.specs.ListsCommand as lists
 use Rattle.cli_texts.specs.SplitCommand as split
 use Rattle.cli_texts.specs.SplitText.{split_answer}
 use Rattle.cli_texts.specs.Subject.{word_at}
 use Rattle.cli_texts.specs.Systems as systems
+use Rattle.cli_texts.specs.TermsCommand as terms
 use Rattle.cli_texts.specs.TestCommand as test
 use Rattle.cli_texts.specs.TryCommand as try
 use Rattle.cli_texts.specs.declared.findings_form.FindingsForm.{FindingsForm}
@@ -64,8 +68,8 @@ use Rattle.desk_findings.specs.declared.check_faults.Source.{Source}
 use Rattle.desk_findings.specs.declared.check_text.WholeSources.{WholeSources}
 use Rattle.cli_questions.specs.AuditCommand as audit
 use Rattle.cli_questions.specs.QuestionCommands as question
-use Rattle.cli_questions.specs.Questions.{AnswersQuestion, Asked, Breaches, Mounts, PrintsAnswer, PrintsSite, Ranges, Wanted}
-use Rattle.cli_report.specs.ReportCommand as report
+use Rattle.cli_questions.specs.Questions.{AnswersQuestion, Asked, Breaches, Changes, Mounts, Plain, Printer, PrintsAnswer, PrintsSite, PrintsWhy, Ranges, Terms, mount_in}
+use Rattle.cli_questions.specs.ReportCommand as report
 use Rattle.cli_edits.specs.InitCommand as init
 use Rattle.cli_edits.specs.PutCommand as put
 use Rattle.cli_serve.specs.ServeCommand as serve
@@ -209,22 +213,32 @@ splits rows known result is =
     word _ _ (first_of (codes "FILE") rows) result is (λ file is. word _ _ (first_of (codes "FILESYSTEMS") rows) result is (λ filesystems is. after result is (λ sources is.
     either _ _ result is (λ printed is. split_prints sources (split_answer sources.file.text.now sources.filesystems.text.now) printed is))))
 
-found : (IsFound : Gathered → Type 0) (form : FindingsForm) (result : Result Printed Failure) → check.AnswersFound IsFound form result → Fine result
-found IsFound form result is = either _ _ result is (λ printed is. let shown = is.1.1 in prints _ _ printed (none_of shown.checked.passes 0 3 not_0 not_3) shown.prints.prints)
+found : (IsFound : Gathered → Type 0) (form : FindingsForm) (ignored : Option (List ℕ)) (result : Result Printed Failure) → check.AnswersFound IsFound form ignored result → Fine result
+found IsFound form ignored result is = either _ _ result is (λ printed is. let shown = is.1.1 in prints _ _ printed (none_of shown.checked.passes 0 3 not_0 not_3) shown.prints.prints)
 
-checks_subject : (subject : Subject) (rows : List Row) (known : Option (List ℕ)) (result : Result Printed Failure) → check.AnswersSubject rows known subject result → Fine result
-checks_subject (File file) rows known result is = with_systems (File file) rows _ known _ result is (λ left table is. after result is (λ sources is. found _ _ result is))
-checks_subject (Site folder) rows known result is =
-    after result is (λ custodians is. after result is.after (λ both is. after result is.answers (λ sources is. found _ _ result is.answers)))
+checks_subject : (subject : Subject) (rows : List Row) (ignored known : Option (List ℕ)) (result : Result Printed Failure) → check.AnswersSubject rows ignored known subject result → Fine result
+checks_subject (File file) rows ignored known result is = with_systems (File file) rows _ known _ result is (λ left table is. after result is (λ sources is. found _ _ _ result is))
+checks_subject (Site folder) rows ignored known result is =
+    after result is (λ custodians is. after result is.after (λ both is. after result is.answers (λ sources is. found _ _ _ result is.answers)))
 
 checks : (option : Option (List ℕ)) (rows : List Row) (known : Option (List ℕ)) (result : Result Printed Failure) → check.AnswersCheckIf option rows known result → Fine result
 checks (Some option) rows known result is = err_and _ result is
-checks None rows known result is = after result is (λ subject is. checks_subject subject rows known result is)
+checks None rows known result is = after result is (λ ignored is. after result is (λ subject is. checks_subject subject rows ignored known result is))
 
 lists_clients : (rows : List Row) (known : Option (List ℕ)) (result : Result Printed Failure) → clients.AnswersClients rows known result → Fine result
 lists_clients rows known result is =
     after result is (λ subject is. after result is (λ path is. with_systems subject rows _ known _ result is (λ left table is. after result is (λ sources is.
     or_fault _ _ _ result is (λ printed is. ranges _ is.policy path printed is.prints)))))
+
+lists_listing : (rows : List Row) (known : Option (List ℕ)) (result : Result Printed Failure) → lists.AnswersLists rows known result → Fine result
+lists_listing rows known result is =
+    after result is (λ subject is. after result is (λ address is. with_systems subject rows _ known _ result is (λ left table is. after result is (λ sources is.
+    or_fault _ _ _ result is (λ printed is. prints _ 0 printed not_0 is.prints.prints)))))
+
+lists_terms : (rows : List Row) (known : Option (List ℕ)) (result : Result Printed Failure) → terms.AnswersTerms rows known result → Fine result
+lists_terms rows known result is =
+    after result is (λ subject is. with_systems subject rows _ known _ result is (λ left table is. after result is (λ sources is.
+    or_fault _ _ _ result is (λ printed is. prints _ 0 printed not_0 is.prints.prints))))
 
 compared : (before : Content) (read : Result Content SiteFault) (all : Bool) (printed : Printed) → compare.PrintsChanges before read all printed → Fine (Ok printed)
 compared before read all printed is = prints _ _ printed (none_of _ 0 1 not_0 not_1) is.prints
@@ -244,13 +258,21 @@ tests_texts rows known result is =
 
 -- ---- questions on a database
 
-prints_site : (site : WholeSite) (wanted : Wanted) (printed : Printed) → PrintsSite site wanted printed → Fine (Ok printed)
+prints_site : (site : WholeSite) (printer : Printer) (printed : Printed) → PrintsSite site printer printed → Fine (Ok printed)
+prints_site site Plain printed is = prints _ 0 printed not_0 is
+prints_site site Terms printed is = prints _ 0 printed not_0 is
+prints_site site (Changes all) printed is = prints _ 0 printed not_0 is
 prints_site site (Breaches expected) printed is = tested site.tables site.content expected printed is
 prints_site site (Mounts question) printed is = tried is.0 printed is.2
 prints_site site (Ranges path mountd) printed is = ranges mountd site.content path printed is
 
+prints_why : (question : Option MountQuestion) (content : Content) (reasons : List ℕ) (printed : Printed) → PrintsWhy question content reasons printed → Fine (Ok printed)
+prints_why (Some question) content reasons printed is = tried is.0 printed is.2
+prints_why None content reasons printed is = prints _ 0 printed not_0 is
+
 prints_answer : (asked : Asked) (answer : given.Answer) (printed : Printed) → PrintsAnswer asked answer printed → Fine (Ok printed)
 prints_answer asked (given.VerdictIs content verdict) printed is = prints _ _ printed (none_of _ 0 1 not_0 not_1) is
+prints_answer asked (given.WhyIs content reasons) printed is = prints_why (mount_in asked.printer) content reasons printed is
 prints_answer asked (given.ListingIs content listing) printed is = prints _ 0 printed not_0 is
 prints_answer asked (given.ExportsAre content) printed is = prints _ 0 printed not_0 is
 prints_answer asked (given.RangesAre content runs) printed is = prints _ 0 printed not_0 is
@@ -260,7 +282,7 @@ prints_answer asked (given.ProposalIs proposal) printed is = prints _ 0 printed 
 prints_answer asked given.NoRevision printed is = says refused.NoRevision printed is
 prints_answer asked (given.FilesAre listed) printed is = prints _ 0 printed not_0 is
 prints_answer asked (given.ForeseenIs foreseen) printed is = prints _ _ printed (none_of _ 0 1 not_0 not_1) is.prints
-prints_answer asked (given.SiteIs site) printed is = prints_site site asked.wanted printed is
+prints_answer asked (given.SiteIs site) printed is = prints_site site asked.printer printed is
 prints_answer asked (given.RefusedBy refusal) printed is = says (refused.Edit refusal) printed is
 
 asks : (path : List ℕ) (asked : Asked) (result : Result Printed Failure) → AnswersQuestion path asked result → Fine result
@@ -275,36 +297,33 @@ asks_if : (asking : Result Asking Failure) (rows : List Row) (result : Result Pr
 asks_if (Err failure) rows result is = fails result failure is
 asks_if (Ok asking) rows result is =
     word _ _ (first_of (codes "DB") rows) result is (λ db is. word _ _ (first_of (codes "HOST") rows) result is (λ host is. word _ _ (first_of (codes "DIR") rows) result is (λ dir is.
-    after result is (λ address is. after result is (λ path is. after result is (λ own is. asks _ (question.wanting _ own) result is))))))
+    after result is (λ address is. after result is (λ path is. after result is (λ own is. asks _ (question.mounting _) result is))))))
 
 shows : (rows : List Row) (result : Result Printed Failure) → question.AnswersShow rows result → Fine result
 shows rows result is =
-    word _ _ (first_of (codes "DB") rows) result is (λ db is. word _ _ (first_of (codes "HOST") rows) result is (λ host is. after result is (λ address is. asks db (question.asking (given.Listing address.number) None) result is)))
+    word _ _ (first_of (codes "DB") rows) result is (λ db is. word _ _ (first_of (codes "HOST") rows) result is (λ host is. after result is (λ address is. asks db (question.plainly (given.Listing address.number)) result is)))
 
 lists_exports : (rows : List Row) (result : Result Printed Failure) → question.AnswersExports rows result → Fine result
-lists_exports rows result is = word _ _ (first_of (codes "DB") rows) result is (λ db is. asks db (question.asking given.Exports None) result is)
+lists_exports rows result is = word _ _ (first_of (codes "DB") rows) result is (λ db is. asks db (question.of_exports _) result is)
 
 lists_who : (rows : List Row) (result : Result Printed Failure) → question.AnswersWho rows result → Fine result
 lists_who rows result is =
-    word _ _ (first_of (codes "DB") rows) result is (λ db is. word _ _ (first_of (codes "DIR") rows) result is (λ dir is. after result is (λ path is. asks _ (question.wanting _ None) result is)))
+    word _ _ (first_of (codes "DB") rows) result is (λ db is. word _ _ (first_of (codes "DIR") rows) result is (λ dir is. after result is (λ path is. asks db (question.of_site (Ranges path (is_set (codes "mountd") rows))) result is)))
 
-lists_log : (rows : List Row) (result : Result Printed Failure) → question.AnswersLog rows result → Fine result
-lists_log rows result is = word _ _ (first_of (codes "DB") rows) result is (λ db is. word _ _ (first_of (codes "NAME") rows) result is (λ name is. asks db (question.asking (given.Revisions name) None) result is))
+asks_file : (what : FileQuestion) (rows : List Row) (result : Result Printed Failure) → question.AnswersOfFile what rows result → Fine result
+asks_file what rows result is = word _ _ (first_of (codes "DB") rows) result is (λ db is. word _ _ (first_of (codes "NAME") rows) result is (λ name is. asks db (question.plainly (given.OfFile name what)) result is))
 
 prints_file : (rows : List Row) (result : Result Printed Failure) → question.AnswersCat rows result → Fine result
 prints_file rows result is =
-    word _ _ (first_of (codes "DB") rows) result is (λ db is. word _ _ (first_of (codes "NAME") rows) result is (λ name is. after result is (λ rev is. asks db (question.asking (given.Text name rev) None) result is)))
-
-prints_proposal : (rows : List Row) (result : Result Printed Failure) → question.AnswersProposal rows result → Fine result
-prints_proposal rows result is = word _ _ (first_of (codes "DB") rows) result is (λ db is. word _ _ (first_of (codes "NAME") rows) result is (λ name is. asks db (question.asking (given.Proposal name) None) result is))
+    word _ _ (first_of (codes "DB") rows) result is (λ db is. word _ _ (first_of (codes "NAME") rows) result is (λ name is. after result is (λ rev is. asks db (question.plainly (given.Text name rev)) result is)))
 
 lists_files : (rows : List Row) (result : Result Printed Failure) → question.AnswersFiles rows result → Fine result
-lists_files rows result is = word _ _ (first_of (codes "DB") rows) result is (λ db is. asks db (question.asking given.Files None) result is)
+lists_files rows result is = word _ _ (first_of (codes "DB") rows) result is (λ db is. asks db (question.plainly given.Files) result is)
 
 foresees_by : (db name : List ℕ) (all : Bool) (file : Option (List ℕ)) (proposal : Bool) (known : Option (List ℕ)) (result : Result Printed Failure) → question.AnswersImpactBy db name all file proposal known result → Fine result
 foresees_by db name all (Some file) true known result is = fails result _ is
-foresees_by db name all (Some file) false known result is = after result is (λ text is. asks db (question.foreseeing (given.Foresee name text) all) result is)
-foresees_by db name all None true known result is = asks db (question.foreseeing (given.ForeseeProposal name) all) result is
+foresees_by db name all (Some file) false known result is = after result is (λ text is. asks db (question.changes (given.Foresee name text) all) result is)
+foresees_by db name all None true known result is = asks db (question.changes (given.ForeseeProposal name) all) result is
 foresees_by db name all None false known result is = err_and _ result is
 
 foresees : (rows : List Row) (known : Option (List ℕ)) (result : Result Printed Failure) → question.AnswersImpact rows known result → Fine result
@@ -448,28 +467,30 @@ serves rows result (inr is) = after result is (λ asked is. serves_not _ _ resul
 -- ---- the program
 
 by_command : (command : Subcommand) (rows : List Row) (known : Option (List ℕ)) (result : Result Printed Failure) → AnswersGiven command rows known result → Fine result
-by_command Try rows known result is = tries (asking_in rows) rows known result is
-by_command Split rows known result is = splits rows known result is
-by_command Check rows known result is = checks (check.beside_sarif rows) rows known result is
-by_command Clients rows known result is = lists_clients rows known result is
-by_command Compare rows known result is = compares rows known result is
-by_command Test rows known result is = tests_texts rows known result is
-by_command Init rows known result is = makes rows known result is
-by_command Ask rows known result is = asks_if (asking_in rows) rows result is
-by_command Show rows known result is = shows rows result is
-by_command Exports rows known result is = lists_exports rows result is
-by_command Who rows known result is = lists_who rows result is
-by_command Put rows known result is = puts rows known result is
-by_command Impact rows known result is = foresees rows known result is
-by_command Audit rows known result is = audits rows known result is
-by_command Log rows known result is = lists_log rows result is
-by_command Cat rows known result is = prints_file rows result is
-by_command Proposal rows known result is = prints_proposal rows result is
-by_command Files rows known result is = lists_files rows result is
-by_command Report rows known result is = word _ _ (first_of (codes "DB") rows) result is (λ db is. reports db result is)
-by_command Write rows known result is = writes rows result is
-by_command Copy rows known result is = copies rows result is
-by_command Serve rows known result is = serves rows result is
+by_command subcommand.Try rows known result is = tries (asking_in rows) rows known result is
+by_command subcommand.Split rows known result is = splits rows known result is
+by_command subcommand.Check rows known result is = checks (check.beside_sarif rows) rows known result is
+by_command subcommand.Clients rows known result is = lists_clients rows known result is
+by_command subcommand.Lists rows known result is = lists_listing rows known result is
+by_command subcommand.Terms rows known result is = lists_terms rows known result is
+by_command subcommand.Compare rows known result is = compares rows known result is
+by_command subcommand.Test rows known result is = tests_texts rows known result is
+by_command subcommand.Init rows known result is = makes rows known result is
+by_command subcommand.Ask rows known result is = asks_if (asking_in rows) rows result is
+by_command subcommand.Show rows known result is = shows rows result is
+by_command subcommand.Exports rows known result is = lists_exports rows result is
+by_command subcommand.Who rows known result is = lists_who rows result is
+by_command subcommand.Put rows known result is = puts rows known result is
+by_command subcommand.Impact rows known result is = foresees rows known result is
+by_command subcommand.Audit rows known result is = audits rows known result is
+by_command subcommand.Log rows known result is = asks_file of_file.Revisions rows result is
+by_command subcommand.Cat rows known result is = prints_file rows result is
+by_command subcommand.Proposal rows known result is = asks_file of_file.Proposal rows result is
+by_command subcommand.Files rows known result is = lists_files rows result is
+by_command subcommand.Report rows known result is = word _ _ (first_of (codes "DB") rows) result is (λ db is. reports db result is)
+by_command subcommand.Write rows known result is = writes rows result is
+by_command subcommand.Copy rows known result is = copies rows result is
+by_command subcommand.Serve rows known result is = serves rows result is
 
 by_found : (found : Option (Subcommand × List Row)) (known : Option (List ℕ)) (result : Result Printed Failure) → AnswersFound found known result → Fine result
 by_found (Some found) known result is = by_command found.0 found.1 known result is

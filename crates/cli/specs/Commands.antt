@@ -5,6 +5,7 @@ use Rattle.std.specs.Io.KnownBytes.{Consumes}
 use Rattle.clap.specs.Words.{Row}
 use Rattle.clap.specs.declared.error.ErrorKind.{ErrorKind}
 use Rattle.clap.specs.declared.error.ErrorKind.TheVariants.{DisplayHelp, DisplayVersion, OutOfMemory}
+use Rattle.desk_service.specs.declared.questions.FileQuestion.TheVariants as of_file
 use Rattle.cli_output.specs.Failure.{IsMissing, IsUnreadLine}
 use Rattle.cli_output.specs.Printed.{PrintsAtFour, status_of, text_of}
 use Rattle.cli_output.specs.declared.failure.Failure.{Failure}
@@ -15,17 +16,19 @@ use Rattle.cli_output.specs.declared.printed.Printed.{Printed}
 use Rattle.cli_words.specs.Commands.{AskForHelp, command_found, faults_of}
 use Rattle.cli_words.specs.LineWords.{IsBadWord, words_of}
 use Rattle.cli_words.specs.declared.commands.Subcommand.{Subcommand}
-use Rattle.cli_words.specs.declared.commands.Subcommand.TheVariants.{Ask, Audit, Cat, Check, Clients, Compare, Copy, Exports, Files, Impact, Init, Log, Proposal, Put, Report, Serve, Show, Split, Test, Try, Who, Write}
+use Rattle.cli_words.specs.declared.commands.Subcommand.TheVariants as subcommand
 use Rattle.cli_files.specs.Input.{first_line}
 use Rattle.cli_texts.specs.CheckCommand.{AnswersCheck}
 use Rattle.cli_texts.specs.ClientsCommand.{AnswersClients}
 use Rattle.cli_texts.specs.CompareCommand.{AnswersCompare}
+use Rattle.cli_texts.specs.ListsCommand.{AnswersLists}
 use Rattle.cli_texts.specs.SplitCommand.{AnswersSplit}
+use Rattle.cli_texts.specs.TermsCommand.{AnswersTerms}
 use Rattle.cli_texts.specs.TestCommand.{AnswersTest}
 use Rattle.cli_texts.specs.TryCommand.{AnswersTry}
 use Rattle.cli_questions.specs.AuditCommand.{AnswersAudit}
-use Rattle.cli_questions.specs.QuestionCommands.{AnswersAsk, AnswersCat, AnswersExports, AnswersFiles, AnswersImpact, AnswersLog, AnswersProposal, AnswersShow, AnswersWho}
-use Rattle.cli_report.specs.ReportCommand.{AnswersReport}
+use Rattle.cli_questions.specs.QuestionCommands.{AnswersAsk, AnswersCat, AnswersExports, AnswersFiles, AnswersImpact, AnswersOfFile, AnswersShow, AnswersWho}
+use Rattle.cli_questions.specs.ReportCommand.{AnswersReport}
 use Rattle.cli_edits.specs.InitCommand.{AnswersInit}
 use Rattle.cli_edits.specs.PutCommand.{AnswersPut}
 use Rattle.cli_serve.specs.ServeCommand.{AnswersServe}
@@ -48,28 +51,30 @@ IsNoCommand words (Err failure) = IsBadWord words failure
 
 -- the answer to a command with these words over an input that has these bytes, if a contract can name them
 abbrev pub AnswersGiven : Subcommand → List Row → Option (List ℕ) → Result Printed Failure → Type 0
-AnswersGiven Try rows known result = AnswersTry rows known result
-AnswersGiven Split rows known result = AnswersSplit rows known result
-AnswersGiven Check rows known result = AnswersCheck rows known result
-AnswersGiven Clients rows known result = AnswersClients rows known result
-AnswersGiven Compare rows known result = AnswersCompare rows known result
-AnswersGiven Test rows known result = AnswersTest rows known result
-AnswersGiven Init rows known result = AnswersInit rows known result
-AnswersGiven Ask rows known result = AnswersAsk rows result
-AnswersGiven Show rows known result = AnswersShow rows result
-AnswersGiven Exports rows known result = AnswersExports rows result
-AnswersGiven Who rows known result = AnswersWho rows result
-AnswersGiven Put rows known result = AnswersPut rows known result
-AnswersGiven Impact rows known result = AnswersImpact rows known result
-AnswersGiven Audit rows known result = AnswersAudit rows known result
-AnswersGiven Log rows known result = AnswersLog rows result
-AnswersGiven Cat rows known result = AnswersCat rows result
-AnswersGiven Proposal rows known result = AnswersProposal rows result
-AnswersGiven Files rows known result = AnswersFiles rows result
-AnswersGiven Report rows known result = AnswersReport rows result
-AnswersGiven Write rows known result = AnswersWrite rows result
-AnswersGiven Copy rows known result = AnswersCopy rows result
-AnswersGiven Serve rows known result = AnswersServe rows result
+AnswersGiven subcommand.Try rows known result = AnswersTry rows known result
+AnswersGiven subcommand.Split rows known result = AnswersSplit rows known result
+AnswersGiven subcommand.Check rows known result = AnswersCheck rows known result
+AnswersGiven subcommand.Clients rows known result = AnswersClients rows known result
+AnswersGiven subcommand.Lists rows known result = AnswersLists rows known result
+AnswersGiven subcommand.Terms rows known result = AnswersTerms rows known result
+AnswersGiven subcommand.Compare rows known result = AnswersCompare rows known result
+AnswersGiven subcommand.Test rows known result = AnswersTest rows known result
+AnswersGiven subcommand.Init rows known result = AnswersInit rows known result
+AnswersGiven subcommand.Ask rows known result = AnswersAsk rows result
+AnswersGiven subcommand.Show rows known result = AnswersShow rows result
+AnswersGiven subcommand.Exports rows known result = AnswersExports rows result
+AnswersGiven subcommand.Who rows known result = AnswersWho rows result
+AnswersGiven subcommand.Put rows known result = AnswersPut rows known result
+AnswersGiven subcommand.Impact rows known result = AnswersImpact rows known result
+AnswersGiven subcommand.Audit rows known result = AnswersAudit rows known result
+AnswersGiven subcommand.Log rows known result = AnswersOfFile of_file.Revisions rows result
+AnswersGiven subcommand.Cat rows known result = AnswersCat rows result
+AnswersGiven subcommand.Proposal rows known result = AnswersOfFile of_file.Proposal rows result
+AnswersGiven subcommand.Files rows known result = AnswersFiles rows result
+AnswersGiven subcommand.Report rows known result = AnswersReport rows result
+AnswersGiven subcommand.Write rows known result = AnswersWrite rows result
+AnswersGiven subcommand.Copy rows known result = AnswersCopy rows result
+AnswersGiven subcommand.Serve rows known result = AnswersServe rows result
 
 -- the answer to what clap finds: that to the command, or that there is none
 abbrev pub AnswersFound : Option (Subcommand × List Row) → Option (List ℕ) → Result Printed Failure → Type 0

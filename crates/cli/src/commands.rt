@@ -1,6 +1,6 @@
 //! From words to what the program prints.
 
-ghost use Rattle.std.specs.Prelude.{◌≡◌, map};
+ghost use Rattle.std.specs.Prelude.{map};
 ghost use Rattle.clap.specs.Words.{kind_of, subcommand_rows_of};
 ghost use Rattle.cli_words.specs.Commands.{command_of};
 ghost use Rattle.cli_words.specs.Words.{rows_in};
@@ -17,14 +17,16 @@ use cli_output::failure::{Failure, ReadFailure};
 use cli_output::printed::Printed;
 use cli_questions::audit_command::run_audit;
 use cli_questions::question_commands::{
-    run_ask, run_cat, run_exports, run_files, run_impact, run_log, run_proposal, run_show, run_who,
+    run_ask, run_cat, run_exports, run_files, run_impact, run_of_file, run_show, run_who,
 };
-use cli_report::report_command::run_report;
+use cli_questions::report_command::run_report;
 use cli_serve::serve_command::{Service, run_serve};
 use cli_texts::check_command::run_check;
 use cli_texts::clients_command::run_clients;
 use cli_texts::compare_command::run_compare;
+use cli_texts::lists_command::run_lists;
 use cli_texts::split_command::run_split;
+use cli_texts::terms_command::run_terms;
 use cli_texts::test_command::run_test;
 use cli_texts::try_command::run_try;
 use cli_words::commands::Subcommand;
@@ -33,6 +35,7 @@ use cli_words::line_words::{command_words, words_of};
 use cli_words::words::found_command;
 use cli_write::copy_command::run_copy;
 use cli_write::write_command::run_write;
+use desk_service::FileQuestion;
 use std::alloc::Global;
 use std::convert::AsSlice;
 use std::io::BufRead;
@@ -115,6 +118,8 @@ fn run_command<I: BufRead>(
         Subcommand::Split => run_split(rt, words, input),
         Subcommand::Check => run_check(rt, words, input),
         Subcommand::Clients => run_clients(rt, words, input),
+        Subcommand::Lists => run_lists(rt, words, input),
+        Subcommand::Terms => run_terms(rt, words, input),
         Subcommand::Compare => run_compare(rt, words, input),
         Subcommand::Test => run_test(rt, words, input),
         Subcommand::Init => run_init(rt, words, input),
@@ -125,9 +130,9 @@ fn run_command<I: BufRead>(
         Subcommand::Put => run_put(rt, words, input),
         Subcommand::Impact => run_impact(rt, words, input),
         Subcommand::Audit => run_audit(rt, words, input),
-        Subcommand::Log => run_log(rt, words),
+        Subcommand::Log => run_of_file(rt, words, FileQuestion::Revisions),
         Subcommand::Cat => run_cat(rt, words),
-        Subcommand::Proposal => run_proposal(rt, words),
+        Subcommand::Proposal => run_of_file(rt, words, FileQuestion::Proposal),
         Subcommand::Files => run_files(rt, words),
         Subcommand::Report => run_report(rt, words),
         Subcommand::Write => run_write(rt, words),

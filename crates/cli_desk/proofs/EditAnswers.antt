@@ -1,5 +1,5 @@
 -- An edit that is made of a desk is made of the database that the desk was opened on, for `desks`.
-use Rattle.std.proofs.Common.{◌⊎◌, [], Result, Ok, arith, inl, inr}
+use Rattle.std.proofs.Common.{◌≡◌, ◌⊎◌, [], Result, arith, inl, inr}
 use Rattle.sqlite.specs.Held.{Held, state}
 use Rattle.sqlite.specs.State.{HasCleanDisk, State, Survives}
 use Rattle.sqlite.proofs.StateLemmas.{survives_then}
@@ -9,9 +9,9 @@ use Rattle.desk_store.specs.Desk.{CommitsOne, IsEdited, Shown, told}
 use Rattle.desk_store.specs.Open.{LeavesOpened, MayMigrate, OpensAt}
 use Rattle.desk_store.specs.declared.desk.Done.{Done}
 use Rattle.desk_store.specs.declared.error.DeskError.{DeskError}
-use Rattle.desk_service.specs.Edits.{PutsBy}
+use Rattle.desk_service.specs.Edits.{PutsBy, reply_to}
 use Rattle.desk_service.specs.declared.edits.Replies.{Replies}
-use Rattle.cli_desk.specs.Desks.{IsPut, PutsOver}
+use Rattle.cli_desk.specs.Desks.{IsPut}
 
 -- An edit is made of a desk that was opened on the database of a connection.
 module _ {S V : Type 0} (g : Ghosts S) (conn : Held S) (desk after : Shown S V) (e : Edit) (opens : HasCleanDisk (state g desk.conn) → OpensAt g (state g conn).committed desk) (leaves : HasCleanDisk (state g desk.conn) → LeavesOpened (state g conn).committed (state g desk.conn).committed) (crash : Survives (state g conn) (state g desk.conn) (MayMigrate (state g conn))) where
@@ -45,5 +45,5 @@ module _ {S V : Type 0} (g : Ghosts S) (conn : Held S) (desk after : Shown S V) 
         durable = λ good some. (edited.durable good some).leaves;
       }
 
-  pub puts_over : {T : Type 0} (replies : Replies T) (reply : Result T DeskError) → PutsBy g desk after e replies reply → PutsOver g conn e replies (Ok (reply, after))
+  pub puts_over : {T : Type 0} (replies : Replies T) (reply : Result T DeskError) → PutsBy g desk after e replies reply → (answer : Result Done DeskError) × IsPut V first last e answer × (reply ≡ reply_to replies answer)
   puts_over replies reply (answer, edited, is) = (answer, is_put answer edited, is)

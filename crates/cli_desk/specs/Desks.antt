@@ -13,11 +13,10 @@ use Rattle.desk_core.specs.State.{standing}
 use Rattle.desk_core.specs.Views.{Kept}
 use Rattle.desk_store.specs.Desk.{AddsNothing, CommitsOne, HasGoodDisk, History, IsJudgedBy, Shown, StepsOn, told}
 use Rattle.desk_store.specs.History.{entry_rows}
-use Rattle.desk_store.specs.Open.{IsOfOpening, IsOurs, IsProject, LeavesOpened, MayMigrate, OpensAt}
+use Rattle.desk_store.specs.Open.{IsOurs, IsProject, LeavesOpened, MayMigrate, OpensAt}
 use Rattle.desk_store.specs.Tables.{LeavesCommit, Stores}
 use Rattle.desk_store.specs.declared.desk.Done.{Done}
 use Rattle.desk_store.specs.declared.error.DeskError.{DeskError}
-use Rattle.desk_store.specs.declared.error.DeskError.TheVariants as error
 use Rattle.desk_service.specs.Edits.{reply_to}
 use Rattle.desk_service.specs.declared.edits.Replies.{Replies}
 use Rattle.desk_service.specs.declared.refused.Refused.TheVariants.{Schema, Store}
@@ -48,23 +47,22 @@ HasNoCopiedDesk path (Err failure) = IsUnread (codes "DB") path failure
 abbrev pub IsCopied : {S V : Type 0} → Ghosts S → Shown S V → Type 0
 IsCopied g desk = (db : Database) × OpensAt g db desk
 
--- a desk that is opened on files that held this image stands at the history of the database that was found in them
+-- A desk was opened on the database of a connection: it stands at the history that the tables held, of which a database of version 1 was
+-- migrated; and a crash leaves what it could before, or that migration.
+pub record OpensOn {S V : Type 0} (g : Ghosts S) (conn : Held S) (desk : Shown S V) : Type 0 where
+  pub stands : HasGoodDisk g desk → OpensAt g (state g conn).committed desk
+  pub tables : HasGoodDisk g desk → LeavesOpened (state g conn).committed (state g desk.conn).committed
+  pub crash : Survives (state g conn) (state g desk.conn) (MayMigrate (state g conn))
+
+-- a desk was opened on files that held this image, on the database that was found in them
 pub record OpensDesk {S V : Type 0} (g : Ghosts S) (image : Image) (desk : Shown S V) : Type 0 where
   pub conn : Held S
   pub found : HasCleanDisk (state g conn) → Opens (state g conn) × FindsIn image (state g conn)
-  pub stands : HasGoodDisk g desk → OpensAt g (state g conn).committed desk
+  pub on : OpensOn g conn desk
 
 -- The tables are as before, or a database of version 1 was migrated; and a crash leaves what it could before, or that migration.
 pub record OnlyMigrates (old new : State) : Type 0 where
   pub tables : HasCleanDisk new → IsTrue new.is_open → (new.committed ≡ old.committed) ⊎ LeavesOpened old.committed new.committed
-  pub crash : Survives old new (MayMigrate old)
-
--- No edit was made of the database of a connection: it is not one of this project, a statement that looks for that or migrates it
--- was refused, or memory ran out. The tables are as before, and a crash leaves what it could before, or a migration.
-pub record IsNotPut (old new : State) (failed : DeskError) : Type 0 where
-  pub opening : IsOfOpening failed
-  pub foreign : HasCleanDisk new → failed ≡ error.Schema → IsOurs old.committed → ⊥
-  pub unchanged : HasCleanDisk new → IsTrue new.is_open → new.committed ≡ old.committed
   pub crash : Survives old new (MayMigrate old)
 
 -- An edit was made of the database of a connection, and has this answer: by how files stand in the desk that was opened on it,
@@ -89,9 +87,7 @@ pub record IsPut (V : Type 0) (old new : State) (e : Edit) (answer : Result Done
   pub stored : HasCleanDisk new → (AddsNothing before e (told answer) → ⊥) → Stores (entry_rows (entry_of (standing before) e)) opened new.committed
   pub durable : HasCleanDisk new → (AddsNothing before e (told answer) → ⊥) → LeavesCommit new
 
--- What opening a desk on the database of a connection, and making an edit of it, came to: no edit was made; or one was, and beside the
--- desk is the reply to its answer.
-abbrev pub PutsOver : {S V T : Type 0} → Ghosts S → Held S → Edit → Replies T → Result (Result T DeskError × Shown S V) (DeskError × Held S) → Type 0
-PutsOver g conn e replies (Err both) = IsNotPut (state g conn) (state g both.1) both.0
-PutsOver {S} {V} g conn e replies (Ok both) =
-    (answer : Result Done DeskError) × IsPut V (state g conn) (state g both.1.conn) e answer × (both.0 ≡ reply_to replies answer)
+-- An edit of a desk is one of the database of each connection on which the desk was opened; its reply is that to the answer.
+abbrev pub PutsOver : {S V T : Type 0} → Ghosts S → Shown S V → Shown S V → Edit → Replies T → Result T DeskError → Type 0
+PutsOver {S} {V} g old new e replies reply =
+    (conn : Held S) → OpensOn g conn old → (answer : Result Done DeskError) × IsPut V (state g conn) (state g new.conn) e answer × (reply ≡ reply_to replies answer)

@@ -5,8 +5,8 @@
 //! DB is refused before SQLite opens it, which would write a database into it.
 //!
 //! A log that was made for nothing is removed before the lock goes with the connection: after that, another process may write
-//! it. So whoever opens a desk for edits makes what allocates first, then asks which log is to be made, opens, edits, removes
-//! the log, and drops the connection last.
+//! it. So an [`OpenedDesk`] is opened once all that allocates is made and it is asked which log is to be made, and its `close`
+//! removes that log before it drops the connection.
 
 ghost use Rattle.std.specs.Prelude.{◌≡◌, false, IfErr, IfOk};
 ghost use Rattle.sqlite_wal.specs.Files.{image_at};
@@ -15,11 +15,11 @@ ghost use Rattle.sqlite.specs.Held.{state};
 ghost use Rattle.sqlite.specs.Start.{FindsIn};
 ghost use Rattle.sqlite.specs.State.{HasCleanDisk, Opens};
 ghost use Rattle.desk_core.specs.Edit.{asked};
-ghost use Rattle.desk_store.specs.Desk.{HasGoodDisk};
 ghost use Rattle.desk_store.specs.Open.{OpensAt};
+ghost use Rattle.desk_service.specs.Edits.{PutsBy};
 ghost use Rattle.desk_service.specs.declared.refused.Refused.TheVariants as refused;
 ghost use Rattle.cli_database_files.specs.DatabaseFile.{plain_path};
-ghost use Rattle.cli_desk.specs.Desks.{HasNoCopiedDesk, HasNoDesk, HasNoDeskOn, IsCopied, OpensDesk, PutsOver};
+ghost use Rattle.cli_desk.specs.Desks.{HasNoCopiedDesk, HasNoDesk, HasNoDeskOn, IsCopied, OpensDesk, OpensOn, PutsOver};
 ghost use Rattle.cli_desk.specs.RefusalLines.{IsRefused};
 
 use crate::View;
@@ -28,13 +28,12 @@ use crate::refusal_notes::{
 };
 use cli_database_files::copied_file::CopiedFile;
 use cli_database_files::copy::{Copied, Unopened, open_copy, unread};
-use cli_database_files::database_file::{CANNOT_OPEN, is_plain};
-use cli_database_files::log_file::remove_log;
+use cli_database_files::database_file::{CANNOT_OPEN, is_plain, plain_path};
+use cli_database_files::log_file::{log_to_make, remove_log};
 use cli_database_files::named::{FilesFrom, Named, NotOpened, open_from};
 use cli_output::failure::Failure;
 use cli_output::printed::Printed;
 use desk_core::Edit;
-use desk_policy::PolicyView;
 use desk_service::{Replies, put};
 use desk_store::{Desk, DeskError};
 use sqlite::{Alter, Connection, Error, FileFrom, FileStore, Start};
@@ -79,7 +78,7 @@ pub fn desk_on_copy(
 
 /// Looks at the file of a database before SQLite opens it for edits. Prints why it is not opened, if that shows: it is not a regular
 /// file with one name, it cannot be read or written, or it is empty.
-pub fn check_file(rt: &HostRuntime, db: &str) -> Result<(), Result<Printed, Failure>>
+fn check_file(rt: &HostRuntime, db: &str) -> Result<(), Result<Printed, Failure>>
     ensures { IfErr result (HasNoDesk db.now) }
 {
     match leads_to_plain(rt, db) {
@@ -146,7 +145,7 @@ fn open_named<S: Start>(
 
 /// Opens a connection to the database DB, at its path of SQLite's; else prints why it is not opened, and a log that was made for it
 /// goes.
-pub fn open_connection<S: Start>(
+fn open_connection<S: Start>(
     rt: &HostRuntime,
     db: &str,
     path: &str,
@@ -172,7 +171,7 @@ pub fn open_connection<S: Start>(
 }
 
 /// Opens a desk on the database DB, at its path of SQLite's; else prints why there is none.
-pub fn open_desk<S: Start>(
+fn open_desk<S: Start>(
     rt: &HostRuntime,
     db: &str,
     path: &str,
@@ -197,7 +196,7 @@ fn desk_over<S: Alter + Drop>(
     conn: Connection<S>,
 ) -> Result<Desk<S, View>, Result<Printed, Failure>>
     requires { (state S.Store conn).in_transaction ≡ false }
-    ensures opened { IfOk result (λ desk. HasGoodDisk S.Store desk → OpensAt S.Store (state S.Store conn).committed desk) }
+    ensures opened { IfOk result (OpensOn S.Store conn) }
     ensures refused { IfErr result (HasNoDesk db.now) }
 {
     match Desk::open(rt.alloc(), conn) {
@@ -210,23 +209,66 @@ fn desk_over<S: Alter + Drop>(
     }
 }
 
-/// Opens a desk on the database of a connection, and makes an edit of it. The desk is handed back beside the reply, since a
-/// refusal may have to be reported with its texts; and the connection beside why no desk is opened.
-pub fn put_over<S: Alter + Drop, V: PolicyView + Drop, T: Drop>(
-    alloc: Global,
-    conn: Connection<S>,
-    edit: &Edit<'_>,
-    replies: Replies<T>,
-) -> Result<(Result<T, DeskError>, Desk<S, V>), (DeskError, Connection<S>)>
-    requires { (state S.Store conn).in_transaction ≡ false }
-    ensures { PutsOver S.Store conn (asked edit.now) replies result }
+/// A desk that is opened for edits, and the path of the log that is made for its database, if one is.
+#[derive(Drop)]
+pub struct OpenedDesk<S: Alter + Drop> {
+    pub desk: Desk<S, View>,
+    log: Option<String>,
+}
+
+/// Opens the desk of the database DB for edits; else prints why there is none. What allocates comes before its log is made.
+pub fn open_for_edits<S: Start>(
+    rt: &HostRuntime,
+    db: &str,
+    start: S,
+) -> Result<OpenedDesk<FileStore<Named<FileFrom<S>>>>, Result<Printed, Failure>>
+    ensures opened { IfOk result (λ opened. OpensDesk over_files (image_at S.Start) opened.desk) }
+    ensures refused { IfErr result (HasNoDesk db.now) }
 {
-    let opened: Result<Desk<S, V>, _> = Desk::open(alloc, conn);
-    match opened {
-        Ok(mut desk) => {
-            let answer = put(alloc, &mut desk, edit, replies);
-            Ok((answer, desk))
-        }
-        Err(both) => Err(both),
+    match check_file(rt, db) {
+        Ok(()) => open_checked(rt, db, start),
+        Err(answer) => Err(answer),
+    }
+}
+
+/// Opens the desk of a database whose file was looked at.
+fn open_checked<S: Start>(
+    rt: &HostRuntime,
+    db: &str,
+    start: S,
+) -> Result<OpenedDesk<FileStore<Named<FileFrom<S>>>>, Result<Printed, Failure>>
+    ensures opened { IfOk result (λ opened. OpensDesk over_files (image_at S.Start) opened.desk) }
+    ensures refused { IfErr result (HasNoDesk db.now) }
+{
+    let Ok(path) = plain_path(rt.alloc(), db) else {
+        return Err(Err(Failure::Memory));
+    };
+    let Ok(log) = log_to_make(rt, db) else {
+        return Err(Err(Failure::Memory));
+    };
+    match open_desk(rt, db, path.as_str(), &log, start) {
+        Ok(desk) => Ok(OpenedDesk { desk, log }),
+        Err(answer) => Err(answer),
+    }
+}
+
+impl<S: Alter + Drop> OpenedDesk<S> {
+    /// Makes an edit, and returns the reply to it, or why the desk has none.
+    pub fn put<T: Drop>(
+        &mut self,
+        alloc: Global,
+        edit: &Edit<'_>,
+        replies: Replies<T>,
+    ) -> Result<T, DeskError>
+        ensures edited { PutsBy S.Store self.old.desk self.new.desk (asked edit.now) replies result }
+        ensures opened { PutsOver S.Store self.old.desk self.new.desk (asked edit.now) replies result }
+    {
+        put(alloc, &mut self.desk, edit, replies)
+    }
+
+    /// Ends. A log that was made for nothing goes before the lock goes with the desk: after that, another process may write it.
+    pub fn close(self, rt: &HostRuntime) {
+        remove_log(rt, &self.log);
+        drop(self);
     }
 }

@@ -4,21 +4,16 @@ use Rattle.std.specs.Fmt.{decimal}
 use Rattle.std.specs.Str.Lines.{IsFirstLine}
 use Rattle.std.specs.String.{string_bytes}
 use Rattle.clap.specs.Words.{Row, first_of}
-use Rattle.sqlite_wal.specs.Recovery.{Image}
 use Rattle.sqlite_trees.specs.declared.store.Store.{Ghosts}
-use Rattle.sqlite.specs.Held.{Held, state}
-use Rattle.sqlite.specs.Start.{FindsIn}
-use Rattle.sqlite.specs.State.{HasCleanDisk, Opens, State}
-use Rattle.desk_policy.specs.Policy.{Content}
+use Rattle.sqlite.specs.Held.{state}
 use Rattle.desk_core.specs.Edit.{Edit}
 use Rattle.desk_core.specs.Site.{IsConsistent, site_in}
 use Rattle.desk_core.specs.Standing.{Standing}
-use Rattle.desk_store.specs.Desk.{AnswersBy}
+use Rattle.desk_store.specs.Desk.{AnswersBy, IsEdited, Shown}
 use Rattle.desk_store.specs.declared.desk.Done.{Done}
 use Rattle.desk_store.specs.declared.error.DeskError.{DeskError}
 use Rattle.desk_service.specs.Edits.{reply_to}
 use Rattle.desk_service.specs.declared.edits.Replies.{Replies}
-use Rattle.desk_service.specs.declared.refused.Refused.TheVariants as refused
 use Rattle.cli_output.specs.Printed.{Prints}
 use Rattle.cli_output.specs.declared.failure.Failure.{Failure}
 use Rattle.cli_output.specs.declared.failure.Failure.TheVariants.{InputTwice, KeyTwice, NoKey}
@@ -26,9 +21,8 @@ use Rattle.cli_output.specs.declared.printed.Printed.{Printed}
 use Rattle.cli_words.specs.Values.{IsBadNumber, revision_number}
 use Rattle.cli_words.specs.Words.{After, ByWord}
 use Rattle.cli_files.specs.Files.{ReadsInTurn, name_input_twice}
-use Rattle.cli_desk.specs.Desks.{HasNoDesk, IsNotPut, IsPut}
+use Rattle.cli_desk.specs.Desks.{HasNoDesk}
 use Rattle.cli_desk.specs.RefusalNotes.{IsRefusedBy}
-use Rattle.cli_desk.specs.RefusalLines.{IsRefused}
 
 -- a line that is printed of an edit, by its words and the number of the edit's revision, as `accepted rev 2`
 abbrev pub line_of : List ℕ → ℕ → List ℕ
@@ -64,19 +58,11 @@ PrintsReply (Ok reply) (Ok printed) = Prints 0 (string_bytes reply) printed
 PrintsReply (Ok reply) (Err failure) = ⊥
 PrintsReply (Err failed) result = IsRefusedBy failed result
 
--- What putting an edit into the database of a connection came to, with these replies, is printed: why no edit was made of it, or the
--- reply to the answer.
-abbrev pub PrintsPut : {A : Type 0} → State → State → Edit → Replies (String A) → Result Printed Failure → Type 0
-PrintsPut old new e replies result =
-    ((failed : DeskError) × IsNotPut old new failed × IsRefusedBy failed result)
-    ⊎ ((answer : Result Done DeskError) × IsPut Content old new e answer × PrintsReply (reply_to replies answer) result)
-
--- A connection to files that held this image was opened, an edit was put into its database, and this is what is left of it; if
--- none is left, it was not opened.
-abbrev pub PutsFrom : {S A : Type 0} → Ghosts S → Image → Edit → Replies (String A) → Result Printed Failure → Option (Held S) → Type 0
-PutsFrom {S} g image e replies result (Some left) =
-    (conn : Held S) × (HasCleanDisk (state g conn) → Opens (state g conn) × FindsIn image (state g conn)) × PrintsPut (state g conn) (state g left) e replies result
-PutsFrom g image e replies result None = IsRefused refused.Store result
+-- An edit was put into an opened desk, as desk_store says of edits, and the reply to its answer, one of these, is printed.
+pub record PrintsPut {S V A : Type 0} (g : Ghosts S) (old new : Shown S V) (e : Edit) (replies : Replies (String A)) (result : Result Printed Failure) : Type 0 where
+  pub answer : Result Done DeskError
+  pub edited : IsEdited (state g old.conn) (state g new.conn) old.state new.state e answer
+  pub prints : PrintsReply (reply_to replies answer) result
 
 -- An edit is judged by how files stand in some desk, whose newest revisions write a consistent site, and its answer is printed. Which
 -- desk that was, no clause can name, since the connection to its database is made and dropped inside.

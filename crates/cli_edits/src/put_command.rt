@@ -1,25 +1,18 @@
 //! The command `put`: an edit of a file.
 
-ghost use Rattle.std.specs.Prelude.{◌≡◌, ◌+◌, None, Some, false, IfOk, MatchResult};
+ghost use Rattle.std.specs.Prelude.{◌≡◌, ◌+◌, None, Some, IfOk, MatchResult};
 ghost use Rattle.std.specs.Option.{option_map};
 ghost use Rattle.std.specs.String.{string_bytes};
-ghost use Rattle.sqlite_wal.specs.Files.{image_at};
-ghost use Rattle.sqlite.specs.Files.{over_files};
-ghost use Rattle.sqlite.specs.Held.{state};
 ghost use Rattle.desk_core.specs.Edit.{asked};
 ghost use Rattle.desk_service.specs.declared.refused.Refused.TheVariants as refused;
 ghost use Rattle.cli_words.specs.Words.{rows_in};
-ghost use Rattle.cli_database_files.specs.DatabaseFile.{plain_path};
 ghost use Rattle.cli_desk.specs.RefusalLines.{IsRefused};
-ghost use Rattle.cli_edits.specs.PutCommand.{AnswersEdit, AnswersPut, HasReplies, IsKey, IsKeyIn, PrintsPut, PrintsReply, PutsFrom, key_fault, line_of};
+ghost use Rattle.cli_edits.specs.PutCommand.{AnswersEdit, AnswersPut, HasReplies, IsKey, IsKeyIn, PrintsPut, PrintsReply, key_fault, line_of};
 
 use crate::server_note::counted;
 use clap::ArgMatches;
-use cli_database_files::database_file::plain_path;
-use cli_database_files::log_file::{log_to_make, remove_log};
-use cli_database_files::named::FilesFrom;
 use cli_desk::View;
-use cli_desk::desks::{check_file, open_connection, put_over};
+use cli_desk::desks::{OpenedDesk, open_for_edits};
 use cli_desk::refusal_lines::refused;
 use cli_desk::refusal_notes::{KeylessEdit, refusal_note, refused_by_desk};
 use cli_desk::site_notes::{NewText, edit_fault_note};
@@ -31,7 +24,7 @@ use cli_words::words::{given, required};
 use desk_core::{Edit, Refusal};
 use desk_service::{Refused, Replies};
 use desk_store::{Desk, DeskError};
-use sqlite::{Alter, Connection, Start, Wary};
+use sqlite::{Alter, Wary};
 use std::alloc::{AllocError, Global};
 use std::io::BufRead;
 
@@ -113,31 +106,36 @@ fn first_line(text: &str) -> &str
     }
 }
 
-/// Puts an edit into a database, if its file can be opened for edits.
+/// Opens the desk of a database, and puts an edit into it. What may be printed of the edit is made before.
 fn put_edit(rt: &HostRuntime, named: Named<'_>, edit: &Edit<'_>) -> Result<Printed, Failure>
     ensures { AnswersEdit named.entry.db.now (asked edit.now) result }
 {
-    match check_file(rt, named.db) {
-        Ok(()) => remove_new_log(rt, named, edit),
-        Err(answer) => answer,
+    let replies = replies_of(rt.alloc(), u64::from(edit.base) + 1)?;
+    match open_for_edits(rt, named.db, Wary) {
+        Ok(mut opened) => {
+            let answer = put_into(rt.alloc(), named, &mut opened, edit, replies);
+            opened.close(rt);
+            answer
+        }
+        Err(answer) => {
+            drop(replies);
+            answer
+        }
     }
 }
 
-/// Puts an edit into a database, and then removes its log if that was made for nothing. What may be printed of the edit is made
-/// before it.
-fn remove_new_log(rt: &HostRuntime, named: Named<'_>, edit: &Edit<'_>) -> Result<Printed, Failure>
-    ensures { AnswersEdit named.entry.db.now (asked edit.now) result }
+/// Puts an edit into an opened desk, and prints the reply to it, or why there is none.
+fn put_into<S: Alter + Drop>(
+    alloc: Global,
+    named: Named<'_>,
+    opened: &mut OpenedDesk<S>,
+    edit: &Edit<'_>,
+    replies: Replies<String>,
+) -> Result<Printed, Failure>
+    ensures { PrintsPut S.Store opened.old.desk opened.new.desk (asked edit.now) replies result }
 {
-    let log = log_to_make(rt, named.db)?;
-    let path = plain_path(rt.alloc(), named.db)?;
-    let replies = replies_of(rt.alloc(), u64::from(edit.base) + 1)?;
-    let (answer, left) = open_files(rt, named, path.as_str(), edit, replies, &log, Wary);
-    if left.is_some() {
-        // Before the lock goes with the connection: after that, another process may write the log.
-        remove_log(rt, &log);
-    }
-    drop(left);
-    answer
+    let reply = opened.put(alloc, edit, replies);
+    reply_printed(alloc, named, &opened.desk, KeylessEdit::of(edit), reply)
 }
 
 /// Writes the lines that may be printed of an edit whose revision has this number.
@@ -161,49 +159,6 @@ fn line_of(alloc: Global, words: &str, rev: u64) -> Result<String, AllocError>
     ensures { IfOk result (λ line. string_bytes line ≡ line_of words.now rev) }
 {
     format!(in alloc; "{words}{rev}\n")
-}
-
-/// Opens the database DB, at its path of SQLite's, and puts an edit into it. Beside the answer is the connection, if there is one.
-fn open_files<S: Start>(
-    rt: &HostRuntime,
-    named: Named<'_>,
-    path: &str,
-    edit: &Edit<'_>,
-    replies: Replies<String>,
-    log: &Option<String>,
-    start: S,
-) -> (Result<Printed, Failure>, Option<FilesFrom<S>>)
-    requires { path.now ≡ plain_path named.db.now }
-    ensures { PutsFrom over_files (image_at S.Start) (asked edit.now) replies result.0 result.1 }
-{
-    match open_connection(rt, named.db, path, log, start) {
-        Ok(conn) => {
-            let (answer, left) = over_connection(rt.alloc(), named, conn, edit, replies);
-            (answer, Some(left))
-        }
-        Err(answer) => (answer, None),
-    }
-}
-
-/// Puts an edit into the database of a connection, which is handed back.
-fn over_connection<S: Alter + Drop>(
-    alloc: Global,
-    named: Named<'_>,
-    conn: Connection<S>,
-    edit: &Edit<'_>,
-    replies: Replies<String>,
-) -> (Result<Printed, Failure>, Connection<S>)
-    requires { (state S.Store conn).in_transaction ≡ false }
-    ensures { PrintsPut (state S.Store conn) (state S.Store result.1) (asked edit.now) replies result.0 }
-{
-    let put: Result<(_, Desk<S, View>), _> = put_over(alloc, conn, edit, replies);
-    match put {
-        Ok((reply, desk)) => {
-            let answer = reply_printed(alloc, named, &desk, KeylessEdit::of(edit), reply);
-            (answer, desk.into_connection())
-        }
-        Err((error, conn)) => (refused_by_desk(alloc, named.db, error), conn),
-    }
 }
 
 /// Prints the reply to an edit of a desk, or why the desk has none.

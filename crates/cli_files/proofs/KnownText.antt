@@ -1,9 +1,10 @@
 -- The text of the bytes that a reader is known to have, for `files::text_by`.
-use Rattle.std.proofs.Common.{◌≡◌, ◌<◌, ◌≤◌, ◌⊎◌, ℕ, Bool, true, false, true≢false, codes, List, [], length, take, Option, Some, None, IfSome, Result, Ok, Err, String, nat_lt, refl, sym, subst, ap, ◌∙◌, arith, inl, inr}
+use Rattle.std.proofs.Common.{◌≡◌, ◌<◌, ◌≤◌, ◌⊎◌, ℕ, Bool, true, false, true≢false, codes, List, [], length, take, Option, Some, None, IfOk, IfSome, Result, Ok, Err, String, nat_lt, refl, sym, subst, ap, ◌∙◌, arith, inl, inr}
 use Rattle.std.proofs.lemmas.Bool.Decides.{nat_tests}
 use Rattle.std.proofs.lemmas.List.{length-take-le, take_all}
 use Rattle.std.proofs.lemmas.Slice.Eq.{bytes_eq-Decides}
 use Rattle.std.specs.Str.{bytes_eq}
+use Rattle.std.specs.declared.io.ErrorKind.{ErrorKind}
 use Rattle.cli_files.specs.Files.{IsNoText, ReadsNamed, ReadsText, TakesText}
 use Rattle.cli_output.specs.Failure.{IsUnread}
 use Rattle.cli_files.specs.Input.{longest_input, text_of}
@@ -71,3 +72,9 @@ module _ {A : Type 0} where
   pub unread_named : (argument : List ℕ) (word : List ℕ) (known : Option (List ℕ)) (failure : Failure) → IsUnread argument word failure → ReadsNamed {A = A} argument word known (Err failure)
   unread_named argument word None failure unread = record { bytes = []; contents = tt; text = no_text argument word (text_of []) failure unread }
   unread_named argument word (Some given) failure unread = record { bytes = given; contents = refl; text = no_text argument word (text_of given) failure unread }
+
+  -- a text is that of a file that was opened
+  pub opened_text : (told : Option (Option ErrorKind)) (result : Result (String A) Failure) → IfSome told (λ kind. kind ≡ None) → IfSome told (λ kind. IfOk result (λ _. kind ≡ None))
+  opened_text None result opened = tt
+  opened_text (Some kind) (Ok text) opened = opened
+  opened_text (Some kind) (Err failure) opened = tt

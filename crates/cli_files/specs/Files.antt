@@ -2,6 +2,8 @@
 use Rattle.std.specs.Prelude.{◌≡◌, ◌⊎◌, ℕ, nat_lt, Bool, true, false, count_by, List, Option, Some, None, [], ◌∷◌, ◌≢◌, IfSome, Result, Ok, Err, String, codes}
 use Rattle.std.specs.Str.{bytes_eq}
 use Rattle.std.specs.String.{string_bytes}
+use Rattle.std.specs.declared.io.ErrorKind.{ErrorKind}
+use Rattle.std.specs.declared.io.ErrorKind.TheVariants.{NotFound}
 use Rattle.cli_files.specs.Input.{text_of}
 use Rattle.cli_output.specs.Failure.{IsFileFailure, IsUnread}
 use Rattle.cli_output.specs.declared.failure.Failure.{Failure}
@@ -78,6 +80,19 @@ module _ {A : Type 0} where
   ReadsIfThere argument word known (Ok (Some text)) = HasText argument word known (string_bytes text)
   ReadsIfThere argument word known (Ok None) = word ≢ codes "-"
   ReadsIfThere argument word known (Err failure) = LacksText argument word known failure
+
+module _ {A : Type 0} where
+  -- What is read of a file that may be missing, if it is told by which error it cannot be opened: its text only if it is opened, nothing
+  -- just if it is not found, and else why it has no text.
+  abbrev pub FindsIfThere : Option ErrorKind → Result (Option (String A)) Failure → Type 0
+  FindsIfThere kind (Ok (Some text)) = kind ≡ None
+  FindsIfThere kind (Ok None) = kind ≡ Some NotFound
+  FindsIfThere kind (Err failure) = kind ≢ Some NotFound
+
+  -- the same if one that is not found has the empty text
+  abbrev pub FindsOrEmpty : Option ErrorKind → Result (String A) Failure → Type 0
+  FindsOrEmpty kind (Ok text) = (kind ≡ None) ⊎ ((kind ≡ Some NotFound) × (string_bytes text ≡ []))
+  FindsOrEmpty kind (Err failure) = kind ≢ Some NotFound
 
 -- The texts of files that are read in turn, each from the input that those before it leave; or why the first without a text
 -- has none.

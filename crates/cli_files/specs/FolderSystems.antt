@@ -1,6 +1,8 @@
 -- The file systems of a folder. (this project's own)
-use Rattle.std.specs.Prelude.{◌≡◌, ◌≢◌, ◌⊎◌, ◌<◌, ◌≤◌, ℕ, List, Option, None, Result, Ok, Err, codes, length}
+use Rattle.std.specs.Prelude.{◌≡◌, ◌≢◌, ◌⊎◌, ◌<◌, ◌≤◌, ℕ, List, Option, None, Some, Result, Ok, Err, codes, length}
 use Rattle.std.specs.String.{string_bytes}
+use Rattle.std.specs.declared.io.ErrorKind.{ErrorKind}
+use Rattle.std.specs.declared.io.ErrorKind.TheVariants.{NotFound}
 use Rattle.desk_tables.specs.declared.filesystems.Mount.{Mount}
 use Rattle.desk_mounts.specs.Reading.{read_mounts}
 use Rattle.desk_mounts.specs.SiteLines.{site_text}
@@ -38,6 +40,12 @@ abbrev pub ReadsSystems : List ℕ → SystemsPaths → Result FolderSystems Fai
 ReadsSystems argument paths (Ok (Listed text)) = HasText argument paths.filesystems None (string_bytes text)
 ReadsSystems argument paths (Ok (Mounted table)) = AnswersMountsFile argument paths.mounts (Ok table)
 ReadsSystems argument paths (Err failure) = LacksText argument paths.filesystems None failure ⊎ (LacksText argument paths.mounts None failure ⊎ AnswersMountsFile argument paths.mounts (Err failure))
+
+-- Which of the two files has them, if it is told by which error filesystems cannot be opened: filesystems only if it is opened, and
+-- mounts only if filesystems is not found.
+abbrev pub FindsSystems : Option ErrorKind → FolderSystems → Type 0
+FindsSystems kind (Listed text) = kind ≡ None
+FindsSystems kind (Mounted table) = kind ≡ Some NotFound
 
 -- the text is not over the limit
 abbrev pub AreShort : FolderSystems → Type 0

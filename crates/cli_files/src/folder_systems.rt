@@ -1,13 +1,15 @@
 //! The file systems of a folder: those of its file `filesystems`, or else those of its mount points.
 
-ghost use Rattle.std.specs.Prelude.{◌≤◌, IfOk, length};
+ghost use Rattle.std.specs.Prelude.{◌≡◌, ◌≢◌, ◌≤◌, IfOk, IfSome, Some, codes, length};
 ghost use Rattle.std.specs.Result.{result_map_both};
 ghost use Rattle.std.specs.String.{string_bytes};
-ghost use Rattle.cli_files.specs.FolderSystems.{AreShort, IsSystemsText, LeavesBehind, ReadsSystems, ReadsSystemsText, systems_paths};
+ghost use Rattle.std.specs.declared.io.ErrorKind.TheVariants.{NotFound};
+ghost use Rattle.cli_files.specs.FolderSystems.{AreShort, FindsSystems, IsSystemsText, LeavesBehind, ReadsSystems, ReadsSystemsText, systems_paths};
 
-use crate::files::{read_if_there, read_text};
+use crate::files::{text_by, there_by};
 use crate::input::LONGEST_INPUT;
 use crate::mounts_file::mounts_of;
+use crate::opening::Opens;
 use cli_output::failure::{Failure, ReadFailure, TextFault};
 use desk_mounts::site_text;
 use desk_tables::FileSystems;
@@ -42,31 +44,49 @@ pub fn read_systems<I: BufRead>(
     ensures short { IfOk result AreShort }
     ensures left { LeavesBehind (systems_paths files.entry) (I.remaining input.old) (I.remaining input.new) }
 {
-    match read_if_there(rt, argument, files.filesystems, input) {
-        Ok(Some(text)) => Ok(FolderSystems::Listed(text)),
-        Ok(None) => read_mounted(rt, argument, files, input),
-        Err(failure) => Err(failure),
-    }
+    systems_by(rt, rt.alloc(), argument, files, input)
 }
 
-/// Reads what a folder without `filesystems` has of its file systems.
-fn read_mounted<I: BufRead>(
-    rt: &HostRuntime,
+/// Reads what a folder has of its file systems, by what opens its files.
+fn systems_by<S: Opens, I: BufRead>(
+    system: &S,
+    alloc: Global,
     argument: &'static str,
     files: SystemsFiles<'_>,
     input: &mut I,
 ) -> Result<FolderSystems, Failure>
     ensures systems { ReadsSystems argument.entry.now (systems_paths files.entry) result }
+    ensures found { let path = files.entry.filesystems.now in path ≢ codes "-" → IfSome (S.fails system.now path) (λ kind. IfOk result (FindsSystems kind)) }
     ensures short { IfOk result AreShort }
     ensures left { LeavesBehind (systems_paths files.entry) (I.remaining input.old) (I.remaining input.new) }
 {
-    match read_if_there(rt, argument, files.mounts, input) {
-        Ok(Some(text)) => match mounts_of(rt.alloc(), argument, files.mounts, text.as_str()) {
+    match there_by(system, alloc, argument, files.filesystems, input) {
+        Ok(Some(text)) => Ok(FolderSystems::Listed(text)),
+        Ok(None) => mounted_by(system, alloc, argument, files, input),
+        Err(failure) => Err(failure),
+    }
+}
+
+/// Reads what a folder without `filesystems` has of its file systems.
+fn mounted_by<S: Opens, I: BufRead>(
+    system: &S,
+    alloc: Global,
+    argument: &'static str,
+    files: SystemsFiles<'_>,
+    input: &mut I,
+) -> Result<FolderSystems, Failure>
+    ensures systems { ReadsSystems argument.entry.now (systems_paths files.entry) result }
+    ensures found { let path = files.entry.filesystems.now in path ≢ codes "-" → S.fails system.now path ≡ Some (Some NotFound) → IfOk result (FindsSystems (Some NotFound)) }
+    ensures short { IfOk result AreShort }
+    ensures left { LeavesBehind (systems_paths files.entry) (I.remaining input.old) (I.remaining input.new) }
+{
+    match there_by(system, alloc, argument, files.mounts, input) {
+        Ok(Some(text)) => match mounts_of(alloc, argument, files.mounts, text.as_str()) {
             Ok(systems) => Ok(FolderSystems::Mounted(systems)),
             Err(failure) => Err(failure),
         },
         // The system says in its own words that it is not there.
-        Ok(None) => match read_text(rt, argument, files.filesystems, input) {
+        Ok(None) => match text_by(system, alloc, argument, files.filesystems, input) {
             Ok(text) => Ok(FolderSystems::Listed(text)),
             Err(failure) => Err(failure),
         },

@@ -12,6 +12,8 @@ pub enum ArgumentFault {
     Credential(CredFault),
     /// It is not a number from the first to the second.
     Number(u32, u32),
+    /// It does not list numbers of warnings, each once.
+    Warnings,
 }
 
 /// An argument that cannot be parsed.
@@ -41,6 +43,9 @@ impl fmt::Display for ArgumentFault {
             ArgumentFault::Number(least, most) => {
                 write!(f, "it is not a number from {least} to {most}")
             }
+            ArgumentFault::Warnings => f.write_str(
+                "it does not list numbers of warnings, each once, with commas between them, as 2,11",
+            ),
         }
     }
 }

@@ -100,16 +100,6 @@ impl<T: Drop> From<AllocFailed<T>> for Failure {
 }
 
 impl Failure {
-    /// Tests whether a file is not there.
-    pub fn is_of_missing_file(&self) -> bool {
-        match self {
-            Failure::File(_, _, ReadFailure::System(error)) => {
-                matches!(error.kind(), ErrorKind::NotFound)
-            }
-            _ => false,
-        }
-    }
-
     /// Returns the failure of an argument that cannot be parsed.
     pub fn of_argument(
         alloc: Global,

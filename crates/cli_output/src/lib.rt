@@ -1,7 +1,7 @@
 //! What a command prints, with its exit status; or why it has no answer.
 //!
 //! ```text
-//! report(rt.alloc(), Origin::Arguments, Ok(Printed { status: 0, text, note }), &mut out, &mut err) // 0: the text is printed
+//! report(rt.alloc(), Origin::Arguments, Ok(Printed { status: 0, text, note }), &mut out, &mut err) // Reported { status: 0, said: Ok(()) }: the text is printed
 //! ```
 #![tactic(auto)]
 

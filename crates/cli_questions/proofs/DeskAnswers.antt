@@ -2,6 +2,7 @@
 use Rattle.std.proofs.Common.{◌≡◌, ℕ, Bool, true, false, List, [], ◌∷◌, codes, inl, inr, Option, Some, None, Result, Ok, Err, ap, cond, refl, subst, sym}
 use Rattle.sqlite_trees.specs.View.{doubt}
 use Rattle.sqlite_trees.specs.declared.store.Store.{Ghosts}
+use Rattle.desk_policy.specs.Policy.{Content}
 use Rattle.desk_core.specs.Head.{Newest, Revision}
 use Rattle.desk_core.specs.History.{newest_of, standing_of}
 use Rattle.desk_core.specs.declared.proposal.Proposal.{Proposal as Pending}
@@ -14,20 +15,23 @@ use Rattle.desk_store.specs.declared.error.StoreFault.{StoreFault}
 use Rattle.desk_store.specs.declared.error.Task.TheVariants as task
 use Rattle.desk_store.specs.declared.desk.Signature.{Signature}
 use Rattle.desk_service.specs.Foreseeing.{Foreseen}
-use Rattle.desk_service.specs.Questions.{Answer, AnswersByHistory, Exports, Files, Foresee, ForeseeProposal, ForeseeProposedSite, ForeseeSite, ForeseenIs, ForeseesProposal, ForeseesProposedSite, IsLookedUp, Listing, Mount, Proposal, Question, Revisions, Site, Text, Who, proposal_answer, revision_asked, revisions_answer, signatures, text_answer}
+use Rattle.desk_service.specs.Questions.{Answer, AnswersByHistory, Exports, Files, Foresee, ForeseeProposal, ForeseeProposedSite, ForeseeSite, ForeseenIs, ForeseesProposal, ForeseesProposedSite, IsLookedUp, Listing, Mount, OfFile, Question, Site, SiteIs, Text, Who, Why, WhyIs, proposal_answer, revision_asked, revisions_answer, signatures, text_answer}
+use Rattle.desk_service.specs.Sites.{WholeSite}
+use Rattle.desk_service.specs.declared.questions.FileQuestion.TheVariants as of_file
 use Rattle.desk_service.specs.declared.questions.Looked.{Looked}
 use Rattle.desk_service.specs.declared.refused.Refused.TheVariants as refused
 use Rattle.cli_output.specs.Failure.{IsUnread}
 use Rattle.cli_output.specs.Printed.{Prints, PrintsText}
+use Rattle.cli_output.specs.Shown.{shown_lines}
 use Rattle.cli_output.specs.declared.failure.Failure.{Failure}
-use Rattle.cli_output.specs.declared.failure.Failure.TheVariants.{Memory}
 use Rattle.cli_output.specs.declared.printed.Printed.{Printed}
+use Rattle.cli_verdict.specs.TryText.{MountQuestion}
 use Rattle.cli_database_files.specs.Copy.{is_out_of_memory}
 use Rattle.cli_desk.specs.Desks.{HasNoCopiedDesk, IsCopied}
 use Rattle.cli_desk.specs.RefusalNotes.{IsRefusedBy, copy_error}
 use Rattle.cli_desk.specs.RefusalLines.{IsRefused}
-use Rattle.cli_questions.specs.PrivateAnswering.{AnswersOnDesk, AnswersWith, HasHistory, IsSound, TriesToPrint}
-use Rattle.cli_questions.specs.Questions.{AnswersQuestion, Asked, PrintsAnswer}
+use Rattle.cli_questions.specs.PrivateAnswering.{AnswersOnDesk, AnswersWith, HasHistory, IsSound, TriesToPrint, TriesToPrintWhy}
+use Rattle.cli_questions.specs.Questions.{AnswersQuestion, Asked, Breaches, Changes, Mounts, Plain, Printer, PrintsAnswer, PrintsSite, PrintsWhy, Ranges, Terms, exports_text, mount_in}
 
 -- a connection whose disk told no lie
 pub good_disk : (is_clean : Bool) → is_clean ≡ true → doubt is_clean ≡ 0
@@ -100,12 +104,13 @@ not_proposed_site newest file None foreseen by = absurd (cc)
 
 foreseen_sound : (history : History) (question : Question) (foreseen : Foreseen) → AnswersByHistory history question (ForeseenIs foreseen) → IsSound (ForeseenIs foreseen)
 foreseen_sound history (Mount address path) foreseen by = absurd (let e = by.2 in cc)
+foreseen_sound history (Why address path) foreseen by = absurd (let e = by.2 in cc)
 foreseen_sound history (Listing address) foreseen by = absurd (let e = by.2 in cc)
 foreseen_sound history Exports foreseen by = absurd (let e = by.2 in cc)
 foreseen_sound history (Who path) foreseen by = absurd by.2
 foreseen_sound history (Text file rev) foreseen by = absurd (not_text (revision_asked history file rev) foreseen by)
-foreseen_sound history (Revisions file) foreseen by = absurd (not_revisions (signatures file history) foreseen by)
-foreseen_sound history (Proposal file) foreseen by = absurd (not_proposal ((standing_of history).proposals file) foreseen by)
+foreseen_sound history (OfFile file of_file.Revisions) foreseen by = absurd (not_revisions (signatures file history) foreseen by)
+foreseen_sound history (OfFile file of_file.Proposal) foreseen by = absurd (not_proposal ((standing_of history).proposals file) foreseen by)
 foreseen_sound history Files foreseen by = absurd by
 foreseen_sound history (Foresee file text) foreseen by = (file, by.own)
 foreseen_sound history (ForeseeProposal file) foreseen by = proposal_sound history file ((standing_of history).proposals file) foreseen by
@@ -124,6 +129,40 @@ pub printed_by : {S V : Type 0} (g : Ghosts S) (desk : Shown S V) (asked : Asked
     → TriesToPrint asked answer result → AnswersWith g desk asked looked result
 printed_by g desk asked looked answer (Ok printed) by prints = λ history stands found. (answer, by history stands found, prints)
 printed_by g desk asked looked answer (Err failure) by prints = prints
+
+-- why a mount is granted or denied is printed, by the printer
+pub why_printed : (asked : Asked) (answer : Answer) (content : Content) (reasons : List ℕ) (question : Option MountQuestion) (result : Result Printed Failure) → answer ≡ WhyIs content reasons → question ≡ mount_in asked.printer
+    → TriesToPrintWhy question content reasons result → TriesToPrint asked answer result
+why_printed asked answer content reasons question (Ok printed) e same is =
+    subst (λ (a : Answer). PrintsAnswer asked a printed) (sym e) (subst (λ (q : Option MountQuestion). PrintsWhy q content reasons printed) same is)
+why_printed asked answer content reasons question (Err failure) e same is = is
+
+-- the same, printed alone
+pub alone : (content : Content) (reasons : List ℕ) (result : Result Printed Failure) → PrintsText 0 (shown_lines reasons) result → TriesToPrintWhy None content reasons result
+alone content reasons (Ok printed) is = is
+alone content reasons (Err failure) is = is
+
+-- a printer that is not for sites
+abbrev pub shows_exports : Printer → Bool
+shows_exports Plain = true
+shows_exports Terms = true
+shows_exports (Changes all) = true
+shows_exports (Breaches expected) = false
+shows_exports (Mounts question) = false
+shows_exports (Ranges path mountd) = false
+
+exports_shown : (site : WholeSite) (printer : Printer) (printed : Printed) → shows_exports printer ≡ true → Prints 0 (exports_text printer site.content) printed → PrintsSite site printer printed
+exports_shown site Plain printed e is = is
+exports_shown site Terms printed e is = is
+exports_shown site (Changes all) printed e is = is
+exports_shown site (Breaches expected) printed e is = absurd (cc)
+exports_shown site (Mounts question) printed e is = absurd (cc)
+exports_shown site (Ranges path mountd) printed e is = absurd (cc)
+
+-- all exports of a site are printed
+pub exports_printed : (asked : Asked) (site : WholeSite) (result : Result Printed Failure) → shows_exports asked.printer ≡ true → PrintsText 0 (exports_text asked.printer site.content) result → TriesToPrint asked (SiteIs site) result
+exports_printed asked site (Ok printed) e is = exports_shown site asked.printer printed e is
+exports_printed asked site (Err failure) e is = is
 
 -- a text that is an answer is printed
 pub text_printed : (asked : Asked) (answer known : Answer) (bytes : List ℕ) (result : Result Printed Failure)

@@ -1,2 +1,4 @@
 pub mod DeskAnswers
 pub mod Writing
+pub mod HeadsOnce
+pub mod OnCopy

@@ -53,7 +53,7 @@ site_question words text = question_on words.name words.file text
 
 -- a question on a site, of which is printed which of these expectations it breaks
 abbrev pub auditing : Question → Expected → Asked
-auditing question expected = record { question = question; own = None; all = false; wanted = Breaches expected }
+auditing question expected = record { question = question; printer = Breaches expected }
 
 -- the answer by the text of EXPECTATIONS, and that of FILE
 abbrev pub AnswersTexts : AuditWords → AuditTexts → Result Printed Failure → Type 0

@@ -4,3 +4,5 @@ pub mod PrivateAnswering
 pub mod QuestionCommands
 pub mod Questions
 pub mod RevisionLines
+pub mod PrivateReport
+pub mod ReportCommand

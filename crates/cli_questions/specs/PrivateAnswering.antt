@@ -1,6 +1,7 @@
 -- What a desk on a copy of a database answers, before it is known what the database was. (this project's own)
-use Rattle.std.specs.Prelude.{◌≡◌, ◌⊎◌, ℕ, List, [], Result, Ok, Err}
+use Rattle.std.specs.Prelude.{◌≡◌, ◌⊎◌, ℕ, List, [], Option, Result, Ok, Err}
 use Rattle.sqlite_trees.specs.declared.store.Store.{Ghosts}
+use Rattle.desk_policy.specs.Policy.{Content}
 use Rattle.desk_core.specs.Foresight.{IsForesightOf}
 use Rattle.desk_store.specs.Desk.{History, Shown, StandsAt}
 use Rattle.desk_service.specs.Questions.{Answer, ForeseenIs, IsLookedUp, Question}
@@ -9,9 +10,9 @@ use Rattle.desk_service.specs.declared.refused.Refused.TheVariants as refused
 use Rattle.cli_output.specs.declared.failure.Failure.{Failure}
 use Rattle.cli_output.specs.declared.failure.Failure.TheVariants.{Memory}
 use Rattle.cli_output.specs.declared.printed.Printed.{Printed}
-use Rattle.cli_verdict.specs.TryText.{Answer as Told}
+use Rattle.cli_verdict.specs.TryText.{Answer as Told, MountQuestion}
 use Rattle.cli_desk.specs.RefusalLines.{Says}
-use Rattle.cli_questions.specs.Questions.{Asked, PrintsAnswer, PrintsByHistory, PrintsVerdict}
+use Rattle.cli_questions.specs.Questions.{Asked, PrintsAnswer, PrintsByHistory, PrintsVerdict, PrintsWhy}
 
 -- what is foreseen is of the policy in force
 abbrev pub IsSound : Answer → Type 0
@@ -27,6 +28,11 @@ TriesToPrint asked answer (Err failure) = failure ≡ Memory
 abbrev pub TriesToPrintVerdict : Told → Result Printed Failure → Type 0
 TriesToPrintVerdict tried (Ok printed) = PrintsVerdict tried printed
 TriesToPrintVerdict tried (Err failure) = failure ≡ Memory
+
+-- reasons are printed, or memory ran out
+abbrev pub TriesToPrintWhy : Option MountQuestion → Content → List ℕ → Result Printed Failure → Type 0
+TriesToPrintWhy question content reasons (Ok printed) = PrintsWhy question content reasons printed
+TriesToPrintWhy question content reasons (Err failure) = failure ≡ Memory
 
 -- a desk stands at a history, and nothing is pending
 abbrev pub HasHistory : {S V : Type 0} → Ghosts S → Shown S V → Type 0

@@ -1,5 +1,5 @@
 -- The answers of the commands that ask a database, by their words. (this project's own)
-use Rattle.std.specs.Prelude.{◌≡◌, ℕ, Bool, true, false, codes, List, [], Option, Some, None, Result, Ok, Err, IsErrAnd}
+use Rattle.std.specs.Prelude.{◌≡◌, ℕ, Bool, true, false, codes, List, [], Option, Some, None, Result, Ok, Err, IsErrAnd, if◌then◌else◌}
 use Rattle.clap.specs.Words.{Row, first_of}
 use Rattle.desk_text.specs.Address.{number_of, read_addr}
 use Rattle.desk_text.specs.Path.{read_path}
@@ -7,7 +7,8 @@ use Rattle.desk_text.specs.declared.address.Addr.{Addr}
 use Rattle.desk_tables.specs.Groups.{read_groups}
 use Rattle.desk_tables.specs.Users.{read_users}
 use Rattle.desk_tables.specs.declared.credentials.Cred.{Cred}
-use Rattle.desk_service.specs.Questions.{Exports, Files, Foresee, ForeseeProposal, Listing, Proposal, Question, Revisions, Site, Text}
+use Rattle.desk_service.specs.Questions.{Exports, Files, Foresee, ForeseeProposal, Listing, OfFile, Question, Site, Text, Why}
+use Rattle.desk_service.specs.declared.questions.FileQuestion.{FileQuestion}
 use Rattle.cli_output.specs.declared.bad_argument.ArgumentFault.TheVariants as fault
 use Rattle.cli_output.specs.declared.failure.Failure.{Failure}
 use Rattle.cli_output.specs.declared.failure.Failure.TheVariants.{BesideProposal}
@@ -17,8 +18,10 @@ use Rattle.cli_words.specs.Values.{AnswersArgument, AnswersOwn, IsBadNumber, own
 use Rattle.cli_words.specs.Words.{After, ByWord, is_set}
 use Rattle.cli_files.specs.Files.{HasText, LacksText}
 use Rattle.cli_verdict.specs.Asking.{asking_in}
+use Rattle.cli_verdict.specs.TryText.{MountQuestion}
 use Rattle.cli_verdict.specs.declared.asking.Asking.{Asking}
-use Rattle.cli_questions.specs.Questions.{AnswersQuestion, Asked, Mounts, Ranges, Wanted, nothing_wanted}
+use Rattle.cli_verdict.specs.declared.asking.Asking.TheVariants.{Reasons, Server, Verdict}
+use Rattle.cli_questions.specs.Questions.{AnswersQuestion, Asked, Changes, Mounts, Plain, Printer, Ranges, Terms}
 
 -- HOST is parsed as an address, or refused
 abbrev pub ParsesHost : List ℕ → Result Addr Failure → Type 0
@@ -43,24 +46,33 @@ ParsesRevision None step = step ≡ Ok None
 ParsesRevision (Some word) (Ok rev) = IsRevision word rev
 ParsesRevision (Some word) (Err failure) = (revision_number word ≡ None) × IsBadNumber (codes "--rev") word failure
 
--- a question whose answer is printed plainly, or with as whom a client acts
-abbrev pub asking : Question → Option Cred → Asked
-asking question own = record { question = question; own = own; all = false; wanted = nothing_wanted }
+-- a question whose answer is printed as it is
+abbrev pub plainly : Question → Asked
+plainly question = record { question = question; printer = Plain }
 
 -- a question on what would change, with the changes that matter to no client or without
-abbrev pub foreseeing : Question → Bool → Asked
-foreseeing question all = record { question = question; own = None; all = all; wanted = nothing_wanted }
+abbrev pub changes : Question → Bool → Asked
+changes question all = record { question = question; printer = Changes all }
 
--- a question on the whole site, of which this is wanted
-abbrev pub wanting : Wanted → Option Cred → Asked
-wanting wanted own = record { question = Site; own = own; all = false; wanted = wanted }
+-- a question on the whole site, which is printed so
+abbrev pub of_site : Printer → Asked
+of_site printer = record { question = Site; printer = printer }
+
+-- the question that is asked of a mount: with why, if that is asked; and else of the whole site
+abbrev pub asked_by : Asking → ℕ → List (List ℕ) → Question
+asked_by Reasons address path = Why address path
+asked_by Verdict address path = Site
+asked_by Server address path = Site
+
+abbrev pub mounting : MountQuestion → Asked
+mounting question = record { question = asked_by question.asking question.address question.path; printer = Mounts question }
 
 -- `ask DB HOST DIR [--as CRED]`, by the rule that is asked: the words are parsed from left to right
 abbrev pub AnswersAskAs : Asking → List Row → Result Printed Failure → Type 0
 AnswersAskAs asking rows =
     ByWord (codes "DB") rows (λ db. ByWord (codes "HOST") rows (λ host. ByWord (codes "DIR") rows (λ dir.
     After (ParsesHost host) (λ address. After (ParsesDir dir) (λ path. After (ParsesOwn (first_of (codes "as") rows)) (λ own.
-    AnswersQuestion db (wanting (Mounts (record { address = number_of address; path = path; own = own; asking = asking })) own)))))))
+    AnswersQuestion db (mounting (record { address = number_of address; path = path; own = own; asking = asking }))))))))
 
 -- the same, or why nothing is asked
 abbrev pub AnswersAskIf : Result Asking Failure → List Row → Result Printed Failure → Type 0
@@ -75,35 +87,35 @@ AnswersAsk rows result = AnswersAskIf (asking_in rows) rows result
 abbrev pub AnswersShow : List Row → Result Printed Failure → Type 0
 AnswersShow rows =
     ByWord (codes "DB") rows (λ db. ByWord (codes "HOST") rows (λ host.
-    After (ParsesHost host) (λ address. AnswersQuestion db (asking (Listing (number_of address)) None))))
+    After (ParsesHost host) (λ address. AnswersQuestion db (plainly (Listing (number_of address))))))
 
--- `exports DB`
+-- a question on all exports, which are printed with their terms or without
+abbrev pub of_exports : Bool → Asked
+of_exports terms = record { question = Exports; printer = if terms then Terms else Plain }
+
+-- `exports DB [--terms]`
 abbrev pub AnswersExports : List Row → Result Printed Failure → Type 0
-AnswersExports rows = ByWord (codes "DB") rows (λ db. AnswersQuestion db (asking Exports None))
+AnswersExports rows = ByWord (codes "DB") rows (λ db. AnswersQuestion db (of_exports (is_set (codes "terms") rows)))
 
 -- `who DB DIR [--mountd]`
 abbrev pub AnswersWho : List Row → Result Printed Failure → Type 0
 AnswersWho rows =
     ByWord (codes "DB") rows (λ db. ByWord (codes "DIR") rows (λ dir.
-    After (ParsesDir dir) (λ path. AnswersQuestion db (wanting (Ranges path (is_set (codes "mountd") rows)) None))))
+    After (ParsesDir dir) (λ path. AnswersQuestion db (of_site (Ranges path (is_set (codes "mountd") rows))))))
 
--- `log DB NAME`
-abbrev pub AnswersLog : List Row → Result Printed Failure → Type 0
-AnswersLog rows = ByWord (codes "DB") rows (λ db. ByWord (codes "NAME") rows (λ name. AnswersQuestion db (asking (Revisions name) None)))
+-- `log DB NAME` or `proposal DB NAME`: what is asked of a file by its name alone
+abbrev pub AnswersOfFile : FileQuestion → List Row → Result Printed Failure → Type 0
+AnswersOfFile what rows = ByWord (codes "DB") rows (λ db. ByWord (codes "NAME") rows (λ name. AnswersQuestion db (plainly (OfFile name what))))
 
 -- `cat DB NAME [--rev N]`
 abbrev pub AnswersCat : List Row → Result Printed Failure → Type 0
 AnswersCat rows =
     ByWord (codes "DB") rows (λ db. ByWord (codes "NAME") rows (λ name.
-    After (ParsesRevision (first_of (codes "rev") rows)) (λ rev. AnswersQuestion db (asking (Text name rev) None))))
-
--- `proposal DB NAME`
-abbrev pub AnswersProposal : List Row → Result Printed Failure → Type 0
-AnswersProposal rows = ByWord (codes "DB") rows (λ db. ByWord (codes "NAME") rows (λ name. AnswersQuestion db (asking (Proposal name) None)))
+    After (ParsesRevision (first_of (codes "rev") rows)) (λ rev. AnswersQuestion db (plainly (Text name rev)))))
 
 -- `files DB`
 abbrev pub AnswersFiles : List Row → Result Printed Failure → Type 0
-AnswersFiles rows = ByWord (codes "DB") rows (λ db. AnswersQuestion db (asking Files None))
+AnswersFiles rows = ByWord (codes "DB") rows (λ db. AnswersQuestion db (plainly Files))
 
 -- FILE has this text, or it is said why it has none
 abbrev pub ReadsFile : List ℕ → Option (List ℕ) → Result (List ℕ) Failure → Type 0
@@ -114,8 +126,8 @@ ReadsFile file known (Err failure) = LacksText (codes "FILE") file known failure
 abbrev pub AnswersImpactBy : List ℕ → List ℕ → Bool → Option (List ℕ) → Bool → Option (List ℕ) → Result Printed Failure → Type 0
 AnswersImpactBy db name all (Some file) true known result = result ≡ Err BesideProposal
 AnswersImpactBy db name all (Some file) false known result =
-    After (ReadsFile file known) (λ text. AnswersQuestion db (foreseeing (Foresee name text) all)) result
-AnswersImpactBy db name all None true known result = AnswersQuestion db (foreseeing (ForeseeProposal name) all) result
+    After (ReadsFile file known) (λ text. AnswersQuestion db (changes (Foresee name text) all)) result
+AnswersImpactBy db name all None true known result = AnswersQuestion db (changes (ForeseeProposal name) all) result
 AnswersImpactBy db name all None false known result = IsErrAnd result (IsMissing (codes "FILE"))
 
 -- `impact DB NAME FILE [--all]`, or `--proposal` in the place of FILE

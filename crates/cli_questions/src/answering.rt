@@ -13,18 +13,24 @@ use cli_output::failure::Failure;
 use cli_output::printed::Printed;
 use cli_verdict::MountQuestion;
 use desk_service::{Looked, Question, answer, look_up};
-use desk_tables::Cred;
 use desk_text::Path;
 use std::alloc::Global;
 
-/// What is wanted of a site.
+/// How the answer to a question is printed, with what that needs. An answer that a printer is not for is printed plainly.
 #[derive(Clone, Copy)]
-pub enum Wanted<'a> {
-    /// Which of these expectations it breaks.
-    Breaches(ExpectationsFile<'a>),
-    /// Whether a client may mount a directory.
+pub enum Printer<'a> {
+    /// As it is; of a site, all its exports.
+    Plain,
+    /// All exports, with their terms.
+    Terms,
+    /// What would change, with the changes that matter to no client, too, if this is set. The word names the file of the text that is
+    /// foreseen, unless that is a proposal.
+    Changes(Option<&'a str>, bool),
+    /// Which of these expectations a site breaks. The word names the file of the text that is foreseen, if there is one.
+    Breaches(Option<&'a str>, ExpectationsFile<'a>),
+    /// Whether a client may mount a directory of a site.
     Mount(MountQuestion<'a>),
-    /// Who may mount a directory, by the rule of mountd(8) if that is asked.
+    /// Who may mount a directory of a site, by the rule of mountd(8) if this is set.
     Ranges(&'a Path, bool),
 }
 
@@ -32,14 +38,7 @@ pub enum Wanted<'a> {
 #[derive(Clone, Copy)]
 pub struct Asked<'a> {
     pub question: Question<'a>,
-    /// The client's credential, if it is given: a verdict is printed with as whom it acts.
-    pub own: &'a Option<Cred>,
-    /// Whether changes that matter to no client are printed, too.
-    pub all: bool,
-    /// The word that names the file of a text that is to be foreseen.
-    pub file: &'a str,
-    /// What is wanted of a site; of another question nothing.
-    pub wanted: Wanted<'a>,
+    pub printer: Printer<'a>,
 }
 
 /// Answers a question by the database at a path.

@@ -1,7 +1,7 @@
 //! The command `audit`: whether the newest files of a database keep what a text expects of them, or would with another text of one of
 //! them.
 
-ghost use Rattle.std.specs.Prelude.{◌≡◌, ◌≤◌, IfOk, None, length};
+ghost use Rattle.std.specs.Prelude.{◌≡◌, ◌≤◌, IfOk, length};
 ghost use Rattle.std.specs.Option.{option_map};
 ghost use Rattle.std.specs.Result.{result_map_both};
 ghost use Rattle.std.specs.String.{string_bytes};
@@ -12,7 +12,7 @@ ghost use Rattle.cli_words.specs.Words.{rows_in};
 ghost use Rattle.cli_questions.specs.AuditCommand as spec;
 ghost use Rattle.cli_questions.specs.Questions.{asked_of};
 
-use crate::answering::{Asked, Wanted, answer_question};
+use crate::answering::{Asked, Printer, answer_question};
 use clap::ArgMatches;
 use cli_expectations::expectations_file::ExpectationsFile;
 use cli_files::files::{is_input, read_if_given};
@@ -20,7 +20,6 @@ use cli_output::failure::Failure;
 use cli_output::printed::Printed;
 use cli_words::words::{given, is_set, required};
 use desk_service::Question;
-use desk_tables::Cred;
 use std::io::BufRead;
 
 /// What the words of `audit` name.
@@ -96,7 +95,7 @@ fn audit_files<I: BufRead>(
         json: words.json,
     };
     let question = site_question(words, texts.other.as_str());
-    answer_question(rt, words.db, auditing(question, words, expected, &None))
+    answer_question(rt, words.db, auditing(question, words, expected))
 }
 
 /// Reads EXPECTATIONS, and then FILE, if it is given. At most one of them may be standard input.
@@ -152,16 +151,11 @@ fn auditing<'a>(
     question: Question<'a>,
     words: AuditWords<'a>,
     expected: ExpectationsFile<'a>,
-    own: &'a Option<Cred>,
 ) -> Asked<'a>
-    requires { own.now ≡ None }
     ensures { asked_of result ≡ spec.auditing (question_of question.entry) (expected_of expected.entry) }
 {
     Asked {
         question,
-        own,
-        all: false,
-        file: words.file.unwrap_or(""),
-        wanted: Wanted::Breaches(expected),
+        printer: Printer::Breaches(words.file, expected),
     }
 }

@@ -1,8 +1,9 @@
-//! The commands that ask a database: `ask`, `show`, `exports`, `who`, `log`, `cat`, `proposal`, `files`, `impact` and
-//! `audit`.
+//! The commands that ask a database: `ask`, `show`, `exports`, `who`, `log`, `cat`, `proposal`, `files`, `impact`,
+//! `audit` and `report`.
 //!
 //! ```text
 //! run_exports(&rt, words) // prints the directories of all exports lines
+//! run_report(&rt, words)  // of `report site.db`: status 0, "<!DOCTYPE html> .."
 //! ```
 #![tactic(auto)]
 
@@ -12,4 +13,5 @@ mod file_lines;
 mod notes;
 mod printing;
 pub mod question_commands;
+pub mod report_command;
 mod revision_lines;

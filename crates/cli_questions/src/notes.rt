@@ -4,7 +4,7 @@
 ghost use Rattle.std.specs.Prelude.{◌≡◌, [], false, IfOk, None};
 ghost use Rattle.std.specs.String.{string_bytes};
 
-use crate::answering::Asked;
+use crate::answering::{Asked, Printer};
 use crate::revision_lines::counts_classes;
 use cli_desk::View;
 use cli_desk::desks::CopiedDesk;
@@ -12,7 +12,7 @@ use cli_desk::refusal_notes::{too_large_note, unknown_file_note};
 use cli_desk::site_notes::{NewText, edit_fault_note};
 use desk_core::Refusal;
 use desk_policy::SiteFault;
-use desk_service::{Answer, FileText, Foreseen, Looked, Question, answer};
+use desk_service::{Answer, FileQuestion, FileText, Foreseen, Looked, Question, answer};
 use std::alloc::{AllocError, Global};
 
 /// Says that the file of a question, its revision of the number that is asked for, or its proposal is not there.
@@ -24,10 +24,10 @@ pub(crate) fn no_revision_note(
         Question::Text(name, Some(rev)) => {
             format!(in alloc; "exportdesk: NAME {name:?}: it has no revision {rev}\n")
         }
-        Question::Text(name, None) | Question::Revisions(name) => {
+        Question::Text(name, None) | Question::OfFile(name, FileQuestion::Revisions) => {
             format!(in alloc; "exportdesk: NAME {name:?}: it has no revision\n")
         }
-        Question::Proposal(name)
+        Question::OfFile(name, FileQuestion::Proposal)
         | Question::ForeseeProposal(name)
         | Question::ForeseeProposedSite(name) => {
             format!(in alloc; "exportdesk: NAME {name:?}: it has no proposal\n")
@@ -106,7 +106,12 @@ pub(crate) fn refusal_note(
 ) -> Result<String, AllocError> {
     match refusal {
         Refusal::UnknownFile => unknown_file_note(alloc, foreseen_name(asked.question)),
-        Refusal::TooLarge => too_large_note(alloc, "FILE", asked.file),
+        Refusal::TooLarge => match asked.printer {
+            Printer::Changes(Some(file), _) | Printer::Breaches(Some(file), _) => {
+                too_large_note(alloc, "FILE", file)
+            }
+            _ => Ok(String::new(alloc)),
+        },
         Refusal::Fault(fault) => fault_note(alloc, desk, asked.question, fault),
         _ => Ok(String::new(alloc)),
     }
@@ -140,7 +145,8 @@ fn proposal_fault_note(
     file: &str,
     fault: &SiteFault,
 ) -> Result<String, AllocError> {
-    match answer(alloc, desk, Question::Proposal(file), Looked::Nothing)? {
+    let question = Question::OfFile(file, FileQuestion::Proposal);
+    match answer(alloc, desk, question, Looked::Nothing)? {
         Answer::Proposal(proposal) => {
             let text = proposal.body.as_str();
             edit_fault_note(alloc, desk, NewText { file, text }, fault)

@@ -1,6 +1,7 @@
 //! How the answer to a question is printed, with what standard error says beside it.
 
-ghost use Rattle.std.specs.Prelude.{◌≡◌, ℕ, IfOk, List};
+ghost use Rattle.std.specs.Prelude.{◌≡◌, ℕ, IfOk, List, None, Some};
+ghost use Rattle.std.specs.Option.{option_map};
 ghost use Rattle.std.specs.String.{string_bytes};
 ghost use Rattle.desk_impact.specs.Report.{IsReport};
 ghost use Rattle.desk_policy.specs.Verdict.{verdict_result};
@@ -9,10 +10,11 @@ ghost use Rattle.desk_service.specs.Questions.{ForeseenIs, SiteIs, answer_of, qu
 ghost use Rattle.desk_service.specs.Sites.{site_of};
 ghost use Rattle.cli_output.specs.Printed.{PrintsText};
 ghost use Rattle.cli_verdict.specs.TryText as told;
-ghost use Rattle.cli_questions.specs.PrivateAnswering.{IsSound, TriesToPrint, TriesToPrintVerdict};
-ghost use Rattle.cli_questions.specs.Questions.{PrintsVerdict, asked_of, file_in};
+ghost use Rattle.cli_verdict.specs.TryText.{mount_question_of};
+ghost use Rattle.cli_questions.specs.PrivateAnswering.{IsSound, TriesToPrint, TriesToPrintVerdict, TriesToPrintWhy};
+ghost use Rattle.cli_questions.specs.Questions.{asked_of, exports_text, file_in, mount_in, printer_of, prints_all};
 
-use crate::answering::{Asked, Wanted};
+use crate::answering::{Asked, Printer};
 use crate::file_lines::files_text;
 use crate::notes::{foreseen_note, no_revision_note, proposal_note, refusal_note, text_note};
 use crate::revision_lines::log_text;
@@ -23,15 +25,16 @@ use cli_expectations::tested::print_tested;
 use cli_output::failure::Failure;
 use cli_output::printed::Printed;
 use cli_output::shown::shown_lines;
-use cli_verdict::{print_ranges, print_tried, printed_verdict, tried_by};
+use cli_verdict::{
+    MountQuestion, print_ranges, print_tried, printed_verdict, tried_by, tried_with,
+};
 use desk_core::Foresight;
 use desk_impact::{Report, impact_report, lines_report};
-use desk_policy::{Policy, Verdict, all_exports, listing_text};
+use desk_policy::{Policy, PolicyView, Verdict, all_exports, all_terms, listing_text};
 use desk_server_notes::news_note;
 use desk_service::{
     Answer, FileText, Foreseen, Looked, ProposalText, Question, Refused, WholeSite, answer,
 };
-use desk_tables::Cred;
 use desk_who::who_text;
 use std::alloc::{AllocError, Global};
 
@@ -46,11 +49,17 @@ pub(crate) fn print_answer(
     ensures { TriesToPrint (asked_of asked.entry) (answer_of (λ content. content) answer.entry) result }
 {
     match answer {
-        Answer::Verdict(policy, verdict) => print_verdict(alloc, policy, &verdict, asked.own),
+        Answer::Verdict(policy, verdict) => print_verdict(alloc, policy, &verdict),
+        Answer::Why(view, reasons) => print_why(
+            alloc,
+            mount_in(asked.printer),
+            view,
+            reasons.as_str(),
+        ),
         Answer::Listing(policy, listing) => {
             print_text(alloc, listing_text(alloc, policy, listing.as_slice()))
         }
-        Answer::Exports(policy) => print_text(alloc, all_exports(alloc, policy)),
+        Answer::Exports(policy) => print_text(alloc, exports_text(alloc, policy, asked.printer)),
         Answer::Who(policy, ranges) => {
             print_text(alloc, who_text(alloc, policy, ranges.as_slice()))
         }
@@ -79,7 +88,7 @@ fn name_in<'a>(question: Question<'a>) -> &'a str
     ensures { result.now ≡ file_in (question_of question.entry) }
 {
     match question {
-        Question::Text(name, _) | Question::Revisions(name) | Question::Proposal(name) => name,
+        Question::Text(name, _) | Question::OfFile(name, _) => name,
         _ => "",
     }
 }
@@ -98,16 +107,59 @@ fn print_text(alloc: Global, text: Result<String, AllocError>) -> Result<Printed
     }
 }
 
-/// Prints a verdict, as `try` does, with as whom the client acts if its credential is given.
-fn print_verdict(
-    alloc: Global,
-    policy: &Policy,
-    verdict: &Verdict<'_>,
-    own: &Option<Cred>,
-) -> Result<Printed, Failure>
-    ensures { TriesToPrintVerdict (told.answer_on policy.now own.now (verdict_result verdict.now)) result }
+/// Writes all exports of a policy, with their terms, as `terms` does, if the printer is for these.
+fn exports_text(alloc: Global, policy: &Policy, printer: Printer<'_>) -> Result<String, AllocError>
+    ensures { IfOk result (λ text. string_bytes text ≡ exports_text (printer_of printer.entry) policy.now) }
 {
-    let tried = printed_verdict(alloc, policy, verdict, own)?;
+    match printer {
+        Printer::Terms => all_terms(alloc, policy),
+        _ => all_exports(alloc, policy),
+    }
+}
+
+/// Prints a verdict, as `try` does.
+fn print_verdict(alloc: Global, policy: &Policy, verdict: &Verdict<'_>) -> Result<Printed, Failure>
+    ensures { TriesToPrintVerdict (told.answer_on policy.now None (verdict_result verdict.now)) result }
+{
+    let tried = printed_verdict(alloc, policy, verdict, &None)?;
+    Ok(print_tried(tried))
+}
+
+/// Returns the question of a client whether it may mount a directory, if the printer has it.
+fn mount_in<'a>(printer: Printer<'a>) -> Option<MountQuestion<'a>>
+    ensures { option_map mount_question_of result ≡ mount_in (printer_of printer.entry) }
+{
+    match printer {
+        Printer::Mount(question) => Some(question),
+        _ => None,
+    }
+}
+
+/// Prints a verdict and why, as `try --why` does, to whom asks this; and else why alone.
+fn print_why(
+    alloc: Global,
+    question: Option<MountQuestion<'_>>,
+    view: &View,
+    reasons: &str,
+) -> Result<Printed, Failure>
+    ensures { TriesToPrintWhy (option_map mount_question_of question.entry) view.now reasons.now result }
+{
+    match question {
+        Some(question) => print_reasons(alloc, view, question, reasons),
+        None => print_text(alloc, shown_lines(alloc, reasons)),
+    }
+}
+
+/// Prints the verdict on a mount, and below it these reasons.
+fn print_reasons(
+    alloc: Global,
+    view: &View,
+    question: MountQuestion<'_>,
+    reasons: &str,
+) -> Result<Printed, Failure>
+    ensures { TriesToPrintWhy (Some (mount_question_of question.entry)) view.now reasons.now result }
+{
+    let tried = tried_with(alloc, view, question, reasons)?;
     Ok(print_tried(tried))
 }
 
@@ -151,13 +203,23 @@ fn print_changes(
     let news = news_of(alloc, desk, asked.question)?;
     let mut note = foreseen_note(alloc, asked.question, foreseen)?;
     note.push_str(news.as_str())?;
-    let report = report_of(alloc, foreseen, asked.all)?;
+    let report = report_of(alloc, foreseen, prints_all(asked.printer))?;
     let text = shown_lines(alloc, report.text.as_str())?;
     Ok(Printed {
         status: if report.mattering == 0 { 0 } else { 1 },
         text,
         note,
     })
+}
+
+/// Tests whether changes that matter to no client are printed, too.
+fn prints_all(printer: Printer<'_>) -> bool
+    ensures { result ≡ prints_all (printer_of printer.entry) }
+{
+    match printer {
+        Printer::Changes(_, all) => all,
+        _ => false,
+    }
 }
 
 /// Says what mountd(8) would grant more. Its rule is asked of the whole site as it would be.
@@ -184,7 +246,7 @@ fn report_of(alloc: Global, foreseen: &Foreseen<'_, View>, all: bool) -> Result<
     }
 }
 
-/// Prints what is wanted of a site: which expectations it breaks, whether a client may mount a directory, or who may.
+/// Prints of a site which expectations it breaks, whether a client may mount a directory, or who may; and plainly all its exports.
 fn print_site(
     alloc: Global,
     asked: Asked<'_>,
@@ -192,14 +254,28 @@ fn print_site(
 ) -> Result<Printed, Failure>
     ensures { TriesToPrint (asked_of asked.entry) (SiteIs (site_of (λ content. content) site.now)) result }
 {
-    match asked.wanted {
-        Wanted::Breaches(expected) => {
+    match asked.printer {
+        Printer::Breaches(_, expected) => {
             Ok(print_tested(alloc, site.tables(), site.view(), expected)?)
         }
-        Wanted::Mount(question) => {
+        Printer::Mount(question) => {
             let tried = tried_by(alloc, site.view(), site.tables(), question)?;
             Ok(print_tried(tried))
         }
-        Wanted::Ranges(path, mountd) => Ok(print_ranges(alloc, site.view(), path, mountd)?),
+        Printer::Ranges(path, mountd) => Ok(print_ranges(alloc, site.view(), path, mountd)?),
+        Printer::Plain => print_exports(alloc, site, asked.printer),
+        Printer::Terms => print_exports(alloc, site, asked.printer),
+        Printer::Changes(_, _) => print_exports(alloc, site, asked.printer),
     }
+}
+
+/// Prints all exports of a site.
+fn print_exports(
+    alloc: Global,
+    site: &WholeSite<'_, View>,
+    printer: Printer<'_>,
+) -> Result<Printed, Failure>
+    ensures { PrintsText 0 (exports_text (printer_of printer.entry) (site_of (λ content. content) site.now).content) result }
+{
+    print_text(alloc, exports_text(alloc, site.view().policy(), printer))
 }

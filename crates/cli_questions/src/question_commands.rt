@@ -1,26 +1,24 @@
 //! The commands that ask a database: `ask`, `show`, `exports` and `who` by the policy in force, `log`, `cat`, `proposal` and `files` by
 //! its files, and `impact` by what would be in force.
 
-ghost use Rattle.std.specs.Prelude.{◌≡◌, None, Some, false};
+ghost use Rattle.std.specs.Prelude.{◌≡◌, Some, false};
 ghost use Rattle.std.specs.Option.{option_map};
 ghost use Rattle.desk_text.specs.Address.{number_of};
 ghost use Rattle.desk_service.specs.Questions.{question_of};
+ghost use Rattle.cli_verdict.specs.TryText.{mount_question_of};
 ghost use Rattle.cli_words.specs.Words.{rows_in};
 ghost use Rattle.cli_questions.specs.QuestionCommands as spec;
-ghost use Rattle.cli_questions.specs.Questions.{asked_of, nothing_wanted, wanted_of};
+ghost use Rattle.cli_questions.specs.Questions.{asked_of, printer_of};
 
-use crate::answering::{Asked, Wanted, answer_question};
+use crate::answering::{Asked, Printer, answer_question};
 use clap::ArgMatches;
-use cli_expectations::expectations_file::ExpectationsFile;
 use cli_files::files::read_if_given;
 use cli_output::failure::Failure;
 use cli_output::printed::Printed;
 use cli_verdict::{Asking, MountQuestion, read_asking};
 use cli_words::values::{read_credential, read_host, read_number, read_path};
 use cli_words::words::{given, is_set, required};
-use desk_service::Question;
-use desk_tables::Cred;
-use desk_text::{Addr, Path};
+use desk_service::{FileQuestion, Question};
 use std::alloc::Global;
 use std::io::BufRead;
 
@@ -52,19 +50,36 @@ fn ask_as(rt: &HostRuntime, words: &ArgMatches<'_>, asking: Asking) -> Result<Pr
         own: &own,
         asking,
     };
-    answer_question(rt, db, wanting(Wanted::Mount(question), &own))
+    answer_question(rt, db, mounting(question))
 }
 
-/// Returns a question on the whole site, of which this is wanted.
-fn wanting<'a>(wanted: Wanted<'a>, own: &'a Option<Cred>) -> Asked<'a>
-    ensures { asked_of result ≡ spec.wanting (wanted_of wanted.entry) own.now }
+/// Returns a question whether a client may mount a directory: with why, if that is asked; and else of the whole site.
+fn mounting<'a>(question: MountQuestion<'a>) -> Asked<'a>
+    ensures { asked_of result ≡ spec.mounting (mount_question_of question.entry) }
+{
+    Asked {
+        question: asked_by(question),
+        printer: Printer::Mount(question),
+    }
+}
+
+/// Returns what is asked of a desk.
+fn asked_by<'a>(question: MountQuestion<'a>) -> Question<'a>
+    ensures { question_of result ≡ spec.asked_by question.entry.asking (number_of question.entry.address) question.entry.path.now }
+{
+    match question.asking {
+        Asking::Reasons => Question::Why(question.address, question.path),
+        Asking::Verdict | Asking::Server => Question::Site,
+    }
+}
+
+/// Returns a question on the whole site, which is printed so.
+fn of_site<'a>(printer: Printer<'a>) -> Asked<'a>
+    ensures { asked_of result ≡ spec.of_site (printer_of printer.entry) }
 {
     Asked {
         question: Question::Site,
-        own,
-        all: false,
-        file: "",
-        wanted,
+        printer,
     }
 }
 
@@ -75,15 +90,30 @@ pub fn run_show(rt: &HostRuntime, words: &ArgMatches<'_>) -> Result<Printed, Fai
     let db = required(words, "DB")?;
     let host = required(words, "HOST")?;
     let address = read_host(rt.alloc(), host)?;
-    answer_question(rt, db, asking(Question::Listing(address), &None))
+    answer_question(rt, db, plainly(Question::Listing(address)))
 }
 
-/// Answers `exports DB`.
+/// Answers `exports DB [--terms]`.
 pub fn run_exports(rt: &HostRuntime, words: &ArgMatches<'_>) -> Result<Printed, Failure>
     ensures { spec.AnswersExports (rows_in words.now) result }
 {
     let db = required(words, "DB")?;
-    answer_question(rt, db, asking(Question::Exports, &None))
+    let terms = is_set(words, "terms");
+    answer_question(rt, db, of_exports(terms))
+}
+
+/// Returns a question on all exports, which are printed with their terms or without.
+fn of_exports<'a>(terms: bool) -> Asked<'a>
+    ensures { asked_of result ≡ spec.of_exports terms }
+{
+    Asked {
+        question: Question::Exports,
+        printer: if terms {
+            Printer::Terms
+        } else {
+            Printer::Plain
+        },
+    }
 }
 
 /// Answers `who DB DIR [--mountd]`.
@@ -94,16 +124,20 @@ pub fn run_who(rt: &HostRuntime, words: &ArgMatches<'_>) -> Result<Printed, Fail
     let dir = required(words, "DIR")?;
     let path = read_path(rt.alloc(), "DIR", dir)?;
     let mountd = is_set(words, "mountd");
-    answer_question(rt, db, wanting(Wanted::Ranges(&path, mountd), &None))
+    answer_question(rt, db, of_site(Printer::Ranges(&path, mountd)))
 }
 
-/// Answers `log DB NAME`.
-pub fn run_log(rt: &HostRuntime, words: &ArgMatches<'_>) -> Result<Printed, Failure>
-    ensures { spec.AnswersLog (rows_in words.now) result }
+/// Answers `log DB NAME` or `proposal DB NAME`: what is asked of a file by its name alone.
+pub fn run_of_file(
+    rt: &HostRuntime,
+    words: &ArgMatches<'_>,
+    what: FileQuestion,
+) -> Result<Printed, Failure>
+    ensures { spec.AnswersOfFile what (rows_in words.now) result }
 {
     let db = required(words, "DB")?;
     let name = required(words, "NAME")?;
-    answer_question(rt, db, asking(Question::Revisions(name), &None))
+    answer_question(rt, db, plainly(Question::OfFile(name, what)))
 }
 
 /// Answers `cat DB NAME [--rev N]`.
@@ -113,7 +147,7 @@ pub fn run_cat(rt: &HostRuntime, words: &ArgMatches<'_>) -> Result<Printed, Fail
     let db = required(words, "DB")?;
     let name = required(words, "NAME")?;
     let rev = read_revision(rt.alloc(), given(words, "rev"))?;
-    answer_question(rt, db, asking(Question::Text(name, rev), &None))
+    answer_question(rt, db, plainly(Question::Text(name, rev)))
 }
 
 /// Parses the number of a revision, if it is given.
@@ -126,33 +160,21 @@ fn read_revision(alloc: Global, word: Option<&str>) -> Result<Option<u32>, Failu
     }
 }
 
-/// Answers `proposal DB NAME`.
-pub fn run_proposal(rt: &HostRuntime, words: &ArgMatches<'_>) -> Result<Printed, Failure>
-    ensures { spec.AnswersProposal (rows_in words.now) result }
-{
-    let db = required(words, "DB")?;
-    let name = required(words, "NAME")?;
-    answer_question(rt, db, asking(Question::Proposal(name), &None))
-}
-
 /// Answers `files DB`.
 pub fn run_files(rt: &HostRuntime, words: &ArgMatches<'_>) -> Result<Printed, Failure>
     ensures { spec.AnswersFiles (rows_in words.now) result }
 {
     let db = required(words, "DB")?;
-    answer_question(rt, db, asking(Question::Files, &None))
+    answer_question(rt, db, plainly(Question::Files))
 }
 
-/// Returns a question whose answer is printed with as whom a client acts, if its credential is given.
-fn asking<'a>(question: Question<'a>, own: &'a Option<Cred>) -> Asked<'a>
-    ensures { asked_of result ≡ spec.asking (question_of question.entry) own.now }
+/// Returns a question whose answer is printed as it is.
+fn plainly<'a>(question: Question<'a>) -> Asked<'a>
+    ensures { asked_of result ≡ spec.plainly (question_of question.entry) }
 {
     Asked {
         question,
-        own,
-        all: false,
-        file: "",
-        wanted: nothing_wanted(),
+        printer: Printer::Plain,
     }
 }
 
@@ -190,7 +212,7 @@ fn foresee<I: BufRead>(
         (None, true) => answer_question(
             rt,
             db,
-            foreseeing(Question::ForeseeProposal(name), "", &None, all),
+            changes(Question::ForeseeProposal(name), None, all),
         ),
         (None, false) => Err(Failure::of_missing("FILE")),
     }
@@ -209,35 +231,16 @@ fn foresee_file<I: BufRead>(
 {
     let text = read_if_given(rt, "FILE", Some(file), input)?;
     let question = Question::Foresee(name, text.as_str());
-    answer_question(rt, db, foreseeing(question, file, &None, all))
+    answer_question(rt, db, changes(question, Some(file), all))
 }
 
-/// Returns a question on what would change, with whether changes that matter to no client are printed, too.
-fn foreseeing<'a>(
-    question: Question<'a>,
-    file: &'a str,
-    own: &'a Option<Cred>,
-    all: bool,
-) -> Asked<'a>
-    requires { own.now ≡ None }
-    ensures { asked_of result ≡ spec.foreseeing (question_of question.entry) all }
+/// Returns a question on what would change by the text of the file that this word names, or by a proposal, with the changes that matter
+/// to no client or without.
+fn changes<'a>(question: Question<'a>, file: Option<&'a str>, all: bool) -> Asked<'a>
+    ensures { asked_of result ≡ spec.changes (question_of question.entry) all }
 {
     Asked {
         question,
-        own,
-        all,
-        file,
-        wanted: nothing_wanted(),
+        printer: Printer::Changes(file, all),
     }
-}
-
-/// Returns what is wanted of a site by a question that is not on one: nothing.
-fn nothing_wanted() -> Wanted<'static>
-    ensures { wanted_of result ≡ nothing_wanted }
-{
-    Wanted::Breaches(ExpectationsFile {
-        path: "",
-        text: "",
-        json: false,
-    })
 }

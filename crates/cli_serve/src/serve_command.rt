@@ -12,17 +12,13 @@ ghost use Rattle.cli_serve.specs.ServeCommand.{IsBadLimit, IsUnbound, ReadsAsked
 use crate::loopback::loopback;
 use crate::serving::Serving;
 use clap::ArgMatches;
-use cli_database_files::database_file::plain_path;
-use cli_database_files::log_file::{log_to_make, remove_log};
 use cli_database_files::named::Named;
 use cli_database_files::names::Names;
-use cli_desk::View;
-use cli_desk::desks::{check_file, open_desk};
+use cli_desk::desks::{OpenedDesk, open_for_edits};
 use cli_output::failure::Failure;
 use cli_output::printed::Printed;
 use cli_words::values::{read_count, read_port};
 use cli_words::words::{given, required};
-use desk_store::Desk;
 use mio::net::TcpListener;
 use sqlite::{FileFrom, FileStore, Wary};
 use std::alloc::{AllocError, Global};
@@ -58,21 +54,19 @@ pub struct Started {
 /// A service whose desk is open and whose port is bound. Nothing is accepted yet.
 #[derive(Drop)]
 pub struct Service {
-    desk: Desk<FileStore<Named<FileFrom<Wary>>>, View>,
+    opened: OpenedDesk<FileStore<Named<FileFrom<Wary>>>>,
     serving: Serving,
     /// How many connections are served.
     pub connections: u32,
     /// How long a message, its reply, and the time between two may take, in seconds; 0 for no limit.
     pub seconds: u32,
-    /// The path of the log of its database, if the log was made for it.
-    log: Option<String>,
 }
 
 impl Service {
     /// Serves its connections, beside one another. What is to be reported meanwhile goes to `err`, which is standard error. Tells whether it
     /// served them all: it ends if an edit was made in files that were moved, removed or replaced.
     pub fn run<E: Write>(&mut self, rt: &HostRuntime, err: &mut E) -> bool {
-        self.serving.run(rt, &mut self.desk, err);
+        self.serving.run(rt, &mut self.opened.desk, err);
         if !self.serving.has_lost() {
             return true;
         }
@@ -82,13 +76,20 @@ impl Service {
         false
     }
 
-    /// Ends. A log that was made for nothing goes before the lock goes with the desk: after that, another process may write it. What stands
-    /// at its name once the files lost theirs is not its own.
+    /// Ends, and closes the desk. What stands at the name of its log once the files lost theirs is not its own.
     pub fn close(self, rt: &HostRuntime) {
-        if self.serving.has_files(rt) {
-            remove_log(rt, &self.log);
+        let Service {
+            opened,
+            serving,
+            connections: _,
+            seconds: _,
+        } = self;
+        if serving.has_files(rt) {
+            opened.close(rt);
+        } else {
+            drop(opened);
         }
-        drop(self);
+        drop(serving);
     }
 }
 
@@ -137,34 +138,18 @@ fn read_limit(alloc: Global, word: Option<&str>) -> Result<u32, Failure>
     }
 }
 
-/// Opens the database and binds the port, if its file can be opened for edits.
-fn start(rt: &HostRuntime, asked: Asked<'_>) -> Result<Started, Result<Printed, Failure>>
-    ensures { Starts asked.entry result }
-{
-    match check_file(rt, asked.db) {
-        Ok(()) => start_on(rt, asked),
-        Err(answer) => Err(answer),
-    }
-}
-
 /// Opens the database and binds the port. What allocates comes before the log is made.
-fn start_on(rt: &HostRuntime, asked: Asked<'_>) -> Result<Started, Result<Printed, Failure>>
+fn start(rt: &HostRuntime, asked: Asked<'_>) -> Result<Started, Result<Printed, Failure>>
     ensures { Starts asked.entry result }
 {
     let Ok(line) = listening_line(rt.alloc(), asked.port) else {
         return Err(Err(Failure::Memory));
     };
-    let Ok(path) = plain_path(rt.alloc(), asked.db) else {
-        return Err(Err(Failure::Memory));
-    };
-    let Ok(log) = log_to_make(rt, asked.db) else {
-        return Err(Err(Failure::Memory));
-    };
     let Ok(names) = Names::of(rt, asked.db) else {
         return Err(Err(Failure::Memory));
     };
-    match open_desk(rt, asked.db, path.as_str(), &log, Wary) {
-        Ok(desk) => listen(rt, desk, asked, log, line, names),
+    match open_for_edits(rt, asked.db, Wary) {
+        Ok(opened) => listen(rt, opened, asked, line, names),
         Err(answer) => Err(answer),
     }
 }
@@ -179,9 +164,8 @@ fn listening_line(alloc: Global, port: u16) -> Result<String, AllocError>
 /// Binds the port for a desk.
 fn listen(
     rt: &HostRuntime,
-    desk: Desk<FileStore<Named<FileFrom<Wary>>>, View>,
+    opened: OpenedDesk<FileStore<Named<FileFrom<Wary>>>>,
     asked: Asked<'_>,
-    log: Option<String>,
     line: String,
     names: Names,
 ) -> Result<Started, Result<Printed, Failure>>
@@ -196,16 +180,14 @@ fn listen(
                 note: String::new(rt.alloc()),
             },
             service: Service {
-                desk,
+                opened,
                 serving,
                 connections: asked.connections,
                 seconds: asked.seconds,
-                log,
             },
         }),
         Err(error) => {
-            remove_log(rt, &log);
-            drop(desk);
+            opened.close(rt);
             Err(Err(unbound(asked.port, error)))
         }
     }

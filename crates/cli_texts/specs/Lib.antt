@@ -4,6 +4,8 @@ pub mod CompareCommand
 pub mod FaultLine
 pub mod FaultyTexts
 pub mod FindingsForm
+pub mod IgnoredNumbers
+pub mod ListsCommand
 pub mod MountWords
 pub mod Printing
 pub mod PrivateTableFiles
@@ -12,6 +14,7 @@ pub mod SplitText
 pub mod Subject
 pub mod Systems
 pub mod TableFiles
+pub mod TermsCommand
 pub mod TestCommand
 pub mod TryCommand
 pub mod TwoFiles

@@ -7,19 +7,20 @@ ghost use Rattle.desk_text.specs.Lines.{IsReadable};
 ghost use Rattle.desk_findings.specs.CheckFaults.{AreReadable};
 ghost use Rattle.desk_findings.specs.Finding.{HaveSlices};
 ghost use Rattle.cli_words.specs.Words.{rows_in};
-ghost use Rattle.cli_texts.specs.CheckCommand.{AnswersByFiles, AnswersCheck, AnswersCheckBy, AnswersGiven, AnswersSubject, AnswersTexts, PrintsFindings, asks_opinions, beside_sarif, form_of};
+ghost use Rattle.cli_texts.specs.CheckCommand.{AnswersByFiles, AnswersCheck, AnswersCheckBy, AnswersGiven, AnswersHeard, AnswersSubject, AnswersTexts, PrintsFindings, asks_opinions, beside_sarif, form_of};
 ghost use Rattle.cli_texts.specs.TableFiles.{named};
 ghost use Rattle.cli_texts.specs.WholeFiles.{file_list};
 
 use crate::check_site_files::check_site;
-use crate::findings_form::{FindingsForm, report_in};
+use crate::findings_form::{FindingsForm, report_by};
+use crate::ignored_numbers::{lend_numbers, read_ignored};
 use crate::subject::{Places, Subject, subject_of};
 use crate::systems::read_systems;
 use crate::whole_files::{WholeFiles, read_whole_texts, whole_files, whole_inputs, whole_sources};
 use clap::ArgMatches;
 use cli_output::failure::Failure;
 use cli_output::printed::Printed;
-use cli_words::words::is_set;
+use cli_words::words::{given, is_set};
 use desk_check::CheckForm;
 use desk_findings::{Gathered, WholeSources, gather};
 use desk_tables::FileSystems;
@@ -34,7 +35,7 @@ const PLACES: Places = Places {
 };
 
 /// Answers `check FILE MOUNT...` or `check --site DIR`, with its options. Whether its forms can be given together comes first,
-/// then which of the two it is, and then the mount points are parsed, before any file is read.
+/// then which warnings are ignored, then which of the two it is, and then the mount points are parsed, before any file is read.
 pub fn run_check<I: BufRead>(
     rt: &HostRuntime,
     words: &ArgMatches<'_>,
@@ -44,7 +45,7 @@ pub fn run_check<I: BufRead>(
 {
     match beside_sarif(words) {
         Some(name) => Err(Failure::BesideSarif(name)),
-        None => check_in_form(rt, words, input),
+        None => check_heard(rt, words, input),
     }
 }
 
@@ -64,34 +65,49 @@ fn beside_sarif(words: &ArgMatches<'_>) -> Option<&'static str>
     None
 }
 
-/// Answers in the form that the words ask for.
-fn check_in_form<I: BufRead>(
+/// Answers once it is known which warnings are ignored.
+fn check_heard<I: BufRead>(
     rt: &HostRuntime,
     words: &ArgMatches<'_>,
     input: &mut I,
 ) -> Result<Printed, Failure>
-    ensures { AnswersCheckBy (rows_in words.now) (I.remaining input.old) result }
+    ensures { AnswersHeard (rows_in words.now) (I.remaining input.old) result }
+{
+    let numbers = read_ignored(rt.alloc(), given(words, "ignore"))?;
+    check_in_form(rt, words, lend_numbers(&numbers), input)
+}
+
+/// Answers in the form that the words ask for, but for the warnings of these numbers, if some are ignored.
+fn check_in_form<I: BufRead>(
+    rt: &HostRuntime,
+    words: &ArgMatches<'_>,
+    ignored: Option<&[u32]>,
+    input: &mut I,
+) -> Result<Printed, Failure>
+    ensures { AnswersCheckBy (rows_in words.now) (I.remaining input.old) (option_map (λ numbers. numbers.now) ignored.entry) result }
 {
     let subject = subject_of(rt.alloc(), words, PLACES)?;
-    check_subject(rt, words, &subject, input)
+    check_subject(rt, words, ignored, &subject, input)
 }
 
 /// Answers by what is asked of.
 fn check_subject<'w, I: BufRead>(
     rt: &HostRuntime,
     words: &ArgMatches<'w>,
+    ignored: Option<&[u32]>,
     subject: &Subject<'w>,
     input: &mut I,
 ) -> Result<Printed, Failure>
-    ensures { AnswersSubject (rows_in words.now) (I.remaining input.old) subject.now result }
+    ensures { AnswersSubject (rows_in words.now) (option_map (λ numbers. numbers.now) ignored.entry) (I.remaining input.old) subject.now result }
 {
     let files = whole_files(words, subject, "FILE");
     match subject {
-        Subject::File(_) => check_given(rt, words, subject, files, input),
+        Subject::File(_) => check_given(rt, words, ignored, subject, files, input),
         Subject::Site(folder) => check_site(
             rt,
             asks_opinions(words),
             form_of(words),
+            ignored,
             folder,
             files,
             input,
@@ -124,16 +140,17 @@ fn asks_opinions(words: &ArgMatches<'_>) -> bool
 fn check_given<I: BufRead>(
     rt: &HostRuntime,
     words: &ArgMatches<'_>,
+    ignored: Option<&[u32]>,
     subject: &Subject<'_>,
     files: WholeFiles<'_>,
     input: &mut I,
 ) -> Result<Printed, Failure>
-    ensures { AnswersGiven subject.now (rows_in words.now) (map named (file_list files.entry)) (I.remaining input.old) result }
+    ensures { AnswersGiven subject.now (rows_in words.now) (option_map (λ numbers. numbers.now) ignored.entry) (map named (file_list files.entry)) (I.remaining input.old) result }
 {
     let others = whole_inputs(files);
     let systems = read_systems(rt, words, subject, others, input)?;
     match systems {
-        Ok(filesystems) => check_files(rt, words, filesystems, files, input),
+        Ok(filesystems) => check_files(rt, words, ignored, filesystems, files, input),
         Err(printed) => Ok(printed),
     }
 }
@@ -142,17 +159,19 @@ fn check_given<I: BufRead>(
 fn check_files<I: BufRead>(
     rt: &HostRuntime,
     words: &ArgMatches<'_>,
+    ignored: Option<&[u32]>,
     filesystems: FileSystems,
     files: WholeFiles<'_>,
     input: &mut I,
 ) -> Result<Printed, Failure>
-    ensures { AnswersByFiles (rows_in words.now) (map named (file_list files.entry)) (I.remaining input.old) filesystems result }
+    ensures { AnswersByFiles (rows_in words.now) (option_map (λ numbers. numbers.now) ignored.entry) (map named (file_list files.entry)) (I.remaining input.old) filesystems result }
 {
     let texts = read_whole_texts(rt, files, input)?;
     check_texts(
         rt.alloc(),
         asks_opinions(words),
         form_of(words),
+        ignored,
         filesystems,
         whole_sources(files, &texts),
     )
@@ -163,28 +182,30 @@ fn check_texts(
     alloc: Global,
     opinions: bool,
     form: FindingsForm,
+    ignored: Option<&[u32]>,
     filesystems: FileSystems,
     sources: WholeSources<'_>,
 ) -> Result<Printed, Failure>
     requires tables { AreReadable sources.tables }
     requires exports { IsReadable sources.exports.text.now }
-    ensures { AnswersTexts opinions form filesystems sources.entry result }
+    ensures { AnswersTexts opinions form (option_map (λ numbers. numbers.now) ignored.entry) filesystems sources.entry result }
 {
     let gathered = gather(alloc, sources, filesystems, opinions)?;
-    Ok(print_findings(alloc, form, &gathered)?)
+    Ok(print_findings(alloc, form, ignored, gathered)?)
 }
 
-/// Prints the report of what was found.
+/// Prints the report of what was found, but for the warnings of these numbers, if some are ignored.
 pub fn print_findings(
     alloc: Global,
     form: FindingsForm,
-    gathered: &Gathered,
+    ignored: Option<&[u32]>,
+    gathered: Gathered<'_>,
 ) -> Result<Printed, AllocError>
-    requires { HaveSlices gathered.now.findings }
-    ensures { IfOk result (PrintsFindings form gathered.now) }
+    requires { HaveSlices gathered.findings }
+    ensures { IfOk result (PrintsFindings form (option_map (λ numbers. numbers.now) ignored.entry) gathered.entry) }
 {
-    let note = check_note(alloc, gathered.read_exports)?;
-    let checked = report_in(alloc, form, gathered)?;
+    let checked = report_by(alloc, form, ignored, gathered)?;
+    let note = check_note(alloc, checked.read_exports)?;
     Ok(Printed {
         status: if checked.passes { 0 } else { 3 },
         text: checked.text,

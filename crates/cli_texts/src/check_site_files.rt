@@ -31,17 +31,19 @@ pub fn check_site<I: BufRead>(
     rt: &HostRuntime,
     opinions: bool,
     form: FindingsForm,
+    ignored: Option<&[u32]>,
     folder: &SiteFolder,
     files: WholeFiles<'_>,
     input: &mut I,
 ) -> Result<Printed, Failure>
-    ensures { AnswersSite opinions form folder.now (map named (file_list files.entry)) (I.remaining input.old) result }
+    ensures { AnswersSite opinions form (option_map (λ numbers. numbers.now) ignored.entry) folder.now (map named (file_list files.entry)) (I.remaining input.old) result }
 {
     let kept = read_custodians(rt, folder, input)?;
     let systems = read_systems(rt, "--site", systems_files(folder), input)?;
     let asked = CheckAsked {
         opinions,
         form,
+        ignored,
         custodians: custodians_of(folder, &kept),
     };
     check_folder(rt, asked, folder, systems, files, input)
@@ -75,11 +77,12 @@ fn custodians_of<'a>(folder: &'a SiteFolder, text: &'a Option<String>) -> Option
     }
 }
 
-/// How a folder is checked: with opinions or without, in which form, and with which custodians.
+/// How a folder is checked: with opinions or without, in which form, without the warnings of which numbers, and with which custodians.
 #[derive(Clone, Copy)]
 pub struct CheckAsked<'a> {
     pub opinions: bool,
     pub form: FindingsForm,
+    pub ignored: Option<&'a [u32]>,
     pub custodians: Option<Source<'a>>,
 }
 
@@ -126,5 +129,5 @@ fn check_texts<'a>(
     ensures { AnswersFolderTexts asked.entry (systems_of systems.entry) whole.entry result }
 {
     let gathered = gather_folder(alloc, asked.custodians, systems, whole, asked.opinions)?;
-    Ok(print_findings(alloc, asked.form, &gathered)?)
+    Ok(print_findings(alloc, asked.form, asked.ignored, gathered)?)
 }

@@ -1,4 +1,4 @@
-//! The commands on texts: `try`, `split`, `check`, `clients`, `compare` and `test`.
+//! The commands on texts: `try`, `split`, `check`, `clients`, `lists`, `terms`, `compare` and `test`.
 //!
 //! ```text
 //! // for the words `split - filesystems`
@@ -13,12 +13,15 @@ pub mod compare_command;
 mod fault_line;
 mod faulty_texts;
 mod findings_form;
+mod ignored_numbers;
+pub mod lists_command;
 mod printing;
 pub mod split_command;
 mod split_text;
 mod subject;
 mod systems;
 mod table_files;
+pub mod terms_command;
 pub mod test_command;
 pub mod try_command;
 mod two_files;

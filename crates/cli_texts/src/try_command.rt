@@ -1,8 +1,10 @@
 //! The command `try`: one verdict over one exports text.
 
-ghost use Rattle.std.specs.Prelude.{map};
+ghost use Rattle.std.specs.Prelude.{◌≡◌, Err, Ok, map};
 ghost use Rattle.desk_text.specs.Lines.{IsReadable};
+ghost use Rattle.desk_text.specs.Reading.{Reads};
 ghost use Rattle.desk_findings.specs.CheckFaults.{AreReadable};
+ghost use Rattle.desk_findings.specs.CheckText.{tables_of};
 ghost use Rattle.cli_words.specs.Words.{rows_in};
 ghost use Rattle.cli_texts.specs.TryCommand.{AnswersFiles, AnswersRequest, AnswersSubject, AnswersTry, AnswersTryAs, PrintsVerdict, ReadsRequest, asked_of, question_in};
 ghost use Rattle.cli_texts.specs.TableFiles.{named};
@@ -18,10 +20,10 @@ use cli_output::failure::Failure;
 use cli_output::printed::Printed;
 use cli_verdict::try_text::try_text;
 use cli_verdict::{Asking, MountQuestion, print_tried, read_asking};
-use cli_words::values::{Request, read_credential, read_request};
+use cli_words::values::{Request, read_credential, read_credential_with, read_request};
 use cli_words::words::given;
 use desk_findings::{WholeSources, read_sources};
-use desk_policy::SiteFault;
+use desk_policy::{SiteFault, SiteTables};
 use desk_tables::{Cred, FileSystems};
 use desk_text::ReadError;
 use std::alloc::Global;
@@ -135,11 +137,51 @@ fn answer_request(
     requires exports { IsReadable sources.exports.text.now }
     ensures { AnswersRequest (asked_of asked.entry) sources.entry result }
 {
-    let tables = sources.tables;
-    let own = read_credential(alloc, asked.word, tables.passwd.text, tables.group.text)?;
-    match decide(alloc, &own, asked, sources) {
+    match read_sources(alloc, sources.tables) {
+        Ok(tables) => answer_with(alloc, asked, &tables, sources),
+        Err(error) => answer_fault(alloc, asked, sources, error),
+    }
+}
+
+/// Answers a request by the texts of its files, of which these tables were read.
+fn answer_with(
+    alloc: Global,
+    asked: Asked<'_>,
+    tables: &SiteTables,
+    sources: WholeSources<'_>,
+) -> Result<Printed, Failure>
+    requires tables { AreReadable sources.tables }
+    requires exports { IsReadable sources.exports.text.now }
+    requires known { tables_of sources.tables ≡ Ok tables.now }
+    ensures { AnswersRequest (asked_of asked.entry) sources.entry result }
+{
+    let own = read_credential_with(alloc, asked.word, &tables.users, &tables.groups)?;
+    match decide(alloc, &own, asked, tables, sources) {
         Ok(printed) => Ok(printed),
         Err(error) => answer_error(alloc, sources, asked.filesystems, error),
+    }
+}
+
+/// Answers with the fault of a table, or that memory ran out. A bad CRED comes before it, so the users and the groups are read by
+/// themselves: another table may be at fault.
+fn answer_fault(
+    alloc: Global,
+    asked: Asked<'_>,
+    sources: WholeSources<'_>,
+    error: ReadError<SiteFault>,
+) -> Result<Printed, Failure>
+    requires tables { AreReadable sources.tables }
+    requires exports { IsReadable sources.exports.text.now }
+    requires fault { Reads (Err error) (tables_of sources.tables) }
+    ensures { AnswersRequest (asked_of asked.entry) sources.entry result }
+{
+    let tables = sources.tables;
+    match read_credential(alloc, asked.word, tables.passwd.text, tables.group.text) {
+        Ok(_) => answer_error(alloc, sources, asked.filesystems, error),
+        Err(failure) => {
+            drop(error);
+            Err(failure)
+        }
     }
 }
 
@@ -148,14 +190,14 @@ fn decide(
     alloc: Global,
     own: &Option<Cred>,
     asked: Asked<'_>,
+    tables: &SiteTables,
     sources: WholeSources<'_>,
 ) -> Result<Printed, ReadError<SiteFault>>
-    requires tables { AreReadable sources.tables }
     requires exports { IsReadable sources.exports.text.now }
+    requires known { tables_of sources.tables ≡ Ok tables.now }
     ensures { let table = asked.entry.filesystems.now in
         GivesOrFault (PrintsVerdict sources.entry table (question_in asked.entry.request.now own.now asked.entry.asking)) (policy_of sources.entry table) result }
 {
-    let tables = read_sources(alloc, sources.tables)?;
     let filesystems = asked.filesystems.copy()?;
     let question = MountQuestion {
         address: asked.request.address,
@@ -163,6 +205,6 @@ fn decide(
         own,
         asking: asked.asking,
     };
-    let tried = try_text(alloc, sources.exports.text, &tables, filesystems, question)?;
+    let tried = try_text(alloc, sources.exports.text, tables, filesystems, question)?;
     Ok(print_tried(tried))
 }

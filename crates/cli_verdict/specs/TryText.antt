@@ -15,7 +15,7 @@ use Rattle.desk_policy.specs.declared.site_fault.SiteFault.{SiteFault}
 use Rattle.desk_policy.specs.declared.verdict.Denial.{Denial}
 use Rattle.desk_server.specs.Server.{server_verdict_of}
 use Rattle.desk_server_prints.specs.LeftOutNote.{TellsLeftOut}
-use Rattle.desk_server_prints.specs.Wider.{wider_line, wider_note}
+use Rattle.desk_server_prints.specs.GrantingLine.{wider_line, wider_note}
 use Rattle.desk_why.specs.WhyPrints.{why_text}
 use Rattle.cli_output.specs.Printed.{Prints}
 use Rattle.cli_output.specs.Shown.{shown_lines}
@@ -65,12 +65,16 @@ reasons_if Server tables content address path = []
 abbrev pub reasons_text : SiteTables → Content → MountQuestion → List ℕ
 reasons_text tables content question = reasons_if question.asking tables content question.address question.path
 
--- The answer to a question by the rule of this desk, by a policy and the tables that it was read with; and beside it by which line the
+-- The answer to a question by the rule of this desk, by a policy, with these lines below the verdict; and beside it by which line the
 -- server grants what is denied.
-pub record AnswersHere (tables : SiteTables) (content : Content) (question : MountQuestion) (tried : Tried) : Type 0 where
-  pub answer : answer_of tried ≡ answer_above (reasons_text tables content question) content question.own (verdict_of content question.address question.path)
+pub record TellsAbove (below : List ℕ) (content : Content) (question : MountQuestion) (tried : Tried) : Type 0 where
+  pub answer : answer_of tried ≡ answer_above below content question.own (verdict_of content question.address question.path)
   pub beside : string_bytes tried.note
       ≡ wider_note (wider_line (verdict_of content question.address question.path) (server_verdict_of content question.address question.path))
+
+-- the same by a policy and the tables that it was read with: below the verdict is why, if that is asked
+abbrev pub AnswersHere : SiteTables → Content → MountQuestion → Tried → Type 0
+AnswersHere tables content question tried = TellsAbove (reasons_text tables content question) content question tried
 
 -- the answer by the rule of mountd(8), and beside it the lines that it may leave out
 pub record AnswersThere (content : Content) (question : MountQuestion) (tried : Tried) : Type 0 where

@@ -12,4 +12,4 @@ pub mod try_text;
 
 pub use asking::{Asking, read_asking};
 pub use ranges::print_ranges;
-pub use try_text::{MountQuestion, Tried, print_tried, printed_verdict, tried_by};
+pub use try_text::{MountQuestion, Tried, print_tried, printed_verdict, tried_by, tried_with};

@@ -7,7 +7,8 @@ ghost use Rattle.desk_exports.specs.declared.profile.Profile.TheVariants.{Two};
 ghost use Rattle.desk_policy.specs.Parsing.{read_whole_with};
 ghost use Rattle.desk_policy.specs.Prints.{acting_text, verdict_line};
 ghost use Rattle.desk_policy.specs.Verdict.{verdict_result};
-ghost use Rattle.cli_verdict.specs.TryText.{Answers, AnswersHere, AnswersThere, PrintsTried, Tries, TriesHere, TriesThere, answer_of, answer_on, mount_question_of, reasons_text};
+ghost use Rattle.cli_output.specs.Shown.{shown_lines};
+ghost use Rattle.cli_verdict.specs.TryText.{Answers, AnswersHere, AnswersThere, PrintsTried, TellsAbove, Tries, TriesHere, TriesThere, answer_of, answer_on, mount_question_of, reasons_text};
 
 use crate::asking::Asking;
 use cli_output::printed::Printed;
@@ -124,7 +125,7 @@ pub fn tried_by(
     }
 }
 
-/// Decides by the rule of this desk. Standard error says by which line mountd(8) grants what is denied.
+/// Decides by the rule of this desk.
 fn tried_here<V: PolicyView>(
     alloc: Global,
     view: &V,
@@ -134,6 +135,31 @@ fn tried_here<V: PolicyView>(
     ensures { IfOk result (AnswersHere site_tables.now (V.in_force view.now) (mount_question_of question.entry)) }
 {
     let reasons = reasons_text(alloc, view, site_tables, question)?;
+    tried_above(alloc, view, question, reasons.as_str())
+}
+
+/// Decides by the rule of this desk, and tells these reasons, as they are shown, below the verdict.
+pub fn tried_with<V: PolicyView>(
+    alloc: Global,
+    view: &V,
+    question: MountQuestion<'_>,
+    reasons: &str,
+) -> Result<Tried, AllocError>
+    ensures { IfOk result (TellsAbove (shown_lines reasons.now) (V.in_force view.now) (mount_question_of question.entry)) }
+{
+    let shown = shown_lines(alloc, reasons)?;
+    tried_above(alloc, view, question, shown.as_str())
+}
+
+/// Decides by the rule of this desk, above these lines. Standard error says by which line mountd(8) grants what is denied.
+fn tried_above<V: PolicyView>(
+    alloc: Global,
+    view: &V,
+    question: MountQuestion<'_>,
+    below: &str,
+) -> Result<Tried, AllocError>
+    ensures { IfOk result (TellsAbove below.now (V.in_force view.now) (mount_question_of question.entry)) }
+{
     let verdict = view.decide(question.address, question.path);
     let note = wider_note(
         alloc,
@@ -143,7 +169,7 @@ fn tried_here<V: PolicyView>(
         &verdict,
     )?;
     let mut text = verdict_lines(alloc, view.policy(), &verdict, question.own)?;
-    text.push_str(reasons.as_str())?;
+    text.push_str(below)?;
     Ok(Tried {
         granted: is_granted(&verdict),
         text,

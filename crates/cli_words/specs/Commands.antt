@@ -10,7 +10,7 @@ use Rattle.cli_words.specs.declared.arguments.Kind.{Kind}
 use Rattle.cli_words.specs.declared.arguments.Kind.TheVariants as kind
 use Rattle.cli_words.specs.declared.commands.CommandRow as code
 use Rattle.cli_words.specs.declared.commands.Subcommand.{Subcommand}
-use Rattle.cli_words.specs.declared.commands.Subcommand.TheVariants.{Ask, Audit, Cat, Check, Clients, Compare, Copy, Exports, Files, Impact, Init, Log, Proposal, Put, Report, Serve, Show, Split, Test, Try, Who, Write}
+use Rattle.cli_words.specs.declared.commands.Subcommand.TheVariants as subcommand
 
 -- a word that is required, and taken as it is
 abbrev pub word : List ℕ → Rule
@@ -54,28 +54,30 @@ table_options = option (codes "hosts") ∷ option (codes "networks") ∷ option 
 -- the commands, in the order of the help
 abbrev pub commands : List CommandRow
 commands =
-    row Try (codes "try") (optional_word (codes "FILE") ∷ optional_word (codes "HOST") ∷ optional_word (codes "DIR") ∷ optional_words (codes "MOUNT") ∷ []) true (option (codes "as") ∷ flag (codes "why") ∷ flag (codes "mountd") ∷ [])
-    ∷ row Split (codes "split") (word (codes "FILE") ∷ word (codes "FILESYSTEMS") ∷ []) false []
-    ∷ row Check (codes "check") (optional_word (codes "FILE") ∷ optional_words (codes "MOUNT") ∷ []) true (flag (codes "brief") ∷ flag (codes "strict") ∷ flag (codes "json") ∷ flag (codes "sarif") ∷ flag (codes "opinions") ∷ [])
-    ∷ row Clients (codes "clients") (optional_word (codes "FILE") ∷ optional_word (codes "DIR") ∷ optional_words (codes "MOUNT") ∷ []) true (flag (codes "mountd") ∷ [])
-    ∷ row Compare (codes "compare") (optional_word (codes "OLD") ∷ optional_word (codes "NEW") ∷ optional_words (codes "MOUNT") ∷ []) true (flag (codes "all") ∷ [])
-    ∷ row Test (codes "test") (optional_word (codes "FILE") ∷ optional_word (codes "EXPECTATIONS") ∷ optional_words (codes "MOUNT") ∷ []) true (flag (codes "json") ∷ [])
-    ∷ row Init (codes "init") (word (codes "DB") ∷ word (codes "DIR") ∷ []) false []
-    ∷ row Ask (codes "ask") (word (codes "DB") ∷ word (codes "HOST") ∷ word (codes "DIR") ∷ []) false (option (codes "as") ∷ flag (codes "why") ∷ flag (codes "mountd") ∷ [])
-    ∷ row Show (codes "show") (word (codes "DB") ∷ word (codes "HOST") ∷ []) false []
-    ∷ row Exports (codes "exports") (word (codes "DB") ∷ []) false []
-    ∷ row Who (codes "who") (word (codes "DB") ∷ word (codes "DIR") ∷ []) false (flag (codes "mountd") ∷ [])
-    ∷ row Put (codes "put") (word (codes "DB") ∷ word (codes "NAME") ∷ word (codes "FILE") ∷ []) false (required_option (codes "base") ∷ required_option (codes "caller") ∷ option (codes "key") ∷ option (codes "key-file") ∷ [])
-    ∷ row Impact (codes "impact") (word (codes "DB") ∷ word (codes "NAME") ∷ optional_word (codes "FILE") ∷ []) false (flag (codes "all") ∷ flag (codes "proposal") ∷ [])
-    ∷ row Audit (codes "audit") (word (codes "DB") ∷ word (codes "EXPECTATIONS") ∷ optional_word (codes "NAME") ∷ optional_word (codes "FILE") ∷ []) false (flag (codes "proposal") ∷ flag (codes "json") ∷ [])
-    ∷ row Log (codes "log") (word (codes "DB") ∷ word (codes "NAME") ∷ []) false []
-    ∷ row Cat (codes "cat") (word (codes "DB") ∷ word (codes "NAME") ∷ []) false (option (codes "rev") ∷ [])
-    ∷ row Proposal (codes "proposal") (word (codes "DB") ∷ word (codes "NAME") ∷ []) false []
-    ∷ row Files (codes "files") (word (codes "DB") ∷ []) false []
-    ∷ row Report (codes "report") (word (codes "DB") ∷ []) false []
-    ∷ row Write (codes "write") (word (codes "DB") ∷ word (codes "DIR") ∷ []) false []
-    ∷ row Copy (codes "copy") (word (codes "DB") ∷ word (codes "FILE") ∷ []) false []
-    ∷ row Serve (codes "serve") (word (codes "DB") ∷ []) false (required_option (codes "port") ∷ required_option (codes "connections") ∷ option (codes "timeout") ∷ [])
+    row subcommand.Try (codes "try") (optional_word (codes "FILE") ∷ optional_word (codes "HOST") ∷ optional_word (codes "DIR") ∷ optional_words (codes "MOUNT") ∷ []) true (option (codes "as") ∷ flag (codes "why") ∷ flag (codes "mountd") ∷ [])
+    ∷ row subcommand.Split (codes "split") (word (codes "FILE") ∷ word (codes "FILESYSTEMS") ∷ []) false []
+    ∷ row subcommand.Check (codes "check") (optional_word (codes "FILE") ∷ optional_words (codes "MOUNT") ∷ []) true (flag (codes "brief") ∷ flag (codes "strict") ∷ flag (codes "json") ∷ flag (codes "sarif") ∷ flag (codes "opinions") ∷ option (codes "ignore") ∷ [])
+    ∷ row subcommand.Clients (codes "clients") (optional_word (codes "FILE") ∷ optional_word (codes "DIR") ∷ optional_words (codes "MOUNT") ∷ []) true (flag (codes "mountd") ∷ [])
+    ∷ row subcommand.Lists (codes "lists") (optional_word (codes "FILE") ∷ optional_word (codes "HOST") ∷ optional_words (codes "MOUNT") ∷ []) true []
+    ∷ row subcommand.Terms (codes "terms") (optional_word (codes "FILE") ∷ optional_words (codes "MOUNT") ∷ []) true []
+    ∷ row subcommand.Compare (codes "compare") (optional_word (codes "OLD") ∷ optional_word (codes "NEW") ∷ optional_words (codes "MOUNT") ∷ []) true (flag (codes "all") ∷ [])
+    ∷ row subcommand.Test (codes "test") (optional_word (codes "FILE") ∷ optional_word (codes "EXPECTATIONS") ∷ optional_words (codes "MOUNT") ∷ []) true (flag (codes "json") ∷ [])
+    ∷ row subcommand.Init (codes "init") (word (codes "DB") ∷ word (codes "DIR") ∷ []) false []
+    ∷ row subcommand.Ask (codes "ask") (word (codes "DB") ∷ word (codes "HOST") ∷ word (codes "DIR") ∷ []) false (option (codes "as") ∷ flag (codes "why") ∷ flag (codes "mountd") ∷ [])
+    ∷ row subcommand.Show (codes "show") (word (codes "DB") ∷ word (codes "HOST") ∷ []) false []
+    ∷ row subcommand.Exports (codes "exports") (word (codes "DB") ∷ []) false (flag (codes "terms") ∷ [])
+    ∷ row subcommand.Who (codes "who") (word (codes "DB") ∷ word (codes "DIR") ∷ []) false (flag (codes "mountd") ∷ [])
+    ∷ row subcommand.Put (codes "put") (word (codes "DB") ∷ word (codes "NAME") ∷ word (codes "FILE") ∷ []) false (required_option (codes "base") ∷ required_option (codes "caller") ∷ option (codes "key") ∷ option (codes "key-file") ∷ [])
+    ∷ row subcommand.Impact (codes "impact") (word (codes "DB") ∷ word (codes "NAME") ∷ optional_word (codes "FILE") ∷ []) false (flag (codes "all") ∷ flag (codes "proposal") ∷ [])
+    ∷ row subcommand.Audit (codes "audit") (word (codes "DB") ∷ word (codes "EXPECTATIONS") ∷ optional_word (codes "NAME") ∷ optional_word (codes "FILE") ∷ []) false (flag (codes "proposal") ∷ flag (codes "json") ∷ [])
+    ∷ row subcommand.Log (codes "log") (word (codes "DB") ∷ word (codes "NAME") ∷ []) false []
+    ∷ row subcommand.Cat (codes "cat") (word (codes "DB") ∷ word (codes "NAME") ∷ []) false (option (codes "rev") ∷ [])
+    ∷ row subcommand.Proposal (codes "proposal") (word (codes "DB") ∷ word (codes "NAME") ∷ []) false []
+    ∷ row subcommand.Files (codes "files") (word (codes "DB") ∷ []) false []
+    ∷ row subcommand.Report (codes "report") (word (codes "DB") ∷ []) false []
+    ∷ row subcommand.Write (codes "write") (word (codes "DB") ∷ word (codes "DIR") ∷ []) false []
+    ∷ row subcommand.Copy (codes "copy") (word (codes "DB") ∷ word (codes "FILE") ∷ []) false []
+    ∷ row subcommand.Serve (codes "serve") (word (codes "DB") ∷ []) false (required_option (codes "port") ∷ required_option (codes "connections") ∷ option (codes "timeout") ∷ [])
     ∷ []
 
 -- an argument of the code

@@ -16,6 +16,8 @@ pub enum Subcommand {
     Split,
     Check,
     Clients,
+    Lists,
+    Terms,
     Compare,
     Test,
     Init,
@@ -154,7 +156,7 @@ const NAME: Argument = Argument {
 };
 
 /// The options that name the files of tables and of mount points, and the folder that has them all.
-pub static TABLES: [Argument; 7] = [
+pub const TABLES: &[Argument] = &[
     Argument {
         name: "hosts",
         kind: Kind::Valued("FILE"),
@@ -193,7 +195,7 @@ pub static TABLES: [Argument; 7] = [
 ];
 
 /// The commands, in the order of the help.
-pub static COMMANDS: [CommandRow; 22] = [
+pub const COMMANDS: &[CommandRow] = &[
     CommandRow {
         command: Subcommand::Try,
         name: "try",
@@ -254,6 +256,11 @@ pub static COMMANDS: [CommandRow; 22] = [
                 kind: Kind::Flag,
                 help: "Adds opinions on lines that let everybody write, or root of many hosts act as root",
             },
+            Argument {
+                name: "ignore",
+                kind: Kind::Valued("NUMBERS"),
+                help: "Leaves out the warnings of these numbers, as 2,11, and counts them in the last line",
+            },
         ],
     },
     CommandRow {
@@ -262,6 +269,20 @@ pub static COMMANDS: [CommandRow; 22] = [
         words: &[GIVEN_FILE, GIVEN_CLIENTS_DIR, GIVEN_MOUNTS],
         tables: true,
         options: &[MOUNTD],
+    },
+    CommandRow {
+        command: Subcommand::Lists,
+        name: "lists",
+        words: &[GIVEN_FILE, GIVEN_HOST, GIVEN_MOUNTS],
+        tables: true,
+        options: &[],
+    },
+    CommandRow {
+        command: Subcommand::Terms,
+        name: "terms",
+        words: &[GIVEN_FILE, GIVEN_MOUNTS],
+        tables: true,
+        options: &[],
     },
     CommandRow {
         command: Subcommand::Compare,
@@ -330,7 +351,11 @@ pub static COMMANDS: [CommandRow; 22] = [
         name: "exports",
         words: &[DB],
         tables: false,
-        options: &[],
+        options: &[Argument {
+            name: "terms",
+            kind: Kind::Flag,
+            help: "Adds the terms on which each is exported, as terms prints them",
+        }],
     },
     CommandRow {
         command: Subcommand::Who,
@@ -520,14 +545,14 @@ pub static COMMANDS: [CommandRow; 22] = [
 pub fn table_options() -> &'static [Argument]
     ensures { map rule_for result.now ≡ table_options }
 {
-    &TABLES
+    TABLES
 }
 
 /// Lends the rows of the commands.
 pub fn command_rows() -> &'static [CommandRow]
     ensures { map row_of result.now ≡ commands }
 {
-    &COMMANDS
+    COMMANDS
 }
 
 /// Finds the command of this name.

@@ -65,6 +65,29 @@ pub(crate) fn help_of(command: Subcommand) -> Help {
              by its rule.",
             ),
         },
+        Subcommand::Lists => Help {
+            about: "Lists what a client may mount by an exports file",
+            usage: Some(
+                "exportdesk lists [OPTIONS] <FILE> <HOST> <MOUNT>...\n       exportdesk lists [OPTIONS] --mounts <FILE> <FILE> <HOST>\n       exportdesk lists [OPTIONS] --site <DIR> <HOST>",
+            ),
+            end: Some(
+                "For each file system of which a line matches the client it prints a line `MOUNT [alldirs] TERMS lines\n\
+             LINE,LINE`, and below it, after two blanks, each directory that its lines write and that the client may\n\
+             mount; with alldirs it may mount all others, too. A table that is not given is empty. One file may be -,\n\
+             standard input.",
+            ),
+        },
+        Subcommand::Terms => Help {
+            about: "Lists whom each directory of an exports file is for, and on what terms",
+            usage: Some(
+                "exportdesk terms [OPTIONS] <FILE> <MOUNT>...\n       exportdesk terms [OPTIONS] --mounts <FILE> <FILE>\n       exportdesk terms [OPTIONS] --site <DIR>",
+            ),
+            end: Some(
+                "For each directory of each line, by mount point and line, it prints a line `DIRECTORY CLIENTS [alldirs]\n\
+             TERMS`. CLIENTS is the names of the line, its network, (ipv6) or (everyone); TERMS is as try prints it. A\n\
+             table that is not given is empty. One file may be -, standard input.",
+            ),
+        },
         Subcommand::Compare => Help {
             about: "Tells what another exports file would change",
             usage: Some(

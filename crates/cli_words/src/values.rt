@@ -147,6 +147,22 @@ pub fn read_credential(
     }
 }
 
+/// Parses CRED, if it is given, with these users and groups.
+pub fn read_credential_with(
+    alloc: Global,
+    word: Option<&str>,
+    users: &Users,
+    groups: &Groups,
+) -> Result<Option<Cred>, Failure>
+    ensures { let given = option_map (λ word. word.now) word.entry in
+        AnswersOwn given (own_answer given (Ok users.now) (Ok groups.now)) result }
+{
+    match word {
+        Some(word) => parse_credential(alloc, word, users, groups),
+        None => Ok(None),
+    }
+}
+
 /// Parses CRED with these users and the groups that a text lists.
 fn read_with_users(
     alloc: Global,

@@ -1,7 +1,7 @@
 -- How findings are printed as JSON. (RFC 8259; the members are this project's own)
 use Rattle.std.specs.Prelude.{ℕ, ◌/◌, ◌%◌, List, [], ◌∷◌, ◌++◌, Option, None, Some, codes, false, if◌then◌else◌}
 use Rattle.std.specs.Char.{encode_utf8, is_control}
-use Rattle.std.specs.Fmt.{digit_glyph}
+use Rattle.std.specs.Fmt.{decimal, digit_glyph}
 use Rattle.std.specs.List.{flat_map}
 use Rattle.std.specs.Option.{option_map}
 use Rattle.std.specs.Str.{chars}
@@ -72,3 +72,7 @@ elements_text (finding ∷ more) = object_text finding ++ flat_map (λ later. co
 -- the list of them, on a line of its own
 abbrev pub findings_json : List Finding → List ℕ
 findings_json findings = codes "[" ++ elements_text findings ++ codes "]\n"
+
+-- the object that has a list of them, and how many warnings are ignored, on a line of its own
+abbrev pub heard_json : ℕ → List Finding → List ℕ
+heard_json ignored findings = codes "{\"findings\":[" ++ elements_text findings ++ codes "],\"ignored\":" ++ decimal ignored ++ codes "}\n"

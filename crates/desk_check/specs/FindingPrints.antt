@@ -12,7 +12,7 @@ use Rattle.desk_text.specs.declared.address.Addr.{Addr}
 use Rattle.desk_text.specs.declared.place.Place.{Place}
 use Rattle.desk_policy.specs.SiteFault.{rule_sentence}
 use Rattle.desk_policy.specs.Warning.{kind_sentence}
-use Rattle.desk_remarks.specs.Remark.{other_of as other_line_of, remark_sentence}
+use Rattle.desk_remarks.specs.Remark.{other_line_of, remark_sentence}
 use Rattle.desk_remarks.specs.declared.remark.Example.{Example}
 use Rattle.desk_remarks.specs.declared.remark.OtherLine.{OtherLine}
 use Rattle.desk_remarks.specs.declared.remark.OtherLine.TheVariants.{First, Grants, Taken}
@@ -201,10 +201,21 @@ fault_count findings = count_by (λ finding. is_fault finding.matter) findings
 abbrev pub warning_count : List Finding → ℕ
 warning_count findings = count_by (λ finding. not (is_fault finding.matter)) findings
 
+abbrev pub counts : List Finding → List ℕ
+counts findings = counted (fault_count findings) (codes "fault") ++ codes ", " ++ counted (warning_count findings) (codes "warning")
+
 -- the last line, as `2 faults, 1 warning`
 abbrev pub count_line : List Finding → List ℕ
-count_line findings = counted (fault_count findings) (codes "fault") ++ codes ", " ++ counted (warning_count findings) (codes "warning") ++ codes "\n"
+count_line findings = counts findings ++ codes "\n"
 
 -- all findings in their order, and the last line
 abbrev pub findings_text : Bool → List Finding → List ℕ
 findings_text brief findings = flat_map (finding_text brief) findings ++ count_line findings
+
+-- the last line where warnings are ignored, as `2 faults, 1 warning, 3 ignored`
+abbrev pub heard_line : ℕ → List Finding → List ℕ
+heard_line ignored findings = counts findings ++ codes ", " ++ decimal ignored ++ codes " ignored\n"
+
+-- the findings that are left in their order, and the last line
+abbrev pub heard_text : Bool → ℕ → List Finding → List ℕ
+heard_text brief ignored findings = flat_map (finding_text brief) findings ++ heard_line ignored findings

@@ -2,10 +2,11 @@
 
 ghost use Rattle.std.specs.Prelude.{◌≡◌, IfOk};
 ghost use Rattle.desk_findings.specs.Finding.{HaveSlices};
-ghost use Rattle.desk_check.specs.CheckReport.{Reports, passes};
+ghost use Rattle.desk_check.specs.CheckReport.{Reports, ReportsHeard, ReportsRest, passes};
 
-use crate::finding_json::findings_json;
-use crate::finding_prints::findings_text;
+use crate::finding_json::{findings_json, heard_json};
+use crate::finding_prints::{findings_text, heard_text};
+use crate::ignored::{count_ignored, take_ignored};
 use desk_findings::{Finding, Gathered, has_fault};
 use std::alloc::{AllocError, Global};
 
@@ -49,6 +50,46 @@ pub fn report_found(
         text,
         passes: passes(findings, form.strict),
         read_exports: gathered.read_exports,
+    })
+}
+
+/// Prints what was found in this form, but for the warnings of these numbers, which are counted and do not keep texts from passing.
+pub fn report_heard(
+    alloc: Global,
+    form: CheckForm,
+    numbers: &[u32],
+    gathered: Gathered<'_>,
+) -> Result<Checked, AllocError>
+    requires { HaveSlices gathered.findings }
+    ensures { IfOk result (ReportsHeard form numbers.now gathered.entry) }
+{
+    let ignored = count_ignored(numbers, gathered.findings.as_slice());
+    let read_exports = gathered.read_exports;
+    let mut findings = gathered.findings.into_vec();
+    take_ignored(numbers, &mut findings);
+    report_rest(alloc, form, ignored, read_exports, findings.as_slice())
+}
+
+/// Prints the findings that are left, and how many are ignored.
+fn report_rest(
+    alloc: Global,
+    form: CheckForm,
+    ignored: usize,
+    read_exports: bool,
+    findings: &[Finding],
+) -> Result<Checked, AllocError>
+    requires { HaveSlices findings.now }
+    ensures { IfOk result (ReportsRest form ignored read_exports findings.now) }
+{
+    let text = if form.json {
+        heard_json(alloc, findings, ignored)?
+    } else {
+        heard_text(alloc, findings, ignored, form.brief)?
+    };
+    Ok(Checked {
+        text,
+        passes: passes(findings, form.strict),
+        read_exports,
     })
 }
 

@@ -31,12 +31,33 @@ pub fn findings_json(alloc: Global, findings: &[Finding]) -> Result<String, Allo
 {
     let mut text = String::new(alloc);
     text.push('[')?;
-    if let [first, more @ ..] = findings {
-        push_object(alloc, first, &mut text)?;
-        push_later(alloc, more, &mut text)?;
-    }
+    push_elements(alloc, findings, &mut text)?;
     text.push_str("]\n")?;
     Ok(text)
+}
+
+/// Prints the findings that are left as the list `findings` of one compact JSON object, whose number `ignored` says how many warnings
+/// are ignored, and a line end.
+pub fn heard_json(alloc: Global, findings: &[Finding], ignored: usize) -> Result<String, AllocError>
+    requires { HaveSlices findings.now }
+    ensures { IfOk result (λ text. string_bytes text ≡ spec.heard_json ignored findings.now) }
+{
+    let mut text = String::from_str(alloc, "{\"findings\":[")?;
+    push_elements(alloc, findings, &mut text)?;
+    write!(text, "],\"ignored\":{ignored}}}\n")?;
+    Ok(text)
+}
+
+/// Adds findings as objects, with commas between them.
+fn push_elements(alloc: Global, findings: &[Finding], text: &mut String) -> Result<(), AllocError>
+    requires { HaveSlices findings.now }
+    ensures { OnOk result (string_bytes text.new ≡ string_bytes text.old ++ spec.elements_text findings.now) }
+{
+    if let [first, more @ ..] = findings {
+        push_object(alloc, first, text)?;
+        push_later(alloc, more, text)?;
+    }
+    Ok(())
 }
 
 /// Adds the findings after the first.

@@ -2,6 +2,7 @@
 //! `exports:12:6: fault 5 UnknownOption: "-maprot" is not an option of exports(5)`.
 
 ghost use Rattle.std.specs.Prelude.{◌≡◌, ◌++◌, ◌≤◌, [], IfOk, OnOk, Some, if◌then◌else◌, length};
+ghost use Rattle.std.specs.List.{flat_map};
 ghost use Rattle.std.specs.Option.{option_copied, option_map};
 ghost use Rattle.std.specs.Str.{IsCharBoundary, chars};
 ghost use Rattle.std.specs.String.{string_bytes};
@@ -41,11 +42,36 @@ pub fn findings_text(alloc: Global, findings: &[Finding], brief: bool) -> Result
     ensures { IfOk result (λ text. string_bytes text ≡ spec.findings_text brief findings.now) }
 {
     let mut text = String::new(alloc);
-    for finding in findings {
-        push_finding(finding, brief, &mut text)?;
-    }
+    push_findings(findings, brief, &mut text)?;
     push_count_line(findings, &mut text)?;
     Ok(text)
+}
+
+/// Prints the findings that are left in their order, and how many faults and warnings they are and how many warnings are ignored.
+pub fn heard_text(
+    alloc: Global,
+    findings: &[Finding],
+    ignored: usize,
+    brief: bool,
+) -> Result<String, AllocError>
+    requires { HaveSlices findings.now }
+    ensures { IfOk result (λ text. string_bytes text ≡ spec.heard_text brief ignored findings.now) }
+{
+    let mut text = String::new(alloc);
+    push_findings(findings, brief, &mut text)?;
+    push_heard_line(findings, ignored, &mut text)?;
+    Ok(text)
+}
+
+/// Adds findings in their order.
+fn push_findings(findings: &[Finding], brief: bool, text: &mut String) -> Result<(), AllocError>
+    requires { HaveSlices findings.now }
+    ensures { OnOk result (string_bytes text.new ≡ string_bytes text.old ++ flat_map (spec.finding_text brief) findings.now) }
+{
+    for finding in findings {
+        push_finding(finding, brief, text)?;
+    }
+    Ok(())
 }
 
 /// Prints one finding, in whole lines.
@@ -426,10 +452,29 @@ fn push_if(wanted: bool, more: &str, text: &mut String) -> Result<(), AllocError
 fn push_count_line(findings: &[Finding], text: &mut String) -> Result<(), AllocError>
     ensures { OnOk result (string_bytes text.new ≡ string_bytes text.old ++ spec.count_line findings.now) }
 {
+    push_counts(findings, text)?;
+    text.push('\n')
+}
+
+/// Adds the line with how many faults and warnings there are, and how many warnings are ignored.
+fn push_heard_line(
+    findings: &[Finding],
+    ignored: usize,
+    text: &mut String,
+) -> Result<(), AllocError>
+    ensures { OnOk result (string_bytes text.new ≡ string_bytes text.old ++ spec.heard_line ignored findings.now) }
+{
+    push_counts(findings, text)?;
+    write!(text, ", {ignored} ignored\n")
+}
+
+/// Adds how many faults and warnings there are.
+fn push_counts(findings: &[Finding], text: &mut String) -> Result<(), AllocError>
+    ensures { OnOk result (string_bytes text.new ≡ string_bytes text.old ++ spec.counts findings.now) }
+{
     push_counted(count_faults(findings), "fault", text)?;
     text.push_str(", ")?;
-    push_counted(count_warnings(findings), "warning", text)?;
-    text.push('\n')
+    push_counted(count_warnings(findings), "warning", text)
 }
 
 fn count_faults(findings: &[Finding]) -> usize

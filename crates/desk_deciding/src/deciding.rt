@@ -39,7 +39,7 @@ impl Deciding {
         ensures { result.now ≡ deciding_of line (deciding_value self.now) }
     {
         match line_among(self.lines.as_slice(), line) {
-            Some(one) => list_at(self.lists.as_slice(), one.list),
+            Some(one) => lend_list(self.lists.as_slice(), one.list),
             None => &[],
         }
     }
@@ -96,7 +96,7 @@ fn add_line<'a>(
     if !never_decides(reasons.reasons.as_slice()) {
         return Ok(());
     }
-    let list = lists.list_for(alloc, sections, row)?;
+    let list = lists.place_for_clients(alloc, sections, row)?;
     lines.push(NeverDecides {
         line: reasons.line,
         list,
@@ -134,7 +134,7 @@ fn line_at(lines: &[NeverDecides], place: usize, line: u32) -> Option<NeverDecid
 }
 
 /// Lends the list at a place.
-fn list_at(lists: &[Sequence<u32>], place: usize) -> &[u32]
+fn lend_list(lists: &[Sequence<u32>], place: usize) -> &[u32]
     ensures { result.now ≡ slice_index_or lists.now place [] }
 {
     match lists.get(place) {

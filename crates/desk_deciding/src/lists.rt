@@ -50,7 +50,7 @@ impl<'a> Lists<'a> {
     }
 
     /// Finds the place of the list of a line's clients, which is made if it is not there yet.
-    pub(crate) fn list_for(
+    pub(crate) fn place_for_clients(
         &mut self,
         alloc: Global,
         sections: &[Section<'_>],
@@ -62,19 +62,24 @@ impl<'a> Lists<'a> {
             HasMore (map section_value sections.now) self.old self.new place (lines_for row.now.entry.clients row.now.addrs (map section_value sections.now))) }
     {
         match &row.entry.clients {
-            Clients::Hosts(_) => self.list_on(alloc, sections, row.addrs.as_slice()),
-            Clients::Net(net, _) => self.list_between(alloc, sections, net.first(), net.last()),
-            Clients::Net6(_) => self.list_on(alloc, sections, &[]),
+            Clients::Hosts(_) => self.place_for_addresses(alloc, sections, row.addrs.as_slice()),
+            Clients::Net(net, _) => self.place_for_network(
+                alloc,
+                sections,
+                net.first(),
+                net.last(),
+            ),
+            Clients::Net6(_) => self.place_for_addresses(alloc, sections, &[]),
             Clients::World => {
                 let first = Addr::from_number(0);
                 let last = Addr::from_number(u32::MAX);
-                self.list_between(alloc, sections, first, last)
+                self.place_for_network(alloc, sections, first, last)
             }
         }
     }
 
     /// Finds the place of the list of the addresses from the first to the last, or makes it.
-    fn list_between(
+    fn place_for_network(
         &mut self,
         alloc: Global,
         sections: &[Section<'_>],
@@ -96,7 +101,7 @@ impl<'a> Lists<'a> {
     }
 
     /// Finds the place of the list of these addresses, or makes it.
-    fn list_on(
+    fn place_for_addresses(
         &mut self,
         alloc: Global,
         sections: &[Section<'_>],

@@ -69,6 +69,10 @@ impl<'a> Search<Judged<'a>> for Judging<'a> {
             None
         }
     }
+
+    fn may_find(&self, address: Addr) -> bool {
+        self.expectation.audience.contains(address)
+    }
 }
 
 /// Finds the verdict on a path for an address that breaks what is expected of it. The server is asked only of what is forbidden, and

@@ -29,13 +29,13 @@ use Rattle.desk_idle.specs.Idle.{first_selected}
 use Rattle.desk_idle.proofs.Bringing.{selected_has}
 use Rattle.desk_server.specs.RepeatedClients.{AreRepeatedClients, IsRepeatedClient}
 use Rattle.desk_server.specs.WiderGrants.{AreWiderGrants, IsWiderGrant}
-use Rattle.desk_server.specs.declared.repeated.RepeatedClient.{RepeatedClient}
-use Rattle.desk_server.specs.declared.wider.WiderGrant.{WiderGrant}
+use Rattle.desk_server.specs.declared.repeated_client.RepeatedClient.{RepeatedClient}
+use Rattle.desk_server.specs.declared.wider_grant.WiderGrant.{WiderGrant}
 use Rattle.desk_remarks.specs.Remarks.{AreRemarksOf, idle_remarks, remarks_by_line, repeated_remark, server_remarks, wider_remark}
-use Rattle.desk_remarks.specs.Said.{IsSaidIn, IsSaidOf}
-use Rattle.desk_remarks.specs.Unwarned.{is_unwarned}
+use Rattle.desk_remarks.specs.SaidOfSystems.{IsSaidIn, IsSaidOf}
+use Rattle.desk_remarks.specs.UnwarnedLines.{is_unwarned}
 use Rattle.desk_remarks.specs.declared.remark.LineRemark.{LineRemark}
-use Rattle.desk_remarks.specs.declared.said.Said.{Said}
+use Rattle.desk_remarks.specs.declared.said_of_systems.Said.{Said}
 use Rattle.desk_findings.proofs.PlacedWords.{on_numbered}
 use Rattle.desk_findings.specs.declared.check_odd.Among.TheVariants.{Clients}
 use Rattle.desk_findings.specs.CheckOdd.{IsOnNumbered, IsSpot, OddLine, TellInOrder, odd_of_contradiction, odd_of_remark, odd_of_spot, odd_of_warning, odds_of, tell_spot}

@@ -3,7 +3,7 @@ use Rattle.std.specs.Prelude.{◌≡◌, ℕ, ◌-◌, Bool, true, false, List, 
 use Rattle.std.specs.Option.{option_copied, option_map}
 use Rattle.std.specs.Str.Lines.{lines}
 use Rattle.desk_text.specs.declared.place.Place.{Place}
-use Rattle.desk_remarks.specs.Remark.{other_of}
+use Rattle.desk_remarks.specs.Remark.{other_line_of}
 use Rattle.desk_remarks.specs.declared.remark.OtherLine.{OtherLine}
 use Rattle.desk_remarks.specs.declared.remark.OtherLine.TheVariants.{First, Grants, Taken}
 use Rattle.desk_remarks.specs.declared.remark.Remark.{Remark}
@@ -47,7 +47,7 @@ is_by_server Grants = true
 is_by_server Taken = true
 
 abbrev pub shows_other : Remark → Bool
-shows_other remark = is_by_server (other_of remark)
+shows_other remark = is_by_server (other_line_of remark)
 
 -- the number of the line that is shown beside that of a matter, if one is
 abbrev pub other_line : Matter → Option ℕ

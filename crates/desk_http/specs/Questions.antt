@@ -2,7 +2,8 @@
 use Rattle.std.specs.Prelude.{◌≡◌, Option}
 use Rattle.desk_tables.specs.declared.credentials.Cred.{Cred}
 use Rattle.desk_store.specs.Desk.{History}
-use Rattle.desk_service.specs.Questions.{Answer, AnswersByHistory, Listing, ListingIs, Mount, Proposal, ProposalIs, Question, RangesAre, Revisions, RevisionsAre, Text, TextIs, VerdictIs, Who}
+use Rattle.desk_service.specs.Questions as asked
+use Rattle.desk_service.specs.Questions.{Answer, AnswersByHistory, Question}
 use Rattle.desk_service.specs.declared.refused.Refused.TheVariants as refused
 use Rattle.desk_http_messages.specs.Replies.{Reply, reply_with}
 use Rattle.desk_http_bodies.specs.Exports.{exports_data}
@@ -14,12 +15,12 @@ use Rattle.desk_http.specs.Replies.{refused_reply}
 -- the reply to a question by its answer, printed for a client with this credential of its own, if it told one; to any other answer, that
 -- there is no such revision
 abbrev pub reply_of : Question → Option Cred → Answer → Reply
-reply_of (Mount address path) own (VerdictIs content verdict) = reply_with 200 (verdict_data content own verdict)
-reply_of (Listing address) own (ListingIs content systems) = reply_with 200 (exports_data content address systems)
-reply_of (Who path) own (RangesAre content ranges) = reply_with 200 (who_data content path ranges)
-reply_of (Text name rev) own (TextIs text) = reply_with 200 (file_data name text)
-reply_of (Revisions name) own (RevisionsAre revisions) = reply_with 200 (revisions_data name revisions)
-reply_of (Proposal name) own (ProposalIs text) = reply_with 200 (proposal_data name text)
+reply_of (asked.Mount address path) own (asked.VerdictIs content verdict) = reply_with 200 (verdict_data content own verdict)
+reply_of (asked.Listing address) own (asked.ListingIs content systems) = reply_with 200 (exports_data content address systems)
+reply_of (asked.Who path) own (asked.RangesAre content ranges) = reply_with 200 (who_data content path ranges)
+reply_of (asked.Text name rev) own (asked.TextIs text) = reply_with 200 (file_data name text)
+reply_of (asked.OfFile name what) own (asked.RevisionsAre revisions) = reply_with 200 (revisions_data name revisions)
+reply_of (asked.OfFile name what) own (asked.ProposalIs text) = reply_with 200 (proposal_data name text)
 reply_of question own answer = refused_reply refused.NoRevision
 
 -- this is replied to a question by a history: the answer by that history, printed

@@ -75,13 +75,29 @@ fn answer_text<V: PolicyView + Drop>(
             who_body(alloc, policy, path, ranges.as_slice())?
         }
         (Question::Text(name, _), Answer::Text(text)) => file_body(alloc, name, text)?,
-        (Question::Revisions(name), Answer::Revisions(revisions)) => {
+        (Question::OfFile(name, _), Answer::Revisions(revisions)) => {
             revisions_body(alloc, name, revisions.as_slice())?
         }
-        (Question::Proposal(name), Answer::Proposal(proposal)) => {
+        (Question::OfFile(name, _), Answer::Proposal(proposal)) => {
             proposal_body(alloc, name, proposal)?
         }
-        _ => return refused_text(alloc, &Refused::NoRevision, ends),
+        // No question that a route asks has another answer. Each kind is named, so that the check finds one without an arm.
+        (
+            _,
+            Answer::NoRevision
+            | Answer::Verdict(_, _)
+            | Answer::Why(_, _)
+            | Answer::Listing(_, _)
+            | Answer::Exports(_)
+            | Answer::Who(_, _)
+            | Answer::Text(_)
+            | Answer::Revisions(_)
+            | Answer::Proposal(_)
+            | Answer::Files(_)
+            | Answer::Foreseen(_)
+            | Answer::Site(_)
+            | Answer::Refused(_),
+        ) => return refused_text(alloc, &Refused::NoRevision, ends),
     };
     reply_text(alloc, StatusCode::OK, body.as_str(), ends)
 }

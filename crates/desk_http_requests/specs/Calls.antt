@@ -10,7 +10,7 @@ use Rattle.desk_tables.specs.Credentials.{at_most_16}
 use Rattle.desk_tables.specs.declared.credentials.Cred.{Cred}
 use Rattle.desk_core.specs.Edit.{Edit, asked}
 use Rattle.desk_core.specs.Head.{last_revision}
-use Rattle.desk_service.specs.Questions.{Listing, Mount, Proposal, Question, Revisions, Text, Who, question_of}
+use Rattle.desk_service.specs.Questions.{Listing, Mount, OfFile, Question, Text, Who, question_of}
 use Rattle.desk_http_messages.specs.Asked.{Asked}
 use Rattle.desk_http_messages.specs.Head.{Header, header_values}
 use Rattle.desk_http_requests.specs.Parameters.{Parameter, at_most_one, each_read, one, parameters_of, values_of}
@@ -18,22 +18,17 @@ use Rattle.desk_http_requests.specs.Routes.{Action, action_at, place_of}
 use Rattle.desk_http_requests.specs.Target.{path_of, query_of}
 use Rattle.desk_http_requests.specs.declared.calls.Call.{Call as Made}
 use Rattle.desk_http_requests.specs.declared.calls.Call.TheVariants as made
-use Rattle.desk_http_requests.specs.declared.queries.Query.{Query as Lent}
-use Rattle.desk_http_requests.specs.declared.queries.Query.TheVariants as lent
+use Rattle.desk_http_requests.specs.declared.routes.Purpose.{Purpose}
+use Rattle.desk_http_requests.specs.declared.routes.Purpose.TheVariants.{Ask, Put}
 use Rattle.desk_http_requests.specs.declared.routes.Reader.{Reader}
 use Rattle.desk_http_requests.specs.declared.routes.Reader.TheVariants as reader
 use Rattle.desk_http_requests.specs.declared.faults.RequestFault.{RequestFault}
 use Rattle.desk_http_requests.specs.declared.faults.RequestFault.TheVariants as fault
 
--- what the query says: a question, and the client's credential, if that is told with a mount; or the file and the base of an edit
+-- what the query says: a question, and the client's credential, if that is told; or the file and the base of an edit
 pub data Query : Type 0 where
   Asks : Question → Option Cred → Query
   Puts : List ℕ → ℕ → Query
-
--- what a query says, by value
-abbrev pub query_by_value : Lent → Query
-query_by_value (lent.Asks question own) = Asks (question_of question) own
-query_by_value (lent.Puts name base) = Puts name.now base
 
 -- the value of a reading, if it is not refused
 abbrev pub if_ok : {A E : Type 0} → Result A E → Option A
@@ -75,34 +70,39 @@ path_in parameters = option_and_then (λ text. if_ok (read_path text)) (one_of (
 abbrev pub are_named : List (List ℕ) → List Parameter → Bool
 are_named names parameters = list_all (λ p. list_any (bytes_eq p.0) names) parameters
 
--- the mount that a query asks about: an address, a path and the client's credential, if it tells one
-abbrev pub mount_in : List Parameter → Option Query
-mount_in parameters =
-    option_and_then (λ address. option_and_then (λ path. option_map (Asks (Mount address path)) (credential_in parameters)) (path_in parameters)) (address_in parameters)
-
 -- the file that a query names, and the revision of it, if it tells one
-abbrev pub text_in : List Parameter → Option Query
+abbrev pub text_in : List Parameter → Option Question
 text_in parameters =
-    option_and_then (λ name. option_map (λ rev. Asks (Text name rev) None) (at_most_one (read_decimal last_revision) (values_of (codes "rev") parameters))) (one_of (codes "name") parameters)
+    option_and_then (λ name. option_map (Text name) (at_most_one (read_decimal last_revision) (values_of (codes "rev") parameters))) (one_of (codes "name") parameters)
+
+-- the question that parameters say to a reader, if each is there as often as it may, and can be read
+abbrev pub question_in : Reader → List Parameter → Option Question
+question_in reader.Mount parameters = option_and_then (λ address. option_map (Mount address) (path_in parameters)) (address_in parameters)
+question_in reader.Listing parameters = option_map Listing (address_in parameters)
+question_in reader.Text parameters = text_in parameters
+question_in (reader.OfFile what) parameters = option_map (λ name. OfFile name what) (one_of (codes "name") parameters)
+question_in reader.Who parameters = option_map Who (path_in parameters)
+
+-- the same, with the client's credential, if that is told
+abbrev pub asked_in : Reader → List Parameter → Option Query
+asked_in reader parameters = option_and_then (λ question. option_map (Asks question) (credential_in parameters)) (question_in reader parameters)
+
+-- the number of the revision that an edit follows, 0 if it is the first
+abbrev pub base_in : List Parameter → Option ℕ
+base_in parameters = option_and_then (read_decimal last_revision) (one_of (codes "base") parameters)
 
 -- the file that the query of an edit names, and its base
 abbrev pub put_in : List Parameter → Option Query
-put_in parameters =
-    option_and_then (λ name. option_map (Puts name) (option_and_then (read_decimal last_revision) (one_of (codes "base") parameters))) (one_of (codes "name") parameters)
+put_in parameters = option_and_then (λ name. option_map (Puts name) (base_in parameters)) (one_of (codes "name") parameters)
 
--- what parameters say to a reader, if each is there as often as it may, and can be read
-abbrev pub query_read : Reader → List Parameter → Option Query
-query_read reader.Mount parameters = mount_in parameters
-query_read reader.Listing parameters = option_map (λ address. Asks (Listing address) None) (address_in parameters)
-query_read reader.Text parameters = text_in parameters
-query_read reader.Proposal parameters = option_map (λ name. Asks (Proposal name) None) (one_of (codes "name") parameters)
-query_read reader.Revisions parameters = option_map (λ name. Asks (Revisions name) None) (one_of (codes "name") parameters)
-query_read reader.Who parameters = option_map (λ path. Asks (Who path) None) (path_in parameters)
-query_read reader.Put parameters = put_in parameters
+-- what parameters say for this purpose
+abbrev pub query_read : Purpose → List Parameter → Option Query
+query_read (Ask reader) parameters = asked_in reader parameters
+query_read Put parameters = put_in parameters
 
 -- the same, if no parameter has another name than those of the action
 abbrev pub query_for : Action → List Parameter → Option Query
-query_for action parameters = if are_named action.names parameters then query_read action.reader parameters else None
+query_for action parameters = if are_named action.names parameters then query_read action.purpose parameters else None
 
 -- what a request does, by its path and method
 abbrev pub action_of : Asked → Option Action
@@ -127,20 +127,15 @@ caller_in headers = header_text (codes "x-custodian") headers
 abbrev pub key_in : List Header → Option (List ℕ)
 key_in headers = header_text (codes "x-key") headers
 
--- the parameters are those of an edit
-abbrev pub reads_put : Reader → Bool
-reads_put reader.Mount = false
-reads_put reader.Listing = false
-reads_put reader.Text = false
-reads_put reader.Proposal = false
-reads_put reader.Revisions = false
-reads_put reader.Who = false
-reads_put reader.Put = true
+-- the purpose is an edit
+abbrev pub puts : Purpose → Bool
+puts (Ask reader) = false
+puts Put = true
 
 -- the action is an edit
 abbrev pub is_put : Option Action → Bool
 is_put None = false
-is_put (Some action) = reads_put action.reader
+is_put (Some action) = puts action.purpose
 
 -- Why a request calls for nothing: there is no such path; no such method there; its query cannot be read; of an edit, a header is
 -- not there once or is not UTF-8, or the body is not UTF-8.

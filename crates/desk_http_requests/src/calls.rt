@@ -6,17 +6,18 @@ ghost use Rattle.std.specs.Str.{is_utf8};
 ghost use Rattle.httparse.specs.Spans.{IsHeaderWithin};
 ghost use Rattle.desk_core.specs.Head.{last_revision};
 ghost use Rattle.desk_http_messages.specs.Asked.{asked_of};
-ghost use Rattle.desk_http_requests.specs.Calls.{IsCall, Puts, action_of, header_text, is_put, path_in, query_asked, utf8_text};
+ghost use Rattle.desk_http_requests.specs.Calls.{IsCall, Puts, action_of, asked_in, base_in, header_text, is_put, path_in, put_in, query_asked, utf8_text};
 ghost use Rattle.desk_http_requests.specs.Parameters.{pairs};
 ghost use Rattle.desk_http_requests.specs.Parameters as spec;
+ghost use Rattle.desk_http_requests.specs.PrivateCalls.{AsksFor};
 ghost use Rattle.desk_http_requests.specs.Routes.{action_in};
 ghost use Rattle.desk_http_requests.specs.Target.{query_of};
 
 use crate::faults::RequestFault;
-use crate::parameters::Parameter;
-use crate::queries::{Query, query_for};
-use crate::routes::Action;
-use desk_core::Edit;
+use crate::parameters::{Parameter, number_in, one_of};
+use crate::queries::{are_named, credential_in, question_in};
+use crate::routes::{Action, Purpose, Reader};
+use desk_core::{Edit, LAST_REVISION};
 use desk_http_messages::{Request, Values, values_of};
 use desk_service::Question;
 use desk_tables::Cred;
@@ -70,10 +71,57 @@ pub fn read_call<'a>(
     requires parameters { pairs parameters.now ≡ spec.parameters_of (query_of request.now.target.now) }
     ensures { IfOk result (IsCall (asked_of request.now)) }
 {
-    match query_for(alloc, action, parameters, path)? {
+    if !are_named(action.names, parameters) {
+        return Ok(Call::Refused(RequestFault::BadQuery));
+    }
+    match action.purpose {
+        Purpose::Ask(reader) => asked_in(alloc, reader, parameters, path),
+        Purpose::Put => Ok(edit_in(request, parameters)),
+    }
+}
+
+/// Reads what a request asks: a question, and the client's credential, if it is told.
+fn asked_in<'a>(
+    alloc: Global,
+    reader: Reader,
+    parameters: &'a [Parameter],
+    path: &'a Option<Path>,
+) -> Result<Call<'a>, AllocError>
+    requires { path.now ≡ path_in (pairs parameters.now) }
+    ensures { IfOk result (AsksFor (asked_in reader (pairs parameters.now))) }
+{
+    let Some(question) = question_in(reader, parameters, path) else {
+        return Ok(Call::Refused(RequestFault::BadQuery));
+    };
+    match credential_in(alloc, parameters)? {
+        Some(own) => Ok(Call::Asks(question, own)),
         None => Ok(Call::Refused(RequestFault::BadQuery)),
-        Some(Query::Asks(question, own)) => Ok(Call::Asks(question, own)),
-        Some(Query::Puts(file, base)) => Ok(edit_of(request, file, base)),
+    }
+}
+
+/// Reads the edit that a request asks for.
+fn edit_in<'a>(request: &Request<'a>, parameters: &'a [Parameter]) -> Call<'a>
+    requires headers { All (IsHeaderWithin (length request.now.head.now)) request.now.headers.now }
+    requires action { is_put (action_of (asked_of request.now)) ≡ true }
+    requires query { query_asked (asked_of request.now) ≡ put_in (pairs parameters.now) }
+    ensures { IsCall (asked_of request.now) result }
+{
+    match one_of(parameters, "name") {
+        Some(file) => edit_after(request, parameters, file),
+        None => Call::Refused(RequestFault::BadQuery),
+    }
+}
+
+/// Reads the edit of a file that a request asks for: it follows the revision of the number that the parameters tell.
+fn edit_after<'a>(request: &Request<'a>, parameters: &'a [Parameter], file: &'a str) -> Call<'a>
+    requires headers { All (IsHeaderWithin (length request.now.head.now)) request.now.headers.now }
+    requires action { is_put (action_of (asked_of request.now)) ≡ true }
+    requires query { query_asked (asked_of request.now) ≡ option_map (Puts file.now) (base_in (pairs parameters.now)) }
+    ensures { IsCall (asked_of request.now) result }
+{
+    match number_in(parameters, "base", LAST_REVISION) {
+        Some(base) => edit_of(request, file, base),
+        None => Call::Refused(RequestFault::BadQuery),
     }
 }
 

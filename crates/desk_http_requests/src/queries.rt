@@ -7,12 +7,11 @@ ghost use Rattle.std.specs.Str.{bytes_eq};
 ghost use Rattle.desk_text.specs.Address.{number_of};
 ghost use Rattle.desk_tables.specs.Credentials.{at_most_16};
 ghost use Rattle.desk_http_requests.specs.Calls as spec;
-ghost use Rattle.desk_http_requests.specs.Calls.{query_by_value};
+ghost use Rattle.desk_service.specs.Questions.{question_of};
 ghost use Rattle.desk_http_requests.specs.Parameters.{pairs};
-ghost use Rattle.desk_http_requests.specs.Routes.{action_in};
 
-use crate::parameters::{Parameter, number_if_given, number_in, numbers_in, one_of};
-use crate::routes::{Action, Reader};
+use crate::parameters::{Parameter, number_if_given, numbers_in, one_of};
+use crate::routes::Reader;
 use desk_core::LAST_REVISION;
 use desk_service::Question;
 use desk_tables::Cred;
@@ -21,15 +20,6 @@ use std::alloc::{AllocError, Global};
 
 /// The largest number of a user or a group.
 const LARGEST_ID: u32 = 4_294_967_295;
-
-/// What a query says.
-#[derive(Drop)]
-pub(crate) enum Query<'a> {
-    /// A question, and the client's credential, if it is told with a mount.
-    Asks(Question<'a>, Option<Cred>),
-    /// An edit of this file, which follows the revision of this number.
-    Puts(&'a str, u32),
-}
 
 /// Reads the address that is asked about.
 fn address_in(parameters: &[Parameter]) -> Option<Addr>
@@ -70,7 +60,7 @@ fn cred_in(uid: Option<u32>, gids: &[u32]) -> Option<Option<Cred>>
 }
 
 /// Reads the client's credential, if the query tells one.
-fn credential_in(
+pub(crate) fn credential_in(
     alloc: Global,
     parameters: &[Parameter],
 ) -> Result<Option<Option<Cred>>, AllocError>
@@ -85,76 +75,43 @@ fn credential_in(
     }
 }
 
-/// Reads a question on a mount of this path.
-fn mount_in<'a>(
-    alloc: Global,
+/// Reads the question that parameters say to a reader, which lends the path that they tell. `None` if it cannot be read.
+pub(crate) fn question_in<'a>(
+    reader: Reader,
     parameters: &'a [Parameter],
     path: &'a Option<Path>,
-) -> Result<Option<Query<'a>>, AllocError>
+) -> Option<Question<'a>>
     requires { path.now ≡ spec.path_in (pairs parameters.now) }
-    ensures { IfOk result (λ query. option_map query_by_value query ≡ spec.mount_in (pairs parameters.now)) }
+    ensures { option_map question_of result ≡ spec.question_in reader (pairs parameters.now) }
 {
-    let Some(address) = address_in(parameters) else {
-        return Ok(None);
-    };
-    let Some(path) = path else {
-        return Ok(None);
-    };
-    match credential_in(alloc, parameters)? {
-        Some(own) => Ok(Some(Query::Asks(Question::Mount(address, path), own))),
-        None => Ok(None),
+    match reader {
+        Reader::Mount => match (address_in(parameters), path) {
+            (Some(address), Some(path)) => Some(Question::Mount(address, path)),
+            _ => None,
+        },
+        Reader::Listing => match address_in(parameters) {
+            Some(address) => Some(Question::Listing(address)),
+            None => None,
+        },
+        Reader::Text => text_in(parameters),
+        Reader::OfFile(what) => match one_of(parameters, "name") {
+            Some(name) => Some(Question::OfFile(name, what)),
+            None => None,
+        },
+        Reader::Who => match path {
+            Some(path) => Some(Question::Who(path)),
+            None => None,
+        },
     }
 }
 
 /// Reads a question on the text of a file.
-fn text_in<'a>(parameters: &'a [Parameter]) -> Option<Query<'a>>
-    ensures { option_map query_by_value result ≡ spec.text_in (pairs parameters.now) }
+fn text_in<'a>(parameters: &'a [Parameter]) -> Option<Question<'a>>
+    ensures { option_map question_of result ≡ spec.text_in (pairs parameters.now) }
 {
     let name = one_of(parameters, "name")?;
     let rev = number_if_given(parameters, "rev", LAST_REVISION)?;
-    Some(Query::Asks(Question::Text(name, rev), None))
-}
-
-/// Reads what is asked of an edit.
-fn put_in<'a>(parameters: &'a [Parameter]) -> Option<Query<'a>>
-    ensures { option_map query_by_value result ≡ spec.put_in (pairs parameters.now) }
-{
-    let name = one_of(parameters, "name")?;
-    let base = number_in(parameters, "base", LAST_REVISION)?;
-    Some(Query::Puts(name, base))
-}
-
-/// Reads what the parameters say to a reader.
-fn query_read<'a>(
-    alloc: Global,
-    reader: Reader,
-    parameters: &'a [Parameter],
-    path: &'a Option<Path>,
-) -> Result<Option<Query<'a>>, AllocError>
-    requires { path.now ≡ spec.path_in (pairs parameters.now) }
-    ensures { IfOk result (λ query. option_map query_by_value query ≡ spec.query_read reader (pairs parameters.now)) }
-{
-    Ok(match reader {
-        Reader::Mount => mount_in(alloc, parameters, path)?,
-        Reader::Listing => match address_in(parameters) {
-            Some(address) => Some(Query::Asks(Question::Listing(address), None)),
-            None => None,
-        },
-        Reader::Text => text_in(parameters),
-        Reader::Proposal => match one_of(parameters, "name") {
-            Some(name) => Some(Query::Asks(Question::Proposal(name), None)),
-            None => None,
-        },
-        Reader::Revisions => match one_of(parameters, "name") {
-            Some(name) => Some(Query::Asks(Question::Revisions(name), None)),
-            None => None,
-        },
-        Reader::Who => match path {
-            Some(path) => Some(Query::Asks(Question::Who(path), None)),
-            None => None,
-        },
-        Reader::Put => put_in(parameters),
-    })
+    Some(Question::Text(name, rev))
 }
 
 /// Tests whether this is one of these names.
@@ -171,7 +128,7 @@ fn is_named(names: &[&str], name: &str) -> bool
 }
 
 /// Tests whether all parameters have one of these names.
-fn are_named(names: &[&str], parameters: &[Parameter]) -> bool
+pub(crate) fn are_named(names: &[&str], parameters: &[Parameter]) -> bool
     ensures { result ≡ spec.are_named (map (λ name. name.now) names.now) (pairs parameters.now) }
 {
     let mut named = true;
@@ -181,21 +138,4 @@ fn are_named(names: &[&str], parameters: &[Parameter]) -> bool
         }
     }
     named
-}
-
-/// Reads the query of an action. `None` if it cannot be read.
-pub(crate) fn query_for<'a>(
-    alloc: Global,
-    action: Action,
-    parameters: &'a [Parameter],
-    path: &'a Option<Path>,
-) -> Result<Option<Query<'a>>, AllocError>
-    requires { path.now ≡ spec.path_in (pairs parameters.now) }
-    ensures { IfOk result (λ query. option_map query_by_value query ≡ spec.query_for (action_in action) (pairs parameters.now)) }
-{
-    if are_named(action.names, parameters) {
-        query_read(alloc, action.reader, parameters, path)
-    } else {
-        Ok(None)
-    }
 }

@@ -14,27 +14,33 @@ ghost use Rattle.desk_http_requests.specs.Routes.{IsRouter, action_in, place_of}
 use crate::faults::RequestFault;
 use crate::target::path_of;
 use desk_http_messages::Request;
+use desk_service::FileQuestion;
 use matchit::{InsertError, Router};
 use std::alloc::{AllocError, Global};
 
-/// How the parameters of a request are read: as one of the questions of desk_service, or as an edit.
+/// How the parameters of a request are read as one of the questions of desk_service.
 #[derive(Clone, Copy)]
 pub enum Reader {
     Mount,
     Listing,
     Text,
-    Proposal,
-    Revisions,
+    OfFile(FileQuestion),
     Who,
+}
+
+/// What a request is for: a question, which is read so, or an edit.
+#[derive(Clone, Copy)]
+pub enum Purpose {
+    Ask(Reader),
     Put,
 }
 
-/// What a method does at a path: the names of its parameters, and how they are read.
+/// What a method does at a path: the names of its parameters, and what it is for.
 #[derive(Clone, Copy)]
 pub struct Action {
     pub method: &'static str,
     pub names: &'static [&'static str],
-    pub reader: Reader,
+    pub purpose: Purpose,
 }
 
 /// A path, and what each method does there.
@@ -45,13 +51,13 @@ pub struct Route {
 }
 
 /// The routes, by path.
-const ROUTES: [Route; 6] = [
+const ROUTES: &[Route] = &[
     Route {
         path: "/v1/exports",
         actions: &[Action {
             method: "GET",
             names: &["host"],
-            reader: Reader::Listing,
+            purpose: Purpose::Ask(Reader::Listing),
         }],
     },
     Route {
@@ -60,12 +66,12 @@ const ROUTES: [Route; 6] = [
             Action {
                 method: "GET",
                 names: &["name", "rev"],
-                reader: Reader::Text,
+                purpose: Purpose::Ask(Reader::Text),
             },
             Action {
                 method: "PUT",
                 names: &["name", "base"],
-                reader: Reader::Put,
+                purpose: Purpose::Put,
             },
         ],
     },
@@ -74,7 +80,7 @@ const ROUTES: [Route; 6] = [
         actions: &[Action {
             method: "GET",
             names: &["host", "dir", "uid", "gid"],
-            reader: Reader::Mount,
+            purpose: Purpose::Ask(Reader::Mount),
         }],
     },
     Route {
@@ -82,7 +88,7 @@ const ROUTES: [Route; 6] = [
         actions: &[Action {
             method: "GET",
             names: &["name"],
-            reader: Reader::Proposal,
+            purpose: Purpose::Ask(Reader::OfFile(FileQuestion::Proposal)),
         }],
     },
     Route {
@@ -90,7 +96,7 @@ const ROUTES: [Route; 6] = [
         actions: &[Action {
             method: "GET",
             names: &["name"],
-            reader: Reader::Revisions,
+            purpose: Purpose::Ask(Reader::OfFile(FileQuestion::Revisions)),
         }],
     },
     Route {
@@ -98,7 +104,7 @@ const ROUTES: [Route; 6] = [
         actions: &[Action {
             method: "GET",
             names: &["dir"],
-            reader: Reader::Who,
+            purpose: Purpose::Ask(Reader::Who),
         }],
     },
 ];
@@ -134,7 +140,7 @@ impl Routes {
 fn table() -> &'static [Route]
     ensures { map spec.route_in result.now ≡ spec.routes }
 {
-    &ROUTES
+    ROUTES
 }
 
 /// Makes the router of the service, which finds the place of a path.

@@ -4,7 +4,7 @@ use Rattle.std.specs.List.{flat_map}
 use Rattle.std.proofs.lemmas.List.{append_assoc, flat_map_more, map-append, take_more}
 
 module _ {X : Type 0} (xs : List X) (i : ℕ) (x : X) (below : i < length xs) (is : x ≡ get_or xs i x) where
-  take_next : take (i + 1) xs ≡ take i xs ++ x ∷ []
+  pub take_next : take (i + 1) xs ≡ take i xs ++ x ∷ []
   take_next = take_more xs i x below ∙ ap (λ y. take i xs ++ y ∷ []) (sym is)
 
   push_map : {B : Type 0} (old new : List B) (f : B → X) (b : B) → new ≡ old ++ b ∷ [] → f b ≡ x → map f new ≡ map f old ++ x ∷ []

@@ -11,7 +11,7 @@ use Rattle.desk_policy.specs.Policy.{Content}
 use Rattle.desk_who.specs.Runs.{AreRunsWithValue, run_value}
 use Rattle.desk_who.specs.Searching.{AreFoundStarts, ByRule, Rule, found_at}
 use Rattle.desk_who.proofs.Kept.{same_runs}
-use Rattle.desk_impact.specs.Impact.{AreStartsOfBoth, IsImpact, change_value, verdicts_at}
+use Rattle.desk_impact.specs.Impact.{AreStartsOfChanges, IsImpact, change_value, verdicts_at}
 use Rattle.desk_impact.specs.declared.changes.TwoVerdicts.{TwoVerdicts as KeptVerdicts}
 use Rattle.desk_impact.specs.Known.{IsKnownChange, fs_number}
 use Rattle.desk_impact.specs.Places.{Others, place_verdicts, taken_by, verdict_elsewhere}
@@ -67,7 +67,7 @@ known_as known was will old new place is is' at = record { one = at.one; within 
 
 module _ (path other : Path) (taken : List Path) (free : IsFree path taken other) where
   pub learned_change : (old new : Content) (known : List (Known KeptVerdicts)) (one : Known KeptVerdicts) (place : ℕ) → All (Contains taken) (taken_by old new) → place ≡ length known
-      → fs_number one.old ≡ fs_of old.table path → fs_number one.new ≡ fs_of new.table path → AreStartsOfBoth old new path one.starts → IsImpact old new (verdicts_at old new other) (map change_value one.found)
+      → fs_number one.old ≡ fs_of old.table path → fs_number one.new ≡ fs_of new.table path → AreStartsOfChanges old new path one.starts → IsImpact old new (verdicts_at old new other) (map change_value one.found)
       → All (IsKnownChange old new) known → HasLearnedChange old new path (known ++ one ∷ []) place
   learned_change old new known one place listed last is is' starts impact so_far = record {
     all = All-push (IsKnownChange old new) known one so_far

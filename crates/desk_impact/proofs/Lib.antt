@@ -15,6 +15,7 @@ pub mod HavingOthers
 pub mod FoundElsewhere
 pub mod Found
 pub mod Scoped
+pub mod UnlikeLines
 pub mod Together
 pub mod WrittenLines
 pub mod Learned

@@ -1,5 +1,5 @@
 -- On a written directory the verdicts are those on the directories that no line writes, but where a line that writes it matches.
-use Rattle.std.proofs.Common.{◌≡◌, ℕ, ◌+◌, ◌<◌, ◌^◌, Bool, true, false, List, [], ◌∷◌, length, map, refl, sym, ap, ◌∙◌, arith, inl, inr}
+use Rattle.std.proofs.Common.{◌≡◌, ℕ, ◌+◌, ◌<◌, Bool, true, false, List, [], ◌∷◌, length, map, refl, sym, ap, ◌∙◌, arith, inl, inr, subst}
 use Rattle.std.specs.Prelude.{Contains, Option, Some, None, filter, get_or}
 use Rattle.std.specs.List.{AllByRecursion, flat_map}
 use Rattle.std.proofs.lemmas.Bool.{cases_Bool, cases_lt, false_from_ne_true, true≢false}
@@ -13,8 +13,8 @@ use Rattle.desk_policy.specs.Weights.{is_greatest, selected, weight_of}
 use Rattle.desk_policy.specs.declared.row.Row.{Row}
 use Rattle.desk_who.specs.Beside.{AreStartsWithin, GoTogether}
 use Rattle.desk_who.specs.Searching.{AreFoundStarts, AsksThoseThatMatch, Rule, found_at}
-use Rattle.desk_who.specs.Starts.{IsSteadyLine}
-use Rattle.desk_impact.specs.Impact.{AreStartsOfBoth, verdicts_at}
+use Rattle.desk_impact.specs.Beside.{ChangesGoTogether}
+use Rattle.desk_impact.specs.Impact.{AreStartsOfChanges, SayTheSameOn, TwoVerdicts, saying, verdicts_at}
 use Rattle.desk_impact.specs.Places.{Others, dirs_of_both, mounts_of_both, place_verdict, place_verdicts, verdict_elsewhere}
 use Rattle.desk_impact.specs.Sections.{found_elsewhere, found_of}
 use Rattle.desk_impact.specs.Writings.{AreWritings, Written, writing_value, written_by, written_by_all, written_by_both}
@@ -25,6 +25,7 @@ use Rattle.desk_impact.proofs.Elsewhere.{LacksPath, among, decided_as_others, ho
 use Rattle.desk_impact.proofs.FoundElsewhere.{IsSilent, as_others, outside as found_outside}
 use Rattle.desk_impact.proofs.HavingOthers.{mounts_have_others}
 use Rattle.desk_impact.proofs.Same.{Path, contained, contains_map}
+use Rattle.desk_impact.proofs.UnlikeLines.{none_before}
 
 -- ---- where no line that writes a path matches
 selected_lack : (path : Path) (address : ℕ) (all rows : List Row) → AllByRecursion (IsSilent path address) rows
@@ -90,11 +91,6 @@ module _ (before after : Content) (writings : List Writing) (are : AreWritings b
   silent_after address none = silent_by address none after (λ row at. Contains-append_right (flat_map written_by_all before.rows) (flat_map written_by_all after.rows) (record { dir = path; row = row }) at)
 
 -- ---- verdicts on a path go with those on the directories that no line writes
-none_before : (address : ℕ) (decided : List ℕ) (rows : List Row) → address + 1 < 2 ^ 32 → is_among (address + 1) decided ≡ false → AllByRecursion (IsSteadyLine decided) rows
-    → AllByRecursion (λ row. weight_of row (address + 1) ≡ None) rows → AllByRecursion (λ row. weight_of row address ≡ None) rows
-none_before address decided [] fits away steady none = tt
-none_before address decided (row ∷ rows) fits away steady none = (sym (steady.0 address fits away) ∙ none.0, none_before address decided rows fits away steady.1 none.1)
-
 module _ (before after : Content) (home path : Path) (same : fs_of before.table path ≡ fs_of before.table home) (same' : fs_of after.table path ≡ fs_of after.table home)
     (writings : List Writing) (are : AreWritings before after writings) (rows : List Row) (have : HasWriters writings path rows) where
   alike_before : (address : ℕ) → AllByRecursion (λ row. weight_of row address ≡ None) rows → verdict_of before address path ≡ place_verdict before (Others home) address
@@ -108,8 +104,17 @@ module _ (before after : Content) (home path : Path) (same : fs_of before.table 
       ap (λ v. record { before = v; after = verdict_of after address path }) (alike_before address none)
       ∙ ap (λ v. record { before = place_verdict before (Others home) address; after = v }) (alike_after address none)
 
-  pub verdicts_go : (starts decided : List ℕ) → AreStartsOfBoth before after home starts → AreStartsWithin starts rows decided → GoTogether (verdicts_at before after path) (place_verdicts before after (Others home)) decided
-  verdicts_go starts decided steady within address fits away =
+  -- where the policies say the same of each path, they say it of those that no line writes
+  others_say : (other : Path) (address : ℕ) → ((a : ℕ) → verdicts_at before after other a ≡ place_verdicts before after (Others home) a) → SayTheSameOn before after (verdicts_at before after other) address
+      → SayTheSameOn before after (place_verdicts before after (Others home)) address
+  others_say other address as_others say = record {
+    here = subst (λ (v : TwoVerdicts). saying after v.after ≡ saying before v.before) (as_others address) say.here;
+    next = subst (λ (v : TwoVerdicts). saying after v.after ≡ saying before v.before) (as_others (address + 1)) say.next;
+  }
+
+  pub verdicts_go : (starts decided : List ℕ) → AreStartsOfChanges before after home starts → AreStartsWithin starts rows decided
+      → ChangesGoTogether before after (verdicts_at before after path) (place_verdicts before after (Others home)) decided
+  verdicts_go starts decided changes within address fits away =
       elim (cases_Bool (is_among (address + 1) starts)) [
         | inl there ↦
             let none = within.apart (address + 1) fits there away in
@@ -118,10 +123,13 @@ module _ (before after : Content) (home path : Path) (same : fs_of before.table 
             let other = mounts_have_others (mounts_of_both before after) (dirs_of_both before after) home in
             let fs = home_fs before after home other.path other.home in
             let as_others = decided_as_others before after home other.path other.home other.unwritten in
-            inr (record {
-              own = (steady path same same').steady address fits not;
-              other = sym (as_others (address + 1)) ∙ (steady other.path fs.0 fs.1).steady address fits not ∙ as_others address;
-            })
+            inr (elim (changes.steady address fits not) [
+              | inl steady ↦ inl (record {
+                own = steady path same same';
+                other = sym (as_others (address + 1)) ∙ steady other.path fs.0 fs.1 ∙ as_others address;
+              })
+              | inr say ↦ inr (say path same same', others_say other.path address as_others (say other.path fs.0 fs.1))
+            ])
       ]
 
 -- and so does what is found

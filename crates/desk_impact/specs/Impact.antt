@@ -1,7 +1,8 @@
 -- What another policy would change for the clients of a path. (this project's own)
-use Rattle.std.specs.Prelude.{◌≡◌, ◌≢◌, ℕ, ◌<◌, ◌^◌, Bool, filter, find, slice_get, List, [], Option, Some, None, Result, Ok, Err}
+use Rattle.std.specs.Prelude.{◌≡◌, ◌≢◌, ◌⊎◌, ℕ, ◌+◌, ◌<◌, ◌^◌, Bool, false, filter, find, slice_get, List, [], Option, Some, None, Result, Ok, Err}
 use Rattle.std.specs.Bool.{Decides}
 use Rattle.std.specs.Option.{option_map}
+use Rattle.desk_text.specs.AddrSet.{is_among}
 use Rattle.desk_tables.specs.FileSystems.{fs_of}
 use Rattle.desk_exports.specs.declared.entry.Terms.{Terms}
 use Rattle.desk_policy.specs.Policy.{Content}
@@ -56,6 +57,23 @@ saying content (Err (NotListed fs line)) = IsNotListed (mount_at content fs.0) l
 -- the verdicts of these two policies say something else
 abbrev pub SayOtherwise : Content → Content → TwoVerdicts → Type 0
 SayOtherwise before after verdicts = saying after verdicts.after ≢ saying before verdicts.before
+
+-- two policies say the same by the verdicts for an address and by those for the next
+pub record SayTheSameOn (before after : Content) (verdicts : ℕ → TwoVerdicts) (address : ℕ) : Type 0 where
+  pub here : saying after (verdicts address).after ≡ saying before (verdicts address).before
+  pub next : saying after (verdicts (address + 1)).after ≡ saying before (verdicts (address + 1)).before
+
+-- this holds of each path that is in the file systems of this one
+abbrev pub HoldsBeside : Content → Content → List (List ℕ) → (List (List ℕ) → Type 0) → Type 0
+HoldsBeside before after path P = (other : List (List ℕ)) → fs_of before.table other ≡ fs_of before.table path → fs_of after.table other ≡ fs_of after.table path → P other
+
+-- The addresses at which alone what two policies say of a path may change, and of each other path of its file systems: at any
+-- other one no verdict changes, or they say the same for it and for the address before.
+pub record AreStartsOfChanges (before after : Content) (path : List (List ℕ)) (starts : List ℕ) : Type 0 where
+  pub behind : is_among 0 starts ≡ false
+  pub steady : (address : ℕ) → address + 1 < 2 ^ 32 → is_among (address + 1) starts ≡ false
+      → HoldsBeside before after path (λ other. verdicts_at before after other (address + 1) ≡ verdicts_at before after other address)
+      ⊎ HoldsBeside before after path (λ other. SayTheSameOn before after (verdicts_at before after other) address)
 
 -- those of the values of which this holds, in their order
 pub record AreThoseThat {X : Type 0} (P : X → Type 0) (values chosen : List X) : Type 0 where

@@ -12,3 +12,4 @@ pub mod Writings
 pub mod PrivateWritings
 pub mod Known
 pub mod PrivateKnown
+pub mod PrivateUnlike

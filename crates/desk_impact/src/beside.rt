@@ -18,8 +18,8 @@ use desk_who::{
 use std::alloc::{AllocError, Global};
 
 /// Lists what `impact` lists of a path, given the changes of other verdicts, which go together with those on the path except at
-/// the decided addresses: at each other one they are the same, or neither changes. The path is asked at the decided addresses
-/// and at the first of all.
+/// the decided addresses: at each other one they are the same, or neither changes, or neither is a change. The path is asked at the
+/// decided addresses and at the first of all.
 pub fn impact_beside<'a, V: PolicyView>(
     alloc: Global,
     before: &'a V,

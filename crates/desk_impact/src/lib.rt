@@ -18,8 +18,10 @@ pub mod place_changes;
 mod place_findings;
 pub mod places;
 pub mod report;
+mod same_rows;
 mod sayings;
 pub mod sections;
+mod unlike;
 mod unwritten;
 pub mod writings;
 

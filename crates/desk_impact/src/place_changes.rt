@@ -9,9 +9,10 @@ ghost use Rattle.desk_impact.specs.PrivateKnown.{HasLearnedChange};
 ghost use Rattle.desk_impact.specs.Writings.{AreWritings};
 
 use crate::beside::impact_beside;
-use crate::changes::{Change, TwoVerdicts, impact, starts_of_both};
+use crate::changes::{Change, TwoVerdicts, impact};
 use crate::known::{Known, copied, known_place};
 use crate::places::{Place, path_of};
+use crate::unlike::starts_of_changes;
 use crate::unwritten::free_path;
 use crate::writings::{Writing, writers};
 use desk_policy::PolicyView;
@@ -63,7 +64,7 @@ fn learn_changes<'a, V: PolicyView>(
         return Ok(own);
     }
     let other = free_path(alloc, path, taken)?;
-    let starts = starts_of_both(alloc, before.policy(), after.policy(), path)?;
+    let starts = starts_of_changes(alloc, before.policy(), after.policy(), path)?;
     let changes = impact(alloc, before, after, &other)?;
     known.push(Known {
         old,
@@ -75,7 +76,7 @@ fn learn_changes<'a, V: PolicyView>(
 }
 
 /// Lists the changes of a directory, given what is known of its file systems: it is asked only where a line that writes it
-/// matches.
+/// begins or ceases to match, and at those of the known starts at which one matches.
 fn changes_beside<'a, V: PolicyView>(
     alloc: Global,
     before: &'a V,

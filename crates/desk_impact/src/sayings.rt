@@ -49,7 +49,7 @@ fn deny_alike(before: &Policy, after: &Policy, denial: &Denial, other: &Denial) 
 }
 
 /// Tests whether file systems of two policies have one mount point, or neither has any.
-fn same_mount(before: &Policy, after: &Policy, fs: FsId, other: FsId) -> bool
+pub fn same_mount(before: &Policy, after: &Policy, fs: FsId, other: FsId) -> bool
     ensures { Decides result (mount_at after.now other.0 ≡ mount_at before.now fs.0) }
 {
     match (

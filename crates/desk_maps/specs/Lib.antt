@@ -4,4 +4,4 @@ pub mod Order
 pub mod PrivateOrder
 pub mod Maps
 pub mod Laws
-pub mod Written
+pub mod LineNetworks

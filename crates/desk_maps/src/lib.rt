@@ -9,11 +9,11 @@
 
 pub mod cells;
 pub mod laws;
+pub mod line_networks;
 pub mod maps;
 mod order;
-pub mod written;
 
 pub use cells::{Cell, cells_of};
 pub use laws::{cells_cover_the_network, maps_are_exact_together, seams_are_shown};
+pub use line_networks::{written_in_site, written_networks};
 pub use maps::{maps_of, with_fixed_maps};
-pub use written::{written_in_site, written_networks};

@@ -1,9 +1,8 @@
--- Pieces of the page: texts, links and the heads of tables. (this project's own, over HTML)
-use Rattle.std.specs.Prelude.{ℕ, Bool, List, [], ◌++◌, codes, if◌then◌else◌}
+-- Pieces of the page: texts, links and boxes. (this project's own, over HTML)
+use Rattle.std.specs.Prelude.{ℕ, List, ◌++◌, codes}
 use Rattle.std.specs.Fmt.{decimal}
-use Rattle.std.specs.List.{flat_map, join_by}
+use Rattle.std.specs.List.{join_by}
 use Rattle.desk_page.specs.Escaping.{attribute, escaped}
-use Rattle.desk_page.specs.declared.pieces.Column.{Column}
 
 -- a text stands in `code`, so that it does not turn what is beside it
 abbrev pub code : List ℕ → List ℕ
@@ -27,19 +26,3 @@ system_link fs name = codes "<a href=\"#f" ++ decimal fs ++ codes "\">" ++ code 
 -- a box in which a wide table can be scrolled, by the keyboard too; it is called by words and a name
 abbrev pub box_start : List ℕ → List ℕ → List ℕ
 box_start words name = codes "<div class=\"wide\" tabindex=\"0\" role=\"region\" aria-label=\"" ++ words ++ attribute name ++ codes "\">"
-
--- the head of a column, which may be one of numbers
-abbrev pub number_class : Bool → List ℕ
-number_class is_number = if is_number then codes " class=\"num\"" else []
-
-abbrev pub head_with : List ℕ → List ℕ → List ℕ
-head_with class words = codes "<th scope=\"col\"" ++ class ++ codes ">" ++ words ++ codes "</th>"
-
-abbrev pub head : Column → List ℕ
-head column = head_with (number_class column.is_number) column.words.now
-
-unfoldable pub heads : List Column → List ℕ
-heads columns = flat_map head columns
-
-abbrev pub head_row : List Column → List ℕ
-head_row columns = codes "<thead><tr>" ++ heads columns ++ codes "</tr></thead>\n<tbody>\n"

@@ -17,8 +17,7 @@ pub use facts::{push_guarded, push_in_force, push_kept_by, push_revision};
 pub use laws::{no_text_is_markup, texts_are_told_apart};
 pub use numbers::push_number;
 pub use pieces::{
-    Column, push_box_start, push_code, push_code_list, push_head_row, push_line_link,
-    push_system_link, push_zero,
+    push_box_start, push_code, push_code_list, push_line_link, push_system_link, push_zero,
 };
 pub use ranges::{Span, push_network, push_range, push_ranges};
 pub use terms::{push_flavours, push_terms};

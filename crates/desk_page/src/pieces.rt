@@ -1,4 +1,4 @@
-//! Pieces of the page: texts, links and the heads of tables.
+//! Pieces of the page: texts, links and boxes.
 
 ghost use Rattle.std.specs.Prelude.{◌≡◌, ◌++◌, OnOk, codes};
 ghost use Rattle.std.specs.List.{flat_map};
@@ -9,14 +9,6 @@ use crate::escaping::{push_attribute, push_escaped};
 use desk_tables::FsId;
 use desk_text::Text;
 use std::alloc::AllocError;
-
-/// The head of a column.
-#[derive(Clone, Copy)]
-pub struct Column {
-    pub words: &'static str,
-    /// Whether the column has numbers.
-    pub is_number: bool,
-}
 
 /// Adds a text in `code`.
 pub fn push_code(text: &str, page: &mut String) -> Result<(), AllocError>
@@ -89,45 +81,4 @@ pub fn push_box_start(words: &str, name: &str, page: &mut String) -> Result<(), 
     )?;
     push_attribute(name, page)?;
     page.push_str("\">")
-}
-
-/// Adds the row of heads of a table, and begins its body.
-pub fn push_head_row(columns: &[Column], page: &mut String) -> Result<(), AllocError>
-    ensures { OnOk result (string_bytes page.new ≡ string_bytes page.old ++ spec.head_row columns.now) }
-{
-    page.push_str("<thead><tr>")?;
-    push_heads(columns, page)?;
-    page.push_str("</tr></thead>\n<tbody>\n")
-}
-
-/// Adds the heads of columns.
-#[tactic(auto, unfolding(crate::specs::Pieces::heads))]
-fn push_heads(columns: &[Column], page: &mut String) -> Result<(), AllocError>
-    ensures { OnOk result (string_bytes page.new ≡ string_bytes page.old ++ spec.heads columns.now) }
-{
-    for column in columns {
-        push_head(*column, page)?;
-    }
-    Ok(())
-}
-
-/// Adds the head of a column.
-fn push_head(column: Column, page: &mut String) -> Result<(), AllocError>
-    ensures { OnOk result (string_bytes page.new ≡ string_bytes page.old ++ spec.head column) }
-{
-    push_head_with(number_class(column.is_number), column.words, page)
-}
-
-/// Adds a head with this attribute and these words.
-fn push_head_with(class: &str, words: &str, page: &mut String) -> Result<(), AllocError>
-    ensures { OnOk result (string_bytes page.new ≡ string_bytes page.old ++ spec.head_with class.now words.now) }
-{
-    write!(page, "<th scope=\"col\"{class}>{words}</th>")
-}
-
-/// Returns the attribute of a cell that may be a number.
-fn number_class(is_number: bool) -> &'static str
-    ensures { result.now ≡ spec.number_class is_number }
-{
-    if is_number { " class=\"num\"" } else { "" }
 }

@@ -1,4 +1,4 @@
-pub mod Again
+pub mod MakingAgain
 pub mod Files
 pub mod Laws
 pub mod Mentions

@@ -7,9 +7,9 @@
 //! ```
 #![tactic(auto)]
 
-pub mod again;
 pub mod files;
 pub mod laws;
+pub mod making_again;
 pub mod mentions;
 pub mod names;
 pub mod reading;
@@ -17,9 +17,9 @@ pub mod shell;
 pub mod tables;
 pub mod warnings;
 
-pub use again::push_make_again;
 pub use files::{FileRow, push_files};
 pub use laws::shells_take_words;
+pub use making_again::push_make_again;
 pub use mentions::{Mention, push_some};
 pub use names::{HostKind, HostRow, NetgroupRow, push_hosts, push_netgroups};
 pub use reading::push_how_to_read;

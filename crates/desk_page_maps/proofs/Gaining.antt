@@ -5,9 +5,9 @@ use Rattle.std.proofs.lemmas.List.Elements.{All-append, All-cons, All-nil}
 use Rattle.desk_text.specs.Network.{Block}
 use Rattle.desk_who.specs.Runs.{Run}
 use Rattle.desk_report.specs.declared.class.Class.{Class}
-use Rattle.desk_page_maps.specs.Drawn.{IsDrawnFrom}
+use Rattle.desk_page_maps.specs.DrawnMaps.{IsDrawnFrom}
 use Rattle.desk_page_maps.specs.PrivateFigures.{GainsEach}
-use Rattle.desk_page_maps.specs.declared.drawn.DrawnMap.{DrawnMap}
+use Rattle.desk_page_maps.specs.declared.drawn_maps.DrawnMap.{DrawnMap}
 
 module _ (text_of : DrawnMap → List ℕ) (runs : List (Run Class)) where
   pub gains_none : (page : List ℕ) → GainsEach text_of runs [] page page

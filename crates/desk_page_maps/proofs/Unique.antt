@@ -17,10 +17,10 @@ use Rattle.desk_maps.specs.Maps.{AreMaps, fixed_maps, maps_with_fixed}
 use Rattle.desk_maps.specs.Order.{ComesBefore}
 use Rattle.desk_maps.specs.declared.cells.Cell.{Cell}
 use Rattle.desk_maps.proofs.Containing.{here, here_or_there, there}
-use Rattle.desk_page_maps.specs.Drawn.{AreDrawnFrom, IsDrawnFrom}
+use Rattle.desk_page_maps.specs.DrawnMaps.{AreDrawnFrom, IsDrawnFrom}
 use Rattle.desk_page_maps.specs.Figures.{GainsFileSystemMaps, GainsGroupMaps, GainsMaps, GainsOverviewMaps, figures, most_of_file_system, most_of_group, small_cell}
 use Rattle.desk_page_maps.specs.Laws.{MapsAreToldInOneWay}
-use Rattle.desk_page_maps.specs.declared.drawn.DrawnMap.{DrawnMap}
+use Rattle.desk_page_maps.specs.declared.drawn_maps.DrawnMap.{DrawnMap}
 
 -- no network comes before itself, and of two only one before the other
 not_itself : (network other : Block) → ComesBefore network other → network ≡ other → ⊥

@@ -10,7 +10,7 @@ use Rattle.desk_page.specs.Numbers.{number}
 use Rattle.desk_page.specs.Ranges.{network_text}
 use Rattle.desk_page_words.specs.Badges.{count_words}
 use Rattle.desk_page_maps.specs.Paths.{ground_path, mark_path}
-use Rattle.desk_page_maps.specs.declared.drawn.DrawnMap.{DrawnMap}
+use Rattle.desk_page_maps.specs.declared.drawn_maps.DrawnMap.{DrawnMap}
 use Rattle.desk_page_maps.specs.declared.paths.Shape.{Shape}
 use Rattle.desk_page_maps.specs.declared.paths.Shape.TheVariants.{Diamond, Square}
 

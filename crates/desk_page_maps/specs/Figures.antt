@@ -10,8 +10,8 @@ use Rattle.desk_maps.specs.Maps.{AreMapsFrom, fixed_maps, maps_with_fixed}
 use Rattle.desk_page.specs.Amounts.{part, plural}
 use Rattle.desk_page.specs.Ranges.{network_text}
 use Rattle.desk_page_maps.specs.Drawing.{large_map, small_map}
-use Rattle.desk_page_maps.specs.Drawn.{AreDrawnFrom}
-use Rattle.desk_page_maps.specs.declared.drawn.DrawnMap.{DrawnMap}
+use Rattle.desk_page_maps.specs.DrawnMaps.{AreDrawnFrom}
+use Rattle.desk_page_maps.specs.declared.drawn_maps.DrawnMap.{DrawnMap}
 
 -- what a network is called below its map
 abbrev pub network_name : Block → List ℕ

@@ -5,9 +5,9 @@ use Rattle.desk_who.specs.Runs.{AreRuns, Run}
 use Rattle.desk_report.specs.Values.{AreRunsOfSome}
 use Rattle.desk_report.specs.declared.class.Class.{Class}
 use Rattle.desk_maps.specs.Maps.{IsNeeded}
-use Rattle.desk_page_maps.specs.Drawn.{IsDrawnFrom}
+use Rattle.desk_page_maps.specs.DrawnMaps.{IsDrawnFrom}
 use Rattle.desk_page_maps.specs.Figures.{GainsFileSystemMaps, GainsGroupMaps, GainsOverviewMaps, count_of, figures}
-use Rattle.desk_page_maps.specs.declared.drawn.DrawnMap.{DrawnMap}
+use Rattle.desk_page_maps.specs.declared.drawn_maps.DrawnMap.{DrawnMap}
 
 -- the counts by prefix add up to the number of the networks
 abbrev pub AreCountedByPrefix : List Block → Type 0

@@ -1,5 +1,5 @@
 pub mod Drawing
-pub mod Drawn
+pub mod DrawnMaps
 pub mod Figures
 pub mod Grounds
 pub mod Laws

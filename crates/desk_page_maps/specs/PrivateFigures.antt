@@ -4,9 +4,9 @@ use Rattle.std.specs.List.{flat_map}
 use Rattle.desk_text.specs.Network.{Block}
 use Rattle.desk_who.specs.Runs.{Run}
 use Rattle.desk_report.specs.declared.class.Class.{Class}
-use Rattle.desk_page_maps.specs.Drawn.{AreDrawnFrom}
+use Rattle.desk_page_maps.specs.DrawnMaps.{AreDrawnFrom}
 use Rattle.desk_page_maps.specs.Figures.{figure, small_cell}
-use Rattle.desk_page_maps.specs.declared.drawn.DrawnMap.{DrawnMap}
+use Rattle.desk_page_maps.specs.declared.drawn_maps.DrawnMap.{DrawnMap}
 
 -- a page gains a text for the map of each network
 pub record GainsEach (text_of : DrawnMap → List ℕ) (runs : List (Run Class)) (networks : List Block) (page gained : List ℕ) : Type 0 where

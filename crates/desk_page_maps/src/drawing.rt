@@ -7,7 +7,7 @@ ghost use Rattle.desk_text.specs.Network.{block_size};
 ghost use Rattle.desk_report.specs.Class.{same_class};
 ghost use Rattle.desk_page_maps.specs.Drawing as spec;
 
-use crate::drawn::DrawnMap;
+use crate::drawn_maps::DrawnMap;
 use crate::paths::{Shape, push_ground_path, push_mark_path};
 use desk_maps::Cell;
 use desk_page::{push_network, push_number};

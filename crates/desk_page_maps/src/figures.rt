@@ -6,12 +6,12 @@ ghost use Rattle.std.specs.String.{string_bytes};
 ghost use Rattle.desk_report.specs.Classes.{class_run};
 ghost use Rattle.desk_report.specs.Values.{AreRunsOfSome};
 ghost use Rattle.desk_maps.specs.Maps.{IsWide};
-ghost use Rattle.desk_page_maps.specs.Drawn.{IsDrawable};
+ghost use Rattle.desk_page_maps.specs.DrawnMaps.{IsDrawable};
 ghost use Rattle.desk_page_maps.specs.Figures as spec;
 ghost use Rattle.desk_page_maps.specs.PrivateFigures.{GainsCells, GainsFigures};
 
 use crate::drawing::{push_large_map, push_small_map, size_of};
-use crate::drawn::{DrawnMap, drawn_map};
+use crate::drawn_maps::{DrawnMap, drawn_map};
 use desk_maps::{maps_of, with_fixed_maps};
 use desk_page::{push_network, push_part, push_plural};
 use desk_report::Class;

@@ -7,13 +7,13 @@
 #![tactic(auto)]
 
 mod drawing;
-pub mod drawn;
+pub mod drawn_maps;
 pub mod figures;
 pub mod laws;
 mod paths;
 pub mod shapes;
 
-pub use drawn::{DrawnMap, drawn_map};
+pub use drawn_maps::{DrawnMap, drawn_map};
 pub use figures::{push_file_system_maps, push_group_maps, push_overview_maps};
 pub use laws::{grounds_have_just_the_cells, maps_are_told_in_one_way, needed_maps_are_told};
 pub use shapes::push_shapes;

@@ -14,8 +14,8 @@ use Rattle.desk_page.specs.Amounts.{and_more}
 use Rattle.desk_page_words.specs.declared.finding_words.Finding.{Finding}
 use Rattle.desk_report.specs.declared.reasons.Reason.{Reason}
 use Rattle.desk_report.specs.declared.reasons.Reason.TheVariants.{NoClient, NeverDecides, ForEverybodyReadOnly, ForEverybodyReadWrite, Wide, RootKeptForNetworks, RootKeptForNames, ServerGrantsMore, RepeatedClient}
-use Rattle.desk_server.specs.declared.repeated.RepeatedClient.{RepeatedClient as Repeated}
-use Rattle.desk_server.specs.declared.wider.WiderGrant.{WiderGrant}
+use Rattle.desk_server.specs.declared.repeated_client.RepeatedClient.{RepeatedClient as Repeated}
+use Rattle.desk_server.specs.declared.wider_grant.WiderGrant.{WiderGrant}
 
 -- the names of flavours, as a line writes them
 abbrev pub flavour_names : List Flavour → List ℕ

@@ -1,6 +1,7 @@
 mod VerdictExamples
 pub mod RowAddresses
 pub mod WrittenAddresses
+pub mod KnownAddresses
 pub mod EntriesByFileSystem
 pub mod GreatestWeight
 pub mod VerdictLines

@@ -1,7 +1,6 @@
 -- A name that writes an address has digits and dots alone, and stands for that address.
-use Rattle.std.proofs.Common.{◌≡◌, ℕ, ◌==◌, ◌||◌, ◌&&◌, Bool, true, false, cond, List, [], ◌∷◌, ◌++◌, ◌∙◌, ap, arith, length, map, refl, slice_index_or, sym}
-use Rattle.std.specs.Prelude.{Err, IfSome, None, not, Ok, Option, Result, Some}
-use Rattle.std.specs.Option.{option_map}
+use Rattle.std.proofs.Common.{◌≡◌, ℕ, ◌==◌, ◌||◌, ◌&&◌, Bool, true, false, cond, List, [], ◌∷◌, ◌++◌, ◌∙◌, ap, arith, map, refl, sym}
+use Rattle.std.specs.Prelude.{Err, not, Ok, Result, Some}
 use Rattle.std.specs.Char.{is_ascii_digit}
 use Rattle.std.specs.List.{list_all, onto_first}
 use Rattle.std.specs.Result.{result_ok}
@@ -106,7 +105,7 @@ module _ (hosts : List HostRow) (name : List ℕ) (a : ℕ) where
         cond-true (is_address_like name) _ _ (or_right (is_ipv6 name) (is_dotted name) (read_dotted name n (was_ok (read_addr name) n e))) ∙ host_written n e
 
 -- a name that writes an address, by itself, stands for it alone
-only_written : (netgroups : List GroupLine) (hosts : List HostRow) (name : List ℕ) (n : ℕ) → Some n ≡ result_ok (read_addr name)
+pub only_written : (netgroups : List GroupLine) (hosts : List HostRow) (name : List ℕ) (n : ℕ) → Some n ≡ result_ok (read_addr name)
     → addresses_of_names netgroups hosts (name ∷ []) ≡ n ∷ []
 only_written netgroups hosts name n e =
     let read = was_ok (read_addr name) n e in
@@ -114,11 +113,3 @@ only_written netgroups hosts name n e =
     ap (λ (xs : List ℕ). sorted_set (xs ++ [])) (
     cond-true (is_address_like name) _ _ (or_right (is_ipv6 name) (is_dotted name) dotted)
     ∙ cond-false (is_ipv6 name) _ _ (dotted_is_no_ipv6 name dotted) ∙ cond-true (is_dotted name) _ _ dotted ∙ ap number_read read)
-
--- of the only name, what was read is all that the names stand for
-pub only_name : (names : List (List ℕ)) (found : Option Addr) → length names ≡ 1 → option_map number_of found ≡ result_ok (read_addr (slice_index_or names 0 []))
-    → IfSome found (λ address. (netgroups : List GroupLine) (hosts : List HostRow) → addresses_of_names netgroups hosts names ≡ number_of address ∷ [])
-only_name names None one e = tt
-only_name [] (Some address) one e = absurd (omega arith)
-only_name (name ∷ []) (Some address) one e = λ netgroups hosts. only_written netgroups hosts name (number_of address) e
-only_name (name ∷ other ∷ names) (Some address) one e = absurd (omega arith)

@@ -2,6 +2,7 @@ pub mod Names
 pub mod PrivateNames
 pub mod Row
 pub mod PrivateRowAddrs
+pub mod PrivateKnownNames
 pub mod Policy
 pub mod Warning
 pub mod Weights

@@ -52,3 +52,16 @@ entry_exports entry = flat_map (export_line (clients_text entry.clients)) entry.
 -- all exports, by mount point and line
 abbrev pub all_exports : Content → List ℕ
 all_exports content = flat_map (flat_map (λ row. entry_exports row.entry)) content.rows
+
+-- whom a line is for, whether it has -alldirs, and on what terms, as `friends ro sec=sys root=65534:65533` or
+-- `(everyone) alldirs rw sec=sys root=65534:65533`
+abbrev pub granted_text : Entry → List ℕ
+granted_text entry = clients_text entry.clients ++ alldirs_text entry.alldirs ++ 32 ∷ terms_text entry.terms
+
+-- a line for each directory of an entry, in the order written, with the terms
+abbrev pub entry_terms : Entry → List ℕ
+entry_terms entry = flat_map (export_line (granted_text entry)) entry.dirs
+
+-- all exports with their terms, in the same order
+abbrev pub all_terms : Content → List ℕ
+all_terms content = flat_map (flat_map (λ row. entry_terms row.entry)) content.rows

@@ -8,4 +8,4 @@ use Rattle.desk_policy.specs.declared.row_addrs.Values.TheVariants.{Nothing, One
 abbrev pub addresses_in : Values → List ℕ
 addresses_in Nothing = []
 addresses_in (One address) = number_of address ∷ []
-addresses_in (Many addresses) = addresses
+addresses_in (Many shared) = shared.value

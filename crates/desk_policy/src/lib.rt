@@ -11,6 +11,7 @@
 pub mod acting;
 pub mod contradiction;
 mod first_lines;
+mod known_names;
 pub mod laws;
 pub mod listing_prints;
 pub mod listings;
@@ -42,7 +43,7 @@ pub use laws::{
     listings_show_what_is_granted, no_class_is_warned_of_by_profile_two, one_file_is_replaced,
     warnings_change_no_answer,
 };
-pub use listing_prints::{all_exports, listing_text};
+pub use listing_prints::{all_exports, all_terms, listing_text};
 pub use listings::{Shown, listing};
 pub use names::{addresses_of, first_name_for};
 pub use parsing::{

@@ -12,7 +12,7 @@ use crate::listings::Shown;
 use crate::policy::Policy;
 use crate::prints::mount_text;
 use crate::row::Row;
-use desk_exports::{Clients, Names, Terms};
+use desk_exports::{Clients, Entry, Names, Terms};
 use desk_text::{Net, Path};
 use std::alloc::{AllocError, Global};
 
@@ -36,6 +36,18 @@ pub fn all_exports(alloc: Global, policy: &Policy) -> Result<String, AllocError>
     let mut text = String::new(alloc);
     for rows in policy.rows_by_filesystem() {
         push_rows(alloc, rows.as_slice(), &mut text)?;
+    }
+    Ok(text)
+}
+
+/// Writes all exports of the policy with their terms, in the order of [`all_exports`]: behind each directory whom it is for,
+/// whether the line has `-alldirs`, and on what terms.
+pub fn all_terms(alloc: Global, policy: &Policy) -> Result<String, AllocError>
+    ensures { IfOk result (λ text. string_bytes text ≡ spec.all_terms policy.now) }
+{
+    let mut text = String::new(alloc);
+    for rows in policy.rows_by_filesystem() {
+        push_terms(alloc, rows.as_slice(), &mut text)?;
     }
     Ok(text)
 }
@@ -135,7 +147,31 @@ fn push_rows(alloc: Global, rows: &[Row], text: &mut String) -> Result<(), Alloc
     Ok(())
 }
 
-/// Writes a line for each directory of an entry, and whom it is for.
+/// Writes the exports of lines with their terms.
+fn push_terms(alloc: Global, rows: &[Row], text: &mut String) -> Result<(), AllocError>
+    ensures { OnOk result (string_bytes text.new ≡ string_bytes text.old ++ flat_map (λ row. spec.entry_terms row.entry) rows.now) }
+{
+    for row in rows {
+        let granted = granted_text(alloc, &row.entry)?;
+        push_exports(row.entry.dirs.as_slice(), granted.as_str(), text)?;
+    }
+    Ok(())
+}
+
+/// Writes whom a line is for, whether it has `-alldirs`, and on what terms.
+#[tactic(auto, using(std::proofs::lemmas::List::append_assoc))]
+fn granted_text(alloc: Global, entry: &Entry) -> Result<String, AllocError>
+    ensures { IfOk result (λ text. string_bytes text ≡ spec.granted_text entry.now) }
+{
+    let terms = terms_text(alloc, &entry.terms)?;
+    let mut text = clients_text(alloc, &entry.clients)?;
+    text.push_str(alldirs_text(entry.alldirs))?;
+    text.push_str(" ")?;
+    text.push_str(terms.as_str())?;
+    Ok(text)
+}
+
+/// Writes a line for each directory of an entry, and behind it whom it is for.
 fn push_exports(dirs: &[Path], clients: &str, text: &mut String) -> Result<(), AllocError>
     ensures { OnOk result (string_bytes text.new ≡ string_bytes text.old ++ flat_map (spec.export_line clients.now) dirs.now) }
 {

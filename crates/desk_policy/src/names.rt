@@ -1,14 +1,12 @@
 //! The addresses for which written names stand. (exports(5), netgroup(5), hosts(5))
 
-ghost use Rattle.std.specs.Prelude.{◌≡◌, ◌==◌, ◌∷◌, [], IfOk, IfSome, List, OnOk, map, string_bytes};
+ghost use Rattle.std.specs.Prelude.{◌≡◌, ◌==◌, ◌∷◌, [], IfOk, OnOk, map, string_bytes};
 ghost use Rattle.std.specs.List.{list_any};
 ghost use Rattle.std.specs.Option.{option_copied, option_map};
 ghost use Rattle.std.specs.Result.{result_ok};
 ghost use Rattle.desk_text.specs.Address.{number_of, read_addr};
 ghost use Rattle.desk_text.specs.AddrSet.{is_among};
 ghost use Rattle.desk_tables.specs.Hosts.{addresses_of_host};
-ghost use Rattle.desk_tables.specs.declared.hosts.HostRow.{HostRow};
-ghost use Rattle.desk_netgroup.specs.declared.group_line.GroupLine.{GroupLine};
 ghost use Rattle.desk_policy.specs.Names.{addresses_of_names, first_name_for, host_stands_for, is_address_like, stands_for};
 ghost use Rattle.desk_policy.specs.PrivateNames.{Gains};
 
@@ -30,11 +28,7 @@ pub fn addresses_of(
 ) -> Result<Vec<Addr>, AllocError>
     ensures { IfOk result (λ v. map number_of v.items ≡ addresses_of_names netgroups.now hosts.now (name.now ∷ [])) }
 {
-    let mut addresses = Vec::new(alloc);
-    push_name(alloc, netgroups, hosts, name, &mut addresses)?;
-    // Sets are equal that have the same addresses.
-    sorted_sets_are_unique();
-    Ok(AddrSet::from_vec(addresses).into_vec())
+    Ok(addresses_of_name(alloc, netgroups, hosts, name)?.into_vec())
 }
 
 /// Finds the first of the names of a line that stands for an address, by the tables that its policy is read with.
@@ -78,32 +72,20 @@ fn has_address(addresses: &[Addr], address: Addr) -> bool
     addresses.iter().any(|other| *other == address)
 }
 
-/// Finds the addresses for which some of the names stands.
-pub(crate) fn addresses_of_names(
+/// Finds the addresses for which a written name stands.
+pub(crate) fn addresses_of_name(
     alloc: Global,
     netgroups: &Netgroups,
     hosts: &Hosts,
-    names: &Names,
+    name: &str,
 ) -> Result<AddrSet, AllocError>
-    ensures { IfOk result (λ addresses. addresses ≡ addresses_of_names netgroups.now hosts.now names.now) }
+    ensures { IfOk result (λ addresses. addresses ≡ addresses_of_names netgroups.now hosts.now (name.now ∷ [])) }
 {
     let mut addresses = Vec::new(alloc);
-    for index in 0..names.len() {
-        push_name(alloc, netgroups, hosts, names.get(index), &mut addresses)?;
-    }
+    push_name(alloc, netgroups, hosts, name, &mut addresses)?;
     // Sets are equal that have the same addresses.
     sorted_sets_are_unique();
     Ok(AddrSet::from_vec(addresses))
-}
-
-/// Reads the address that the names write, if it is the only name.
-pub(crate) fn only_address(names: &Names) -> Option<Addr>
-    ensures { IfSome result (λ address. (netgroups : List GroupLine) (hosts : List HostRow) → addresses_of_names netgroups hosts names.now ≡ number_of address ∷ []) }
-{
-    if names.len() != 1 {
-        return None;
-    }
-    written_address(names.get(0))
 }
 
 /// Adds the addresses for which a written name stands.
@@ -186,7 +168,7 @@ fn push_listed(
 }
 
 /// Reads the address that a text writes, if it writes one. A name that begins with a letter is not read to its end.
-fn written_address(text: &str) -> Option<Addr>
+pub(crate) fn written_address(text: &str) -> Option<Addr>
     ensures { option_map number_of result ≡ result_ok (read_addr text.now) }
 {
     match text.as_bytes().first() {

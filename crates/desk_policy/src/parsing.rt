@@ -16,6 +16,7 @@ ghost use Rattle.desk_exports.specs.declared.rules.Rule.{Rule};
 ghost use Rattle.desk_text.specs.declared.reading.LineFault.{LineFault};
 ghost use Rattle.desk_policy.specs.Parsing as spec;
 ghost use Rattle.desk_policy.specs.Replacing.{ReadsLines};
+ghost use Rattle.desk_policy.specs.PrivateKnownNames.{AreKnown};
 ghost use Rattle.desk_policy.specs.PrivateParsing.{PushesFile, PushesFiles, ReadsAfter};
 ghost use Rattle.desk_policy.specs.Row.{row_of};
 ghost use Rattle.desk_policy.specs.PerTable.{EachTable, map_tables};
@@ -26,6 +27,7 @@ ghost use Rattle.desk_policy.specs.SiteFault.{group_fault, line_fault, table_fau
 ghost use Rattle.desk_policy.specs.SiteFile.{file_name};
 ghost use Rattle.desk_policy.specs.Warning.{entry_warnings};
 
+use crate::known_names::KnownNames;
 use crate::per_table::PerTable;
 use crate::policy::Policy;
 use crate::row::Row;
@@ -251,7 +253,16 @@ fn push_policy(
     ensures content { OnOk result (IsContent (record { table = filesystems.now; rows = rows.new.items; warnings = warnings.new })) }
 {
     push_netgroup(alloc, &site_tables.netgroups, &site_tables.hosts, warnings)?;
-    push_files(alloc, site, filesystems, site_tables, rows, warnings)
+    let mut known = KnownNames::new(alloc);
+    push_files(
+        alloc,
+        site,
+        filesystems,
+        site_tables,
+        &mut known,
+        rows,
+        warnings,
+    )
 }
 
 /// Reads the tables after the file systems.
@@ -268,11 +279,13 @@ fn push_files(
     site: &Site,
     filesystems: &FileSystems,
     site_tables: &SiteTables,
+    known: &mut KnownNames,
     rows: &mut Vec<Sequence<Row>>,
     warnings: &mut Sequence<Warning>,
 ) -> Result<(), ReadError<SiteFault>>
     requires lengths { HaveReadableLengths (texts_of site.now) }
     requires few { length filesystems.now ≤ 256 }
+    requires known { AreKnown site_tables.now.netgroups site_tables.now.hosts known.old }
     ensures { PushesFiles result (spec.read_files (texts_of site.now) filesystems.now site_tables.now 0 filesystems.now) (length filesystems.now)
         rows.old.items rows.new.items warnings.old warnings.new }
 {
@@ -284,6 +297,7 @@ fn push_files(
             site_tables,
             FsId(place as u32),
             &mount.path,
+            known,
             rows,
             warnings,
         )?;
@@ -299,12 +313,15 @@ fn push_file(
     site_tables: &SiteTables,
     fs: FsId,
     mount: &Path,
+    known: &mut KnownNames,
     rows: &mut Vec<Sequence<Row>>,
     warnings: &mut Sequence<Warning>,
 ) -> Result<(), ReadError<SiteFault>>
-    requires { HaveReadableLengths (texts_of site.now) }
-    ensures { PushesFile result (spec.read_exports (texts_of site.now) filesystems.now site_tables.now fs.0 mount.now)
+    requires lengths { HaveReadableLengths (texts_of site.now) }
+    requires known { AreKnown site_tables.now.netgroups site_tables.now.hosts known.old }
+    ensures pushes { PushesFile result (spec.read_exports (texts_of site.now) filesystems.now site_tables.now fs.0 mount.now)
         rows.old.items rows.new.items warnings.old warnings.new }
+    ensures known { OnOk result (AreKnown site_tables.now.netgroups site_tables.now.hosts known.new) }
 {
     let name = exports_file_name(alloc, mount.text())?;
     let entries = site_entries(alloc, site, filesystems, site_tables, fs, mount);
@@ -316,7 +333,7 @@ fn push_file(
         entries.as_slice(),
         warnings,
     )?;
-    rows.push(lines_in_force(alloc, site_tables, entries)?)?;
+    rows.push(lines_in_force(alloc, site_tables, known, entries)?)?;
     Ok(())
 }
 
@@ -338,7 +355,8 @@ pub fn read_lines(
     let name = exports_file_name(alloc, mount.path.text())?;
     let entries = file_entries(alloc, profile, text, filesystems, site_tables, fs);
     let entries = in_exports(alloc, name.as_str(), entries)?;
-    Ok(lines_in_force(alloc, site_tables, entries)?)
+    let mut known = KnownNames::new(alloc);
+    Ok(lines_in_force(alloc, site_tables, &mut known, entries)?)
 }
 
 /// Reads the entries of the exports file that a site has for this mount point, by the profile of its text.
@@ -411,13 +429,22 @@ fn push_entries(
 fn lines_in_force(
     alloc: Global,
     site_tables: &SiteTables,
+    known: &mut KnownNames,
     entries: Sequence<Boxed<Entry>>,
 ) -> Result<Sequence<Row>, AllocError>
-    ensures { IfOk result (λ rows. rows ≡ map (row_of site_tables.now.netgroups site_tables.now.hosts) entries) }
+    requires { AreKnown site_tables.now.netgroups site_tables.now.hosts known.old }
+    ensures rows { IfOk result (λ rows. rows ≡ map (row_of site_tables.now.netgroups site_tables.now.hosts) entries) }
+    ensures known { OnOk result (AreKnown site_tables.now.netgroups site_tables.now.hosts known.new) }
 {
     let mut rows = Sequence::from_vec(Vec::with_capacity(alloc, entries.len())?);
     for entry in entries.into_vec() {
-        rows.push(Row::of_entry(alloc, &site_tables.netgroups, &site_tables.hosts, entry)?)?;
+        rows.push(Row::by_known(
+            alloc,
+            &site_tables.netgroups,
+            &site_tables.hosts,
+            known,
+            entry,
+        )?)?;
     }
     Ok(rows)
 }

@@ -4,6 +4,7 @@ ghost use Rattle.std.specs.Prelude.{◌≡◌, ◌<◌, All, Decides, List, [], 
 ghost use Rattle.desk_policy.specs.Policy.{AreAscending, EachFileAscends, IsContent, content_of, content_of_lines, rows_of, with_rows, with_warnings};
 ghost use Rattle.desk_policy.specs.PrivatePolicy.{with_row};
 
+use crate::known_names::KnownNames;
 use crate::row::Row;
 use crate::warning::Warning;
 use desk_exports::{Boxed, Entry};
@@ -57,8 +58,9 @@ impl Policy {
         ensures { IfOk result (λ policy. policy ≡ content_of netgroups.now hosts.now filesystems entries) }
     {
         let mut rows = empty_lists(alloc, &filesystems)?;
+        let mut known = KnownNames::new(alloc);
         for (fs, entry) in entries.into_vec() {
-            let row = Row::of_entry(alloc, netgroups, hosts, entry)?;
+            let row = Row::by_known(alloc, netgroups, hosts, &mut known, entry)?;
             add_row(&mut rows, fs, row)?;
         }
         let warnings = Sequence::new(alloc);

@@ -1,13 +1,14 @@
 //! The lines in force: an entry, and the addresses for which its written names stand.
 
-ghost use Rattle.std.specs.Prelude.{◌≡◌, IfOk};
+ghost use Rattle.std.specs.Prelude.{◌≡◌, IfOk, OnOk};
 ghost use Rattle.desk_policy.specs.Names.{addresses_of_names};
+ghost use Rattle.desk_policy.specs.PrivateKnownNames.{AreKnown};
 ghost use Rattle.desk_policy.specs.Row.{names_of, row_of};
 ghost use Rattle.desk_policy.specs.Verdict.{is_directory_among, lists_here};
 
-use crate::names::{addresses_of_names, only_address};
+use crate::known_names::KnownNames;
 use crate::row_addrs::RowAddrs;
-use desk_exports::{Boxed, Clients, Entry, Names};
+use desk_exports::{Boxed, Clients, Entry};
 use desk_netgroup::Netgroups;
 use desk_tables::Hosts;
 use desk_text::Path;
@@ -36,7 +37,23 @@ impl Row {
     ) -> Result<Row, AllocError>
         ensures { IfOk result (λ row. row ≡ row_of netgroups.now hosts.now entry) }
     {
-        let addrs = addresses_of_clients(alloc, netgroups, hosts, &entry.clients)?;
+        let mut known = KnownNames::new(alloc);
+        Row::by_known(alloc, netgroups, hosts, &mut known, entry)
+    }
+
+    /// Makes the line in force of an entry, of many: it looks up only names that were not looked up for the lines before it.
+    pub(crate) fn by_known(
+        alloc: Global,
+        netgroups: &Netgroups,
+        hosts: &Hosts,
+        known: &mut KnownNames,
+        entry: Boxed<Entry>,
+    ) -> Result<Row, AllocError>
+        requires { AreKnown netgroups.now hosts.now known.old }
+        ensures row { IfOk result (λ row. row ≡ row_of netgroups.now hosts.now entry) }
+        ensures known { OnOk result (AreKnown netgroups.now hosts.now known.new) }
+    {
+        let addrs = addresses_of_clients(alloc, netgroups, hosts, known, &entry.clients)?;
         Ok(Row { entry, addrs })
     }
 
@@ -59,28 +76,15 @@ fn addresses_of_clients(
     alloc: Global,
     netgroups: &Netgroups,
     hosts: &Hosts,
+    known: &mut KnownNames,
     clients: &Clients,
 ) -> Result<RowAddrs, AllocError>
-    ensures { IfOk result (λ addresses. addresses ≡ addresses_of_names netgroups.now hosts.now (names_of clients.now)) }
+    requires { AreKnown netgroups.now hosts.now known.old }
+    ensures addresses { IfOk result (λ addresses. addresses ≡ addresses_of_names netgroups.now hosts.now (names_of clients.now)) }
+    ensures known { OnOk result (AreKnown netgroups.now hosts.now known.new) }
 {
     match clients {
-        Clients::Hosts(names) => addresses_of_hosts(alloc, netgroups, hosts, names),
+        Clients::Hosts(names) => known.addresses_of(alloc, netgroups, hosts, names),
         Clients::Net(_, _) | Clients::Net6(_) | Clients::World => Ok(RowAddrs::new()),
     }
-}
-
-/// Finds the addresses for which these names stand. An address by itself, which most lines have, needs no memory.
-fn addresses_of_hosts(
-    alloc: Global,
-    netgroups: &Netgroups,
-    hosts: &Hosts,
-    names: &Names,
-) -> Result<RowAddrs, AllocError>
-    ensures { IfOk result (λ addresses. addresses ≡ addresses_of_names netgroups.now hosts.now names.now) }
-{
-    if let Some(address) = only_address(names) {
-        return Ok(RowAddrs::of_address(address));
-    }
-    let addresses = addresses_of_names(alloc, netgroups, hosts, names)?;
-    RowAddrs::of_set(alloc, addresses)
 }

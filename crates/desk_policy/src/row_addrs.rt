@@ -5,13 +5,14 @@ ghost use Rattle.std.specs.List.Sorted.{IsStrictlyIncreasing};
 ghost use Rattle.desk_text.specs.Address.{number_of};
 ghost use Rattle.desk_text.specs.AddrSet.{is_among};
 
-use desk_exports::Boxed;
 use desk_text::{Addr, AddrSet};
 use std::alloc::{AllocError, Global};
 use std::marker::Model;
+use std::rc::Rc;
 use std::slice;
 
-/// Addresses in ascending order, each once. An address by itself, which most lines have, takes no memory elsewhere.
+/// Addresses in ascending order, each once. An address by itself, which most lines have, takes no memory elsewhere; more lie
+/// in one place for all lines that share them.
 #[derive(Drop)]
 pub struct RowAddrs {
     values: Values,
@@ -21,7 +22,7 @@ pub struct RowAddrs {
 enum Values {
     Nothing,
     One(Addr),
-    Many(Boxed<AddrSet>),
+    Many(Rc<AddrSet>),
 }
 
 impl Model for RowAddrs {
@@ -59,9 +60,26 @@ impl RowAddrs {
         let values = match set.as_slice() {
             [] => Values::Nothing,
             [address] => Values::One(*address),
-            _ => Values::Many(Boxed::new(alloc, set)?),
+            _ => Values::Many(Rc::new(alloc, set)?),
         };
         Ok(RowAddrs { values })
+    }
+
+    /// Makes the same set once more. Its addresses are not copied.
+    pub(crate) fn share(&self) -> Result<RowAddrs, AllocError>
+        ensures { IfOk result (λ addresses. addresses ≡ self.now) }
+    {
+        let values = match &self.values {
+            Values::Nothing => Values::Nothing,
+            Values::One(address) => Values::One(*address),
+            Values::Many(set) => Values::Many(set.clone()?),
+        };
+        Ok(RowAddrs { values })
+    }
+
+    /// Tests whether there is more than one address.
+    pub(crate) fn are_many(&self) -> bool {
+        matches!(&self.values, Values::Many(_))
     }
 
     /// Tests whether the address is in the set.

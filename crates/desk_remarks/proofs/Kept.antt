@@ -6,9 +6,9 @@ use Rattle.std.proofs.lemmas.List.Elements.{filter-append, filter_agree}
 use Rattle.desk_policy.specs.declared.row.Row.{Row}
 use Rattle.desk_policy.specs.declared.warning.Warning.{Warning}
 use Rattle.desk_remarks.specs.EntryRemarks.{entry_remarks}
-use Rattle.desk_remarks.specs.PrivateUnwarned.{HasLines, is_outside}
+use Rattle.desk_remarks.specs.PrivateUnwarnedLines.{HasLines, is_outside}
 use Rattle.desk_remarks.specs.Remarks.{remarks_by_line}
-use Rattle.desk_remarks.specs.Unwarned.{is_unwarned}
+use Rattle.desk_remarks.specs.UnwarnedLines.{is_unwarned}
 use Rattle.desk_remarks.specs.declared.remark.LineRemark.{LineRemark}
 
 -- what each gives is kept, or all of it

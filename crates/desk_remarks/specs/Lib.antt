@@ -1,8 +1,8 @@
 pub mod EntryRemarks
 pub mod Laws
 pub mod PrivateRemarks
-pub mod PrivateUnwarned
+pub mod PrivateUnwarnedLines
 pub mod Remark
 pub mod Remarks
-pub mod Said
-pub mod Unwarned
+pub mod SaidOfSystems
+pub mod UnwarnedLines

@@ -52,8 +52,8 @@ abbrev pub is_opinion : Remark → Bool
 is_opinion remark = (row_of remark).is_opinion
 
 -- what the line of its example is
-abbrev pub other_of : Remark → OtherLine
-other_of remark = (row_of remark).other
+abbrev pub other_line_of : Remark → OtherLine
+other_line_of remark = (row_of remark).other
 
 -- the remarks with numbers of their own, by these
 abbrev pub remarks : List Remark

@@ -10,16 +10,16 @@ use Rattle.desk_policy.specs.declared.warning.Warning.{Warning}
 use Rattle.desk_idle.specs.declared.idle.Idle.{Idle}
 use Rattle.desk_idle.specs.declared.idle.Reason.{Reason}
 use Rattle.desk_idle.specs.declared.idle.Reason.TheVariants as reason
-use Rattle.desk_server.specs.declared.repeated.RepeatedClient.{RepeatedClient}
-use Rattle.desk_server.specs.declared.wider.WiderGrant.{WiderGrant}
+use Rattle.desk_server.specs.declared.repeated_client.RepeatedClient.{RepeatedClient}
+use Rattle.desk_server.specs.declared.wider_grant.WiderGrant.{WiderGrant}
 use Rattle.desk_remarks.specs.EntryRemarks.{entry_remarks}
-use Rattle.desk_remarks.specs.Said.{AreSaid}
-use Rattle.desk_remarks.specs.Unwarned.{is_unwarned}
+use Rattle.desk_remarks.specs.SaidOfSystems.{AreSaid}
+use Rattle.desk_remarks.specs.UnwarnedLines.{is_unwarned}
 use Rattle.desk_remarks.specs.declared.remark.Example.{Example}
 use Rattle.desk_remarks.specs.declared.remark.LineRemark.{LineRemark}
 use Rattle.desk_remarks.specs.declared.remark.Remark.{Remark}
 use Rattle.desk_remarks.specs.declared.remark.Remark.TheVariants as remark
-use Rattle.desk_remarks.specs.declared.said.Said.{Said}
+use Rattle.desk_remarks.specs.declared.said_of_systems.Said.{Said}
 
 -- the remark that a line decides nothing, by its reason: another one if mountd(8) may grant by the line
 abbrev pub remark_of : Bool → Reason → Remark

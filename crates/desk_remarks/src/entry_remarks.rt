@@ -2,10 +2,10 @@
 
 ghost use Rattle.std.specs.Prelude.{◌≡◌, ◌++◌, OnOk, filter};
 ghost use Rattle.desk_remarks.specs.EntryRemarks as spec;
-ghost use Rattle.desk_remarks.specs.PrivateUnwarned.{is_outside};
+ghost use Rattle.desk_remarks.specs.PrivateUnwarnedLines.{is_outside};
 
 use crate::remark::{LineRemark, Remark};
-use crate::unwarned::push_unwarned;
+use crate::unwarned_lines::push_unwarned;
 use desk_exports::{BoxedMapping, Clients, Entry, Flavour, Mapping, Terms};
 use desk_text::Sequence;
 use std::alloc::AllocError;

@@ -5,13 +5,13 @@ ghost use Rattle.std.specs.BTreeSet.{contains};
 ghost use Rattle.std.specs.List.{flat_map};
 ghost use Rattle.std.specs.Ordering.{nat_cmp};
 ghost use Rattle.desk_remarks.specs.PrivateRemarks.{HasOthers};
-ghost use Rattle.desk_remarks.specs.PrivateUnwarned.{is_outside};
+ghost use Rattle.desk_remarks.specs.PrivateUnwarnedLines.{is_outside};
 ghost use Rattle.desk_remarks.specs.Remarks as spec;
 ghost use Rattle.desk_remarks.specs.Remarks.{idle_remarks};
 
 use crate::remark::{Example, LineRemark, Remark};
-use crate::said::Said;
-use crate::unwarned::push_unwarned;
+use crate::said_of_systems::Said;
+use crate::unwarned_lines::push_unwarned;
 use desk_idle::{Idle, Reason};
 use desk_server::WiderGrant;
 use desk_text::Sequence;

@@ -13,9 +13,9 @@ mod idle_remarks;
 pub mod laws;
 pub mod remark;
 mod remarks;
-mod said;
+mod said_of_systems;
 mod server_remarks;
-mod unwarned;
+mod unwarned_lines;
 
 pub use laws::lines_left_out_change_nothing;
 pub use remark::{Example, LineRemark, OtherLine, Remark};

@@ -133,7 +133,7 @@ impl Remark {
 
     /// Gives what the line of its example is.
     pub fn other(self) -> OtherLine
-        ensures { result ≡ spec.other_of self }
+        ensures { result ≡ spec.other_line_of self }
     {
         self.row().other
     }
@@ -143,7 +143,7 @@ impl Remark {
         ensures name { result.said.name.now ≡ spec.remark_name self }
         ensures sentence { result.said.sentence.now ≡ spec.remark_sentence self }
         ensures opinion { result.is_opinion ≡ spec.is_opinion self }
-        ensures other { result.other ≡ spec.other_of self }
+        ensures other { result.other ≡ spec.other_line_of self }
     {
         match self {
             Remark::Shadowed => Row {

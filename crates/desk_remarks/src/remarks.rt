@@ -4,15 +4,15 @@ ghost use Rattle.std.specs.Prelude.{◌≡◌, ◌++◌, IfOk, OnOk, filter, ℕ
 ghost use Rattle.std.specs.List.{flat_map};
 ghost use Rattle.desk_idle.specs.Laws.{WriteDirectories};
 ghost use Rattle.desk_remarks.specs.EntryRemarks.{entry_remarks};
-ghost use Rattle.desk_remarks.specs.PrivateUnwarned.{is_outside};
+ghost use Rattle.desk_remarks.specs.PrivateUnwarnedLines.{is_outside};
 ghost use Rattle.desk_remarks.specs.Remarks.{AreRemarks, AreRemarksOf};
 
 use crate::entry_remarks::push_entry;
 use crate::idle_remarks::push_idle;
 use crate::remark::LineRemark;
-use crate::said::said_of_each;
+use crate::said_of_systems::said_of_each;
 use crate::server_remarks::push_server;
-use crate::unwarned::warned_lines;
+use crate::unwarned_lines::warned_lines;
 use desk_index::Index;
 use desk_policy::{Policy, PolicyView, Row, Warning};
 use desk_text::{ReadError, Sequence};

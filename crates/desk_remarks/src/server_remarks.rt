@@ -7,7 +7,7 @@ ghost use Rattle.desk_remarks.specs.Remarks as spec;
 ghost use Rattle.desk_remarks.specs.Remarks.{server_remarks};
 
 use crate::remark::{Example, LineRemark, Remark};
-use crate::said::Said;
+use crate::said_of_systems::Said;
 use desk_server::{RepeatedClient, WiderGrant};
 use desk_text::{Path, Sequence};
 use std::alloc::AllocError;

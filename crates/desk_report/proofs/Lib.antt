@@ -36,3 +36,4 @@ pub mod Standing
 pub mod Stepping
 pub mod Tabled
 pub mod Told
+pub mod OpeningsFound

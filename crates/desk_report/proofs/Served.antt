@@ -12,8 +12,8 @@ use Rattle.desk_policy.specs.declared.row.Row.{Row}
 use Rattle.desk_tables.specs.FileSystems.{fs_of}
 use Rattle.desk_server.specs.RepeatedClients.{AreRepeatedClients, IsRepeatedClient, SharesClient}
 use Rattle.desk_server.specs.WiderGrants.{AreWiderGrants, IsWiderAt, IsWiderGrant}
-use Rattle.desk_server.specs.declared.repeated.RepeatedClient.{RepeatedClient}
-use Rattle.desk_server.specs.declared.wider.WiderGrant.{WiderGrant}
+use Rattle.desk_server.specs.declared.repeated_client.RepeatedClient.{RepeatedClient}
+use Rattle.desk_server.specs.declared.wider_grant.WiderGrant.{WiderGrant}
 use Rattle.desk_report.specs.Laws.{IsSound}
 use Rattle.desk_report.specs.PrivateServer.{reasons_in}
 use Rattle.desk_report.specs.Server.{AreServerFindings, AreServerReasons, IsRepeatedOf, IsWiderOf}

@@ -23,3 +23,4 @@ pub mod PrivateServer
 pub mod Lines
 pub mod PrivateLines
 pub mod Laws
+pub mod Opening

@@ -1,8 +1,8 @@
 -- What the private contracts of what the server does cite.
 use Rattle.std.specs.Prelude.{ℕ, ◌<◌, ◌==◌, List, find}
 use Rattle.std.specs.List.{AllPairs}
-use Rattle.desk_server.specs.declared.repeated.RepeatedClient.{RepeatedClient}
-use Rattle.desk_server.specs.declared.wider.WiderGrant.{WiderGrant}
+use Rattle.desk_server.specs.declared.repeated_client.RepeatedClient.{RepeatedClient}
+use Rattle.desk_server.specs.declared.wider_grant.WiderGrant.{WiderGrant}
 use Rattle.desk_report.specs.Server.{server_reasons}
 use Rattle.desk_report.specs.declared.reasons.Reason.{Reason}
 use Rattle.desk_report.specs.declared.server.ServerFindings.{ServerFindings}

@@ -1,9 +1,11 @@
 //! What a report tells of a site, as data: what clients may at the most, what each line grants and why it stands out,
-//! and which places are granted alike.
+//! which places are granted alike, and where mountd(8) grants what this desk denies.
 //!
 //! ```text
 //! let classes = classes_from(alloc, section.ranges.as_slice())?;      // 10.0.0.0-10.255.255.255 ReadOnly, ..
 //! counts_within(classes.as_slice(), net.first(), net.last()).read_only    // 16777216
+//! // with `/a/x 10.0.0.5` and `/a /a/y -network 10.0.0.0/24`:
+//! openings_of_site(alloc, &index, &root)?     // /a and /a/y: 10.0.0.5, denied since line 1 does not list it, granted by line 2
 //! ```
 #![tactic(auto)]
 
@@ -15,6 +17,7 @@ pub mod groups;
 pub mod laws;
 pub mod lines;
 mod matching;
+pub mod opening;
 pub mod reasons;
 pub mod rows;
 pub mod sections;
@@ -35,6 +38,7 @@ pub use laws::{
     tables_add_up,
 };
 pub use lines::{LineReasons, reasons_of_lines};
+pub use opening::{Opening, openings_of_site};
 pub use reasons::{Level, Reason, are_all, are_names, level_of_reasons, reasons_on};
 pub use rows::{TableRow, rows_of};
 pub use sections::{by_filesystem, sections_of_site};

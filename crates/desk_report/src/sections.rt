@@ -46,6 +46,10 @@ impl<'a, V: PolicyView> Search<Verdict<'a>> for Everything<'a, V> {
     fn find(&self, address: Addr, path: &Path) -> Option<Verdict<'a>> {
         Some(self.view.decide(address, path))
     }
+
+    fn may_find(&self, _address: Addr) -> bool {
+        true
+    }
 }
 
 /// Lists the places of all directories, given the path `/`, with all verdicts at each: by mount point in byte order itself, the

@@ -11,7 +11,7 @@ use Rattle.desk_overview.specs.Lines.{LineValue}
 use Rattle.desk_overview.proofs.Mapped.{any_mapped}
 use Rattle.desk_page_filesystem.specs.declared.gutter.Note.{Note}
 use Rattle.desk_report_filesystem.specs.Laws.{EachLineHasANote}
-use Rattle.desk_report_filesystem.specs.Notes.{line_at, note_of, note_on, not_read}
+use Rattle.desk_report_filesystem.specs.Notes.{line_at, site_line_note, logical_line_note, not_read}
 use Rattle.desk_report_filesystem.proofs.Noted.{HasNumber, line_of, note_has, number_of}
 
 or_true : (b : Bool) → (b || true) ≡ true
@@ -26,17 +26,17 @@ some_found p (x ∷ xs) = by (p x) (some_found p xs)
     by true rest = refl
     by false rest = rest
 
-some_mapped : (o : Option LineValue) → is_some (option_map note_of o) ≡ is_some o
+some_mapped : (o : Option LineValue) → is_some (option_map site_line_note o) ≡ is_some o
 some_mapped None = refl
 some_mapped (Some line) = refl
 
 -- a line has a note if it takes no part, and if there is a line with its number
-has_note : (lines : List LineValue) (line : LogicalLine) → (takes_part line ≡ true → is_some (line_at lines line.number) ≡ true) → is_some (note_on lines line) ≡ true
+has_note : (lines : List LineValue) (line : LogicalLine) → (takes_part line ≡ true → is_some (line_at lines line.number) ≡ true) → is_some (logical_line_note lines line) ≡ true
 has_note lines line some =
-    elim (cases_Bool (takes_part line)) as (λ _. is_some (note_on lines line) ≡ true) [
-      | inl takes ↦ ap (λ b. is_some (cond b (option_map note_of (line_at lines line.number)) (Some (not_read line.number)))) takes
+    elim (cases_Bool (takes_part line)) as (λ _. is_some (logical_line_note lines line) ≡ true) [
+      | inl takes ↦ ap (λ b. is_some (cond b (option_map site_line_note (line_at lines line.number)) (Some (not_read line.number)))) takes
           ∙ some_mapped (line_at lines line.number) ∙ some takes
-      | inr not ↦ ap (λ b. is_some (cond b (option_map note_of (line_at lines line.number)) (Some (not_read line.number)))) not
+      | inr not ↦ ap (λ b. is_some (cond b (option_map site_line_note (line_at lines line.number)) (Some (not_read line.number)))) not
     ]
 
 -- a line that takes part is one of those that do
@@ -64,14 +64,14 @@ module _ (lines : List LineValue) (all : List LogicalLine) (same : map number_in
       ∙ ap (list_any (λ m. m == line.number)) (same ∙ ap (λ xs. map number_of (filter takes_part xs)) (sym is))
       ∙ there before ls line takes
 
-  pub each_noted : (ls before : List LogicalLine) → before ++ ls ≡ all → map line_of (filter_map (note_on lines) ls) ≡ map number_of ls
+  pub each_noted : (ls before : List LogicalLine) → before ++ ls ≡ all → map line_of (filter_map (logical_line_note lines) ls) ≡ map number_of ls
   each_noted [] before is = refl
   each_noted (line ∷ ls) before is =
-      by (note_on lines line) (note_has lines line) (has_note lines line (some_line before ls line is))
+      by (logical_line_note lines line) (note_has lines line) (has_note lines line (some_line before ls line is))
       (each_noted ls (before ++ line ∷ []) (append_assoc before (line ∷ []) ls ∙ is))
     where
       found : List Note
-      found = filter_map (note_on lines) ls
+      found = filter_map (logical_line_note lines) ls
 
       by : (o : Option Note) → HasNumber line.number o → is_some o ≡ true → map line_of found ≡ map number_of ls → map line_of (cons_option o found) ≡ line.number ∷ map number_of ls
       by None has some rest = cc

@@ -11,7 +11,7 @@ use Rattle.desk_exports.proofs.AscendingEntries.{found_ascend}
 use Rattle.desk_overview.specs.Lines.{LineValue, line_value}
 use Rattle.desk_overview.specs.declared.lines.SiteLine.{SiteLine}
 use Rattle.desk_page_filesystem.specs.declared.gutter.Note.{Note}
-use Rattle.desk_report_filesystem.specs.Notes.{LinesAscend, NotesAscend, line_at, note_of, note_on, notes_of, not_read}
+use Rattle.desk_report_filesystem.specs.Notes.{LinesAscend, NotesAscend, line_at, site_line_note, logical_line_note, notes_of, not_read}
 
 first_of_option : {X : Type 0} (o : Option X) (xs : List X) → cons_option o xs ≡ option_to_list o ++ xs
 first_of_option None xs = refl
@@ -36,19 +36,19 @@ abbrev pub HasNumber : ℕ → Option Note → Type 0
 HasNumber number None = Unit {0}
 HasNumber number (Some note) = note.line ≡ number
 
-line_has : (lines : List LineValue) (number : ℕ) → HasNumber number (option_map note_of (line_at lines number))
+line_has : (lines : List LineValue) (number : ℕ) → HasNumber number (option_map site_line_note (line_at lines number))
 line_has [] number = tt
 line_has (line ∷ lines) number =
-    elim (cases_Bool (line.row.entry.line == number)) as (λ _. HasNumber number (option_map note_of (line_at (line ∷ lines) number))) [
-      | inl same ↦ subst (HasNumber number) (sym (ap (λ b. option_map note_of (cond b (Some line) (line_at lines number))) same)) (eqb-true line.row.entry.line number same)
-      | inr apart ↦ subst (HasNumber number) (sym (ap (λ b. option_map note_of (cond b (Some line) (line_at lines number))) apart)) (line_has lines number)
+    elim (cases_Bool (line.row.entry.line == number)) as (λ _. HasNumber number (option_map site_line_note (line_at (line ∷ lines) number))) [
+      | inl same ↦ subst (HasNumber number) (sym (ap (λ b. option_map site_line_note (cond b (Some line) (line_at lines number))) same)) (eqb-true line.row.entry.line number same)
+      | inr apart ↦ subst (HasNumber number) (sym (ap (λ b. option_map site_line_note (cond b (Some line) (line_at lines number))) apart)) (line_has lines number)
     ]
 
-pub note_has : (lines : List LineValue) (line : LogicalLine) → HasNumber line.number (note_on lines line)
+pub note_has : (lines : List LineValue) (line : LogicalLine) → HasNumber line.number (logical_line_note lines line)
 note_has lines line =
-    elim (cases_Bool (takes_part line)) as (λ _. HasNumber line.number (note_on lines line)) [
-      | inl takes ↦ subst (HasNumber line.number) (sym (ap (λ b. cond b (option_map note_of (line_at lines line.number)) (Some (not_read line.number))) takes)) (line_has lines line.number)
-      | inr not ↦ subst (HasNumber line.number) (sym (ap (λ b. cond b (option_map note_of (line_at lines line.number)) (Some (not_read line.number))) not)) refl
+    elim (cases_Bool (takes_part line)) as (λ _. HasNumber line.number (logical_line_note lines line)) [
+      | inl takes ↦ subst (HasNumber line.number) (sym (ap (λ b. cond b (option_map site_line_note (line_at lines line.number)) (Some (not_read line.number))) takes)) (line_has lines line.number)
+      | inr not ↦ subst (HasNumber line.number) (sym (ap (λ b. cond b (option_map site_line_note (line_at lines line.number)) (Some (not_read line.number))) not)) refl
     ]
 
 abbrev pub number_of : LogicalLine → ℕ
@@ -57,15 +57,15 @@ number_of line = line.number
 abbrev pub line_of : Note → ℕ
 line_of note = note.line
 
-numbers : (lines : List LineValue) (all : List LogicalLine) → map line_of (filter_map (note_on lines) all) ≡ map number_of (filter (λ line. is_some (note_on lines line)) all)
+numbers : (lines : List LineValue) (all : List LogicalLine) → map line_of (filter_map (logical_line_note lines) all) ≡ map number_of (filter (λ line. is_some (logical_line_note lines line)) all)
 numbers lines [] = refl
-numbers lines (line ∷ all) = by (note_on lines line) (note_has lines line) (numbers lines all)
+numbers lines (line ∷ all) = by (logical_line_note lines line) (note_has lines line) (numbers lines all)
   where
     found : List Note
-    found = filter_map (note_on lines) all
+    found = filter_map (logical_line_note lines) all
 
     kept : List LogicalLine
-    kept = filter (λ line. is_some (note_on lines line)) all
+    kept = filter (λ line. is_some (logical_line_note lines line)) all
 
     by : (o : Option Note) → HasNumber line.number o → map line_of found ≡ map number_of kept → map line_of (cons_option o found) ≡ map number_of (cond (is_some o) (line ∷ kept) kept)
     by None has rest = rest
@@ -74,7 +74,7 @@ numbers lines (line ∷ all) = by (note_on lines line) (note_has lines line) (nu
 -- notes ascend as the lines do
 pub notes_ascend : (lines : List LineValue) (text : List ℕ) (notes : List Note) → notes ≡ notes_of lines text → AreNumberedUp (logical_lines text) → NotesAscend notes
 notes_ascend lines text notes are up =
-    found_ascend line_of (λ line. is_some (note_on lines line)) notes (logical_lines text) (ap (map line_of) are ∙ numbers lines (logical_lines text)) up
+    found_ascend line_of (λ line. is_some (logical_line_note lines line)) notes (logical_lines text) (ap (map line_of) are ∙ numbers lines (logical_lines text)) up
 
 -- ---- the note on the line with a number
 find_mapped : {X Y : Type 0} (f : X → Y) (p : Y → Bool) (xs : List X) → find p (map f xs) ≡ option_map f (find (λ x. p (f x)) xs)
@@ -89,8 +89,8 @@ abbrev pub number_on : SiteLine → ℕ
 number_on line = line.row.now.entry.line
 
 pub note_found : (lines : List SiteLine) (number : ℕ) (o : Option SiteLine) → find (λ line. number_on line == number) lines ≡ o
-    → option_map note_of (line_at (map line_value lines) number) ≡ option_map note_of (option_map line_value o)
-note_found lines number o is = ap (option_map note_of) (find_mapped line_value (λ line. line.row.entry.line == number) lines ∙ ap (option_map line_value) is)
+    → option_map site_line_note (line_at (map line_value lines) number) ≡ option_map site_line_note (option_map line_value o)
+note_found lines number o is = ap (option_map site_line_note) (find_mapped line_value (λ line. line.row.entry.line == number) lines ∙ ap (option_map line_value) is)
 
 -- lines ascend as they are kept
 pub kept_ascend : (lines : List SiteLine) → LinesAscend (map line_value lines) → AllPairs (λ line later. number_on line < number_on later) lines

@@ -36,8 +36,8 @@ said_for line [] = granted line
 said_for line (reason ∷ others) = said_by line reason
 
 -- what is said of a line of the file system
-abbrev pub note_of : LineValue → Note
-note_of line = record { line = line.row.entry.line; said = said_for line line.reasons; stands_out = stands_out line }
+abbrev pub site_line_note : LineValue → Note
+site_line_note line = record { line = line.row.entry.line; said = said_for line line.reasons; stands_out = stands_out line }
 
 -- that a line is not read
 abbrev pub not_read : ℕ → Note
@@ -49,12 +49,12 @@ line_at lines number = find (λ line. line.row.entry.line == number) lines
 
 -- what is said of a logical line, by the number of its first physical line: one that takes no part, as one of `V4:`, is not
 -- read
-abbrev pub note_on : List LineValue → LogicalLine → Option Note
-note_on lines line = if takes_part line then option_map note_of (line_at lines line.number) else Some (not_read line.number)
+abbrev pub logical_line_note : List LineValue → LogicalLine → Option Note
+logical_line_note lines line = if takes_part line then option_map site_line_note (line_at lines line.number) else Some (not_read line.number)
 
 -- The notes on a text, given the lines of the file system: if these are the lines of the text, one on each logical line, in their order.
 abbrev pub notes_of : List LineValue → List ℕ → List Note
-notes_of lines text = filter_map (note_on lines) (logical_lines text)
+notes_of lines text = filter_map (logical_line_note lines) (logical_lines text)
 
 -- lines of a file system in the order of their numbers, each number once
 abbrev pub LinesAscend : List LineValue → Type 0

@@ -7,7 +7,7 @@ use Rattle.desk_who.specs.Runs.{Run}
 use Rattle.desk_report.specs.declared.class.Class.{Class}
 use Rattle.desk_maps.specs.Maps.{is_listed}
 use Rattle.desk_maps.specs.Order.{AreOrdered}
-use Rattle.desk_maps.specs.Written.{written_networks}
+use Rattle.desk_maps.specs.LineNetworks.{written_networks}
 use Rattle.desk_page.specs.Ranges.{Ends}
 use Rattle.desk_page_filesystem.specs.declared.shares.Share.{Share}
 use Rattle.desk_page_filesystem.specs.declared.shares.Space.{Space}

@@ -39,25 +39,25 @@ fn push_note(
     notes: &mut Vec<Note>,
 ) -> Result<(), AllocError>
     requires { LinesAscend (map line_value lines.now) }
-    ensures { OnOk result (notes.new.items ≡ notes.old.items ++ option_to_list (spec.note_on (map line_value lines.now) line.now)) }
+    ensures { OnOk result (notes.new.items ≡ notes.old.items ++ option_to_list (spec.logical_line_note (map line_value lines.now) line.now)) }
 {
-    if let Some(note) = note_on(alloc, lines, line)? {
+    if let Some(note) = logical_line_note(alloc, lines, line)? {
         notes.push(note)?;
     }
     Ok(())
 }
 
 /// Says what a logical line does: what the line of its number does, if it takes part, and else that it is not read.
-fn note_on(
+fn logical_line_note(
     alloc: Global,
     lines: &[SiteLine<'_>],
     line: &Line<'_>,
 ) -> Result<Option<Note>, AllocError>
     requires { LinesAscend (map line_value lines.now) }
-    ensures { IfOk result (λ note. note ≡ spec.note_on (map line_value lines.now) line.now) }
+    ensures { IfOk result (λ note. note ≡ spec.logical_line_note (map line_value lines.now) line.now) }
 {
     if takes_part(alloc, line)? {
-        return Ok(note_at(lines, line.number()));
+        return Ok(numbered_line_note(lines, line.number()));
     }
     Ok(Some(not_read(line.number())))
 }
@@ -73,13 +73,13 @@ fn takes_part(alloc: Global, line: &Line<'_>) -> Result<bool, AllocError>
 }
 
 /// Says what the line with a number does, if there is one, by a binary search.
-fn note_at(lines: &[SiteLine<'_>], number: u32) -> Option<Note>
+fn numbered_line_note(lines: &[SiteLine<'_>], number: u32) -> Option<Note>
     requires { LinesAscend (map line_value lines.now) }
-    ensures { result ≡ option_map spec.note_of (spec.line_at (map line_value lines.now) number) }
+    ensures { result ≡ option_map spec.site_line_note (spec.line_at (map line_value lines.now) number) }
 {
     let place = lines.partition_point(|line| line.row.entry.line < number);
     match lines.get(place) {
-        Some(line) if line.row.entry.line == number => Some(note_of(line)),
+        Some(line) if line.row.entry.line == number => Some(site_line_note(line)),
         _ => None,
     }
 }
@@ -96,8 +96,8 @@ fn not_read(number: u32) -> Note
 }
 
 /// Says what a line does.
-fn note_of(line: &SiteLine<'_>) -> Note
-    ensures { result ≡ spec.note_of (line_value line.now) }
+fn site_line_note(line: &SiteLine<'_>) -> Note
+    ensures { result ≡ spec.site_line_note (line_value line.now) }
 {
     Note {
         line: line.row.entry.line,

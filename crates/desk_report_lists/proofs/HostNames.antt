@@ -5,8 +5,8 @@ use Rattle.std.proofs.lemmas.List.Sorted.{Contains-permutation, IsPermutation-ma
 use Rattle.desk_netgroup.specs.declared.group_line.GroupLine.{GroupLine}
 use Rattle.desk_policy.specs.Policy.{Content}
 use Rattle.desk_report_lists.specs.Hosts.{AreHostNames}
-use Rattle.desk_report_lists.specs.Written.{WrittenValue, name_key, written_names, written_value}
-use Rattle.desk_report_lists.specs.declared.written.WrittenName.{WrittenName}
+use Rattle.desk_report_lists.specs.NameIndex.{WrittenValue, name_key, written_names, written_value}
+use Rattle.desk_report_lists.specs.declared.name_index.WrittenName.{WrittenName}
 use Rattle.desk_report_lists.proofs.Mapped.{map_twice}
 
 abbrev name_of : WrittenValue → List ℕ

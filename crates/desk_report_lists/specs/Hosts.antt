@@ -15,7 +15,7 @@ use Rattle.desk_page_lists.specs.declared.names.HostRow.{HostRow}
 use Rattle.desk_policy.specs.Policy.{Content}
 use Rattle.desk_policy.specs.declared.parsing.SiteTables.{SiteTables}
 use Rattle.desk_report_lists.specs.Uses.{NameValue, facts_of, mention_value}
-use Rattle.desk_report_lists.specs.Written.{written_names}
+use Rattle.desk_report_lists.specs.NameIndex.{written_names}
 
 -- a row of the table by value: a name, what it is, and what is told of it
 pub record RowValue : Type 0 where

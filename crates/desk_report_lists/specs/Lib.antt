@@ -11,4 +11,4 @@ pub mod Ranges
 pub mod State
 pub mod Uses
 pub mod Warnings
-pub mod Written
+pub mod NameIndex

@@ -10,7 +10,7 @@ use Rattle.desk_policy.specs.Names.{addresses_of_names}
 use Rattle.desk_policy.specs.Policy.{Content}
 use Rattle.desk_policy.specs.declared.parsing.SiteTables.{SiteTables}
 use Rattle.desk_report_lists.specs.Ranges.{ranges_of}
-use Rattle.desk_report_lists.specs.Written.{WrittenValue, lines_with}
+use Rattle.desk_report_lists.specs.NameIndex.{WrittenValue, lines_with}
 
 -- what a cell names, by value: a file system, a line of one, a host, or a netgroup
 pub data MentionValue : Type 0 where

@@ -4,10 +4,10 @@ ghost use Rattle.std.specs.Prelude.{◌≡◌, ◌++◌, IfOk, OnOk, filter, map
 ghost use Rattle.std.specs.String.{string_bytes};
 ghost use Rattle.desk_report_lists.specs.Hosts as spec;
 ghost use Rattle.desk_report_lists.specs.PrivateHosts.{facts_row, host_if};
-ghost use Rattle.desk_report_lists.specs.Written.{IsIndexOf, name_key};
+ghost use Rattle.desk_report_lists.specs.NameIndex.{IsIndexOf, name_key};
 
+use crate::name_index::WrittenName;
 use crate::uses::{NameFacts, facts_of};
-use crate::written::WrittenName;
 use desk_netgroup::Netgroups;
 use desk_page_lists::{HostKind, HostRow, push_hosts};
 use desk_policy::{Policy, SiteTables};

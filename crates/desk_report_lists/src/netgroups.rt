@@ -5,10 +5,10 @@ ghost use Rattle.std.specs.String.{string_bytes};
 ghost use Rattle.desk_report_lists.specs.Netgroups as spec;
 ghost use Rattle.desk_report_lists.specs.PrivateNetgroups.{facts_row};
 ghost use Rattle.desk_report_lists.specs.Uses.{mention_value};
-ghost use Rattle.desk_report_lists.specs.Written.{IsIndexOf};
+ghost use Rattle.desk_report_lists.specs.NameIndex.{IsIndexOf};
 
+use crate::name_index::WrittenName;
 use crate::uses::{NameFacts, facts_of};
-use crate::written::WrittenName;
 use desk_netgroup::{GroupLine, Member, Netgroups};
 use desk_page_lists::{Mention, NetgroupRow, push_netgroups};
 use desk_policy::{Policy, SiteTables};

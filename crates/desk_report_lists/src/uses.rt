@@ -5,10 +5,10 @@ ghost use Rattle.std.specs.List.{dedup};
 ghost use Rattle.desk_report_lists.specs.Uses as spec;
 ghost use Rattle.desk_report_lists.specs.Uses.{mention_value};
 ghost use Rattle.desk_report_lists.specs.PrivateUses.{facts_value};
-ghost use Rattle.desk_report_lists.specs.Written.{AreByName, IsIndexOf, is_of_name, same_line, written_value};
+ghost use Rattle.desk_report_lists.specs.NameIndex.{AreByName, IsIndexOf, is_of_name, same_line, written_value};
 
+use crate::name_index::{WrittenName, lines_with};
 use crate::ranges::ranges_of;
-use crate::written::{WrittenName, lines_with};
 use desk_page::Span;
 use desk_page_lists::Mention;
 use desk_policy::{Policy, SiteTables, addresses_of};

@@ -16,7 +16,7 @@ use Rattle.desk_report.specs.declared.lines.LineReasons.{LineReasons}
 use Rattle.desk_report.specs.declared.systems.FileSystemReport.{FileSystemReport}
 use Rattle.desk_deciding.specs.Deciding.{AreDecidedFor, AreInLineOrder, AreSectionsOf, DecidedFor}
 use Rattle.desk_page_maps.specs.Figures.{GainsOverviewMaps}
-use Rattle.desk_report_page.specs.Found.{AreDecidedOfSite, AreSmallMaps}
+use Rattle.desk_report_page.specs.FoundInSite.{AreDecidedOfSite, AreSmallMaps}
 
 -- so many items, of each of which this holds at its place
 pub record AreFirst {X : Type 0} (Is : ℕ → X → Type 0) (default : X) (count : ℕ) (items : List X) : Type 0 where

@@ -17,12 +17,12 @@ use Rattle.desk_page_filesystem.specs.declared.parts.ProposalPart.{ProposalPart}
 use Rattle.desk_report_filesystem.specs.Parts.{IsReadableHead, Tells}
 use Rattle.desk_report_filesystem.specs.declared.parts.FileSystemData.{FileSystemData}
 use Rattle.desk_report_places.specs.Groups.{AreListedGroups, listed_value}
-use Rattle.desk_report_page.specs.Each.{AreFindingsIn, AreTextsFrom, IsSystemText, TellingValue, TellsIfAny, head_in, waiting_for}
+use Rattle.desk_report_page.specs.SystemParts.{AreFindingsIn, AreTextsFrom, IsSystemText, TellingValue, TellsIfAny, head_in, waiting_for}
 use Rattle.desk_report_page.specs.Pieces.{Gains}
-use Rattle.desk_report_page.specs.PrivateEach.{CanWait, IsMadeOf, IsOfSite, IsSystemOf, IsTextFor, IsTextWith}
-use Rattle.desk_report_page.specs.Waiting.{Waiting, waiting_value}
-use Rattle.desk_report_page.specs.declared.each.ToldSystem.{ToldSystem}
-use Rattle.desk_report_page.specs.declared.waiting.Waiting.{Waiting as LentWaiting}
+use Rattle.desk_report_page.specs.PrivateSystemParts.{CanWait, IsMadeOf, IsOfSite, IsSystemOf, IsTextFor, IsTextWith}
+use Rattle.desk_report_page.specs.WaitingProposals.{Waiting, waiting_value}
+use Rattle.desk_report_page.specs.declared.system_parts.ToldSystem.{ToldSystem}
+use Rattle.desk_report_page.specs.declared.waiting_proposals.Waiting.{Waiting as LentWaiting}
 use Rattle.desk_report_page.proofs.Finding.{found_is, found_mapped}
 
 module _ (telling : TellingValue) where

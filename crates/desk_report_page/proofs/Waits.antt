@@ -12,12 +12,12 @@ use Rattle.desk_core.specs.Head.{Newest, newest_in}
 use Rattle.desk_core.specs.Site.{HasLinesOf, IsInForce, policy_of, policy_read, site_in}
 use Rattle.desk_core.specs.declared.head.Head.{Head}
 use Rattle.desk_core.specs.declared.proposal.Proposal.{Proposal}
-use Rattle.desk_openings.specs.Opening.{AreOpenings}
-use Rattle.desk_report_page.specs.Found.{Source}
+use Rattle.desk_report.specs.Opening.{AreOpenings}
+use Rattle.desk_report_page.specs.FoundInSite.{Source}
 use Rattle.desk_report_page.specs.Given.{HasReadableText}
 use Rattle.desk_report_page.specs.Page.{IsSource}
-use Rattle.desk_report_page.specs.Waiting.{AreWaiting, IsOutcomeOf, IsWaiting, Waiting, is_for_listed}
-use Rattle.desk_report_page.specs.PrivateForeseen.{AreForeseen, GainsForeseen, IsRead}
+use Rattle.desk_report_page.specs.WaitingProposals.{AreWaiting, IsOutcomeOf, IsWaiting, Waiting, is_for_listed}
+use Rattle.desk_report_page.specs.PrivateForeseenSites.{AreForeseen, GainsForeseen, IsRead}
 
 -- one more is foreseen
 pub one_more : (newest : Newest) (content : Content) (proposals : List Proposal) (proposal : Proposal) (old new : List Waiting)

@@ -2,9 +2,9 @@
 use Rattle.std.specs.Prelude.{map}
 use Rattle.desk_text.specs.Lines.{IsReadable}
 use Rattle.desk_policy.specs.Policy.{Content}
-use Rattle.desk_openings.specs.Opening.{opening_section}
-use Rattle.desk_report_page.specs.Found.{Source}
-use Rattle.desk_report_page.specs.Waiting.{Waiting, waiting_value}
+use Rattle.desk_report.specs.Opening.{opening_section}
+use Rattle.desk_report_page.specs.FoundInSite.{Source}
+use Rattle.desk_report_page.specs.WaitingProposals.{Waiting, waiting_value}
 use Rattle.desk_report_page.specs.declared.page.ReportedSite.{ReportedSite}
 
 -- what a page is made of

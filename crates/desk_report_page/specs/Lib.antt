@@ -1,10 +1,10 @@
 pub mod Pieces
-pub mod Waiting
-pub mod Found
-pub mod Each
+pub mod WaitingProposals
+pub mod FoundInSite
+pub mod SystemParts
 pub mod Page
 pub mod Given
-pub mod PrivateEach
-pub mod PrivateForeseen
+pub mod PrivateSystemParts
+pub mod PrivateForeseenSites
 pub mod PrivatePage
 pub mod PrivateSections

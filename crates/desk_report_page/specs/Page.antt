@@ -9,8 +9,8 @@ use Rattle.desk_core.specs.Site.{site_in}
 use Rattle.desk_core.specs.Standing.{Standing, standing_in}
 use Rattle.desk_core.specs.declared.head.Head.{Head}
 use Rattle.desk_core.specs.declared.proposal.Proposal.{Proposal}
-use Rattle.desk_openings.specs.Opening.{AreOpenings}
-use Rattle.desk_page_lists.specs.Again.{make_again}
+use Rattle.desk_report.specs.Opening.{AreOpenings}
+use Rattle.desk_page_lists.specs.MakingAgain.{make_again}
 use Rattle.desk_page_lists.specs.Reading.{how_to_read}
 use Rattle.desk_page_maps.specs.Shapes.{shapes}
 use Rattle.desk_page_networks.specs.Table.{GainsNetworks}
@@ -32,10 +32,10 @@ use Rattle.desk_report_summary.specs.FindingRows.{AreFindingRows, findings_text}
 use Rattle.desk_report_summary.specs.FlavoursRows.{AreFlavoursRows}
 use Rattle.desk_report_summary.specs.KeyFigures.{AreKeyFigures}
 use Rattle.desk_report_summary.specs.SystemRows.{AreOverviewRows, SiteParts, overview_text}
-use Rattle.desk_report_page.specs.Each.{AreSystemTexts}
-use Rattle.desk_report_page.specs.Found.{Found, IsFound, Source}
+use Rattle.desk_report_page.specs.SystemParts.{AreSystemTexts}
+use Rattle.desk_report_page.specs.FoundInSite.{Found, IsFound, Source}
 use Rattle.desk_report_page.specs.Pieces.{Just, Then, Told}
-use Rattle.desk_report_page.specs.Waiting.{AreWaiting}
+use Rattle.desk_report_page.specs.WaitingProposals.{AreWaiting}
 
 -- the header: the word for the database, how many revisions and files it has, and the digest of its state
 pub record IsHeader (heads : List Head) (proposals : List Proposal) (word : List ℕ) (told : Header) : Type 0 where

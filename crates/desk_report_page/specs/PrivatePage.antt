@@ -7,8 +7,8 @@ use Rattle.desk_deciding.specs.Deciding.{AreInLineOrder, DecidedFor, deciding_va
 use Rattle.desk_overview.specs.Lines.{AreReasonsOfSite, LineValue}
 use Rattle.desk_report.specs.Laws.{IsSoundSite}
 use Rattle.desk_report.specs.Systems.{SystemValue}
-use Rattle.desk_report_page.specs.Each.{TellingValue}
-use Rattle.desk_report_page.specs.Found.{AreDecidedOfSite, AreSmallMaps, Found, Source}
+use Rattle.desk_report_page.specs.SystemParts.{TellingValue}
+use Rattle.desk_report_page.specs.FoundInSite.{AreDecidedOfSite, AreSmallMaps, Found, Source}
 use Rattle.desk_report_page.specs.Given.{HasReadableText}
 use Rattle.desk_report_page.specs.Page.{IsSource}
 use Rattle.desk_report_page.specs.declared.page.FoundOfSite.{FoundOfSite}

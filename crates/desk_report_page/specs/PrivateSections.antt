@@ -5,7 +5,7 @@ use Rattle.desk_deciding.specs.Deciding.{AreInLineOrder, deciding_value}
 use Rattle.desk_overview.specs.Lines.{line_value}
 use Rattle.desk_report.specs.Laws.{IsSoundSite}
 use Rattle.desk_report.specs.Systems.{system_value}
-use Rattle.desk_report_page.specs.Found.{Found, IsFound}
+use Rattle.desk_report_page.specs.FoundInSite.{Found, IsFound}
 use Rattle.desk_report_page.specs.declared.sections.Parts.{Parts}
 
 -- what is found of a site, by value

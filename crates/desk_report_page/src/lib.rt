@@ -6,14 +6,14 @@
 //! ```
 #![tactic(auto)]
 
-mod each;
-mod foreseen;
-mod found;
-pub mod of_state;
+mod foreseen_sites;
+mod found_in_site;
 pub mod page;
 mod sections;
-pub mod waiting;
+pub mod state_page;
+mod system_parts;
+pub mod waiting_proposals;
 
-pub use of_state::page_of_state;
 pub use page::{ReportedSite, report_page};
-pub use waiting::{Outcome, Waiting};
+pub use state_page::page_of_state;
+pub use waiting_proposals::{Outcome, Waiting};

@@ -10,29 +10,28 @@ ghost use Rattle.desk_overview.specs.Server.{AreServerOfSite};
 ghost use Rattle.desk_page_summary.specs.declared.sections.Section.TheVariants.{Each};
 ghost use Rattle.desk_report.specs.Laws.{IsSoundSite};
 ghost use Rattle.desk_report.specs.Systems.{AreSystems, system_value};
-ghost use Rattle.desk_report_page.specs.Each.{AreTextsFrom};
-ghost use Rattle.desk_report_page.specs.Found.{IsFound};
+ghost use Rattle.desk_report_page.specs.SystemParts.{AreTextsFrom};
+ghost use Rattle.desk_report_page.specs.FoundInSite.{IsFound};
 ghost use Rattle.desk_report_page.specs.Given.{HasReadableText, site_source};
 ghost use Rattle.desk_report_page.specs.Page as spec;
 ghost use Rattle.desk_report_page.specs.Page.{InSection, IsPageOf, IsSource};
 ghost use Rattle.desk_report_page.specs.Pieces.{Gains};
-ghost use Rattle.desk_report_page.specs.PrivateEach.{IsOfSite, telling_value};
+ghost use Rattle.desk_report_page.specs.PrivateSystemParts.{IsOfSite, telling_value};
 ghost use Rattle.desk_report_page.specs.PrivatePage.{IsFoundOfSite, IsGiven, found_by, told_of};
 ghost use Rattle.desk_report_page.specs.PrivateSections.{CanBeWritten, parts_found};
 
-use crate::each::{Telling, push_systems};
-use crate::found::{deciding_of_site, small_maps};
+use crate::found_in_site::{deciding_of_site, small_maps};
 use crate::sections::{Listed, Parts, push_back, push_front};
-use crate::waiting::Waiting;
+use crate::system_parts::{Telling, push_systems};
+use crate::waiting_proposals::Waiting;
 use desk_core::{Head, Proposal};
 use desk_deciding::Deciding;
 use desk_impact::Section as PlaceSection;
-use desk_openings::Opening;
 use desk_overview::{SiteLine, lines_of_site, reasons_of_site};
 use desk_page_summary::{Section, push_section_end, push_section_start};
 use desk_policy::{Policy, PolicyView, SiteTables};
 use desk_report::{
-    FileSystemReport, LineReasons, ServerFindings, sites_are_sound, systems_of_site,
+    FileSystemReport, LineReasons, Opening, ServerFindings, sites_are_sound, systems_of_site,
 };
 use desk_text::{Path, Sequence};
 use std::alloc::{AllocError, Global};
@@ -79,13 +78,13 @@ pub fn report_page<V: PolicyView>(
 {
     sites_are_sound(site.view.policy());
     match Path::read(alloc, "/") {
-        Ok(root) => page_from(alloc, database, &site, &root),
+        Ok(root) => page_of_sound_site(alloc, database, &site, &root),
         Err(_) => Err(AllocError),
     }
 }
 
 /// Makes the page of a sound site, given the path `/`.
-fn page_from<V: PolicyView>(
+fn page_of_sound_site<V: PolicyView>(
     alloc: Global,
     database: &str,
     site: &ReportedSite<'_, V>,
@@ -97,11 +96,11 @@ fn page_from<V: PolicyView>(
     ensures { IfOk result (λ page. IsPageOf site.now.heads.now site.now.proposals.now database.now (string_bytes page)) }
 {
     let systems = systems_of_site(alloc, site.view, root)?;
-    page_of(alloc, database, site, systems)
+    page_with_systems(alloc, database, site, systems)
 }
 
 /// Makes the page, given what is found of each file system.
-fn page_of<V: PolicyView>(
+fn page_with_systems<V: PolicyView>(
     alloc: Global,
     database: &str,
     site: &ReportedSite<'_, V>,
@@ -121,11 +120,11 @@ fn page_of<V: PolicyView>(
         deciding: deciding.as_slice(),
         maps: maps.as_slice(),
     };
-    page_with(alloc, database, site, &found, systems)
+    page_with_reasons(alloc, database, site, &found, systems)
 }
 
 /// Makes the page, given what is found beside the lines.
-fn page_with<V: PolicyView>(
+fn page_with_reasons<V: PolicyView>(
     alloc: Global,
     database: &str,
     site: &ReportedSite<'_, V>,
@@ -139,11 +138,11 @@ fn page_with<V: PolicyView>(
 {
     let policy = site.view.policy();
     let lines = lines_of_site(alloc, policy, systems.as_slice(), found.reasons)?;
-    page_by(alloc, database, site, found, lines.as_slice(), systems)
+    page_with_lines(alloc, database, site, found, lines.as_slice(), systems)
 }
 
 /// Makes the page, given all that is found.
-fn page_by<V: PolicyView>(
+fn page_with_lines<V: PolicyView>(
     alloc: Global,
     database: &str,
     site: &ReportedSite<'_, V>,

@@ -4,7 +4,7 @@ use Rattle.std.specs.List.{flat_map, list_any}
 use Rattle.std.specs.String.{string_bytes}
 use Rattle.desk_impact.specs.Places.{Directory, Others, Place}
 use Rattle.desk_impact.specs.Sections.{PlaceBreaches, PlaceFound}
-use Rattle.desk_openings.specs.declared.opening.Opening.{Opening}
+use Rattle.desk_report.specs.declared.opening.Opening.{Opening}
 use Rattle.desk_report.specs.Groups.{AreSectionGroups, group_value}
 use Rattle.desk_report.specs.Tables.{IsTableOf, TableValue, table_value}
 use Rattle.desk_page_places.specs.declared.groups.GroupPart.{GroupPart}

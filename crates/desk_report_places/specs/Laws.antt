@@ -3,7 +3,7 @@ use Rattle.std.specs.Prelude.{◌≡◌, ℕ, ◌+◌, ◌<◌, ◌||◌, List, 
 use Rattle.desk_tables.specs.FileSystems.{AreAscending}
 use Rattle.desk_policy.specs.Policy.{Content, with_lines_of}
 use Rattle.desk_impact.specs.Sections.{PlaceBreaches, PlaceFound}
-use Rattle.desk_openings.specs.declared.opening.Opening.{Opening}
+use Rattle.desk_report.specs.declared.opening.Opening.{Opening}
 use Rattle.desk_report_places.specs.Changes.{AreChangesIn, ChangesValue}
 use Rattle.desk_report_places.specs.Groups.{AreListedGroups, ListedValue, directories_among, has_others, places_in, places_of}
 

@@ -9,7 +9,7 @@ use Rattle.desk_text.specs.Path.{same_path}
 use Rattle.desk_who.specs.Runs.{Run}
 use Rattle.desk_impact.specs.Places.{Directory, Others, Place}
 use Rattle.desk_impact.specs.Sections.{PlaceBreaches, PlaceFound}
-use Rattle.desk_openings.specs.declared.opening.Opening.{Opening}
+use Rattle.desk_report.specs.declared.opening.Opening.{Opening}
 use Rattle.desk_page_places.specs.Openings.{OpeningValue, opening_value}
 use Rattle.desk_page_places.specs.declared.openings.PlaceOpening.{PlaceOpening}
 

@@ -2,20 +2,19 @@
 
 ghost use Rattle.std.specs.Prelude.{◌≡◌, All, IfOk, map};
 ghost use Rattle.desk_impact.specs.Sections.{section_value};
-ghost use Rattle.desk_openings.specs.Opening.{opening_section};
+ghost use Rattle.desk_report.specs.Opening.{opening_section};
 ghost use Rattle.desk_page_places.specs.Groups.{HasToldSizes};
 ghost use Rattle.desk_report.specs.Groups.{group_value};
 ghost use Rattle.desk_report.specs.Laws.{TellVerdicts};
 ghost use Rattle.desk_report.specs.Tables.{CanBeTabled};
 ghost use Rattle.desk_report_places.specs.Groups.{AreListed, AreListedGroups, IsPart, listed_value, part_value};
 
-use crate::left::{count_directories, has_others, places_left};
 use crate::maps::{are_drawn, maps_of_group};
 use crate::openings::openings_of;
+use crate::unlisted_places::{count_directories, has_others, places_left};
 use desk_impact::Section;
-use desk_openings::Opening;
 use desk_page_places::{GroupPart, tables_have_sizes};
-use desk_report::{Group, groups_can_be_tabled, groups_of, table_of};
+use desk_report::{Group, Opening, groups_can_be_tabled, groups_of, table_of};
 use desk_text::Sequence;
 use std::alloc::{AllocError, Global};
 

@@ -12,9 +12,9 @@ mod directories;
 pub mod groups;
 mod impacts;
 pub mod laws;
-mod left;
 mod maps;
 mod openings;
+mod unlisted_places;
 
 pub use changes::{Changes, changes_of};
 pub use groups::{ListedGroups, listed_groups};

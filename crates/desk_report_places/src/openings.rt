@@ -5,15 +5,15 @@ ghost use Rattle.desk_text.specs.Path.{same_path};
 ghost use Rattle.desk_who.specs.Runs.{run_value};
 ghost use Rattle.desk_impact.specs.Places.{place_of};
 ghost use Rattle.desk_impact.specs.Sections.{section_value};
-ghost use Rattle.desk_openings.specs.Opening as openings_spec;
-ghost use Rattle.desk_openings.specs.Opening.{opening_section};
+ghost use Rattle.desk_report.specs.Opening as openings_spec;
+ghost use Rattle.desk_report.specs.Opening.{opening_section};
 ghost use Rattle.desk_page_places.specs.Openings.{opening_value};
 ghost use Rattle.desk_report_places.specs.Openings as spec;
 ghost use Rattle.desk_report_places.specs.Openings.{AreOpeningsOf};
 
 use desk_impact::{Place, Section};
-use desk_openings::Opening;
 use desk_page_places::PlaceOpening;
+use desk_report::Opening;
 use desk_text::Path;
 use desk_who::Run;
 use std::alloc::{AllocError, Global};

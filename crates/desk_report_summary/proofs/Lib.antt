@@ -1,2 +1,5 @@
 pub mod Valued
 pub mod Rowed
+pub mod Standing
+pub mod Looking
+pub mod Deciders

@@ -7,7 +7,7 @@ use Rattle.desk_overview.specs.Findings.{AreFindings}
 use Rattle.desk_overview.specs.Lines.{LineValue}
 use Rattle.desk_page_summary.specs.Findings.{counted_findings, findings}
 use Rattle.desk_page_summary.specs.declared.findings.FindingRow.{FindingRow}
-use Rattle.desk_report_findings.specs.Findings.{FindingValue, finding_value, findings_among}
+use Rattle.desk_report_summary.specs.SiteFinding.{FindingValue, finding_value, findings_among}
 use Rattle.desk_report_summary.specs.Files.{line_in, name_of, text_in_force}
 
 -- a line that stands out, the name of its file system, and the first physical line of its text

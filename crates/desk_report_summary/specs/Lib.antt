@@ -6,3 +6,5 @@ pub mod FlavoursRows
 pub mod Reaching
 pub mod SystemRows
 pub mod SiteData
+pub mod SiteFinding
+pub mod Laws

@@ -1,8 +1,9 @@
-//! The summary of the page of a report, made of what is found of a site.
+//! The summary of the page of a report, made of what is found of a site; and what the words of the page tell of each line that stands out.
 //!
 //! ```text
 //! let lines = lines_of_site(alloc, policy, systems.as_slice(), reasons.as_slice())?;
 //! push_figures_of(alloc, policy, lines.as_slice(), proposals, &mut page)?;
+//! site_findings(alloc, lines.as_slice(), deciding.as_slice())?        // /u2 line 4: root stays root, 65,536 addresses; ..
 //! push_findings_of(alloc, policy, lines.as_slice(), deciding.as_slice(), heads, &mut page)?;
 //! ```
 #![tactic(auto)]
@@ -11,10 +12,14 @@ pub mod figures;
 mod files;
 pub mod findings;
 pub mod flavours;
+pub mod laws;
 pub mod overview;
 mod reach;
+pub mod site_finding;
 
 pub use figures::push_figures_of;
 pub use findings::push_findings_of;
 pub use flavours::push_flavours_of;
+pub use laws::named_lines_decide;
 pub use overview::{SystemsData, push_overview_of};
+pub use site_finding::{SiteFinding, site_findings};

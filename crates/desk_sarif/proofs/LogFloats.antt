@@ -1,5 +1,5 @@
 -- No log has a float.
-use Rattle.std.proofs.Common.{◌≡◌, ◌∙◌, IfOk, List, [], ◌∷◌, Option, None, Some, Ok, Err, Result, ℕ, ap, false, map, refl}
+use Rattle.std.proofs.Common.{◌≡◌, ◌∙◌, Bool, IfOk, List, [], ◌∷◌, Option, None, Some, Ok, Err, Result, ℕ, ap, false, map, refl, true}
 use Rattle.std.specs.Prelude.{String, string_bytes}
 use Rattle.std.specs.declared.alloc.AllocError.{AllocError}
 use Rattle.std.specs.declared.alloc.Global.{Global}
@@ -8,7 +8,7 @@ use Rattle.serde_json.specs.View.{items_of}
 use Rattle.serde_json.specs.Written.{compact_text, has_float, items_have_float}
 use Rattle.desk_findings.specs.declared.finding.Finding.{Finding}
 use Rattle.desk_check.specs.FindingPrints.{message_of, other_of}
-use Rattle.desk_sarif.specs.Sarif.{log_of, result_data, result_of}
+use Rattle.desk_sarif.specs.Sarif.{is_suppressed, log_of, result_data, result_of}
 use Rattle.desk_sarif.specs.SarifRules.{log_rules, rule_data}
 
 -- a list whose values have none
@@ -16,15 +16,19 @@ list_has_none : {A : Type 0} (write : A → Data) → ((a : A) → has_float (wr
 list_has_none write each [] = refl
 list_has_none write each (x ∷ xs) = rw (each x, list_has_none write each xs) refl
 
-result_of_has_none : (other : Option ℕ) (finding : Finding) (text : List ℕ) → has_float (result_of other finding text) ≡ false
-result_of_has_none None finding text = refl
-result_of_has_none (Some line) finding text = refl
+result_of_has_none : (other : Option ℕ) (suppressed : Option Bool) (finding : Finding) (text : List ℕ) → has_float (result_of other suppressed finding text) ≡ false
+result_of_has_none None None finding text = refl
+result_of_has_none None (Some true) finding text = refl
+result_of_has_none None (Some false) finding text = refl
+result_of_has_none (Some line) None finding text = refl
+result_of_has_none (Some line) (Some true) finding text = refl
+result_of_has_none (Some line) (Some false) finding text = refl
 
-result_has_none : (finding : Finding) → has_float (result_data finding) ≡ false
-result_has_none finding = result_of_has_none (other_of finding.matter) finding (message_of finding)
+result_has_none : (ignored : Option (List ℕ)) (finding : Finding) → has_float (result_data ignored finding) ≡ false
+result_has_none ignored finding = result_of_has_none (other_of finding.matter) (is_suppressed ignored finding) finding (message_of finding)
 
-pub log_has_none : (findings : List Finding) → has_float (log_of findings) ≡ false
-log_has_none findings = rw (list_has_none result_data result_has_none findings, list_has_none rule_data (λ rule. refl) log_rules) refl
+pub log_has_none : (ignored : Option (List ℕ)) (findings : List Finding) → has_float (log_of ignored findings) ≡ false
+log_has_none ignored findings = rw (list_has_none (result_data ignored) (result_has_none ignored) findings, list_has_none rule_data (λ rule. refl) log_rules) refl
 
 -- what was written is the text of the data
 pub text_is : (r : Result (String Global) AllocError) (v d : Data) → v ≡ d → has_float d ≡ false → IfOk r (λ s. has_float v ≡ false → string_bytes s ≡ compact_text v) → IfOk r (λ s. string_bytes s ≡ compact_text d)

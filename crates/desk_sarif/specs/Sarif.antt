@@ -1,6 +1,6 @@
 -- Findings as a log of SARIF, the form that code hosts show beside a change. (SARIF 2.1.0 of OASIS: section 3.13 has the log, 3.14
 -- the run, 3.19 the driver, 3.27 the result, 3.28 to 3.30 locations and regions)
-use Rattle.std.specs.Prelude.{ℕ, ◌==◌, ◌+◌, ◌||◌, List, [], ◌∷◌, ◌++◌, Option, None, Some, codes, length, map, if◌then◌else◌}
+use Rattle.std.specs.Prelude.{ℕ, ◌==◌, ◌+◌, ◌||◌, Bool, true, false, List, [], ◌∷◌, ◌++◌, Option, None, Some, codes, length, map, option_map, if◌then◌else◌}
 use Rattle.std.specs.Char.{encode_utf8}
 use Rattle.std.specs.List.{flat_map}
 use Rattle.std.specs.Str.{chars}
@@ -14,6 +14,7 @@ use Rattle.desk_findings.specs.declared.finding.Finding.{Finding}
 use Rattle.desk_findings.specs.declared.finding.Matter.{Matter}
 use Rattle.desk_findings.specs.declared.finding.Matter.TheVariants as matter
 use Rattle.desk_check.specs.FindingPrints.{message_of, other_of}
+use Rattle.desk_check.specs.Ignored.{is_ignored}
 use Rattle.desk_sarif.specs.SarifRules.{log_rules, only, rule_data, rule_id, text_data}
 use Rattle.desk_sarif.specs.SarifUri.{uri_of}
 
@@ -84,17 +85,32 @@ abbrev pub with_other : List ℕ → List ℕ → Option ℕ → Members → Mem
 with_other words path None members = members
 with_other words path (Some line) members = member (codes "relatedLocations") (single (other_line words path line)) members
 
+-- What is said of a result that is suppressed, by an option and not in the source, and of one that is not. (Sections 3.27.23 and 3.35: all
+-- results of a run say it, or none does.)
+abbrev pub suppressions : Bool → Data
+suppressions true = single (only (codes "kind") (string (codes "external")))
+suppressions false = list []
+
+-- the member for it, if it is said
+abbrev pub suppressions_of : Option Bool → Members
+suppressions_of None = no_members
+suppressions_of (Some suppressed) = member (codes "suppressions") (suppressions suppressed) no_members
+
+-- whether a finding is suppressed, which is said if warnings of some numbers are ignored
+abbrev pub is_suppressed : Option (List ℕ) → Finding → Option Bool
+is_suppressed ignored finding = option_map (λ numbers. is_ignored numbers finding) ignored
+
 -- a finding as a result
-abbrev pub result_of : Option ℕ → Finding → List ℕ → Data
-result_of other finding text = object
+abbrev pub result_of : Option ℕ → Option Bool → Finding → List ℕ → Data
+result_of other suppressed finding text = object
     (member (codes "level") (string (level_of finding.matter))
     (member (codes "locations") (single (location_of finding))
     (member (codes "message") (text_data (message_text text))
     (with_other (other_words finding.matter) finding.path.now other
-    (member (codes "ruleId") (string (rule_id finding.matter)) no_members)))))
+    (member (codes "ruleId") (string (rule_id finding.matter)) (suppressions_of suppressed))))))
 
-abbrev pub result_data : Finding → Data
-result_data finding = result_of (other_of finding.matter) finding (message_of finding)
+abbrev pub result_data : Option (List ℕ) → Finding → Data
+result_data ignored finding = result_of (other_of finding.matter) (is_suppressed ignored finding) finding (message_of finding)
 
 -- the program with its rules
 abbrev pub driver : Data
@@ -104,19 +120,19 @@ driver = object
     (member (codes "version") (string (codes "1.1.0")) no_members)))
 
 -- the run that has these results; its columns count characters, and not the halves that UTF-16 makes of some
-abbrev pub run_of : List Finding → Data
-run_of findings = object
+abbrev pub run_of : Option (List ℕ) → List Finding → Data
+run_of ignored findings = object
     (member (codes "columnKind") (string (codes "unicodeCodePoints"))
-    (member (codes "results") (list (map result_data findings))
+    (member (codes "results") (list (map (result_data ignored) findings))
     (member (codes "tool") (only (codes "driver") driver) no_members)))
 
--- the log of these findings
-abbrev pub log_of : List Finding → Data
-log_of findings = object
+-- the log of these findings, of which the warnings of some numbers may be ignored
+abbrev pub log_of : Option (List ℕ) → List Finding → Data
+log_of ignored findings = object
     (member (codes "$schema") (string (codes "https://docs.oasis-open.org/sarif/sarif/v2.1.0/errata01/os/schemas/sarif-schema-2.1.0.json"))
-    (member (codes "runs") (single (run_of findings))
+    (member (codes "runs") (single (run_of ignored findings))
     (member (codes "version") (string (codes "2.1.0")) no_members)))
 
 -- the log as it is printed, on a line of its own
-abbrev pub findings_sarif : List Finding → List ℕ
-findings_sarif findings = compact_text (log_of findings) ++ codes "\n"
+abbrev pub findings_sarif : Option (List ℕ) → List Finding → List ℕ
+findings_sarif ignored findings = compact_text (log_of ignored findings) ++ codes "\n"

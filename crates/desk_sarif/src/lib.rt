@@ -14,6 +14,6 @@ mod sarif;
 mod sarif_rules;
 mod sarif_uri;
 
-pub use log_report::report_log;
+pub use log_report::{report_heard_log, report_log};
 pub use sarif::findings_sarif;
 pub use sarif_rules::{each_has_its_rule, ids_differ};

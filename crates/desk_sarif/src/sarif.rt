@@ -3,6 +3,7 @@
 
 ghost use Rattle.std.specs.Prelude.{◌≡◌, ◌++◌, [], IfOk, OnOk, codes, length, map};
 ghost use Rattle.std.specs.List.{flat_map};
+ghost use Rattle.std.specs.Option.{option_map};
 ghost use Rattle.std.specs.Str.{chars};
 ghost use Rattle.std.specs.String.{string_bytes};
 ghost use Rattle.serde_json.specs.Data.{object, put as put_member, string};
@@ -10,13 +11,13 @@ ghost use Rattle.serde_json.specs.View.{members_view, view};
 ghost use Rattle.serde_json.specs.Written.{compact_text};
 ghost use Rattle.desk_findings.specs.Finding.{HasSlice, HaveSlices};
 ghost use Rattle.desk_check.specs.FindingPrints.{message_of, other_of};
-ghost use Rattle.desk_sarif.specs.PrivateSarif.{put_other};
+ghost use Rattle.desk_sarif.specs.PrivateSarif.{put_other, put_suppressions};
 ghost use Rattle.desk_sarif.specs.Sarif as spec;
 ghost use Rattle.desk_sarif.specs.SarifRules.{rule_id as id_of, text_data};
 
 use crate::sarif_rules::{all_rule_values, rule_id};
 use crate::sarif_uri::uri_of;
-use desk_check::{add_text, push_message};
+use desk_check::{add_text, is_ignored, push_message};
 use desk_findings::{Finding, Matter};
 use desk_remarks::Remark;
 use serde_json::{Map, Value, json, put};
@@ -32,40 +33,56 @@ const VERSION: &str = "1.1.0";
 /// Prints findings in their order as the results of one log, in compact JSON and a line end. A result has `level` (`error`,
 /// `warning` or, for an opinion, `note`), one of `locations` (the file and the region of its slice), `message`, for what names
 /// another line `relatedLocations` with it, and `ruleId`, which is that of a rule of the driver. Columns count characters
-/// from 1.
-pub fn findings_sarif(alloc: Global, findings: &[Finding]) -> Result<String, AllocError>
+/// from 1. If warnings of some numbers are ignored, each result also has `suppressions`, a list that is empty unless it is one of these.
+pub fn findings_sarif(
+    alloc: Global,
+    ignored: Option<&[u32]>,
+    findings: &[Finding],
+) -> Result<String, AllocError>
     requires { HaveSlices findings.now }
-    ensures { IfOk result (λ text. string_bytes text ≡ spec.findings_sarif findings.now) }
+    ensures { IfOk result (λ text. string_bytes text ≡ spec.findings_sarif (option_map (λ numbers. numbers.now) ignored.entry) findings.now) }
 {
-    let mut text = log_text(alloc, findings)?;
+    let mut text = log_text(alloc, ignored, findings)?;
     text.push('\n')?;
     Ok(text)
 }
 
 /// Writes a log.
-fn log_text(alloc: Global, findings: &[Finding]) -> Result<String, AllocError>
+fn log_text(
+    alloc: Global,
+    ignored: Option<&[u32]>,
+    findings: &[Finding],
+) -> Result<String, AllocError>
     requires { HaveSlices findings.now }
-    ensures { IfOk result (λ text. string_bytes text ≡ compact_text (spec.log_of findings.now)) }
+    ensures { IfOk result (λ text. string_bytes text ≡ compact_text (spec.log_of (option_map (λ numbers. numbers.now) ignored.entry) findings.now)) }
 {
-    let value = log_value(alloc, findings)?;
+    let value = log_value(alloc, ignored, findings)?;
     value.to_string(alloc)
 }
 
 /// Makes a log.
-fn log_value(alloc: Global, findings: &[Finding]) -> Result<Value, AllocError>
+fn log_value(
+    alloc: Global,
+    ignored: Option<&[u32]>,
+    findings: &[Finding],
+) -> Result<Value, AllocError>
     requires { HaveSlices findings.now }
-    ensures { IfOk result (λ value. view value ≡ spec.log_of findings.now) }
+    ensures { IfOk result (λ value. view value ≡ spec.log_of (option_map (λ numbers. numbers.now) ignored.entry) findings.now) }
 {
-    let run = run_value(alloc, findings)?;
+    let run = run_value(alloc, ignored, findings)?;
     json!(in alloc; {"$schema": SCHEMA, "runs": [run], "version": "2.1.0"})
 }
 
 /// Makes the run of a log.
-fn run_value(alloc: Global, findings: &[Finding]) -> Result<Value, AllocError>
+fn run_value(
+    alloc: Global,
+    ignored: Option<&[u32]>,
+    findings: &[Finding],
+) -> Result<Value, AllocError>
     requires { HaveSlices findings.now }
-    ensures { IfOk result (λ value. view value ≡ spec.run_of findings.now) }
+    ensures { IfOk result (λ value. view value ≡ spec.run_of (option_map (λ numbers. numbers.now) ignored.entry) findings.now) }
 {
-    let results = result_values(alloc, findings)?;
+    let results = result_values(alloc, ignored, findings)?;
     let driver = driver_value(alloc)?;
     json!(in alloc; {
         "columnKind": "unicodeCodePoints",
@@ -83,42 +100,64 @@ fn driver_value(alloc: Global) -> Result<Value, AllocError>
 }
 
 /// Makes the results of findings.
-fn result_values(alloc: Global, findings: &[Finding]) -> Result<Vec<Value>, AllocError>
+fn result_values(
+    alloc: Global,
+    ignored: Option<&[u32]>,
+    findings: &[Finding],
+) -> Result<Vec<Value>, AllocError>
     requires { HaveSlices findings.now }
-    ensures { IfOk result (λ values. map view values.items ≡ map spec.result_data findings.now) }
+    ensures { IfOk result (λ values. map view values.items ≡ map (spec.result_data (option_map (λ numbers. numbers.now) ignored.entry)) findings.now) }
 {
     let mut values = Vec::new(alloc);
     for finding in findings {
-        values.push(result_value(alloc, finding)?)?;
+        values.push(result_value(alloc, ignored, finding)?)?;
     }
     Ok(values)
 }
 
 /// Makes the result of a finding.
-fn result_value(alloc: Global, finding: &Finding) -> Result<Value, AllocError>
+fn result_value(
+    alloc: Global,
+    ignored: Option<&[u32]>,
+    finding: &Finding,
+) -> Result<Value, AllocError>
     requires { HasSlice finding.now }
-    ensures { IfOk result (λ value. view value ≡ spec.result_data finding.now) }
+    ensures { IfOk result (λ value. view value ≡ spec.result_data (option_map (λ numbers. numbers.now) ignored.entry) finding.now) }
 {
+    let suppressed = is_suppressed(ignored, finding);
     let mut members = Map::new(alloc);
-    add_members(alloc, finding, &mut members)?;
+    add_members(alloc, suppressed, finding, &mut members)?;
     Ok(Value::Object(members))
+}
+
+/// Tests whether a finding is suppressed, if warnings of some numbers are ignored.
+fn is_suppressed(ignored: Option<&[u32]>, finding: &Finding) -> Option<bool>
+    ensures { result ≡ spec.is_suppressed (option_map (λ numbers. numbers.now) ignored.entry) finding.now }
+{
+    match ignored {
+        Some(numbers) => Some(is_ignored(numbers, finding)),
+        None => None,
+    }
 }
 
 /// Adds the members of a result to an object that has none. (The map is lent, so that its proof is cheap.)
 fn add_members(
     alloc: Global,
+    suppressed: Option<bool>,
     finding: &Finding,
     members: &mut Map<String, Value>,
 ) -> Result<(), AllocError>
     requires slice { HasSlice finding.now }
     requires none { members.old.entries ≡ [] }
-    ensures { OnOk result (object (members_view members.new.entries) ≡ spec.result_data finding.now) }
+    ensures { OnOk result (object (members_view members.new.entries)
+        ≡ spec.result_of (other_of finding.now.matter) suppressed finding.now (message_of finding.now)) }
 {
     add_text(alloc, "level", level_of(finding.matter), members)?;
     add_location(alloc, finding, members)?;
     add_message(alloc, finding, members)?;
     add_other(alloc, finding, members)?;
-    add_rule(alloc, finding.matter, members)
+    add_rule(alloc, finding.matter, members)?;
+    add_suppressions(alloc, suppressed, members)
 }
 
 /// Returns `error`, `warning` or `note`.
@@ -328,4 +367,32 @@ fn add_rule(
 {
     let id = rule_id(alloc, matter)?;
     put(members, alloc, "ruleId", Value::String(id))
+}
+
+/// Adds whether a finding is suppressed, if that is said.
+fn add_suppressions(
+    alloc: Global,
+    suppressed: Option<bool>,
+    members: &mut Map<String, Value>,
+) -> Result<(), AllocError>
+    ensures { OnOk result (members_view members.new.entries ≡ put_suppressions suppressed (members_view members.old.entries)) }
+{
+    match suppressed {
+        Some(suppressed) => {
+            let value = suppressions_value(alloc, suppressed)?;
+            put(members, alloc, "suppressions", value)
+        }
+        None => Ok(()),
+    }
+}
+
+/// Makes the list of what suppresses a finding: that warnings of its number are ignored, or nothing.
+fn suppressions_value(alloc: Global, suppressed: bool) -> Result<Value, AllocError>
+    ensures { IfOk result (λ value. view value ≡ spec.suppressions suppressed) }
+{
+    if suppressed {
+        json!(in alloc; [{"kind": "external"}])
+    } else {
+        json!(in alloc; [])
+    }
 }

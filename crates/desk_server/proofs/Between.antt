@@ -12,7 +12,7 @@ use Rattle.desk_who.specs.Starts.{AreStarts, IsSteadyLine}
 use Rattle.desk_idle.specs.Idle.{first_selected}
 use Rattle.desk_idle.specs.Laws.{brings}
 use Rattle.desk_idle.proofs.Steady.{selected_alike}
-use Rattle.desk_server.specs.PrivateWider.{Widened}
+use Rattle.desk_server.specs.PrivateWiderGrants.{Widened}
 
 -- the line matches two addresses alike
 abbrev pub IsSame : ℕ → ℕ → Row → Type 0

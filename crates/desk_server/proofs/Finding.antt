@@ -13,9 +13,9 @@ use Rattle.desk_who.specs.Starts.{AreStarts}
 use Rattle.desk_idle.specs.Laws.{WriteDirectories}
 use Rattle.desk_idle.proofs.Bringing.{selected_has}
 use Rattle.desk_idle.proofs.Lists.{in_middle}
-use Rattle.desk_server.specs.PrivateWider.{AreWiderAmong, HasLine, IsFinding, IsFoundAmong, IsTold, IsWide}
+use Rattle.desk_server.specs.PrivateWiderGrants.{AreWiderAmong, HasLine, IsFinding, IsFoundAmong, IsTold, IsWide}
 use Rattle.desk_server.specs.WiderGrants.{AreWiderGrants, IsWiderAt, IsWiderGrant}
-use Rattle.desk_server.specs.declared.wider.WiderGrant.{WiderGrant}
+use Rattle.desk_server.specs.declared.wider_grant.WiderGrant.{WiderGrant}
 use Rattle.desk_server.proofs.Between.{last_weights, same_first, same_widened}
 use Rattle.desk_server.proofs.Widening.{selected_line, wider_widens, widens_wider}
 

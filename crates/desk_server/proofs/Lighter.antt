@@ -28,7 +28,7 @@ use Rattle.desk_idle.proofs.Front.{front}
 use Rattle.desk_idle.proofs.Heaviest.{are_numbers, at_most_all, filter_from, filter_has, none_heavier, none_there, weight_is}
 use Rattle.desk_idle.proofs.Lists.{in_middle}
 use Rattle.desk_idle.proofs.Looks.{first_or, none_passes}
-use Rattle.desk_server.specs.PrivateWider.{WidenBelow, Widened}
+use Rattle.desk_server.specs.PrivateWiderGrants.{WidenBelow, Widened}
 use Rattle.desk_server.specs.WiderGrants.{Widens, WidensFirst}
 
 -- ---- the first that passes

@@ -17,7 +17,7 @@ use Rattle.desk_idle.specs.Laws.{brings}
 use Rattle.desk_idle.specs.PrivateMarks.{has_one_key}
 use Rattle.desk_idle.proofs.OneKey.{same_lines, weighs}
 use Rattle.desk_idle.proofs.Matching.{all_of}
-use Rattle.desk_server.specs.PrivateWider.{Widened}
+use Rattle.desk_server.specs.PrivateWiderGrants.{Widened}
 
 -- ---- networks
 

@@ -11,9 +11,9 @@ use Rattle.desk_idle.specs.Laws.{WriteDirectories, brings}
 use Rattle.desk_idle.proofs.Bringing.{selected_has}
 use Rattle.desk_idle.proofs.Directories.{Path}
 use Rattle.desk_idle.proofs.Lists.{in_middle}
-use Rattle.desk_server.specs.PrivateWider.{ListAlike, ListsOnly, Widened}
+use Rattle.desk_server.specs.PrivateWiderGrants.{ListAlike, ListsOnly, Widened}
 use Rattle.desk_server.specs.WiderGrants.{AreWiderGrants}
-use Rattle.desk_server.specs.declared.wider.WiderGrant.{WiderGrant}
+use Rattle.desk_server.specs.declared.wider_grant.WiderGrant.{WiderGrant}
 use Rattle.desk_server.proofs.Asking.{selects}
 use Rattle.desk_server.proofs.Lighter.{brings_nothing}
 use Rattle.desk_server.proofs.Widening.{wider_widens}

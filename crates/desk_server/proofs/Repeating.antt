@@ -9,10 +9,10 @@ use Rattle.std.proofs.lemmas.List.Quantifiers.{all_pairs_push}
 use Rattle.desk_policy.specs.Keys.{LineKey, has_key}
 use Rattle.desk_policy.specs.Policy.{AreAscending}
 use Rattle.desk_policy.specs.declared.row.Row.{Row}
-use Rattle.desk_server.specs.PrivateRepeated.{HasClient, IsFirstSharing, IsSharing}
+use Rattle.desk_server.specs.PrivateRepeatedClients.{HasClient, IsFirstSharing, IsSharing}
 use Rattle.desk_server.specs.RepeatedClients.{AreRepeatedClients, IsRepeatedClient, SharesClient}
-use Rattle.desk_server.specs.declared.repeated.RepeatedClient.{RepeatedClient}
-use Rattle.desk_server.specs.declared.repeated.Sharing.{Sharing}
+use Rattle.desk_server.specs.declared.repeated_client.RepeatedClient.{RepeatedClient}
+use Rattle.desk_server.specs.declared.repeated_client.Sharing.{Sharing}
 
 -- those of some of the lines that have a client of an earlier line
 pub record AreRepeatedAmong (rows done : List Row) (found : List RepeatedClient) : Type 0 where

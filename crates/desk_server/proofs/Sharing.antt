@@ -13,8 +13,8 @@ use Rattle.desk_policy.specs.Policy.{AreAscending}
 use Rattle.desk_policy.specs.declared.row.Row.{Row}
 use Rattle.desk_policy.proofs.KeyClashes.{only_everybody, only_network}
 use Rattle.desk_index.specs.Keys.{lines_with, numbers}
-use Rattle.desk_server.specs.PrivateRepeated.{HasClient, IsFirstSharing, IsSharing, earlier_of, is_key}
-use Rattle.desk_server.specs.declared.repeated.Sharing.{Sharing}
+use Rattle.desk_server.specs.PrivateRepeatedClients.{HasClient, IsFirstSharing, IsSharing, earlier_of, is_key}
+use Rattle.desk_server.specs.declared.repeated_client.Sharing.{Sharing}
 
 -- ---- the first line under a key
 

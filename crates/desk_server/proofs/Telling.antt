@@ -25,8 +25,8 @@ use Rattle.desk_idle.specs.PrivateMarks.{has_one_key}
 use Rattle.desk_idle.specs.Selections.{addresses_of}
 use Rattle.desk_idle.specs.declared.selections.Selection.{Selection}
 use Rattle.desk_idle.proofs.Bringing.{one_line, selected_has}
-use Rattle.desk_server.specs.PrivateWider.{AreTold, AreUpTo, IsFoundAmong, IsFoundAt, IsLook, IsSeen, IsTold, IsWide, Widened, is_kept}
-use Rattle.desk_server.specs.declared.wider.WiderGrant.{WiderGrant}
+use Rattle.desk_server.specs.PrivateWiderGrants.{AreTold, AreUpTo, IsFoundAmong, IsFoundAt, IsLook, IsSeen, IsTold, IsWide, Widened, is_kept}
+use Rattle.desk_server.specs.declared.wider_grant.WiderGrant.{WiderGrant}
 use Rattle.desk_server.proofs.Nesting.{same_wide}
 use Rattle.desk_server.proofs.Widening.{selected_line}
 

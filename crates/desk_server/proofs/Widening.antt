@@ -22,7 +22,7 @@ use Rattle.desk_idle.proofs.Heaviest.{filter_from, filter_has}
 use Rattle.desk_idle.proofs.Lists.{in_middle}
 use Rattle.desk_idle.proofs.Looks.{none_found, none_passes}
 use Rattle.desk_idle.proofs.Matching.{selects}
-use Rattle.desk_server.specs.PrivateWider.{Widened}
+use Rattle.desk_server.specs.PrivateWiderGrants.{Widened}
 use Rattle.desk_server.specs.Server.{asked, for_everybody, granting, is_everybody, is_named, named, or_others, server_verdict_among, server_verdict_by, server_verdict_in, server_verdict_of}
 use Rattle.desk_server.specs.WiderGrants.{IsWiderAt}
 

@@ -1,6 +1,6 @@
 pub mod Laws
-pub mod PrivateRepeated
-pub mod PrivateWider
+pub mod PrivateRepeatedClients
+pub mod PrivateWiderGrants
 pub mod RepeatedClients
 pub mod Server
 pub mod WiderGrants

@@ -8,7 +8,7 @@ use Rattle.desk_exports.specs.declared.entry.Clients.TheVariants as clients
 use Rattle.desk_policy.specs.Keys.{Everybody, Host, LineKey, Network, has_key, least_of}
 use Rattle.desk_policy.specs.Policy.{Content}
 use Rattle.desk_policy.specs.declared.row.Row.{Row}
-use Rattle.desk_server.specs.declared.repeated.RepeatedClient.{RepeatedClient}
+use Rattle.desk_server.specs.declared.repeated_client.RepeatedClient.{RepeatedClient}
 
 -- Another line has one of these clients: one of the addresses of their names, their network, or everybody.
 abbrev pub has_client_of : Clients → List ℕ → Row → Bool

@@ -13,7 +13,7 @@ use Rattle.desk_policy.specs.declared.verdict.Denial.{Denial}
 use Rattle.desk_idle.specs.Idle.{first_selected}
 use Rattle.desk_idle.specs.Laws.{brings}
 use Rattle.desk_server.specs.Server.{server_verdict_of}
-use Rattle.desk_server.specs.declared.wider.WiderGrant.{WiderGrant}
+use Rattle.desk_server.specs.declared.wider_grant.WiderGrant.{WiderGrant}
 
 -- At an address a line is the first that is selected, and the server grants some path of the file system that is denied here.
 pub record IsWiderAt (content : Content) (fs line address : ℕ) : Type 0 where

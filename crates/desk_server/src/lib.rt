@@ -7,12 +7,12 @@
 //! ```
 #![tactic(auto)]
 
-mod alike;
 pub mod deciding;
 pub mod laws;
 mod looking;
-pub mod repeated;
-pub mod wider;
+pub mod repeated_client;
+mod same_listing;
+pub mod wider_grant;
 
 pub use deciding::server_decide;
 pub use laws::{
@@ -20,5 +20,5 @@ pub use laws::{
     server_grants_what_is_listed, silence_is_the_servers_verdict,
     verdicts_differ_where_the_server_grants_more,
 };
-pub use repeated::{RepeatedClient, repeated_clients};
-pub use wider::{WiderGrant, wider_grants, wider_grants_by};
+pub use repeated_client::{RepeatedClient, repeated_clients};
+pub use wider_grant::{WiderGrant, wider_grants, wider_grants_by};

@@ -11,9 +11,9 @@ ghost use Rattle.desk_index.specs.Keys.{numbers};
 ghost use Rattle.desk_index.specs.Lighter.{IsHeaviestBelow};
 ghost use Rattle.desk_idle.specs.Laws.{brings};
 ghost use Rattle.desk_idle.specs.Listed.{IsListedBy};
-ghost use Rattle.desk_server.specs.PrivateWider.{AreNext, IsLook, IsWidest};
+ghost use Rattle.desk_server.specs.PrivateWiderGrants.{AreNext, IsLook, IsWidest};
 
-use crate::wider::WiderGrant;
+use crate::wider_grant::WiderGrant;
 use desk_idle::Listed;
 use desk_index::{Index, Probes, Weighed, row_numbered};
 use desk_policy::{PolicyView, Row};

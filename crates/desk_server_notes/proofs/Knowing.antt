@@ -14,8 +14,8 @@ use Rattle.desk_tables.specs.declared.filesystems.Mount.{Mount}
 use Rattle.desk_policy.specs.Policy.{Content, rows_of}
 use Rattle.desk_idle.specs.Idle.{first_selected}
 use Rattle.desk_server.specs.WiderGrants.{AreWiderGrants, IsWiderGrant}
-use Rattle.desk_server.specs.declared.wider.WiderGrant.{WiderGrant}
-use Rattle.desk_server_notes.specs.Found.{AreWiderAt, AreWiderOf, filesystem_at}
+use Rattle.desk_server.specs.declared.wider_grant.WiderGrant.{WiderGrant}
+use Rattle.desk_server_notes.specs.MountFindings.{AreWiderAt, AreWiderOf, filesystem_at}
 use Rattle.desk_server_notes.specs.NewsNote.{AreGrants, Grants, is_same_directory, is_same_grant, news_at, news_line, news_text, was_granted}
 use Rattle.desk_server_notes.specs.PrivateNews.{AddsNews, AddsNewsAt, AreApart, AreKnown, is_known_as, line_if_new}
 use Rattle.desk_server_notes.proofs.Counting.{zip_push}

@@ -7,7 +7,7 @@ use Rattle.desk_text.specs.Path.{path_text}
 use Rattle.desk_tables.specs.declared.filesystems.FsId.{FsId}
 use Rattle.desk_tables.specs.declared.filesystems.Mount.{Mount}
 use Rattle.desk_policy.specs.Policy.{Content}
-use Rattle.desk_server_notes.specs.Found.{filesystem_at}
+use Rattle.desk_server_notes.specs.MountFindings.{filesystem_at}
 
 number_found : (o : Option ℕ) (fs : FsId) → Some fs ≡ option_map (λ i. record { 0 = i }) o → o ≡ Some fs.0
 number_found None fs e = cc

@@ -4,7 +4,7 @@ use Rattle.std.specs.Fmt.{decimal}
 use Rattle.std.specs.List.{AllZip, sum_by}
 use Rattle.desk_tables.specs.declared.filesystems.Mount.{Mount}
 use Rattle.desk_policy.specs.Policy.{Content}
-use Rattle.desk_server_notes.specs.Found.{AreRepeatedAt, AreWiderAt}
+use Rattle.desk_server_notes.specs.MountFindings.{AreRepeatedAt, AreWiderAt}
 
 -- so many lines
 abbrev pub lines_text : ℕ → List ℕ

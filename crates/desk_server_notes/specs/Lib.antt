@@ -1,4 +1,4 @@
 pub mod CountsNote
-pub mod Found
+pub mod MountFindings
 pub mod NewsNote
 pub mod PrivateNews

@@ -7,8 +7,8 @@ use Rattle.desk_text.specs.Address.{addr_text, number_of}
 use Rattle.desk_text.specs.Path.{path_text, same_path}
 use Rattle.desk_tables.specs.declared.filesystems.Mount.{Mount}
 use Rattle.desk_policy.specs.Policy.{Content}
-use Rattle.desk_server.specs.declared.wider.WiderGrant.{WiderGrant}
-use Rattle.desk_server_notes.specs.Found.{AreWiderAt}
+use Rattle.desk_server.specs.declared.wider_grant.WiderGrant.{WiderGrant}
+use Rattle.desk_server_notes.specs.MountFindings.{AreWiderAt}
 
 -- the same directory, or both none
 abbrev pub is_same_directory : Option (List (List ℕ)) → Option (List (List ℕ)) → Bool

@@ -8,7 +8,7 @@ use Rattle.std.specs.Ordering.{nat_cmp}
 use Rattle.desk_text.specs.Address.{number_of}
 use Rattle.desk_tables.specs.declared.filesystems.Mount.{Mount}
 use Rattle.desk_policy.specs.Policy.{Content}
-use Rattle.desk_server.specs.declared.wider.WiderGrant.{WiderGrant}
+use Rattle.desk_server.specs.declared.wider_grant.WiderGrant.{WiderGrant}
 use Rattle.desk_server_notes.specs.NewsNote.{AreGrants, Grants, TellsNewsOf, is_same_directory, news_at, news_line, was_granted}
 
 -- their addresses differ

@@ -4,9 +4,9 @@ ghost use Rattle.std.specs.Prelude.{◌≡◌, ◌++◌, IfOk, OnOk};
 ghost use Rattle.std.specs.String.{string_bytes};
 ghost use Rattle.desk_server_notes.specs.CountsNote as spec;
 ghost use Rattle.desk_server_notes.specs.CountsNote.{CountsFound, TellsCounts};
-ghost use Rattle.desk_server_notes.specs.Found.{AreRepeatedAt, AreWiderAt};
+ghost use Rattle.desk_server_notes.specs.MountFindings.{AreRepeatedAt, AreWiderAt};
 
-use crate::found::{repeated_at, wider_at};
+use crate::mount_findings::{repeated_at, wider_at};
 use desk_index::Index;
 use desk_policy::PolicyView;
 use desk_tables::Mount;

@@ -9,7 +9,7 @@
 #![tactic(auto)]
 
 pub mod counts;
-mod found;
+mod mount_findings;
 pub mod news;
 
 pub use counts::counts_note;

@@ -11,7 +11,7 @@ ghost use Rattle.desk_server_notes.specs.NewsNote as spec;
 ghost use Rattle.desk_server_notes.specs.NewsNote.{TellsNews};
 ghost use Rattle.desk_server_notes.specs.PrivateNews.{AddsNews, AddsNewsAt, AreApart, AreKnown, is_known, line_if_new};
 
-use crate::found::wider_at;
+use crate::mount_findings::wider_at;
 use desk_index::Index;
 use desk_policy::PolicyView;
 use desk_server::WiderGrant;

@@ -20,7 +20,7 @@ use Rattle.desk_server.specs.Server.{server_verdict_in, server_verdict_of}
 use Rattle.desk_server.proofs.Asked.{server_steady}
 use Rattle.desk_server_prints.specs.Listing.{AreVerdictStarts, IsFirstOrNone, wider_at}
 use Rattle.desk_server_prints.specs.PrivateListing.{IsFirstOf}
-use Rattle.desk_server_prints.specs.Wider.{wider_line}
+use Rattle.desk_server_prints.specs.GrantingLine.{wider_line}
 use Rattle.desk_server_prints.specs.declared.listing.WiderClient.{WiderClient}
 
 -- ---- where verdicts change

@@ -19,8 +19,8 @@ use Rattle.desk_server.specs.Server.{asked, for_everybody, granted_on, granting,
 use Rattle.desk_server.proofs.Asking.{asked_everybody, asked_named}
 use Rattle.desk_server.proofs.Granting.{server_here}
 use Rattle.desk_server.proofs.Lists.{filter-filter, has_kept, kept_has, passing}
-use Rattle.desk_server_prints.specs.PrivateWider.{is_wider}
-use Rattle.desk_server_prints.specs.Wider.{first_number, granting_line, wider_line}
+use Rattle.desk_server_prints.specs.PrivateGrantingLine.{is_wider}
+use Rattle.desk_server_prints.specs.GrantingLine.{first_number, granting_line, wider_line}
 
 -- ---- lists
 

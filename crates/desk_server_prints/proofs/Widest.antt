@@ -8,8 +8,8 @@ use Rattle.desk_policy.specs.PrivateWeights.{IsGreatest, greater, has_weight, is
 use Rattle.desk_policy.specs.Weights.{selected, weight_of}
 use Rattle.desk_policy.specs.declared.row.Row.{Row}
 use Rattle.desk_policy.proofs.GreatestWeight.{IsGreatest-push, find-filter, selected-none, selected-some}
-use Rattle.desk_server_prints.specs.PrivateWider.{is_wider, wider_weight}
-use Rattle.desk_server_prints.specs.Wider.{first_number}
+use Rattle.desk_server_prints.specs.PrivateGrantingLine.{is_wider, wider_weight}
+use Rattle.desk_server_prints.specs.GrantingLine.{first_number}
 
 append_none : (rows : List Row) → rows ++ [] ≡ rows
 append_none [] = refl

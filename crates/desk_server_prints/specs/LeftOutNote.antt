@@ -9,7 +9,7 @@ use Rattle.desk_tables.specs.FileSystems.{fs_of}
 use Rattle.desk_tables.specs.declared.filesystems.Mount.{Mount}
 use Rattle.desk_policy.specs.Policy.{Content, rows_of}
 use Rattle.desk_server.specs.RepeatedClients.{AreRepeatedClients}
-use Rattle.desk_server.specs.declared.repeated.RepeatedClient.{RepeatedClient}
+use Rattle.desk_server.specs.declared.repeated_client.RepeatedClient.{RepeatedClient}
 
 -- just the lines of this file system, if there is one, that have a client of an earlier one
 abbrev pub AreRepeatedIn : Content → Option ℕ → List RepeatedClient → Type 0

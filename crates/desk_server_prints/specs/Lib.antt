@@ -2,5 +2,5 @@ pub mod LeftOutNote
 pub mod Listing
 pub mod PrivateLeftOut
 pub mod PrivateListing
-pub mod PrivateWider
-pub mod Wider
+pub mod PrivateGrantingLine
+pub mod GrantingLine

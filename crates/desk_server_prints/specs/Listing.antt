@@ -7,7 +7,7 @@ use Rattle.desk_policy.specs.Verdict.{Grant, verdict_of}
 use Rattle.desk_policy.specs.declared.verdict.Denial.{Denial}
 use Rattle.desk_who.specs.Runs.{AreRuns, AreStartsOf, Run}
 use Rattle.desk_server.specs.Server.{server_verdict_of}
-use Rattle.desk_server_prints.specs.Wider.{wider_line}
+use Rattle.desk_server_prints.specs.GrantingLine.{wider_line}
 use Rattle.desk_server_prints.specs.declared.listing.WiderClient.{WiderClient}
 
 -- The ranges are ascending, leave out no address and hold none twice, give each address the server's verdict for the path, and

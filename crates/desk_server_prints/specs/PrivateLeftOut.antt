@@ -4,7 +4,7 @@ use Rattle.std.specs.List.{AllZip}
 use Rattle.desk_tables.specs.FileSystems.{fs_of}
 use Rattle.desk_tables.specs.declared.filesystems.Mount.{Mount}
 use Rattle.desk_policy.specs.Policy.{Content}
-use Rattle.desk_server.specs.declared.repeated.RepeatedClient.{RepeatedClient}
+use Rattle.desk_server.specs.declared.repeated_client.RepeatedClient.{RepeatedClient}
 use Rattle.desk_server_prints.specs.LeftOutNote.{AreRepeatedIn, first_notes}
 
 -- the first lines of the file systems of these mount points are added to a note

@@ -7,10 +7,10 @@
 //! ```
 #![tactic(auto)]
 
-pub mod left_out;
+pub mod granting_line;
+pub mod left_out_lines;
 pub mod listing;
-pub mod wider;
 
-pub use left_out::left_out_note;
+pub use granting_line::wider_note;
+pub use left_out_lines::left_out_note;
 pub use listing::{first_wider_note, server_who};
-pub use wider::wider_note;

@@ -8,7 +8,7 @@ ghost use Rattle.desk_server_prints.specs.Listing as spec;
 ghost use Rattle.desk_server_prints.specs.Listing.{AreVerdictStarts, IsFirstOrNone, IsServerWho, TellsFirst, wider_at};
 ghost use Rattle.desk_policy.specs.Verdict.{verdict_result};
 ghost use Rattle.desk_server_prints.specs.PrivateListing.{IsFirstOf, IsFoundAt};
-ghost use Rattle.desk_server_prints.specs.Wider.{granting_line};
+ghost use Rattle.desk_server_prints.specs.GrantingLine.{granting_line};
 
 use desk_index::Index;
 use desk_policy::{PolicyView, Verdict};

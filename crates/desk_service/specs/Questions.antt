@@ -1,5 +1,6 @@
 -- What is asked without changing anything, and the answers, as data. (this project's own)
 use Rattle.std.specs.Prelude.{◌≡◌, ℕ, Bool, true, false, List, [], ◌∷◌, Option, Some, None, Result, map}
+use Rattle.std.specs.String.{string_bytes}
 use Rattle.sqlite_trees.specs.declared.store.Store.{Ghosts}
 use Rattle.sqlite.specs.Held.{state}
 use Rattle.desk_text.specs.Address.{number_of}
@@ -8,6 +9,7 @@ use Rattle.desk_policy.specs.Policy.{Content}
 use Rattle.desk_policy.specs.Verdict.{Grant, verdict_of, verdict_result}
 use Rattle.desk_policy.specs.declared.listings.Shown.{Shown as ShownSystem}
 use Rattle.desk_policy.specs.declared.verdict.Denial.{Denial}
+use Rattle.desk_why.specs.WhyPrints.{why_text}
 use Rattle.desk_who.specs.Runs.{Run}
 use Rattle.desk_who.specs.Who.{IsWho, range_value}
 use Rattle.desk_core.specs.Head.{Newest, Revision}
@@ -22,6 +24,8 @@ use Rattle.desk_service.specs.Foreseeing.{Foreseen, IsForeseen, IsRefusedText, f
 use Rattle.desk_service.specs.Sites.{IsForeseenSite, IsSiteOf, WholeSite, site_of}
 use Rattle.desk_service.specs.declared.questions.Answer.{Answer as LentAnswer}
 use Rattle.desk_service.specs.declared.questions.Answer.TheVariants as lent_answer
+use Rattle.desk_service.specs.declared.questions.FileQuestion.{FileQuestion}
+use Rattle.desk_service.specs.declared.questions.FileQuestion.TheVariants as of_file
 use Rattle.desk_service.specs.declared.questions.FileText.{FileText}
 use Rattle.desk_service.specs.declared.questions.Looked.{Looked}
 use Rattle.desk_service.specs.declared.questions.Looked.TheVariants as looked
@@ -29,17 +33,17 @@ use Rattle.desk_service.specs.declared.questions.ProposalText.{ProposalText}
 use Rattle.desk_service.specs.declared.questions.Question.{Question as LentQuestion}
 use Rattle.desk_service.specs.declared.questions.Question.TheVariants as lent
 
--- a question: by the policy in force, whether a client may mount a path, what it may mount, all exports, and who may mount a path; of
--- a file, its text as of a revision or else the newest, the list of its revisions, and its proposal; which files there are; what
+-- a question: by the policy in force, whether a client may mount a path, and why, what it may mount, all exports, and who may mount a
+-- path; of a file, its text as of a revision or else the newest, the list of its revisions, and its proposal; which files there are; what
 -- would be in force if a file had a text, or that of its proposal; and the whole site in force, or as it would be with such a text
 pub data Question : Type 0 where
   Mount : ℕ → List (List ℕ) → Question
+  Why : ℕ → List (List ℕ) → Question
   Listing : ℕ → Question
   Exports : Question
   Who : List (List ℕ) → Question
   Text : List ℕ → Option ℕ → Question
-  Revisions : List ℕ → Question
-  Proposal : List ℕ → Question
+  OfFile : List ℕ → FileQuestion → Question
   Files : Question
   Foresee : List ℕ → List ℕ → Question
   ForeseeProposal : List ℕ → Question
@@ -50,12 +54,12 @@ pub data Question : Type 0 where
 -- a question by value
 abbrev pub question_of : LentQuestion → Question
 question_of (lent.Mount address path) = Mount (number_of address) path.now
+question_of (lent.Why address path) = Why (number_of address) path.now
 question_of (lent.Listing address) = Listing (number_of address)
 question_of lent.Exports = Exports
 question_of (lent.Who path) = Who path.now
 question_of (lent.Text name rev) = Text name.now rev
-question_of (lent.Revisions name) = Revisions name.now
-question_of (lent.Proposal name) = Proposal name.now
+question_of (lent.OfFile name what) = OfFile name.now what
 question_of lent.Files = Files
 question_of (lent.Foresee name text) = Foresee name.now text.now
 question_of (lent.ForeseeProposal name) = ForeseeProposal name.now
@@ -63,11 +67,12 @@ question_of lent.Site = Site
 question_of (lent.ForeseeSite name text) = ForeseeSite name.now text.now
 question_of (lent.ForeseeProposedSite name) = ForeseeProposedSite name.now
 
--- an answer: by the policy in force, with that policy, a verdict, what a client may mount, all exports, and the verdicts on all
--- clients by ranges; a text, a list of revisions, a proposal, or that there is none; the files; what is foreseen of a text, or why
+-- an answer: by the policy in force, with that policy, a verdict, why it is so, what a client may mount, all exports, and the verdicts
+-- on all clients by ranges; a text, a list of revisions, a proposal, or that there is none; the files; what is foreseen of a text, or why
 -- the file cannot have it; and a whole site
 pub data Answer : Type 0 where
   VerdictIs : Content → Result Grant Denial → Answer
+  WhyIs : Content → List ℕ → Answer
   ListingIs : Content → List ShownSystem → Answer
   ExportsAre : Content → Answer
   RangesAre : Content → List (Run (Result Grant Denial)) → Answer
@@ -83,6 +88,7 @@ pub data Answer : Type 0 where
 -- an answer by value
 abbrev pub answer_of : {V : Type 0} → (V → Content) → LentAnswer V → Answer
 answer_of in_force (lent_answer.Verdict policy verdict) = VerdictIs policy.now (verdict_result verdict)
+answer_of in_force (lent_answer.Why view reasons) = WhyIs (in_force view.now) (string_bytes reasons)
 answer_of in_force (lent_answer.Listing policy listing) = ListingIs policy.now listing.items
 answer_of in_force (lent_answer.Exports policy) = ExportsAre policy.now
 answer_of in_force (lent_answer.Who policy ranges) = RangesAre policy.now (map range_value ranges.items)
@@ -98,6 +104,14 @@ answer_of in_force (lent_answer.Refused refusal) = RefusedBy refusal
 -- a policy that newest revisions put in force is so
 abbrev pub TellsInForce : Newest → (Content → Type 0) → Type 0
 TellsInForce newest Tells = (content : Content) × IsInForce (site_in newest) content × Tells content
+
+-- a site that newest revisions put in force is so
+abbrev pub TellsSite : Newest → (WholeSite → Type 0) → Type 0
+TellsSite newest Tells = (site : WholeSite) × IsSiteOf (site_in newest) site × Tells site
+
+-- the answer to why a client may mount a path, or may not, by the policy of a site, with the names that its tables know
+abbrev pub why_in : WholeSite → ℕ → List (List ℕ) → Answer
+why_in site address path = WhyIs site.content (why_text site.tables.netgroups site.tables.hosts site.content address path)
 
 -- this is a policy, and a path has these ranges under it; there is just one list of them
 abbrev pub AreRangesOf : Content → List (List ℕ) → Answer → Type 0
@@ -168,15 +182,20 @@ abbrev pub ForeseesProposedSite : Newest → List ℕ → Option Pending → Ans
 ForeseesProposedSite newest file (Some p) answer = ForeseesSite newest file p.body answer
 ForeseesProposedSite newest file None answer = answer ≡ NoRevision
 
+-- the answer to what is asked of a file by its name alone
+abbrev pub AnswersOfFile : History → List ℕ → FileQuestion → Answer → Type 0
+AnswersOfFile history file of_file.Revisions answer = answer ≡ revisions_answer (signatures file history)
+AnswersOfFile history file of_file.Proposal answer = answer ≡ proposal_answer ((standing_of history).proposals file)
+
 -- The answer to a question by a history: of the policy in force by it, or of what it has of files.
 abbrev pub AnswersByHistory : History → Question → Answer → Type 0
 AnswersByHistory history (Mount address path) answer = TellsInForce (newest_of history) (λ content. answer ≡ VerdictIs content (verdict_of content address path))
+AnswersByHistory history (Why address path) answer = TellsSite (newest_of history) (λ site. answer ≡ why_in site address path)
 AnswersByHistory history (Listing address) answer = TellsInForce (newest_of history) (λ content. answer ≡ ListingIs content (listing_of content address))
 AnswersByHistory history Exports answer = TellsInForce (newest_of history) (λ content. answer ≡ ExportsAre content)
 AnswersByHistory history (Who path) answer = TellsInForce (newest_of history) (λ content. AreRangesOf content path answer)
 AnswersByHistory history (Text file rev) answer = answer ≡ text_answer (revision_asked history file rev)
-AnswersByHistory history (Revisions file) answer = answer ≡ revisions_answer (signatures file history)
-AnswersByHistory history (Proposal file) answer = answer ≡ proposal_answer ((standing_of history).proposals file)
+AnswersByHistory history (OfFile file what) answer = AnswersOfFile history file what answer
 AnswersByHistory history Files answer = AreFiles history answer
 AnswersByHistory history (Foresee file text) answer = ForeseesText (newest_of history) file text None answer
 AnswersByHistory history (ForeseeProposal file) answer = ForeseesProposal (newest_of history) file ((standing_of history).proposals file) answer
@@ -187,7 +206,7 @@ AnswersByHistory history (ForeseeProposedSite file) answer = ForeseesProposedSit
 -- a question takes statements: one for the text of a numbered revision, and one for a list of revisions
 abbrev pub takes_statements : Question → Bool
 takes_statements (Text file (Some rev)) = true
-takes_statements (Revisions file) = true
+takes_statements (OfFile file of_file.Revisions) = true
 takes_statements question = false
 
 -- the statements that a question takes were made

@@ -10,7 +10,8 @@ ghost use Rattle.desk_service.specs.Questions.{AnswersByHistory, IsLookedUp, IsR
 
 use crate::files::files_answer;
 use crate::foreseeing::{foresee_proposal, foresee_text};
-use crate::questions::{Answer, Looked, Question};
+use crate::questions::{Answer, FileQuestion, Looked, Question};
+use crate::reasons::why_answer;
 use crate::sites::{foresee_proposed_site, foresee_site_text, site_answer};
 use crate::texts::{newest_text, proposal_answer, revisions_looked, text_looked};
 use desk_policy::{PolicyView, listing};
@@ -40,7 +41,10 @@ pub fn look_up<S: Alter + Drop, V: PolicyView + Drop>(
             Some(rev) => text_looked(alloc, desk, name, rev),
             None => Ok(Looked::Nothing),
         },
-        Question::Revisions(name) => revisions_looked(alloc, desk, name),
+        Question::OfFile(name, what) => match what {
+            FileQuestion::Revisions => revisions_looked(alloc, desk, name),
+            _ => Ok(Looked::Nothing),
+        },
         _ => Ok(Looked::Nothing),
     }
 }
@@ -83,6 +87,7 @@ fn answer_kept<'a, S: Alter + Drop, V: PolicyView + Drop>(
 {
     match question {
         Question::Mount(address, path) => Ok(verdict_answer(desk, address, path)),
+        Question::Why(address, path) => why_answer(alloc, desk, address, path),
         Question::Listing(address) => listing_answer(alloc, desk, address),
         Question::Exports => Ok(exports_answer(desk)),
         Question::Who(path) => who_answer(alloc, desk, path),
@@ -91,15 +96,17 @@ fn answer_kept<'a, S: Alter + Drop, V: PolicyView + Drop>(
             // This takes statements.
             Some(_) => unreachable!(),
         },
-        Question::Proposal(name) => proposal_answer(alloc, desk, name),
+        Question::OfFile(name, what) => match what {
+            FileQuestion::Proposal => proposal_answer(alloc, desk, name),
+            // This takes statements.
+            FileQuestion::Revisions => unreachable!(),
+        },
         Question::Files => files_answer(alloc, desk),
         Question::Foresee(name, text) => foresee_text(alloc, desk, name, text),
         Question::ForeseeProposal(name) => foresee_proposal(alloc, desk, name),
         Question::Site => Ok(site_answer(desk)),
         Question::ForeseeSite(name, text) => foresee_site_text(alloc, desk, name, text),
         Question::ForeseeProposedSite(name) => foresee_proposed_site(alloc, desk, name),
-        // This takes statements.
-        Question::Revisions(_) => unreachable!(),
     }
 }
 

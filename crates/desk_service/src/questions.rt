@@ -10,11 +10,22 @@ use desk_store::Signature;
 use desk_text::{Addr, Path, Sequence, Text};
 use desk_who::Range;
 
+/// What is asked of a file by its name alone.
+#[derive(Clone, Copy)]
+pub enum FileQuestion {
+    /// The numbers of its revisions, with who wrote and who approved them, and their profiles.
+    Revisions,
+    /// Its proposal, which waits for a second custodian.
+    Proposal,
+}
+
 /// A question.
 #[derive(Clone, Copy)]
 pub enum Question<'a> {
     /// Whether the client of this address may mount this directory, by the policy in force.
     Mount(Addr, &'a Path),
+    /// Why the client of this address may mount this directory, or may not, by the policy in force.
+    Why(Addr, &'a Path),
     /// What the client of this address may mount, by the policy in force.
     Listing(Addr),
     /// All exports of the policy in force.
@@ -23,10 +34,8 @@ pub enum Question<'a> {
     Who(&'a Path),
     /// The text of the file of this name as of a revision, or else the newest.
     Text(&'a str, Option<u32>),
-    /// The numbers of the revisions of the file of this name, with who wrote and who approved them, and their profiles.
-    Revisions(&'a str),
-    /// The proposal of the file of this name, which waits for a second custodian.
-    Proposal(&'a str),
+    /// This, of the file of this name.
+    OfFile(&'a str, FileQuestion),
     /// Which files have a revision or a proposal.
     Files,
     /// What would be in force if the file of this name had this text.
@@ -58,6 +67,8 @@ pub enum Looked {
 #[derive(Drop)]
 pub enum Answer<'a, V> {
     Verdict(&'a Policy, Verdict<'a>),
+    /// The view of the policy in force, and why it decides so, in whole lines.
+    Why(&'a V, String),
     /// What the client may mount, by mount point.
     Listing(&'a Policy, Vec<Shown>),
     /// The policy itself says what all exports are.

@@ -5,6 +5,7 @@ ghost use Rattle.desk_store.specs.Desk.{HasGoodDisk, History, StandsAt};
 ghost use Rattle.desk_store.specs.Rows.{IsOfTask};
 ghost use Rattle.desk_store.specs.declared.error.Task.TheVariants as tasks;
 ghost use Rattle.desk_service.specs.Questions as spec;
+ghost use Rattle.desk_service.specs.declared.questions.FileQuestion.TheVariants as of_file;
 ghost use Rattle.desk_service.specs.Questions.{AnswersByHistory, IsLookedUp, IsReady, OnlyLooks, answer_of};
 
 use crate::questions::{Answer, FileText, Looked, ProposalText};
@@ -48,8 +49,8 @@ pub(crate) fn revisions_looked<S: Alter + Drop, V: PolicyView + Drop>(
     name: &str,
 ) -> Result<Looked, DeskError>
     ensures found { HasGoodDisk S.Store desk.new → (history pending : History) → StandsAt S.Store desk.old history pending
-        → IfOk result (λ looked. IsLookedUp history (spec.Revisions name.now) looked) }
-    ensures ready { IfOk result (λ looked. IsReady (spec.Revisions name.now) looked) }
+        → IfOk result (λ looked. IsLookedUp history (spec.OfFile name.now of_file.Revisions) looked) }
+    ensures ready { IfOk result (λ looked. IsReady (spec.OfFile name.now of_file.Revisions) looked) }
     ensures looks { OnlyLooks S.Store desk.old desk.new }
     ensures errors { IfErr result (IsOfTask tasks.ReadRevisions) }
 {
@@ -108,7 +109,7 @@ pub(crate) fn proposal_answer<'a, S: Alter + Drop, V: PolicyView + Drop>(
     name: &str,
 ) -> Result<Answer<'a, V>, AllocError>
     ensures { (history pending : History) → StandsAt S.Store desk.now history pending
-        → IfOk result (λ answer. AnswersByHistory history (spec.Proposal name.now) (answer_of V.in_force answer)) }
+        → IfOk result (λ answer. AnswersByHistory history (spec.OfFile name.now of_file.Proposal) (answer_of V.in_force answer)) }
 {
     match desk.proposal(name) {
         Some(proposal) => Ok(Answer::Proposal(proposed(alloc, proposal)?)),

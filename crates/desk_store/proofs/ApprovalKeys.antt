@@ -16,7 +16,7 @@ use Rattle.std.proofs.lemmas.Slice.Eq.{bytes_eq-Decides}
 use Rattle.sqlite_trees.proofs.ListLemmas.{all-append, all-permutation}
 use Rattle.desk_core.specs.Head.{Revision}
 use Rattle.desk_store.specs.StoredRows.{Key, approval_key, is_below, revision_key}
-use Rattle.desk_store.specs.declared.stored.Approval.{Approval}
+use Rattle.desk_store.specs.declared.stored_rows.Approval.{Approval}
 use Rattle.desk_store.proofs.Counts.{one_if}
 use Rattle.desk_store.proofs.Members.{both_true}
 

@@ -14,7 +14,7 @@ use Rattle.desk_store.specs.History.{approval_of, row_of}
 use Rattle.desk_store.specs.Rows.{number_in, text_in}
 use Rattle.desk_store.specs.StoredRows.{HasUtf8Approver, IsUnapproved, Key, approval_key, approved_all, is_approval_of, is_below, left_after, left_by, own_first, revision_key, row_of_approval, with_approval}
 use Rattle.desk_store.specs.Tables.{approval_row}
-use Rattle.desk_store.specs.declared.stored.Approval.{Approval}
+use Rattle.desk_store.specs.declared.stored_rows.Approval.{Approval}
 use Rattle.desk_store.proofs.ApprovalKeys.{Rises, at, at_is, at_itself, count, neither_below}
 use Rattle.desk_store.proofs.Counts.{none_counts, one_if, one_passes, sum_map}
 

@@ -1,5 +1,5 @@
 -- What becomes of a connection whose rows are gathered one after another.
-use Rattle.std.proofs.Common.{◌≡◌, ◌∙◌, ◌⊎◌, inl, inr, Bool, false, ℕ, List, [], ◌∷◌, ◌++◌, Option, None, Some, Result, Ok, Err, IfErr, IfOk, IsPermutation, ap, arith, refl, subst, sym}
+use Rattle.std.proofs.Common.{◌≡◌, ◌∙◌, ◌⊎◌, inl, inr, Bool, false, ℕ, List, [], ◌∷◌, ◌++◌, Option, None, Some, Result, Ok, Err, IfOk, IsPermutation, ap, arith, refl, subst, sym}
 use Rattle.std.specs.Prelude.{OnErr}
 use Rattle.std.proofs.lemmas.List.Sorted.{IsPermutation-refl}
 use Rattle.sqlite_trees.specs.declared.store.Store.{Ghosts}
@@ -12,13 +12,13 @@ use Rattle.sqlite.specs.State.{CommitsShowing, FailsToQuery, HasCleanDisk, IsNot
 use Rattle.sqlite.specs.declared.error.Error.{Error}
 use Rattle.sqlite.proofs.Callers.{begun_plain, command_of, never_commits, reads_as, unchanged_then}
 use Rattle.desk_schema.specs.Tables.{HasThese}
-use Rattle.desk_store.specs.Error.{FailsAsSaid, IsSaid, Query, Statement}
-use Rattle.desk_store.specs.PrivateGathered.{GathersRows, GathersShown, IsFull, IsGathered, IsGatheredAs}
+use Rattle.desk_store.specs.Error.{FailsAsSaid, Query, Statement}
+use Rattle.desk_store.specs.PrivateGatheredRevisions.{GathersRows, GathersShown, IsFull, IsGathered, IsGatheredAs}
 use Rattle.desk_store.specs.Looks.{ChangesNothing, IsLook}
 use Rattle.desk_store.specs.Tables.{IsAtRestWith}
-use Rattle.desk_store.specs.declared.gathered.Gathered.{Gathered}
-use Rattle.desk_store.specs.declared.gathered.Ungathered.{Ungathered}
-use Rattle.desk_store.specs.declared.gathered.Ungathered.TheVariants.{Foreign, Memory}
+use Rattle.desk_store.specs.declared.gathered_revisions.Gathered.{Gathered}
+use Rattle.desk_store.specs.declared.gathered_revisions.Ungathered.{Ungathered}
+use Rattle.desk_store.specs.declared.gathered_revisions.Ungathered.TheVariants.{Foreign, Memory}
 use Rattle.desk_store.proofs.ChangesNothing.{changes_nothing, early as clean_before, look_then, rest_after_error}
 use Rattle.desk_store.proofs.Inside.{same_survives}
 use Rattle.desk_store.proofs.Reading.{compiled_in, query_failed, said_unprepared}

@@ -1,18 +1,17 @@
 -- What is kept of revisions, as one more is read, and as an older one of a file loses its text.
-use Rattle.std.proofs.Common.{◌≡◌, ◌∙◌, ◌⊎◌, inl, inr, sym, ap, subst, refl, ℕ, zero, suc, ◌<◌, ◌++◌, true, false, is_some, List, [], ◌∷◌, Option, Some, None, All, get_or, length, map, set, arith}
+use Rattle.std.proofs.Common.{◌≡◌, ◌∙◌, inl, inr, sym, ap, subst, refl, ℕ, zero, suc, ◌<◌, ◌++◌, true, false, is_some, List, [], ◌∷◌, Option, Some, None, All, get_or, map, set, arith}
 use Rattle.std.specs.Option.{option_map_or}
 use Rattle.std.specs.Prelude.{Contains, slice_get}
 use Rattle.std.proofs.lemmas.List.{map-append, map-set}
 use Rattle.std.proofs.lemmas.List.Elements.{All-contains, All-from_recursion, All-push, All-set, Contains-append_left, Contains-push}
-use Rattle.std.proofs.lemmas.Option.{slice_get-map}
 use Rattle.sqlite.specs.Order.{Row}
 use Rattle.desk_core.specs.Head.{Revision}
 use Rattle.desk_store.specs.Desk.{IsStorable}
 use Rattle.desk_store.specs.History.{row_of}
-use Rattle.desk_store.specs.PrivateGathered.{AreKept, AreOf, IsForeign, IsGatheredAs, IsKept, IsOlderAt, IsOutdated, bare, with_bare}
+use Rattle.desk_store.specs.PrivateGatheredRevisions.{AreKept, AreOf, IsForeign, IsGatheredAs, IsKept, IsOlderAt, IsOutdated, bare, with_bare}
 use Rattle.desk_store.specs.StoredRows.{IsUnapproved}
-use Rattle.desk_store.specs.declared.gathered.Ungathered.{Ungathered}
-use Rattle.desk_store.specs.declared.gathered.Ungathered.TheVariants.{Foreign, Memory}
+use Rattle.desk_store.specs.declared.gathered_revisions.Ungathered.{Ungathered}
+use Rattle.desk_store.specs.declared.gathered_revisions.Ungathered.TheVariants.{Foreign, Memory}
 use Rattle.desk_store.proofs.Members.{default, from_map, in_map, shift}
 
 -- what is found at a place is there

@@ -20,7 +20,7 @@ use Rattle.desk_core.specs.Standing.{Standing}
 use Rattle.desk_core.specs.declared.entry.Entry.{Entry}
 use Rattle.desk_core.specs.declared.entry.Entry.TheVariants.{Revised}
 use Rattle.desk_store.specs.Desk.{IsStorable}
-use Rattle.desk_store.specs.Newest.{AreNewest, number_in}
+use Rattle.desk_store.specs.NewestRevisions.{AreNewest, number_in}
 use Rattle.desk_store.proofs.Members.{default, find_none, find_only, from_filter, in_filter}
 use Rattle.desk_store.proofs.Revisions.{AreNumbered, IsNumbered, history_of, newest_by, last, newest_revised, numbered_in, one_number, own, rev_at}
 

@@ -7,7 +7,7 @@ use Rattle.std.proofs.lemmas.Bool.{cases_Bool, eqb-true, false≢true}
 use Rattle.std.proofs.lemmas.List.Kept.{AllPairs-cons, AllPairs-filter}
 use Rattle.std.proofs.lemmas.Slice.Eq.{bytes_eq-Decides}
 use Rattle.desk_core.specs.Head.{Revision, StandOnce}
-use Rattle.desk_store.specs.Newest.{number_in}
+use Rattle.desk_store.specs.NewestRevisions.{number_in}
 use Rattle.desk_store.proofs.Members.{default, from_filter, in_filter}
 use Rattle.desk_store.proofs.Revisions.{AreNumbered, IsNumbered, own, rev_at}
 

@@ -1,28 +1,27 @@
 -- The histories that revisions stand for of which the older ones have lost their texts.
-use Rattle.std.proofs.Common.{◌≡◌, ◌∙◌, ◌⊎◌, inl, inr, sym, ap, subst, refl, ℕ, zero, suc, ◌+◌, ◌-◌, ◌<◌, Bool, true, false, cond, List, [], ◌∷◌, Option, Some, None, All, IsPermutation, filter, filter_map, get_or, length, map, option_map, arith}
+use Rattle.std.proofs.Common.{◌≡◌, ◌∙◌, inl, inr, sym, ap, subst, refl, ℕ, zero, suc, ◌+◌, ◌-◌, ◌<◌, Bool, true, false, cond, List, [], ◌∷◌, Option, Some, None, All, IsPermutation, filter, filter_map, get_or, length, map, option_map, arith}
 use Rattle.std.specs.Prelude.{Contains, slice_get}
 use Rattle.std.specs.List.{AllByRecursion, cons_option, range_with_len}
 use Rattle.std.specs.Str.{bytes_eq}
 use Rattle.std.proofs.Math.Path.{fun_ext}
 use Rattle.std.proofs.lemmas.List.{length-map}
 use Rattle.std.proofs.lemmas.List.Elements.{All-contains, All-from_recursion, recursion_from_All}
-use Rattle.std.proofs.lemmas.List.Sorted.{All-permutation, Contains-permutation, IsPermutation-map, IsPermutation-sym, IsPermutation-trans}
+use Rattle.std.proofs.lemmas.List.Sorted.{All-permutation, Contains-permutation, IsPermutation-map, IsPermutation-sym}
 use Rattle.std.proofs.lemmas.Option.{slice_get-map}
 use Rattle.std.proofs.lemmas.Simd.{map-map}
-use Rattle.std.proofs.lemmas.Slice.Eq.{bytes_eq-Decides}
 use Rattle.sqlite_trees.proofs.ListLemmas.{filter-map, pull_back}
 use Rattle.sqlite.specs.Order.{Row}
-use Rattle.desk_core.specs.Head.{Revision, newest_in}
+use Rattle.desk_core.specs.Head.{Revision}
 use Rattle.desk_core.specs.History.{IsHistory, newest_of}
 use Rattle.desk_core.specs.declared.entry.Entry.TheVariants.{Revised}
 use Rattle.desk_store.specs.Desk.{IsStorable}
-use Rattle.desk_store.specs.PrivateGathered.{AreKept, AreOf, IsForeign, IsKept, IsOutdated}
+use Rattle.desk_store.specs.PrivateGatheredRevisions.{AreKept, AreOf, IsForeign, IsKept, IsOutdated}
 use Rattle.desk_store.specs.History.{approval_of, row_of}
 use Rattle.desk_store.specs.StoredRows.{AreNewestOf}
 use Rattle.desk_store.proofs.Kept.{found_in, same_file, same_rev}
 use Rattle.desk_store.proofs.Members.{default, from_filter, from_map, in_filter, in_map}
 use Rattle.desk_store.proofs.OneOrder.{same_revision}
-use Rattle.desk_store.proofs.Revisions.{AreNumbered, history_of, last, newest_by, newest_revised, numbered_in, own, rev_at}
+use Rattle.desk_store.proofs.Revisions.{AreNumbered, history_of, last, newest_revised, numbered_in, own, rev_at}
 
 abbrev Pair : Type 0
 Pair = Revision × Revision

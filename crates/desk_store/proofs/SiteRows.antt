@@ -18,9 +18,9 @@ use Rattle.desk_core.specs.declared.entry.Entry.TheVariants.{Proposed, Revised}
 use Rattle.desk_core.specs.declared.proposal.Proposal.{Proposal}
 use Rattle.desk_store.specs.Desk.{IsSiteHistory, IsStorable, MayPend}
 use Rattle.desk_store.specs.History.{approval_of, proposed_row, revisions_in, row_of}
-use Rattle.desk_store.specs.Newest.{has_revision}
+use Rattle.desk_store.specs.NewestRevisions.{has_revision}
 use Rattle.desk_store.specs.StoredRows.{AreNewestOf, AreRowsOf, MayFollow, row_of_approval}
-use Rattle.desk_store.specs.declared.stored.Approval.{Approval}
+use Rattle.desk_store.specs.declared.stored_rows.Approval.{Approval}
 use Rattle.desk_store.proofs.LongerHistory.{none_pending}
 use Rattle.desk_store.proofs.Members.{IsPermutation-filter_map, default, told_by_one}
 use Rattle.desk_store.proofs.NextNumbers.{low_newest, slice_at}

@@ -6,7 +6,7 @@ use Rattle.std.proofs.lemmas.Bool.{eqb-true}
 use Rattle.std.proofs.lemmas.List.{drop-set-lt, drop_more, reverse-append, reverse-reverse, take_more_set}
 use Rattle.desk_core.specs.Head.{Revision}
 use Rattle.desk_store.specs.StoredRows.{approved_all, is_approval_of, last_of, left_after, left_by, own_approval, own_first, with_approval}
-use Rattle.desk_store.specs.declared.stored.Approval.{Approval}
+use Rattle.desk_store.specs.declared.stored_rows.Approval.{Approval}
 
 at_end : (xs : List Approval) (a : Approval) → slice_get (xs ++ a ∷ []) (length xs) ≡ Some a
 at_end [] a = refl

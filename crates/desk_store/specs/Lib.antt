@@ -7,8 +7,8 @@ pub mod Laws
 pub mod Open
 pub mod Create
 pub mod Storing
-pub mod Newest
+pub mod NewestRevisions
 pub mod Looks
 pub mod Keys
 pub mod Error
-pub mod PrivateGathered
+pub mod PrivateGatheredRevisions

@@ -17,7 +17,7 @@ use Rattle.desk_core.specs.declared.proposal.Proposal.{Proposal}
 use Rattle.desk_store.specs.Desk.{IsStorable}
 use Rattle.desk_store.specs.History.{approval_of, proposed_row, revisions_in, row_of}
 use Rattle.desk_store.specs.Tables.{approval_row, rows_of}
-use Rattle.desk_store.specs.declared.stored.Approval.{Approval}
+use Rattle.desk_store.specs.declared.stored_rows.Approval.{Approval}
 
 -- a revision with these parts that nobody approved
 abbrev pub unapproved : List ℕ → ℕ → List ℕ → Profile → List ℕ → Revision

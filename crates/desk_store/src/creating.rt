@@ -15,7 +15,7 @@ ghost use Rattle.desk_store.specs.History.{approval_of, row_of};
 ghost use Rattle.desk_schema.specs.Tables.{IsFree, create_approval, create_proposal};
 
 use crate::error::{CreateError, StoreFault, Task};
-use crate::first::first_state;
+use crate::first_revisions::first_state;
 use crate::storing::add_revision;
 use desk_core::{Head, State};
 use desk_policy::{PolicyView, Site};

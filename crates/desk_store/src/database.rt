@@ -24,7 +24,7 @@ ghost use Rattle.desk_store.specs.declared.error.Task.TheVariants as tasks;
 use crate::creating::{has_later_room, make_later, run};
 use crate::error::{DeskError, Task};
 use crate::keys::are_keys;
-use crate::opening::{accept_version, state_in};
+use crate::opening::{accept_version, state_of_rows};
 use crate::rows::not_stored;
 use crate::tables::{
     gather_revisions, read_approvals, read_proposal_keys, read_proposals, read_version_keys,
@@ -121,7 +121,12 @@ fn read_history<S: Alter, V: PolicyView + Drop>(
         Err(e) => return Err(not_stored(Task::ReadRevisions, e)),
     };
     match read_proposals(conn) {
-        Ok(proposals) => state_in(alloc, revisions, approvals.as_slice(), proposals.as_slice()),
+        Ok(proposals) => state_of_rows(
+            alloc,
+            revisions,
+            approvals.as_slice(),
+            proposals.as_slice(),
+        ),
         Err(e) => Err(not_stored(Task::ReadRevisions, e)),
     }
 }
@@ -149,7 +154,7 @@ fn read_first<S: Alter, V: PolicyView + Drop>(
     check_version(conn, Version::First)?;
     check_version_keys(alloc, conn)?;
     match gather_revisions(alloc, conn) {
-        Ok(revisions) => state_in(alloc, revisions, &[], &[]),
+        Ok(revisions) => state_of_rows(alloc, revisions, &[], &[]),
         Err(e) => Err(not_stored(Task::ReadRevisions, e)),
     }
 }

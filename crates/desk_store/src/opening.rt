@@ -13,17 +13,17 @@ ghost use Rattle.desk_core.specs.State.{standing};
 ghost use Rattle.desk_core.specs.declared.entry.Entry.TheVariants.{Revised};
 ghost use Rattle.desk_store.specs.Desk.{History, IsSiteHistory, IsStorable};
 ghost use Rattle.desk_store.specs.History.{approval_of, row_of};
-ghost use Rattle.desk_store.specs.Newest.{has_revision};
+ghost use Rattle.desk_store.specs.NewestRevisions.{has_revision};
 ghost use Rattle.desk_store.specs.Open.{IsOfRows, version_number, version_rows};
-ghost use Rattle.desk_store.specs.PrivateGathered.{IsGathered, WasGathered};
+ghost use Rattle.desk_store.specs.PrivateGatheredRevisions.{IsGathered, WasGathered};
 ghost use Rattle.desk_store.specs.StoredRows.{AreNewestOf, AreRowsOf};
 ghost use Rattle.desk_store.specs.declared.error.DeskError.TheVariants as error;
 
 use crate::error::DeskError;
-use crate::gathered::Gathered;
-use crate::newest::newest_heads;
-use crate::pending::{approve, may_follow};
-use crate::stored::{approvals_in, number_in, proposals_in};
+use crate::gathered_revisions::Gathered;
+use crate::newest_revisions::newest_heads;
+use crate::pending_proposals::{approve, may_follow};
+use crate::stored_rows::{approvals_in, number_in, proposals_in};
 use desk_core::{Head, Proposal, State, consistent_sites_have_no_fault};
 use desk_policy::PolicyView;
 use desk_schema::Version;
@@ -85,7 +85,7 @@ fn is_version(rows: &[Row], number: u32) -> bool
 }
 
 /// Makes the state of the newest revisions and of proposals; `Schema` if the site that they write is not consistent.
-fn state_of<V: PolicyView + Drop>(
+fn state_of_newest<V: PolicyView + Drop>(
     alloc: Global,
     heads: Vec<Head>,
     proposals: Vec<Proposal>,
@@ -108,7 +108,7 @@ fn state_of<V: PolicyView + Drop>(
 }
 
 /// Makes the state that the rows of a database stand for; `Schema` if they are not those of the history of a site.
-pub(crate) fn state_in<V: PolicyView + Drop>(
+pub(crate) fn state_of_rows<V: PolicyView + Drop>(
     alloc: Global,
     revisions: Gathered,
     approvals: &[Row],
@@ -139,7 +139,7 @@ pub(crate) fn state_in<V: PolicyView + Drop>(
         drop(heads);
         return Err(DeskError::Schema);
     }
-    state_of(alloc, heads, proposals)
+    state_of_newest(alloc, heads, proposals)
 }
 
 /// Makes the newest revisions that rows say, with who approved them; `Schema` if the rows are not those of a history.

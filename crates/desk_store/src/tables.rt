@@ -10,11 +10,11 @@ ghost use Rattle.sqlite.specs.Held.{state};
 ghost use Rattle.sqlite.specs.Values.{bound};
 ghost use Rattle.sqlite.specs.declared.types.Value.TheVariants.{Int, Text as Words};
 ghost use Rattle.desk_store.specs.Error.{FailsAsSaid, Query};
-ghost use Rattle.desk_store.specs.PrivateGathered.{GathersRows, GathersShown};
+ghost use Rattle.desk_store.specs.PrivateGatheredRevisions.{GathersRows, GathersShown};
 ghost use Rattle.desk_store.specs.Looks.{ChangesNothing, IsLook, ReadsRows, SeesTables, approver_in, approvers_in, numbers_in, revision_in, select_approver, select_approvers, select_nothing, select_numbers, select_revision};
 ghost use Rattle.desk_store.specs.Tables.{IsAtRest, IsAtRestWith, rowids_of, rows_of, select_approvals, select_proposal_keys, select_proposals, select_revisions, select_version, select_version_keys};
 
-use crate::gathered::Gathered;
+use crate::gathered_revisions::Gathered;
 use desk_schema::{Version, declared_version};
 use sqlite::{Alter, Connection, Error, Row, Statement, params};
 use sqlite_value::value::ValueRef;

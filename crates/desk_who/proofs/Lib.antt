@@ -11,3 +11,4 @@ pub mod Within
 pub mod Slices
 pub mod Held
 pub mod Asked
+pub mod Sought

@@ -32,7 +32,7 @@ not_there n x xs none = false_from_ne_true _ (λ is. true≢false (sym (or_right
 pub absent : (n x : ℕ) (xs : List ℕ) → x ≢ n → is_among n xs ≡ false → is_among n (x ∷ xs) ≡ false
 absent n x xs apart none = ap (λ b. b || is_among n xs) (ne_eqb x n apart) ∙ none
 
-among_append : (n : ℕ) (xs ys : List ℕ) → is_among n (xs ++ ys) ≡ (is_among n xs || is_among n ys)
+pub among_append : (n : ℕ) (xs ys : List ℕ) → is_among n (xs ++ ys) ≡ (is_among n xs || is_among n ys)
 among_append n xs ys = list_any-append _ xs ys
 
 -- a number that may be kept is among what is kept where it is among all
@@ -208,17 +208,6 @@ none_found None e = cc
 none_found (Some i) e = cc
 
 module _ {A : Type 0} (rule : Rule A) (content : Content) (own others all : List ℕ) (joined : AreJoined own others all) (are : AreRuleStarts rule others) where
-  pub found_steady : (path : List (List ℕ)) (fs : ℕ) → fs_of content.table path ≡ Some fs → AreStarts (rows_of content fs) own → AreStartsOf (found_at rule content path) all
-  found_steady path fs home lines = record {
-    ascend = joined.ascend;
-    behind = joined.behind lines.behind are.nowhere.behind;
-    steady = λ address fits none.
-        ap (λ one. found_in rule content path one (address + 1)) home
-        ∙ are.among (record { 0 = fs }) (lists content fs path) (rows_of content fs) address fits (joined.other (address + 1) none)
-        (all_same address (address + 1) own (rows_of content fs) refl fits (joined.own (address + 1) none) lines.steady)
-        ∙ sym (ap (λ one. found_in rule content path one address) home);
-  }
-
   pub found_nowhere : (path : List (List ℕ)) → fs_of content.table path ≡ None → own ≡ [] → AreStartsOf (found_at rule content path) all
   found_nowhere path home none = record {
     ascend = joined.ascend;

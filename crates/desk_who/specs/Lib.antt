@@ -4,5 +4,6 @@ pub mod PrivateStarts
 pub mod Who
 pub mod WhoPrints
 pub mod Searching
+pub mod PrivateSearching
 pub mod Beside
 pub mod PrivateBeside

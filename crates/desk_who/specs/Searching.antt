@@ -39,6 +39,11 @@ AsksThoseThatMatch rule =
     (fs : FsId) (listing other : Row → Bool) (rows : List Row) (address : ℕ) → AllByRecursion (λ row. (weight_of row address ≡ None) ⊎ (listing row ≡ other row)) rows
     → rule.among fs listing rows address ≡ rule.among fs other rows address
 
+-- Nothing is found at an address, for whichever path; nor at the one before it, unless something else may be found from there on.
+pub record IsSilent {T : Type 0} (found : Addr → List (List ℕ) → Option T → Type 0) (turns : List ℕ) (address : ℕ) : Type 0 where
+  pub here : (own : Addr) (path : List (List ℕ)) → number_of own ≡ address → found own path None
+  pub before : is_among address turns ≡ false → (own : Addr) (path : List (List ℕ)) → number_of own + 1 ≡ address → found own path None
+
 -- A rule says what a search finds: at each address of each path in a policy, given the addresses at which something else may be
 -- found though no line begins or ceases to match.
 pub record IsRuleOf {T A : Type 0} (meaning : T → A) (found : Addr → List (List ℕ) → Option T → Type 0) (content : Content) (turns : List ℕ) (rule : Rule (Option A)) : Type 0 where

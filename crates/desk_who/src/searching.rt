@@ -1,15 +1,18 @@
 //! What is looked for at the addresses of a path, and where it is found.
 
 ghost use Rattle.std.specs.Prelude.{◌≡◌, ℕ, List, Option, IfOk, false, map};
+ghost use Rattle.desk_text.specs.Address.{number_of};
 ghost use Rattle.desk_text.specs.AddrSet.{is_among};
 ghost use Rattle.desk_text.specs.declared.address.Addr.{Addr};
 ghost use Rattle.desk_policy.specs.Policy.{Content};
 ghost use Rattle.desk_who.specs.Runs.{AreRunsWithValue, run_value};
-ghost use Rattle.desk_who.specs.Searching.{AreFoundStarts, ByRule, found_at};
+ghost use Rattle.desk_who.specs.PrivateSearching.{AreSought};
+ghost use Rattle.desk_who.specs.Searching.{AreFoundStarts, ByRule, IsSilent, found_at};
 
 use crate::runs::{Alike, Run, longest_runs, those_with_value};
 use crate::starts::{joined, starts_among};
-use desk_policy::Policy;
+use desk_policy::{Policy, Row};
+use desk_text::laws::sorted_sets_are_unique;
 use desk_text::{Addr, AddrSet, Path};
 use std::alloc::{AllocError, Global};
 
@@ -37,6 +40,10 @@ pub trait Search<T> {
     /// Finds what is looked for at an address of a path, if it is there.
     fn find(&self, address: Addr, path: &Path) -> Option<T>
         ensures { found self.now address path.now result };
+
+    /// Tests whether something may be found at an address, for whichever path. Where it cannot be, no path is asked.
+    fn may_find(&self, address: Addr) -> bool
+        ensures { result ≡ false → IsSilent (found self.now) (turns self.now) (number_of address) };
 }
 
 /// Lists where something is found for a path: the longest runs of addresses at which the same is found, ascending.
@@ -65,7 +72,31 @@ pub fn found_starts<T: Alike, S: Search<T>>(
 {
     let policy = search.policy();
     match policy.filesystems().of(path) {
-        Some(fs) => joined(starts_among(alloc, policy.rows(fs))?, search.starts()),
+        Some(fs) => joined(
+            sought_among(alloc, search, policy.rows(fs))?,
+            search.starts(),
+        ),
         None => joined(AddrSet::new(alloc), search.starts()),
     }
+}
+
+/// Gathers the addresses at which one of these lines begins or ceases to match and something may be found, but for the first address of
+/// all.
+fn sought_among<T, S: Search<T>>(
+    alloc: Global,
+    search: &S,
+    rows: &[Row],
+) -> Result<AddrSet, AllocError>
+    ensures { IfOk result (AreSought (S.found search.now) (S.turns search.now) rows.now) }
+{
+    sorted_sets_are_unique();
+    let starts = starts_among(alloc, rows)?;
+    let addresses = starts.as_slice();
+    let mut sought = Vec::new(alloc);
+    for address in addresses {
+        if search.may_find(*address) {
+            sought.push(*address)?;
+        }
+    }
+    Ok(AddrSet::from_vec(sought))
 }

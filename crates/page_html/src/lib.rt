@@ -9,8 +9,8 @@
 
 mod amounts;
 pub mod blocks;
-pub mod drawn;
 pub mod head;
+pub mod images;
 pub mod laws;
 pub mod parts;
 mod pieces;
@@ -19,8 +19,8 @@ pub mod tables;
 pub mod titles;
 
 pub use blocks::{Element, Tag, push_element, push_facts, push_fixed, push_system_start, push_tag};
-pub use drawn::Drawn;
 pub use head::push_page_head;
+pub use images::Drawn;
 pub use laws::{
     lists_say_what_they_leave_out, nothing_is_fetched_or_run, pages_are_made_of_pieces,
 };

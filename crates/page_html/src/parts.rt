@@ -6,7 +6,7 @@ ghost use Rattle.page_html.specs.Items.{item_html, items_html};
 ghost use Rattle.page_html.specs.Parts.{item_of, items_of};
 
 use crate::amounts::{push_more, push_part_of, push_plural};
-use crate::drawn::Drawn;
+use crate::images::Drawn;
 use crate::pieces::{
     push_classed, push_digest, push_line, push_small_count, push_small_percent, push_small_plural,
     push_some_codes, push_system_line, push_within,

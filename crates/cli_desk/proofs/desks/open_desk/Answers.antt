@@ -9,7 +9,7 @@ use Rattle.cli_desk.proofs.desks.open_desk.Goals as goal
 pub returns-in-Ok-clause-opened : goal.returns-in-Ok-clause-opened
 returns-in-Ok-clause-opened g c =
     IfOk-weaker _ _ (OpensDesk over_files (image_at g.S.Start))
-    (λ desk stands. record { conn = c.in-Ok.conn; found = λ good. (c.in-Ok.ensures.opened good, c.in-Ok.ensures.found good); stands = stands })
+    (λ desk on. record { conn = c.in-Ok.conn; found = λ good. (c.in-Ok.ensures.opened good, c.in-Ok.ensures.found good); on = on })
     c.desk_over.ensures.opened
 
 pub returns-in-Err-clause-refused : goal.returns-in-Err-clause-refused

@@ -1,7 +1,8 @@
 -- A text is printed as the answer that it is.
 use Rattle.std.proofs.Common.{◌≡◌, ℕ, IfOk, List, ap, map, subst}
+use Rattle.std.specs.Option.{option_map}
 use Rattle.std.specs.String.{string_bytes}
-use Rattle.desk_policy.specs.ListingPrints.{all_exports, listing_text}
+use Rattle.desk_policy.specs.ListingPrints.{listing_text}
 use Rattle.desk_policy.specs.Policy.{Content}
 use Rattle.desk_policy.specs.declared.listings.Shown.{Shown}
 use Rattle.desk_policy.specs.declared.verdict.Verdict.{Verdict}
@@ -13,9 +14,11 @@ use Rattle.desk_service.specs.Files.{files_of}
 use Rattle.desk_service.specs.Questions.{ExportsAre, FilesAre, ListingIs, RangesAre, RevisionsAre, answer_of, question_of}
 use Rattle.desk_service.specs.declared.questions.Answer.{Answer as LentAnswer}
 use Rattle.cli_questions.specs.FileLines.{files_text}
-use Rattle.cli_questions.specs.Questions.{asked_of, file_in}
+use Rattle.cli_questions.specs.PrivateAnswering.{TriesToPrintWhy}
+use Rattle.cli_questions.specs.Questions.{asked_of, exports_text, file_in, printer_of}
 use Rattle.cli_questions.specs.RevisionLines.{log_text}
-use Rattle.cli_questions.proofs.DeskAnswers.{text_printed}
+use Rattle.cli_verdict.specs.TryText.{mount_question_of}
+use Rattle.cli_questions.proofs.DeskAnswers.{text_printed, why_printed}
 use Rattle.cli_questions.proofs.printing.print_answer.Goals as goal
 
 pub returns-in-Listing : goal.returns-in-Listing
@@ -28,9 +31,9 @@ returns-in-Listing c =
 
 pub returns-in-Exports : goal.returns-in-Exports
 returns-in-Exports c =
-    text_printed (asked_of c.args.asked) (answer_of (λ content. content) c.args.answer) (ExportsAre c.in-Exports.policy.now) (all_exports c.in-Exports.policy.now) c.print_text-in-Exports.result
+    text_printed (asked_of c.args.asked) (answer_of (λ content. content) c.args.answer) (ExportsAre c.in-Exports.policy.now) (exports_text (printer_of c.args.asked.printer) c.in-Exports.policy.now) c.print_text-in-Exports.result
     (ap (λ (answer : LentAnswer Content). answer_of (λ content. content) answer) c.in-Exports.is) (λ printed prints. prints)
-    (c.print_text-in-Exports.ensures (all_exports c.in-Exports.policy.now) c.all_exports.ensures)
+    (c.print_text-in-Exports.ensures (exports_text (printer_of c.args.asked.printer) c.in-Exports.policy.now) c.exports_text.ensures)
 
 pub returns-in-Who : goal.returns-in-Who
 returns-in-Who c =
@@ -54,3 +57,9 @@ returns-in-Files c =
     text_printed (asked_of c.args.asked) (answer_of (λ content. content) c.args.answer) (FilesAre (files_of c.in-Files.files)) (files_text (files_of c.in-Files.files)) c.print_text-in-Files.result
     (ap (λ (answer : LentAnswer Content). answer_of (λ content. content) answer) c.in-Files.is) (λ printed prints. prints)
     (c.print_text-in-Files.ensures (files_text (files_of c.in-Files.files)) c.files_text.ensures)
+
+pub returns-in-Why : goal.returns-in-Why
+returns-in-Why c =
+    why_printed (asked_of c.args.asked) (answer_of (λ content. content) c.args.answer) c.in-Why.view.now (string_bytes c.in-Why.reasons) (option_map mount_question_of c.mount_in.result) c.print_why.result
+    (ap (λ (answer : LentAnswer Content). answer_of (λ content. content) answer) c.in-Why.is) c.mount_in.ensures
+    (subst (λ (reasons : List ℕ). TriesToPrintWhy (option_map mount_question_of c.mount_in.result) c.in-Why.view.now reasons c.print_why.result) c.as_str.ensures.value c.print_why.ensures)

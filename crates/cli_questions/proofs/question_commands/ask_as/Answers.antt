@@ -37,4 +37,4 @@ returns-in_err-own c =
 
 pub returns : goal.returns
 returns c =
-    rw (c.in_ok-db.ensures, c.in_ok-host.ensures, c.in_ok-dir.ensures) (record { step = Ok c.in_ok-address.address; is = c.in_ok-address.ensures; next = record { step = Ok c.in_ok-path.path; is = c.in_ok-path.ensures; next = record { step = Ok c.in_ok-own.own; is = subst (λ (word : Option (List ℕ)). ParsesOwn word (Ok c.in_ok-own.own)) c.given.ensures c.in_ok-own.ensures; next = subst (λ (asked : Asked). AnswersQuestion c.in_ok-db.db.now asked c.answer_question.result) c.wanting.ensures c.answer_question.ensures } } })
+    rw (c.in_ok-db.ensures, c.in_ok-host.ensures, c.in_ok-dir.ensures) (record { step = Ok c.in_ok-address.address; is = c.in_ok-address.ensures; next = record { step = Ok c.in_ok-path.path; is = c.in_ok-path.ensures; next = record { step = Ok c.in_ok-own.own; is = subst (λ (word : Option (List ℕ)). ParsesOwn word (Ok c.in_ok-own.own)) c.given.ensures c.in_ok-own.ensures; next = subst (λ (asked : Asked). AnswersQuestion c.in_ok-db.db.now asked c.answer_question.result) c.mounting.ensures c.answer_question.ensures } } })

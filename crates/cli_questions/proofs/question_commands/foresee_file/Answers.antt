@@ -3,7 +3,7 @@ use Rattle.std.proofs.Common.{◌∙◌, ℕ, Err, List, Ok, ap, refl, subst}
 use Rattle.std.proofs.lemmas.Result.{err_from_is_err_and}
 use Rattle.std.specs.String.{string_bytes}
 use Rattle.desk_service.specs.Questions.{Foresee}
-use Rattle.cli_questions.specs.QuestionCommands.{foreseeing}
+use Rattle.cli_questions.specs.QuestionCommands.{changes}
 use Rattle.cli_questions.specs.Questions.{AnswersQuestion, Asked}
 use Rattle.cli_questions.proofs.question_commands.foresee_file.Goals as goal
 
@@ -17,5 +17,5 @@ returns g c =
     record {
       step = Ok (string_bytes c.in_ok-text.text);
       is = c.in_ok-text.ensures.text;
-      next = subst (λ (asked : Asked). AnswersQuestion c.args.db.now asked c.answer_question.result) (c.foreseeing.ensures ∙ ap (λ (text : List ℕ). foreseeing (Foresee c.args.name.now text) c.args.all) c.as_str.ensures.value) c.answer_question.ensures;
+      next = subst (λ (asked : Asked). AnswersQuestion c.args.db.now asked c.answer_question.result) (c.changes.ensures ∙ ap (λ (text : List ℕ). changes (Foresee c.args.name.now text) c.args.all) c.as_str.ensures.value) c.answer_question.ensures;
     }

@@ -22,4 +22,4 @@ returns-in_err-rev c =
 
 pub returns : goal.returns
 returns c =
-    rw (c.in_ok-db.ensures, c.in_ok-name.ensures) (record { step = Ok c.in_ok-rev.rev; is = subst (λ (word : Option (List ℕ)). ParsesRevision word (Ok c.in_ok-rev.rev)) c.given.ensures c.in_ok-rev.ensures; next = (subst (λ (asked : Asked). AnswersQuestion c.in_ok-db.db.now asked c.answer_question.result) c.asking.ensures c.answer_question.ensures) })
+    rw (c.in_ok-db.ensures, c.in_ok-name.ensures) (record { step = Ok c.in_ok-rev.rev; is = subst (λ (word : Option (List ℕ)). ParsesRevision word (Ok c.in_ok-rev.rev)) c.given.ensures c.in_ok-rev.ensures; next = (subst (λ (asked : Asked). AnswersQuestion c.in_ok-db.db.now asked c.answer_question.result) c.plainly.ensures c.answer_question.ensures) })

@@ -1,6 +1,7 @@
 -- The words are looked up, and parsed from left to right.
-use Rattle.std.proofs.Common.{subst}
+use Rattle.std.proofs.Common.{◌∙◌, ap, subst}
 use Rattle.std.proofs.lemmas.Result.{err_from_is_err_and}
+use Rattle.cli_questions.specs.QuestionCommands.{of_exports}
 use Rattle.cli_questions.specs.Questions.{Asked, AnswersQuestion}
 use Rattle.cli_questions.proofs.question_commands.run_exports.Goals as goal
 
@@ -11,4 +12,4 @@ returns-in_err-db c =
 
 pub returns : goal.returns
 returns c =
-    rw (c.in_ok-db.ensures) (subst (λ (asked : Asked). AnswersQuestion c.in_ok-db.db.now asked c.answer_question.result) c.asking.ensures c.answer_question.ensures)
+    rw (c.in_ok-db.ensures) (subst (λ (asked : Asked). AnswersQuestion c.in_ok-db.db.now asked c.answer_question.result) (c.of_exports.ensures ∙ ap of_exports c.is_set-terms.ensures) c.answer_question.ensures)

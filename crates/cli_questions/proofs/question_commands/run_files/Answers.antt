@@ -11,4 +11,4 @@ returns-in_err-db c =
 
 pub returns : goal.returns
 returns c =
-    rw (c.in_ok-db.ensures) (subst (λ (asked : Asked). AnswersQuestion c.in_ok-db.db.now asked c.answer_question.result) c.asking.ensures c.answer_question.ensures)
+    rw (c.in_ok-db.ensures) (subst (λ (asked : Asked). AnswersQuestion c.in_ok-db.db.now asked c.answer_question.result) c.plainly.ensures c.answer_question.ensures)

@@ -21,4 +21,4 @@ returns-in_err-address c =
 
 pub returns : goal.returns
 returns c =
-    rw (c.in_ok-db.ensures, c.in_ok-host.ensures) (record { step = Ok c.in_ok-address.address; is = c.in_ok-address.ensures; next = (subst (λ (asked : Asked). AnswersQuestion c.in_ok-db.db.now asked c.answer_question.result) c.asking.ensures c.answer_question.ensures) })
+    rw (c.in_ok-db.ensures, c.in_ok-host.ensures) (record { step = Ok c.in_ok-address.address; is = c.in_ok-address.ensures; next = (subst (λ (asked : Asked). AnswersQuestion c.in_ok-db.db.now asked c.answer_question.result) c.plainly.ensures c.answer_question.ensures) })

@@ -8,6 +8,6 @@ returns c = record {
   reports = c.in_ok-checked.ensures;
   prints = record {
     prints = record { status_is = search rules; text_is = refl };
-    says = rw c.in_ok-checked.ensures.looked c.in_ok-note.ensures;
+    says = c.in_ok-note.ensures;
   };
 }

@@ -45,7 +45,7 @@ returns g c =
         after = record {
           step = Ok c.in_ok-systems.systems;
           is = subst (λ (paths : SystemsPaths). ReadsSystems (codes "--site") paths (Ok c.in_ok-systems.systems)) c.systems_files.ensures c.in_ok-systems.ensures.systems;
-          next = record { custodians = c.custodians_of.result; are = c.custodians_of.ensures.are; answers = c.check_folder.ensures };
+          next = record { asked = _; opinions_are = refl; form_is = refl; ignored_are = refl; are = c.custodians_of.ensures.are; answers = c.check_folder.ensures };
         };
       };
     }

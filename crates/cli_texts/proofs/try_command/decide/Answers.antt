@@ -26,8 +26,8 @@ returns-in_err-tried c =
     let table = c.args.asked.filesystems.now in
     let question = question_in request c.args.own.now c.args.asked.asking in
     rw (p.1, p.2)
-    (fault_tried (PrintsVerdict c.args.sources table question) c.in_ok-tables.tables (policy_of c.args.sources table) (read_whole_with Two c.in_ok-tables.tables c.in_ok-filesystems.filesystems c.args.sources.exports.text.now) question c.in_err-tried.field-0.0
-    (read_known c.args.sources table c.in_ok-filesystems.filesystems c.in_ok-tables.tables c.in_ok-tables.ensures c.in_ok-filesystems.ensures) c.in_err-tried.ensures)
+    (fault_tried (PrintsVerdict c.args.sources table question) c.args.tables.now (policy_of c.args.sources table) (read_whole_with Two c.args.tables.now c.in_ok-filesystems.filesystems c.args.sources.exports.text.now) question c.in_err-tried.field-0.0
+    (read_known c.args.sources table c.in_ok-filesystems.filesystems c.args.tables.now c.requires.known c.in_ok-filesystems.ensures) c.in_err-tried.ensures)
 
 pub returns : goal.returns
 returns c =
@@ -35,11 +35,11 @@ returns c =
     let table = c.args.asked.filesystems.now in
     let tried = c.in_ok-tried.tried in
     record {
-      tables = c.in_ok-tables.tables;
-      tables_are = c.in_ok-tables.ensures;
+      tables = c.args.tables.now;
+      tables_are = c.requires.known;
       tried = tried;
       answers =
-          subst (λ (read : Result Content SiteFault). IsAnswerBy c.in_ok-tables.tables read (question_in request c.args.own.now c.args.asked.asking) tried)
-          (sym (read_known c.args.sources table c.in_ok-filesystems.filesystems c.in_ok-tables.tables c.in_ok-tables.ensures c.in_ok-filesystems.ensures)) c.in_ok-tried.ensures;
+          subst (λ (read : Result Content SiteFault). IsAnswerBy c.args.tables.now read (question_in request c.args.own.now c.args.asked.asking) tried)
+          (sym (read_known c.args.sources table c.in_ok-filesystems.filesystems c.args.tables.now c.requires.known c.in_ok-filesystems.ensures)) c.in_ok-tried.ensures;
       prints = c.print_tried.ensures;
     }

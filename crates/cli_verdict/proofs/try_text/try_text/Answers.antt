@@ -1,6 +1,5 @@
 -- What is answered by a policy without warnings is answered by the policy with them.
 use Rattle.std.proofs.Common.{◌≡◌, ◌∙◌, [], List, Ok, Err, Option, Some, None, Result, ap, ap₂, refl, subst, sym, ℕ}
-use Rattle.std.specs.String.{string_bytes}
 use Rattle.desk_text.specs.declared.reading.ReadError.{ReadError}
 use Rattle.desk_text.specs.declared.reading.ReadError.TheVariants.{Fault, Memory}
 use Rattle.desk_tables.specs.FileSystems.{fs_of}
@@ -14,11 +13,10 @@ use Rattle.desk_policy.specs.declared.parsing.SiteTables.{SiteTables}
 use Rattle.desk_policy.specs.declared.site_fault.SiteFault.{SiteFault}
 use Rattle.desk_policy.specs.declared.verdict.Denial.{Denial}
 use Rattle.desk_server.specs.Server.{server_verdict_of}
-use Rattle.desk_server_prints.specs.LeftOutNote.{TellsLeftOut}
-use Rattle.desk_server_prints.specs.Wider.{wider_line, wider_note}
+use Rattle.desk_server_prints.specs.GrantingLine.{wider_line, wider_note}
 use Rattle.desk_why.specs.WhyPrints.{line_named, lines_text, why_in}
 use Rattle.cli_output.specs.Shown.{shown_lines}
-use Rattle.cli_verdict.specs.TryText.{AnswersBy, AnswersHere, AnswersThere, MountQuestion, Tries, answer_above, answer_on, mount_question_of, reasons_if, reasons_text}
+use Rattle.cli_verdict.specs.TryText.{AnswersBy, AnswersHere, AnswersThere, MountQuestion, Tries, answer_above, answer_on, mount_question_of, reasons_if}
 use Rattle.cli_verdict.specs.declared.asking.Asking.{Asking}
 use Rattle.cli_verdict.specs.declared.asking.Asking.TheVariants.{Reasons, Server, Verdict}
 use Rattle.cli_verdict.specs.declared.try_text.Tried.{Tried}

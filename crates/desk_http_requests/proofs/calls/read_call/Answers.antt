@@ -1,31 +1,35 @@
-use Rattle.std.proofs.Common.{Some, ap, sym, ◌∙◌}
-use Rattle.std.specs.Option.{option_map}
-use Rattle.desk_service.specs.Questions.{question_of}
-use Rattle.desk_http_messages.specs.Asked.{asked_of}
-use Rattle.desk_http_requests.specs.Calls.{query_by_value, query_for}
-use Rattle.desk_http_requests.specs.Routes.{action_in}
-use Rattle.desk_http_requests.proofs.CallLemmas.{asks_freely, puts_asked, puts_put, puts_small}
+-- A question and an edit are what the query says, and a parameter of another name is a fault.
+use Rattle.std.proofs.Common.{◌≡◌, ◌∙◌, ap, sym, true}
+use Rattle.std.proofs.lemmas.Result.{IfOk-weaker}
+use Rattle.desk_http_messages.specs.Asked.{Asked, asked_of}
+use Rattle.desk_http_requests.specs.Calls.{IsCall, are_named, asked_in, is_put, put_in, puts}
+use Rattle.desk_http_requests.specs.Parameters.{pairs, parameters_of}
+use Rattle.desk_http_requests.specs.Routes.{Action, action_in}
+use Rattle.desk_http_requests.specs.Target.{query_of}
+use Rattle.desk_http_requests.specs.declared.routes.Purpose.TheVariants.{Ask, Put}
+use Rattle.desk_http_requests.proofs.CallLemmas.{is_asked, misnamed, query_is}
 use Rattle.desk_http_requests.proofs.calls.read_call.Goals as goal
 
-pub returns-in-Some-Asks : goal.returns-in-Some-Asks
-returns-in-Some-Asks c =
-    let read = ap (option_map query_by_value) (c.in-Some-Asks.is ∙ ap Some c.in-Some-Asks.field-0-is) in
-    asks_freely (asked_of c.args.request.now) (action_in c.args.action) (question_of c.in-Some-Asks.question) c.in-Some-Asks.own c.requires.action
-    (ap (query_for (action_in c.args.action)) (sym c.requires.parameters) ∙ sym c.in_ok-query_for.ensures ∙ read)
+pub returns-then-not-are_named : goal.returns-then-not-are_named
+returns-then-not-are_named c =
+    let action : Action = action_in c.args.action in
+    misnamed (asked_of c.args.request.now) action c.requires.action
+    (ap (are_named action.names) (sym c.requires.parameters) ∙ sym c.are_named.ensures ∙ c.if-not-are_named.true)
 
-pub edit_of-requires-clause-action : goal.edit_of-requires-clause-action
-edit_of-requires-clause-action c =
-    let read = ap (option_map query_by_value) (c.in-Some-Puts.is ∙ ap Some c.in-Some-Puts.field-0-is) in
-    puts_put (asked_of c.args.request.now) (action_in c.args.action) c.in-Some-Puts.file.now c.in-Some-Puts.base c.requires.action
-    (ap (query_for (action_in c.args.action)) (sym c.requires.parameters) ∙ sym c.in_ok-query_for.ensures ∙ read)
+pub returns-in-Ask : goal.returns-in-Ask
+returns-in-Ask c =
+    let action : Action = action_in c.args.action in
+    let asked : Asked = asked_of c.args.request.now in
+    let named : are_named action.names (parameters_of (query_of asked.target)) ≡ true = ap (are_named action.names) (sym c.requires.parameters) ∙ sym c.are_named.ensures ∙ c.if-not-are_named.false in
+    let says = query_is asked action (Ask c.in-Ask.reader) c.requires.action c.in-Ask.is named ∙ ap (asked_in c.in-Ask.reader) (sym c.requires.parameters) in
+    IfOk-weaker _ _ (IsCall asked) (λ call by. is_asked asked action (asked_in c.in-Ask.reader (pairs c.args.parameters.now)) call c.requires.action (ap puts c.in-Ask.is) says by) c.asked_in.ensures
 
-pub edit_of-requires-clause-query : goal.edit_of-requires-clause-query
-edit_of-requires-clause-query c =
-    let read = ap (option_map query_by_value) (c.in-Some-Puts.is ∙ ap Some c.in-Some-Puts.field-0-is) in
-    puts_asked (asked_of c.args.request.now) (action_in c.args.action) c.in-Some-Puts.file.now c.in-Some-Puts.base c.requires.action
-    (ap (query_for (action_in c.args.action)) (sym c.requires.parameters) ∙ sym c.in_ok-query_for.ensures ∙ read)
+pub edit_in-requires-clause-action : goal.edit_in-requires-clause-action
+edit_in-requires-clause-action c = ap is_put c.requires.action ∙ ap puts c.in-Put.is
 
-pub edit_of-requires-clause-base : goal.edit_of-requires-clause-base
-edit_of-requires-clause-base c =
-    let read = ap (option_map query_by_value) (c.in-Some-Puts.is ∙ ap Some c.in-Some-Puts.field-0-is) in
-    puts_small (action_in c.args.action) _ c.in-Some-Puts.file.now c.in-Some-Puts.base (sym c.in_ok-query_for.ensures ∙ read)
+pub edit_in-requires-clause-query : goal.edit_in-requires-clause-query
+edit_in-requires-clause-query c =
+    let action : Action = action_in c.args.action in
+    let asked : Asked = asked_of c.args.request.now in
+    let named : are_named action.names (parameters_of (query_of asked.target)) ≡ true = ap (are_named action.names) (sym c.requires.parameters) ∙ sym c.are_named.ensures ∙ c.if-not-are_named.false in
+    query_is asked action Put c.requires.action c.in-Put.is named ∙ ap put_in (sym c.requires.parameters)

@@ -1,4 +1,4 @@
-use Rattle.std.proofs.Common.{◌≡◌, ◌∙◌, Bor, map, refl, subst, sym}
+use Rattle.std.proofs.Common.{◌≡◌, ◌∙◌, Bor, map, subst, sym}
 use Rattle.std.proofs.lemmas.Result.{IfOk-weaker}
 use Rattle.desk_tables.specs.FileSystems.{fs_of}
 use Rattle.desk_policy.specs.declared.row.Row.{Row}
@@ -13,7 +13,7 @@ pub writers-requires : goal.writers-requires
 writers-requires g c = c.requires.writings.order
 
 pub starts_within-requires : goal.starts_within-requires
-starts_within-requires g c = (c.requires.known.starts c.requires.known.path refl refl).behind
+starts_within-requires g c = c.requires.known.starts.behind
 
 pub impact_beside-requires : goal.impact_beside-requires
 impact_beside-requires g c = c.in_ok-decided.ensures.behind

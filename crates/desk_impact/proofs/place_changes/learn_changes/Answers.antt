@@ -1,7 +1,7 @@
 use Rattle.std.proofs.Common.{◌≡◌, ◌-◌, ◌∷◌, ◌∙◌, [], ap, arith, length, length-append, map, subst, sym}
 use Rattle.desk_tables.specs.FileSystems.{fs_of}
 use Rattle.desk_policy.specs.Policy.{Content}
-use Rattle.desk_impact.specs.Impact.{AreStartsOfBoth, IsImpact, change_value, verdicts_at}
+use Rattle.desk_impact.specs.Impact.{AreStartsOfChanges, IsImpact, change_value, verdicts_at}
 use Rattle.desk_impact.specs.declared.changes.TwoVerdicts.{TwoVerdicts as KeptVerdicts}
 use Rattle.desk_impact.specs.Known.{fs_number}
 use Rattle.desk_impact.specs.Places.{paths_in}
@@ -25,8 +25,8 @@ returns g c =
     let one : Known KeptVerdicts = record { old = c.of-old.result; new = c.of-new.result; starts = c.in_ok-starts.starts; found = c.from_vec.result } in
     let known = c.args.known.now.items in
     let other = c.in_ok-other.other in
-    let starts : AreStartsOfBoth old new path one.starts =
-    subst (λ content. AreStartsOfBoth old content path one.starts) c.policy-4.ensures (subst (λ content. AreStartsOfBoth content c.policy-4.result.now path one.starts) c.policy-3.ensures c.in_ok-starts.ensures) in
+    let starts : AreStartsOfChanges old new path one.starts =
+    subst (λ content. AreStartsOfChanges old content path one.starts) c.policy-4.ensures (subst (λ content. AreStartsOfChanges content c.policy-4.result.now path one.starts) c.policy-3.ensures c.in_ok-starts.ensures) in
     let impact : IsImpact old new (verdicts_at old new other) (map change_value one.found) =
     subst (λ found. IsImpact old new (verdicts_at old new other) (map change_value found)) (sym c.from_vec.ensures) c.in_ok-changes.ensures in
     let last : c.len.result - 1 ≡ length known = omega (arith, c.len.ensures, ap length c.in_ok-push.ensures.items, length-append known (one ∷ [])) in

@@ -6,7 +6,7 @@ use Rattle.std.proofs.lemmas.List.Elements.{All-take}
 use Rattle.desk_text.specs.Network.{Block}
 use Rattle.desk_report.specs.Classes.{class_run}
 use Rattle.desk_maps.specs.Maps.{IsWide}
-use Rattle.desk_page_maps.specs.Drawn.{AreDrawnFrom}
+use Rattle.desk_page_maps.specs.DrawnMaps.{AreDrawnFrom}
 use Rattle.desk_page_maps.specs.Figures.{each_figure, not_drawn}
 use Rattle.desk_page.proofs.Gaining.{four_pieces}
 use Rattle.desk_page_maps.proofs.figures.push_maps.Goals as goal

@@ -1,7 +1,7 @@
 use Rattle.std.proofs.Common.{◌∙◌, List, map, subst}
 use Rattle.desk_text.specs.Network.{Block}
 use Rattle.desk_report.specs.Classes.{class_run}
-use Rattle.desk_page_maps.specs.Drawn.{AreDrawnFrom}
+use Rattle.desk_page_maps.specs.DrawnMaps.{AreDrawnFrom}
 use Rattle.desk_page_maps.proofs.figures.push_overview_maps.Goals as goal
 
 pub returns : goal.returns

@@ -15,8 +15,8 @@ use Rattle.desk_policy.specs.declared.site_fault.SiteFault.{SiteFault}
 use Rattle.desk_policy.proofs.FilesRead.{file_ascends}
 use Rattle.desk_policy.proofs.parsing.push_file.Goals as goal
 
-pub returns : goal.returns
-returns c =
+pub returns-clause-pushes : goal.returns-clause-pushes
+returns-clause-pushes c =
     let site_tables = c.args.site_tables.now in
     let name : List ℕ = exports_name c.args.mount.now in
     let entries : List Entry = c.in_ok-entries.entries in
@@ -30,7 +30,7 @@ returns c =
       file = file_with site_tables name entries;
       is = ap (λ n. then_read (in_file (line_fault n) answer) next) (sym named)
           ∙ ap (λ r. then_read r next) told;
-      lines = c.in_ok-push.ensures.items ∙ ap (λ rs. c.args.rows.now.items ++ rs ∷ []) c.in_ok-lines_in_force.ensures;
+      lines = c.in_ok-push.ensures.items ∙ ap (λ rs. c.args.rows.now.items ++ rs ∷ []) c.in_ok-lines_in_force.ensures.rows;
       warned = c.in_ok-push_entries.ensures
           ∙ ap (λ n. c.args.warnings.now ++ flat_map (entry_warnings site_tables.netgroups site_tables.hosts n) c.as_slice.result.now) again
           ∙ ap (λ es. c.args.warnings.now ++ flat_map (entry_warnings site_tables.netgroups site_tables.hosts name) es) c.as_slice.ensures;

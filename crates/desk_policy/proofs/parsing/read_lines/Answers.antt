@@ -38,4 +38,4 @@ returns c = λ mount here.
     ap (λ n. then_read (in_file (line_fault n) answer) next) (sym named) ∙ ap (λ r. then_read r next) told in
     let ascending = file_ascends site_tables.netgroups site_tables.hosts entries (subst R c.in_ok-entries.ensures.kept c.file_entries-entries.ensures.ascending) in
     subst (λ (r : Result ExportsFile SiteFault). HasLines r c.in_ok-lines_in_force.field-0) (sym read)
-    (c.in_ok-lines_in_force.ensures, subst AreAscending (sym c.in_ok-lines_in_force.ensures) ascending)
+    (c.in_ok-lines_in_force.ensures.rows, subst AreAscending (sym c.in_ok-lines_in_force.ensures.rows) ascending)

@@ -2,7 +2,7 @@
 use Rattle.std.proofs.Common.{◌≡◌, ◌∙◌, ◌++◌, ◌&&◌, arith, filter}
 use Rattle.std.proofs.lemmas.Result.{on_ok_weaker}
 use Rattle.desk_remarks.specs.EntryRemarks.{is_every_address, is_root_for_many, is_writable_by_all, remark_if}
-use Rattle.desk_remarks.specs.PrivateUnwarned.{is_outside}
+use Rattle.desk_remarks.specs.PrivateUnwarnedLines.{is_outside}
 use Rattle.desk_remarks.specs.declared.remark.Remark.TheVariants.{EveryAddress, WritableByAll, RootForMany}
 use Rattle.desk_remarks.proofs.Kept.{three_kept}
 use Rattle.desk_remarks.proofs.entry_remarks.push_entry.Goals as goal

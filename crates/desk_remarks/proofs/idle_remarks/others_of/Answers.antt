@@ -2,7 +2,7 @@
 use Rattle.std.proofs.Common.{◌≡◌, ◌∙◌, ◌||◌, ap, cond, eqb, nat_cmp, sym, take, true}
 use Rattle.std.specs.BTreeSet.{contains}
 use Rattle.std.proofs.lemmas.List.Folds.{list_any_more}
-use Rattle.desk_server.specs.declared.wider.WiderGrant.{WiderGrant}
+use Rattle.desk_server.specs.declared.wider_grant.WiderGrant.{WiderGrant}
 use Rattle.desk_remarks.specs.Remarks.{grants_more}
 use Rattle.desk_remarks.proofs.Inserted.{either, same_key}
 use Rattle.desk_remarks.proofs.idle_remarks.others_of.Goals as goal

@@ -3,7 +3,7 @@ use Rattle.std.proofs.Common.{◌≡◌, ◌∙◌, ◌++◌, ◌∷◌, [], Lis
 use Rattle.std.specs.BTreeSet.{contains}
 use Rattle.std.specs.List.{flat_map}
 use Rattle.desk_idle.specs.declared.idle.Idle.{Idle}
-use Rattle.desk_remarks.specs.PrivateUnwarned.{is_outside}
+use Rattle.desk_remarks.specs.PrivateUnwarnedLines.{is_outside}
 use Rattle.desk_remarks.specs.Remarks.{idle_remark, idle_remark_if}
 use Rattle.desk_remarks.specs.declared.remark.LineRemark.{LineRemark}
 use Rattle.desk_remarks.proofs.Kept.{filter_each_one}

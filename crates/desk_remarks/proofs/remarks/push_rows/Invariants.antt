@@ -3,7 +3,7 @@ use Rattle.std.proofs.Common.{◌≡◌, ◌++◌, filter, take}
 use Rattle.std.specs.List.{flat_map}
 use Rattle.desk_policy.specs.declared.row.Row.{Row}
 use Rattle.desk_remarks.specs.EntryRemarks.{entry_remarks}
-use Rattle.desk_remarks.specs.PrivateUnwarned.{is_outside}
+use Rattle.desk_remarks.specs.PrivateUnwarnedLines.{is_outside}
 use Rattle.desk_remarks.proofs.remarks.push_rows.Given as goal
 
 abbrev pub invariant-loop-row : goal.invariant-loop-row

@@ -9,12 +9,12 @@ use Rattle.desk_policy.specs.Policy.{Content}
 use Rattle.desk_policy.specs.declared.row.Row.{Row}
 use Rattle.desk_policy.specs.declared.warning.Warning.{Warning}
 use Rattle.desk_remarks.specs.EntryRemarks.{entry_remarks}
-use Rattle.desk_remarks.specs.PrivateUnwarned.{HasLines, is_outside}
+use Rattle.desk_remarks.specs.PrivateUnwarnedLines.{HasLines, is_outside}
 use Rattle.desk_remarks.specs.Remarks.{AreRemarksOf, idle_remarks, remarks_by_line, server_remarks}
-use Rattle.desk_remarks.specs.Said.{IsSaidIn}
-use Rattle.desk_remarks.specs.Unwarned.{is_unwarned}
+use Rattle.desk_remarks.specs.SaidOfSystems.{IsSaidIn}
+use Rattle.desk_remarks.specs.UnwarnedLines.{is_unwarned}
 use Rattle.desk_remarks.specs.declared.remark.LineRemark.{LineRemark}
-use Rattle.desk_remarks.specs.declared.said.Said.{Said}
+use Rattle.desk_remarks.specs.declared.said_of_systems.Said.{Said}
 use Rattle.desk_remarks.proofs.Kept.{by_line_kept, filter_each, outside_is_unwarned}
 use Rattle.desk_remarks.proofs.remarks.remarks_in_force.Goals as goal
 

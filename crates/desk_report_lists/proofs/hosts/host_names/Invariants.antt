@@ -2,7 +2,7 @@
 use Rattle.std.proofs.Common.{◌≡◌, map, take}
 use Rattle.std.specs.Prelude.{filter}
 use Rattle.desk_report_lists.specs.Hosts.{is_host_name}
-use Rattle.desk_report_lists.specs.Written.{name_key}
+use Rattle.desk_report_lists.specs.NameIndex.{name_key}
 use Rattle.desk_report_lists.proofs.hosts.host_names.Given as goal
 
 abbrev pub invariant-loop-one : goal.invariant-loop-one

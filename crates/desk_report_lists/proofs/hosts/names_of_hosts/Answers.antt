@@ -2,7 +2,7 @@ use Rattle.std.proofs.Common.{◌≡◌, map, subst, sym, Bor, List, ℕ}
 use Rattle.std.specs.Prelude.{Contains, filter}
 use Rattle.desk_core.proofs.SortedTexts.{all_kept, ascending, only_given}
 use Rattle.desk_report_lists.specs.Hosts.{is_host_name}
-use Rattle.desk_report_lists.specs.Written.{name_key}
+use Rattle.desk_report_lists.specs.NameIndex.{name_key}
 use Rattle.desk_report_lists.proofs.Kept.{in_kept, kept_in}
 use Rattle.desk_report_lists.proofs.hosts.names_of_hosts.Goals as goal
 

@@ -1,7 +1,7 @@
 -- The lines so far are named.
 use Rattle.std.proofs.Common.{◌≡◌, map, take}
 use Rattle.desk_report_lists.specs.Uses.{line_of, mention_value}
-use Rattle.desk_report_lists.specs.Written.{written_value}
+use Rattle.desk_report_lists.specs.NameIndex.{written_value}
 use Rattle.desk_report_lists.proofs.uses.mentions_of.Given as goal
 
 abbrev pub invariant-loop-line : goal.invariant-loop-line

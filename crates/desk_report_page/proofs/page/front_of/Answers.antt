@@ -3,7 +3,7 @@ use Rattle.std.specs.String.{string_bytes}
 use Rattle.desk_overview.specs.Lines.{line_value}
 use Rattle.desk_report.specs.Laws.{IsSoundSite}
 use Rattle.desk_report.specs.Systems.{system_value}
-use Rattle.desk_report_page.specs.Found.{IsFound}
+use Rattle.desk_report_page.specs.FoundInSite.{IsFound}
 use Rattle.desk_report_page.specs.Page.{IsFront}
 use Rattle.desk_report_page.specs.PrivatePage.{found_by}
 use Rattle.desk_report_page.proofs.page.front_of.Goals as goal

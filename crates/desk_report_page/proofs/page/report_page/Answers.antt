@@ -5,8 +5,8 @@ use Rattle.desk_report.specs.Laws.{IsSoundIfRead}
 use Rattle.desk_report_page.proofs.Sites.{is_root, sound}
 use Rattle.desk_report_page.proofs.page.report_page.Goals as goal
 
-pub page_from-requires-clause-given : goal.page_from-requires-clause-given
-page_from-requires-clause-given g c =
+pub page_of_sound_site-requires-clause-given : goal.page_of_sound_site-requires-clause-given
+page_of_sound_site-requires-clause-given g c =
     let law = subst IsSoundIfRead c.policy.ensures c.sites_are_sound.ensures in
     record {
       kept = c.requires.kept;
@@ -15,5 +15,5 @@ page_from-requires-clause-given g c =
       sound = sound (site_in (newest_in c.args.site.heads.now)) _ law c.requires.source.policy_is c.requires.source.consistent;
     }
 
-pub page_from-requires-clause-root : goal.page_from-requires-clause-root
-page_from-requires-clause-root g c = is_root c.in-Ok.root c.in-Ok.ensures
+pub page_of_sound_site-requires-clause-root : goal.page_of_sound_site-requires-clause-root
+page_of_sound_site-requires-clause-root g c = is_root c.in-Ok.root c.in-Ok.ensures

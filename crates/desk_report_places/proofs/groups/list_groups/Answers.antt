@@ -3,7 +3,7 @@ use Rattle.std.proofs.lemmas.List.{length-map, take-map}
 use Rattle.std.proofs.lemmas.List.Elements.{All-map, All-same, All-take}
 use Rattle.desk_impact.specs.Places.{place_of}
 use Rattle.desk_impact.specs.declared.places.Place.{Place as LentPlace}
-use Rattle.desk_openings.specs.Opening.{opening_section}
+use Rattle.desk_report.specs.Opening.{opening_section}
 use Rattle.desk_page_places.specs.Groups.{HasToldSizes}
 use Rattle.desk_page_places.specs.declared.groups.GroupPart.{GroupPart}
 use Rattle.desk_report.specs.Groups.{group_value}

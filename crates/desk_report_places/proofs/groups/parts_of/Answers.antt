@@ -3,7 +3,7 @@ use Rattle.std.specs.Prelude.{All, Contains}
 use Rattle.std.proofs.lemmas.List.{append-nil, append_assoc, map-append, nil_from_length}
 use Rattle.std.proofs.lemmas.List.Elements.{All-contains, All-nil, All-push, Contains-append_right}
 use Rattle.desk_impact.proofs.Same.{contains_map}
-use Rattle.desk_openings.specs.Opening.{opening_section}
+use Rattle.desk_report.specs.Opening.{opening_section}
 use Rattle.desk_page_places.specs.Groups.{HasToldSizes}
 use Rattle.desk_page_places.specs.declared.groups.GroupPart.{GroupPart}
 use Rattle.desk_report.specs.Groups.{group_value}

@@ -1,6 +1,6 @@
 -- The parts of the groups so far.
 use Rattle.std.proofs.Common.{◌≡◌, ◌++◌, All, map}
-use Rattle.desk_openings.specs.Opening.{opening_section}
+use Rattle.desk_report.specs.Opening.{opening_section}
 use Rattle.desk_page_places.specs.Groups.{HasToldSizes}
 use Rattle.desk_report.specs.Groups.{group_value}
 use Rattle.desk_report_places.specs.Groups.{IsPart, part_value}

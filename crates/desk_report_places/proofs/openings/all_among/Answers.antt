@@ -4,8 +4,8 @@ use Rattle.std.proofs.lemmas.List.{take_all}
 use Rattle.std.proofs.lemmas.List.Folds.{flat_map-map}
 use Rattle.desk_impact.specs.Sections.{section_value}
 use Rattle.desk_impact.specs.declared.sections.Section.{Section}
-use Rattle.desk_openings.specs.Opening.{opening_section}
-use Rattle.desk_openings.specs.declared.opening.Opening.{Opening}
+use Rattle.desk_report.specs.Opening.{opening_section}
+use Rattle.desk_report.specs.declared.opening.Opening.{Opening}
 use Rattle.desk_page_places.specs.Openings.{opening_value}
 use Rattle.desk_report.proofs.Gathered.{writes}
 use Rattle.desk_report_places.specs.Openings.{opened_if}

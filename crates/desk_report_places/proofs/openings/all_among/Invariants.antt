@@ -2,7 +2,7 @@
 use Rattle.std.proofs.Common.{◌≡◌, map, take}
 use Rattle.std.specs.List.{flat_map}
 use Rattle.desk_impact.specs.Sections.{section_value}
-use Rattle.desk_openings.specs.Opening.{opening_section}
+use Rattle.desk_report.specs.Opening.{opening_section}
 use Rattle.desk_page_places.specs.Openings.{opening_value}
 use Rattle.desk_report_places.specs.Openings.{opened_if}
 use Rattle.desk_report_places.proofs.openings.all_among.Given as goal

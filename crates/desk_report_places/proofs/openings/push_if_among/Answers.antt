@@ -2,9 +2,9 @@ use Rattle.std.proofs.Common.{◌≡◌, ◌++◌, ◌∙◌, false, List, ap, m
 use Rattle.desk_who.specs.Runs.{run_value}
 use Rattle.desk_who.specs.declared.runs.Run.{Run as KeptRun}
 use Rattle.desk_impact.specs.Sections.{section_value}
-use Rattle.desk_openings.specs.Opening as openings
-use Rattle.desk_openings.specs.Opening.{opening_section}
-use Rattle.desk_openings.specs.declared.opening.Opening.{Opening}
+use Rattle.desk_report.specs.Opening as openings
+use Rattle.desk_report.specs.Opening.{opening_section}
+use Rattle.desk_report.specs.declared.opening.Opening.{Opening}
 use Rattle.desk_page_places.specs.Openings.{opening_value}
 use Rattle.desk_report_places.specs.Openings.{is_among, opened_by}
 use Rattle.desk_report_places.proofs.Opened.{added_if, none_added}

@@ -3,8 +3,8 @@ use Rattle.std.proofs.lemmas.List.{append-nil, get_or_default, take_all}
 use Rattle.desk_who.specs.Runs.{run_value}
 use Rattle.desk_who.specs.declared.runs.Run.{Run as KeptRun}
 use Rattle.desk_impact.specs.Places.{place_of}
-use Rattle.desk_openings.specs.Opening as openings
-use Rattle.desk_openings.specs.declared.opening.Opening.{Opening}
+use Rattle.desk_report.specs.Opening as openings
+use Rattle.desk_report.specs.declared.opening.Opening.{Opening}
 use Rattle.desk_page_places.specs.Openings.{OpeningValue, opening_value}
 use Rattle.desk_report_places.specs.Openings.{opened_by}
 use Rattle.desk_report_places.proofs.Gathered.{gathers}

@@ -2,7 +2,7 @@
 use Rattle.std.proofs.Common.{◌≡◌, ◌++◌, map, take}
 use Rattle.desk_who.specs.Runs.{run_value}
 use Rattle.desk_impact.specs.Places.{place_of}
-use Rattle.desk_openings.specs.Opening as openings
+use Rattle.desk_report.specs.Opening as openings
 use Rattle.desk_page_places.specs.Openings.{opening_value}
 use Rattle.desk_report_places.specs.Openings.{opened_by}
 use Rattle.desk_report_places.proofs.openings.push_opened.Given as goal

@@ -1,7 +1,7 @@
 use Rattle.std.proofs.Common.{◌∙◌, ap, map, sym, take_all}
 use Rattle.desk_overview.proofs.Mapped.{map_twice}
-use Rattle.desk_report_findings.specs.Findings.{finding_value}
-use Rattle.desk_report_findings.specs.declared.findings.SiteFinding.{SiteFinding}
+use Rattle.desk_report_summary.specs.SiteFinding.{finding_value}
+use Rattle.desk_report_summary.specs.declared.site_finding.SiteFinding.{SiteFinding}
 use Rattle.desk_report_summary.specs.Files.{line_values}
 use Rattle.desk_report_summary.specs.FindingRows.{row_of, row_value}
 use Rattle.desk_report_summary.proofs.Valued.{told_more}

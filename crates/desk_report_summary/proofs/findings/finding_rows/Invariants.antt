@@ -1,6 +1,6 @@
 -- The rows so far.
 use Rattle.std.proofs.Common.{◌≡◌, map, take}
-use Rattle.desk_report_findings.specs.Findings.{finding_value}
+use Rattle.desk_report_summary.specs.SiteFinding.{finding_value}
 use Rattle.desk_report_summary.specs.Files.{line_values}
 use Rattle.desk_report_summary.specs.FindingRows.{row_of, row_value}
 use Rattle.desk_report_summary.proofs.findings.finding_rows.Given as goal

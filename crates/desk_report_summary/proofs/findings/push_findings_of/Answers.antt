@@ -4,7 +4,7 @@ use Rattle.std.proofs.lemmas.Result.{on_ok_weaker}
 use Rattle.desk_deciding.specs.Deciding.{deciding_value}
 use Rattle.desk_overview.specs.Lines.{line_value}
 use Rattle.desk_page_summary.specs.declared.findings.FindingRow.{FindingRow}
-use Rattle.desk_report_findings.specs.Findings.{finding_value, findings_among}
+use Rattle.desk_report_summary.specs.SiteFinding.{finding_value, findings_among}
 use Rattle.desk_report_summary.specs.Files.{line_values, text_in_force}
 use Rattle.desk_report_summary.specs.FindingRows.{findings_text, row_of, row_value}
 use Rattle.desk_report_summary.proofs.findings.push_findings_of.Goals as goal

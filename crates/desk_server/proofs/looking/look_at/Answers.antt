@@ -11,7 +11,7 @@ use Rattle.desk_index.specs.Lighter.{IsHeaviestBelow}
 use Rattle.desk_index.specs.declared.lighter.Weighed.{Weighed}
 use Rattle.desk_index.proofs.RowsByNumber.{selected_among}
 use Rattle.desk_idle.proofs.Heaviest.{are_numbers}
-use Rattle.desk_server.specs.PrivateWider.{WidenBelow}
+use Rattle.desk_server.specs.PrivateWiderGrants.{WidenBelow}
 use Rattle.desk_server.proofs.Lighter.{all_listed, below_selected, none_left, none_names}
 use Rattle.desk_server.proofs.looking.look_at.Goals as goal
 

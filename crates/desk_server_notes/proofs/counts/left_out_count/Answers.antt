@@ -2,9 +2,9 @@
 use Rattle.std.proofs.Common.{◌∙◌, ◌++◌, ℕ, List, ap, subst, sym, take}
 use Rattle.std.proofs.lemmas.List.{take_all}
 use Rattle.desk_tables.specs.declared.filesystems.Mount.{Mount}
-use Rattle.desk_server.specs.declared.repeated.RepeatedClient.{RepeatedClient}
+use Rattle.desk_server.specs.declared.repeated_client.RepeatedClient.{RepeatedClient}
 use Rattle.desk_server_notes.specs.CountsNote.{CountsFound}
-use Rattle.desk_server_notes.specs.Found.{AreRepeatedAt}
+use Rattle.desk_server_notes.specs.MountFindings.{AreRepeatedAt}
 use Rattle.desk_server_notes.proofs.Counting.{counts_more, counts_none}
 use Rattle.desk_server_notes.proofs.counts.left_out_count.Goals as goal
 

@@ -2,9 +2,9 @@
 use Rattle.std.proofs.Common.{◌∙◌, ◌++◌, ℕ, List, ap, subst, sym, take}
 use Rattle.std.proofs.lemmas.List.{take_all}
 use Rattle.desk_tables.specs.declared.filesystems.Mount.{Mount}
-use Rattle.desk_server.specs.declared.wider.WiderGrant.{WiderGrant}
+use Rattle.desk_server.specs.declared.wider_grant.WiderGrant.{WiderGrant}
 use Rattle.desk_server_notes.specs.CountsNote.{CountsFound}
-use Rattle.desk_server_notes.specs.Found.{AreWiderAt}
+use Rattle.desk_server_notes.specs.MountFindings.{AreWiderAt}
 use Rattle.desk_server_notes.proofs.Counting.{counts_more, counts_none}
 use Rattle.desk_server_notes.proofs.counts.wider_count.Goals as goal
 

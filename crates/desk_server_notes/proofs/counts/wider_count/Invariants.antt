@@ -1,7 +1,7 @@
 -- Those of the file systems so far.
 use Rattle.std.proofs.Common.{length, take}
 use Rattle.desk_server_notes.specs.CountsNote.{CountsFound}
-use Rattle.desk_server_notes.specs.Found.{AreWiderAt}
+use Rattle.desk_server_notes.specs.MountFindings.{AreWiderAt}
 use Rattle.desk_server_notes.proofs.counts.wider_count.Given as goal
 
 abbrev pub invariant-loop-mount : goal.invariant-loop-mount

@@ -2,7 +2,7 @@
 use Rattle.std.proofs.Common.{◌≡◌, ◌∙◌, ℕ, None, Option, Some, ap, nat_cmp}
 use Rattle.std.specs.BTreeMap as tree
 use Rattle.desk_text.specs.Address.{number_of}
-use Rattle.desk_server.specs.declared.wider.WiderGrant.{WiderGrant}
+use Rattle.desk_server.specs.declared.wider_grant.WiderGrant.{WiderGrant}
 use Rattle.desk_server_notes.specs.PrivateNews.{is_known_as}
 use Rattle.desk_server_notes.proofs.news.is_known.Goals as goal
 

@@ -1,7 +1,7 @@
 -- One more.
 use Rattle.std.proofs.Common.{List, subst}
 use Rattle.std.proofs.lemmas.List.{take_all}
-use Rattle.desk_server.specs.declared.wider.WiderGrant.{WiderGrant}
+use Rattle.desk_server.specs.declared.wider_grant.WiderGrant.{WiderGrant}
 use Rattle.desk_server_notes.specs.PrivateNews.{AreKnown}
 use Rattle.desk_server_notes.proofs.Knowing.{none_known, one_known}
 use Rattle.desk_server_notes.proofs.news.known_of.Goals as goal

@@ -1,7 +1,7 @@
 -- What was granted before is known.
 use Rattle.std.proofs.Common.{◌∙◌, ◌++◌, ℕ, List, ap, string_bytes, subst, sym}
 use Rattle.std.specs.List.{flat_map}
-use Rattle.desk_server.specs.declared.wider.WiderGrant.{WiderGrant}
+use Rattle.desk_server.specs.declared.wider_grant.WiderGrant.{WiderGrant}
 use Rattle.desk_server_notes.specs.NewsNote.{Grants}
 use Rattle.desk_server_notes.specs.PrivateNews.{AreApart, AreKnown, line_if_new}
 use Rattle.desk_server_notes.proofs.Knowing.{apart_at, news_are}

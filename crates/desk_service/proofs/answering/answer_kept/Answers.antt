@@ -1,11 +1,17 @@
 -- Each question has the answer of the function that it is handed to.
 use Rattle.std.proofs.Common.{◌≡◌, ◌∙◌, IfOk, None, Option, ap, subst, sym, ℕ}
-use Rattle.desk_service.specs.Questions.{AnswersByHistory, Question, Text, answer_of, question_of}
+use Rattle.desk_service.specs.Questions.{AnswersByHistory, OfFile, Question, Text, answer_of, question_of}
+use Rattle.desk_service.specs.declared.questions.FileQuestion.{FileQuestion}
+use Rattle.desk_service.specs.declared.questions.FileQuestion.TheVariants as of_file
 use Rattle.desk_service.proofs.answering.answer_kept.Goals as goal
 
 pub returns-in-Mount : goal.returns-in-Mount
 returns-in-Mount g c = λ history pending stands.
     subst (λ (q : Question). AnswersByHistory history q (answer_of g.V.PolicyView.in_force c.verdict_answer.result)) (sym (ap question_of c.in-Mount.is)) (c.verdict_answer.ensures history pending stands)
+
+pub returns-in-Why : goal.returns-in-Why
+returns-in-Why g c = λ history pending stands.
+    subst (λ (q : Question). IfOk c.why_answer.result (λ answer. AnswersByHistory history q (answer_of g.V.PolicyView.in_force answer))) (sym (ap question_of c.in-Why.is)) (c.why_answer.ensures history pending stands)
 
 pub returns-in-Exports : goal.returns-in-Exports
 returns-in-Exports g c = λ history pending stands.
@@ -26,7 +32,8 @@ returns-in-Who g c = λ history pending stands.
 
 pub returns-in-Proposal : goal.returns-in-Proposal
 returns-in-Proposal g c = λ history pending stands.
-    subst (λ (q : Question). IfOk c.proposal_answer.result (λ answer. AnswersByHistory history q (answer_of g.V.PolicyView.in_force answer))) (sym (ap question_of c.in-Proposal.is)) (c.proposal_answer.ensures history pending stands)
+    let asked : question_of c.args.question ≡ OfFile c.in-OfFile.name.now of_file.Proposal = ap question_of c.in-OfFile.is ∙ ap (λ (what : FileQuestion). OfFile c.in-OfFile.name.now what) c.in-Proposal.is in
+    subst (λ (q : Question). IfOk c.proposal_answer.result (λ answer. AnswersByHistory history q (answer_of g.V.PolicyView.in_force answer))) (sym asked) (c.proposal_answer.ensures history pending stands)
 
 pub returns-in-Files : goal.returns-in-Files
 returns-in-Files g c = λ history pending stands.

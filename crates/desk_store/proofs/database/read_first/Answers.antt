@@ -21,8 +21,8 @@ gather_revisions-requires g c =
     let one = state g.S.Store c.check_version.new.conn in
     rest_after false one (state g.S.Store c.check_version_keys.new.conn) c.check_version_keys.ensures.look (rest_after false (state g.S.Store c.args.conn.now) one c.check_version.ensures.look c.requires.rest)
 
-pub state_in-requires : goal.state_in-requires
-state_in-requires g c = (c.in-Ok.ensures.rows.0, c.in-Ok.ensures.rows.1)
+pub state_of_rows-requires : goal.state_of_rows-requires
+state_of_rows-requires g c = (c.in-Ok.ensures.rows.0, c.in-Ok.ensures.rows.1)
 
 pub returns-in-Ok-clause-history : goal.returns-in-Ok-clause-history
 returns-in-Ok-clause-history g c clean =
@@ -37,7 +37,7 @@ returns-in-Ok-clause-history g c clean =
     let gathered = c.in-Ok.ensures.rows in
     let revised = subst (λ (db : Database). IsPermutation (rows_of db (codes "file_rev")) gathered.0) same (gathered.2 clean) in
     let tables = (c.requires.rest clean_before).tables (c.check_version.ensures.look.opened clean_one live) in
-    first_before before.committed gathered.0 revised c.state_in.result tables (c.requires.alone clean_before) (c.in_ok-check_version.ensures.version clean_one) (c.state_in.ensures.history gathered.0 gathered.1)
+    first_before before.committed gathered.0 revised c.state_of_rows.result tables (c.requires.alone clean_before) (c.in_ok-check_version.ensures.version clean_one) (c.state_of_rows.ensures.history gathered.0 gathered.1)
 
 pub returns-in-Ok-clause-foreign : goal.returns-in-Ok-clause-foreign
 returns-in-Ok-clause-foreign g c clean told history site holds =
@@ -51,7 +51,7 @@ returns-in-Ok-clause-foreign g c clean told history site holds =
     let same = same_after one two c.check_version_keys.ensures.look clean_two (c.in_ok-check_version_keys.ensures.live clean_two) ∙ same_after before one c.check_version.ensures.look clean_one live in
     let gathered = c.in-Ok.ensures.rows in
     let revised = subst (λ (db : Database). IsPermutation (rows_of db (codes "file_rev")) gathered.0) same (gathered.2 clean) in
-    c.state_in.ensures.foreign told gathered.0 gathered.1 history site (first_read before.committed gathered.0 revised history holds)
+    c.state_of_rows.ensures.foreign told gathered.0 gathered.1 history site (first_read before.committed gathered.0 revised history holds)
 
 pub returns-in_err-check_version-clause-said : goal.returns-in_err-check_version-clause-said
 returns-in_err-check_version-clause-said g c clean =
@@ -83,7 +83,7 @@ returns-in_err-check_version_keys-clause-memory g c clean memory =
     inr (First, c.in_ok-check_version.ensures.version clean_one)
 
 pub returns-in-Ok-clause-said : goal.returns-in-Ok-clause-said
-returns-in-Ok-clause-said g c clean = rows_told g.S.Store c.args.conn.now c.gather_revisions.new.conn c.state_in.result c.state_in.ensures.errors
+returns-in-Ok-clause-said g c clean = rows_told g.S.Store c.args.conn.now c.gather_revisions.new.conn c.state_of_rows.result c.state_of_rows.ensures.errors
 
 pub returns-in-Ok-clause-memory : goal.returns-in-Ok-clause-memory
 returns-in-Ok-clause-memory g c clean memory =

@@ -17,8 +17,8 @@ read_proposals-requires g c =
     let one = state g.S.Store c.gather_revisions.new.conn in
     rest_after true one (state g.S.Store c.read_approvals.new.conn) c.read_approvals.ensures.look (rest_after true (state g.S.Store c.args.conn.now) one c.gather_revisions.ensures.look c.requires)
 
-pub state_in-requires : goal.state_in-requires
-state_in-requires g c = (c.in-Ok.ensures.rows.0, c.in-Ok.ensures.rows.1)
+pub state_of_rows-requires : goal.state_of_rows-requires
+state_of_rows-requires g c = (c.in-Ok.ensures.rows.0, c.in-Ok.ensures.rows.1)
 
 pub returns-in-Ok-read_proposals-clause-history : goal.returns-in-Ok-read_proposals-clause-history
 returns-in-Ok-read_proposals-clause-history g c clean =
@@ -34,7 +34,7 @@ returns-in-Ok-read_proposals-clause-history g c clean =
     let approved = read_in (codes "approval") before.committed one.committed c.in-Ok-read_approvals.rows.items c.as_slice.result.now same_one c.as_slice.ensures.value (c.in-Ok-read_approvals.ensures.rows clean_two) in
     let proposed = read_in (codes "proposal") before.committed two.committed c.in-Ok-read_proposals.proposals.items c.as_slice-in-Ok-read_proposals.result.now same_two c.as_slice-in-Ok-read_proposals.ensures.value (c.in-Ok-read_proposals.ensures.rows clean) in
     history_before (rows_of before.committed (codes "file_rev")) (rows_of before.committed (codes "approval")) (rows_of before.committed (codes "proposal"))
-    gathered.0 c.as_slice.result.now c.as_slice-in-Ok-read_proposals.result.now revised approved proposed c.state_in.result (c.state_in.ensures.history gathered.0 gathered.1)
+    gathered.0 c.as_slice.result.now c.as_slice-in-Ok-read_proposals.result.now revised approved proposed c.state_of_rows.result (c.state_of_rows.ensures.history gathered.0 gathered.1)
 
 pub returns-in-Ok-read_proposals-clause-foreign : goal.returns-in-Ok-read_proposals-clause-foreign
 returns-in-Ok-read_proposals-clause-foreign g c clean told history site are =
@@ -49,7 +49,7 @@ returns-in-Ok-read_proposals-clause-foreign g c clean told history site are =
     let revised = gathered.2 clean_one in
     let approved = read_in (codes "approval") before.committed one.committed c.in-Ok-read_approvals.rows.items c.as_slice.result.now same_one c.as_slice.ensures.value (c.in-Ok-read_approvals.ensures.rows clean_two) in
     let proposed = read_in (codes "proposal") before.committed two.committed c.in-Ok-read_proposals.proposals.items c.as_slice-in-Ok-read_proposals.result.now same_two c.as_slice-in-Ok-read_proposals.ensures.value (c.in-Ok-read_proposals.ensures.rows clean) in
-    c.state_in.ensures.foreign told gathered.0 gathered.1 history site
+    c.state_of_rows.ensures.foreign told gathered.0 gathered.1 history site
     (are_read (rows_of before.committed (codes "file_rev")) (rows_of before.committed (codes "approval")) (rows_of before.committed (codes "proposal"))
     gathered.0 c.as_slice.result.now c.as_slice-in-Ok-read_proposals.result.now revised approved proposed history are)
 
@@ -70,7 +70,7 @@ returns-in-Err-read_approvals-clause-said g c clean =
     (told_query g.S.Store one two (Query select_approvals []) (5, omega arith, refl) tasks.ReadRevisions c.in-Err-read_approvals.e told.result told.ensures.named (c.in-Err-read_approvals.ensures.said clean))
 
 pub returns-in-Ok-read_proposals-clause-said : goal.returns-in-Ok-read_proposals-clause-said
-returns-in-Ok-read_proposals-clause-said g c clean = rows_told g.S.Store c.args.conn.now c.read_proposals.new.conn c.state_in.result c.state_in.ensures.errors
+returns-in-Ok-read_proposals-clause-said g c clean = rows_told g.S.Store c.args.conn.now c.read_proposals.new.conn c.state_of_rows.result c.state_of_rows.ensures.errors
 
 pub returns-in-Err-read_proposals-clause-said : goal.returns-in-Err-read_proposals-clause-said
 returns-in-Err-read_proposals-clause-said g c clean =

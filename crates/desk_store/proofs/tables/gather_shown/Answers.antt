@@ -1,8 +1,6 @@
-use Rattle.std.proofs.Common.{◌≡◌, ◌∙◌, ◌∷◌, ◌++◌, [], Err, Ok, refl, rules, subst}
+use Rattle.std.proofs.Common.{◌≡◌, ◌∙◌, ◌∷◌, ◌++◌, [], Ok, refl, rules, subst}
 use Rattle.std.proofs.lemmas.Result.{err_from_is_err_and}
-use Rattle.sqlite.specs.Held.{state}
-use Rattle.sqlite.specs.State.{HasCleanDisk}
-use Rattle.desk_store.specs.PrivateGathered.{GathersShown}
+use Rattle.desk_store.specs.PrivateGatheredRevisions.{GathersShown}
 use Rattle.desk_store.proofs.Gathering.{begun, ended, failed, more, refused}
 use Rattle.desk_store.proofs.tables.gather_shown.Goals as goal
 

@@ -5,7 +5,7 @@ use Rattle.sqlite.specs.Held.{state}
 use Rattle.sqlite.specs.Listing.{understood}
 use Rattle.sqlite.specs.Order.{Row}
 use Rattle.sqlite.specs.State.{HasCleanDisk, IsUnchanged, Survives}
-use Rattle.desk_store.specs.PrivateGathered.{IsGathered}
+use Rattle.desk_store.specs.PrivateGatheredRevisions.{IsGathered}
 use Rattle.desk_store.proofs.tables.gather_shown.Given as goal
 
 abbrev pub invariant-rows : goal.invariant-rows

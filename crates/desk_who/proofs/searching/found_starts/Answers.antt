@@ -6,32 +6,35 @@ use Rattle.desk_tables.specs.FileSystems.{fs_of}
 use Rattle.desk_policy.specs.Policy.{Content, rows_of}
 use Rattle.desk_policy.specs.declared.row.Row.{Row}
 use Rattle.desk_who.specs.Searching.{AreFoundStarts, AreRuleStarts, ByRule}
-use Rattle.desk_who.specs.Starts.{AreJoined, AreStarts}
-use Rattle.desk_who.proofs.Steady.{found_nowhere, found_steady, none_found, number_found}
+use Rattle.desk_who.specs.PrivateSearching.{AreSought}
+use Rattle.desk_who.specs.Starts.{AreJoined}
+use Rattle.desk_who.proofs.Sought.{found_sought}
+use Rattle.desk_who.proofs.Steady.{found_nowhere, none_found, number_found}
 use Rattle.desk_who.proofs.searching.found_starts.Goals as goal
 
-pub returns-in_ok-starts_among-in-Some-clause-behind : goal.returns-in_ok-starts_among-in-Some-clause-behind
-returns-in_ok-starts_among-in-Some-clause-behind g c =
-    let own = c.in_ok-starts_among-in-Some.field-0 in
+pub returns-in_ok-sought_among-in-Some-clause-behind : goal.returns-in_ok-sought_among-in-Some-clause-behind
+returns-in_ok-sought_among-in-Some-clause-behind g c =
+    let own = c.in_ok-sought_among-in-Some.field-0 in
     IfOk-weaker c.joined.result (AreJoined own c.starts.result.now) (λ starts. is_among 0 starts ≡ false)
-    (λ all joined. joined.behind c.in_ok-starts_among-in-Some.ensures.behind c.starts.ensures.behind) c.joined.ensures
+    (λ all joined. joined.behind c.in_ok-sought_among-in-Some.ensures.behind c.starts.ensures.behind) c.joined.ensures
 
-pub returns-in_ok-starts_among-in-Some-clause-starts : goal.returns-in_ok-starts_among-in-Some-clause-starts
-returns-in_ok-starts_among-in-Some-clause-starts g c =
+pub returns-in_ok-sought_among-in-Some-clause-starts : goal.returns-in_ok-sought_among-in-Some-clause-starts
+returns-in_ok-sought_among-in-Some-clause-starts g c =
     let sought = c.args.search.now in
     let content = g.S.Search.in_force sought in
     let turns = g.S.Search.turns sought in
     let path = c.args.path.now in
-    let own = c.in_ok-starts_among-in-Some.field-0 in
+    let own = c.in_ok-sought_among-in-Some.field-0 in
     let fs = c.in-Some.fs in
     let home : fs_of content.table path ≡ Some fs.0 =
     ap (λ (one : Content). fs_of one.table path) (sym c.policy-policy.ensures) ∙ ap (λ table. fs_of table path) (sym c.filesystems.ensures) ∙ number_found _ fs c.in-Some.ensures in
-    let lines : AreStarts (rows_of content fs.0) own =
-    subst (λ (one : Content). AreStarts (rows_of one fs.0) own) c.policy-policy.ensures (subst (λ (rows : List Row). AreStarts rows own) c.rows.ensures c.in_ok-starts_among-in-Some.ensures) in
+    let Sought : List Row → Type 0 = λ rows. AreSought (g.S.Search.found sought) turns rows own in
+    let left : Sought (rows_of content fs.0) =
+    subst (λ (one : Content). Sought (rows_of one fs.0)) c.policy-policy.ensures (subst Sought c.rows.ensures c.in_ok-sought_among-in-Some.ensures) in
     IfOk-weaker c.joined.result (AreJoined own c.starts.result.now)
     (λ starts. ByRule g.T.Alike.meaning (g.S.Search.found sought) content turns (λ rule. AreFoundStarts rule content path starts))
     (λ all joined rule of other same.
-    found_steady rule content own c.starts.result.now all joined (subst (AreRuleStarts rule) (sym c.starts.ensures.turns) of.starts) other fs.0 (same ∙ home) lines)
+    found_sought g.T.Alike.meaning (g.S.Search.found sought) content turns own all rule of (subst (λ others. AreJoined own others all) c.starts.ensures.turns joined) other fs.0 (same ∙ home) left)
     c.joined.ensures
 
 pub returns-in-None-clause-behind : goal.returns-in-None-clause-behind

@@ -14,7 +14,7 @@ returns-in-Some c =
     let lines = c.args.self.now.lines in
     let line = c.args.line in
     let one = c.in-Some.one in
-    c.list_at.ensures ∙ ap (λ (some : List (List ℕ)). get_or some one.list []) c.as_slice-in-Some.ensures
+    c.lend_list.ensures ∙ ap (λ (some : List (List ℕ)). get_or some one.list []) c.as_slice-in-Some.ensures
     ∙ sym (deciding_is lists line lines (Some one) (c.in-Some.ensures ∙ ap (λ (some : List NeverDecides). find (is_line line) some) c.as_slice.ensures))
 
 pub returns-in-None : goal.returns-in-None

@@ -15,12 +15,12 @@ use Rattle.desk_policy.proofs.AscendingRows.{each_ascends}
 use Rattle.desk_policy.specs.PrivatePolicy.{with_row}
 use Rattle.desk_policy.proofs.EntriesByFileSystem.{none_placed, placed_beyond, placed_within}
 use Rattle.desk_policy.proofs.policy.Policy.of_entries.Goals as goal
-use Rattle.desk_policy.proofs.policy.Policy.of_entries.Goals.{After-new-warnings}
 
 pub loop-fs-init : goal.loop-fs-init
 loop-fs-init c = record {
   entries = c.into_iter-fs-iterator.ensures.into_iter_gives.0 ∙ c.into_vec-fs-items.ensures;
   lists = c.in_ok-rows.ensures ∙ none_placed c.args.netgroups.now c.args.hosts.now 0 (length c.args.filesystems);
+  known = c.new-known.ensures c.args.netgroups.now c.args.hosts.now;
 }
 
 -- the next entry goes from what is left to what was read
@@ -51,26 +51,35 @@ loop-fs-preserved c =
     let keeps = c.loop-fs.invariant in
     record {
       entries = one_more c.loop-fs.yielded _ c.next.new.self.rest.items _ (c.in-Some.fs, c.in-Some.entry) c.in-Some.ensures.steps.0 keeps.entries;
-      lists = c.in_ok-add_row.ensures ∙ gains c.args.netgroups.now c.args.hosts.now c.loop-fs.rows.items c.loop-fs.yielded (length c.args.filesystems) keeps.lists c.in-Some.fs c.in-Some.entry c.in_ok-row.row c.in_ok-row.ensures;
+      lists = c.in_ok-add_row.ensures ∙ gains c.args.netgroups.now c.args.hosts.now c.loop-fs.rows.items c.loop-fs.yielded (length c.args.filesystems) keeps.lists c.in-Some.fs c.in-Some.entry c.in_ok-row.row c.in_ok-row.ensures.row;
+      known = c.in_ok-row.ensures.known;
     }
 
-all_done : (c : After-new-warnings) → c.loop-fs.yielded ≡ c.args.entries
-all_done c =
-    let left = nil_from_length c.loop-fs.fs-iterator.rest.items (sym c.loop-fs.fs-iterator.rest.ok.0 ∙ c.in-None.ensures.steps.0) in
-    sym (append-nil c.loop-fs.yielded) ∙ ap (λ xs. c.loop-fs.yielded ++ xs) (sym left) ∙ c.loop-fs.invariant.entries
-
-all_lists : (c : After-new-warnings) → c.loop-fs.rows.items ≡ map (rows_placed c.args.netgroups.now c.args.hosts.now c.args.entries) (range_with_len 0 (length c.args.filesystems))
-all_lists c =
-    c.loop-fs.invariant.lists ∙ ap (λ (entries : List (FsId × Entry)). map (rows_placed c.args.netgroups.now c.args.hosts.now entries) (range_with_len 0 (length c.args.filesystems))) (all_done c)
+-- all entries were read, so the lists are those of all
+all_lists : (netgroups : List GroupLine) (hosts : List HostRow) (all done left : List (FsId × Entry)) (lists : List (List Row)) (n : ℕ) → done ++ left ≡ all → left ≡ []
+    → lists ≡ map (rows_placed netgroups hosts done) (range_with_len 0 n) → lists ≡ map (rows_placed netgroups hosts all) (range_with_len 0 n)
+all_lists netgroups hosts all done left lists n entries none h =
+    h ∙ ap (λ (es : List (FsId × Entry)). map (rows_placed netgroups hosts es) (range_with_len 0 n)) (sym (append-nil done) ∙ ap (λ xs. done ++ xs) (sym none) ∙ entries)
 
 pub invariant_of-result : goal.invariant_of-result
-invariant_of-result c = record {
-  each = lists-length c.args.netgroups.now c.args.hosts.now c.loop-fs.rows.items c.loop-fs.yielded (length c.args.filesystems) c.loop-fs.invariant.lists;
-  ascending = subst (λ lists. All AreAscending lists) (sym (all_lists c)) (each_ascends c.args.netgroups.now c.args.hosts.now c.args.entries (range_with_len 0 (length c.args.filesystems)) c.requires);
-}
+invariant_of-result c =
+    let netgroups = c.args.netgroups.now in
+    let hosts = c.args.hosts.now in
+    let lists = c.loop-fs.rows.items in
+    let len = length c.args.filesystems in
+    let none = nil_from_length c.loop-fs.fs-iterator.rest.items (sym c.loop-fs.fs-iterator.rest.ok.0 ∙ c.in-None.ensures.steps.0) in
+    let keeps = c.loop-fs.invariant in
+    record {
+      each = lists-length netgroups hosts lists c.loop-fs.yielded len keeps.lists;
+      ascending = subst (λ lists. All AreAscending lists) (sym (all_lists netgroups hosts c.args.entries c.loop-fs.yielded c.loop-fs.fs-iterator.rest.items lists len keeps.entries none keeps.lists))
+          (each_ascends netgroups hosts c.args.entries (range_with_len 0 len) c.requires);
+    }
 
 pub returns : goal.returns
 unfolding content_of
 returns c =
     let P : List (List Row) → List Warning → Content = λ rows warnings. record { table = c.args.filesystems; rows = rows; warnings = warnings } in
-    ap (λ rows. P rows c.new-warnings.result) (all_lists c) ∙ ap (P _) c.new-warnings.ensures
+    let none = nil_from_length c.loop-fs.fs-iterator.rest.items (sym c.loop-fs.fs-iterator.rest.ok.0 ∙ c.in-None.ensures.steps.0) in
+    let keeps = c.loop-fs.invariant in
+    let all = all_lists c.args.netgroups.now c.args.hosts.now c.args.entries c.loop-fs.yielded c.loop-fs.fs-iterator.rest.items c.loop-fs.rows.items (length c.args.filesystems) keeps.entries none keeps.lists in
+    ap (λ rows. P rows c.new-warnings.result) all ∙ ap (P _) c.new-warnings.ensures

@@ -1,2 +1,0 @@
-pub mod HeadsOnce
-pub mod OnCopy

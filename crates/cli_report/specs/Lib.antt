@@ -1,2 +1,0 @@
-pub mod PrivateReport
-pub mod ReportCommand

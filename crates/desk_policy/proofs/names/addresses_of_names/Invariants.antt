@@ -1,9 +1,0 @@
--- The addresses for which the names so far stand.
-use Rattle.std.proofs.Common.{[], take}
-use Rattle.std.specs.List.{list_any}
-use Rattle.desk_policy.specs.Names.{stands_for}
-use Rattle.desk_policy.specs.PrivateNames.{Gains}
-use Rattle.desk_policy.proofs.names.addresses_of_names.Given as goal
-
-abbrev pub invariant-loop-index : goal.invariant-loop-index
-invariant-loop-index l = Gains [] l.addresses.items (λ address. list_any (λ name. stands_for l.netgroups l.hosts name address) (take l.index l.names))

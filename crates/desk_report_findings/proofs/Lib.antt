@@ -1,3 +1,0 @@
-pub mod Standing
-pub mod Looking
-pub mod Deciders

@@ -1,7 +1,0 @@
-use Rattle.std.proofs.Common.{rules}
-use Rattle.std.proofs.lemmas.List.Sorted.{IsNonDecreasingBy-from_sort_by_key}
-use Rattle.desk_core.specs.Head.{Revision}
-use Rattle.desk_store.proofs.newest.by_number.Goals as goal
-
-pub returns-clause-order : goal.returns-clause-order
-returns-clause-order c = IsNonDecreasingBy-from_sort_by_key (λ (revision : Revision). revision.rev) _ c.in_ok-sort_by_key.ensures.sorted (λ a r q k. search rules)
