@@ -22,9 +22,9 @@ gathers xs i d mark f start now one next below before marked added =
     added ∙ ap (λ l. l ++ f x) marked ∙ append_assoc now (mark ∷ []) (f x) ∙ ap (λ l. l ++ (mark ∷ f x)) before
     ∙ flat_map_more (λ x. mark ∷ f x) start (take i xs) x ∙ ap (λ ys. start ++ flat_map (λ x. mark ∷ f x) ys) (sym (take_more xs i d below))
 
--- a cell before others, of one part or of more
+-- a cell of one part before others, and a value before others
 pub part_before : {Y : Type 0} (c d : Y) (cells others : List (List Y)) → c ≡ d → cells ≡ others → (c ∷ []) ∷ cells ≡ (d ∷ []) ∷ others
 part_before c d cells others same rest = ap (λ y. (y ∷ []) ∷ cells) same ∙ ap (λ ys. (d ∷ []) ∷ ys) rest
 
-pub cell_before : {Y : Type 0} (c d : List Y) (cells others : List (List Y)) → c ≡ d → cells ≡ others → c ∷ cells ≡ d ∷ others
+pub cell_before : {Y : Type 0} (c d : Y) (cells others : List Y) → c ≡ d → cells ≡ others → c ∷ cells ≡ d ∷ others
 cell_before c d cells others same rest = ap (λ y. y ∷ cells) same ∙ ap (λ ys. d ∷ ys) rest

@@ -46,9 +46,12 @@ size head = Own (Number (length head.body))
 abbrev pub unlisted_or : Bool → List ℕ → List ℕ → Item (List ℕ)
 unlisted_or is_unlisted unlisted other = if is_unlisted then Own (Words unlisted) else Own (Words other)
 
+abbrev pub proposed_by : List ℕ → Bool → List (Item (List ℕ))
+proposed_by name is_unlisted = Own (Words (codes "proposal by ")) ∷ Code name ∷ unlisted_or is_unlisted (codes ", unlisted") [] ∷ []
+
 abbrev pub remark : Option (List ℕ) → Bool → List (Item (List ℕ))
 remark None is_unlisted = unlisted_or is_unlisted (codes "unlisted") (codes "-") ∷ Own Nothing ∷ Own Nothing ∷ []
-remark (Some name) is_unlisted = Own (Words (codes "proposal by ")) ∷ Code name ∷ unlisted_or is_unlisted (codes ", unlisted") [] ∷ []
+remark (Some name) is_unlisted = proposed_by name is_unlisted
 
 -- a file without a revision: what is remarkable of it
 abbrev pub unwritten : FileRow → List (List (Item (List ℕ)))

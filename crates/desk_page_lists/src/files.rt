@@ -176,12 +176,19 @@ fn remark_of<'a>(row: &FileRow<'a>) -> [Part<'a>; 3]
             Part::Nothing,
             Part::Nothing,
         ],
-        Some(name) => [
-            Part::Words("proposal by "),
-            Part::Code(name.as_str()),
-            unlisted_or(row.is_unlisted, ", unlisted", ""),
-        ],
+        Some(name) => proposed_by(name, row.is_unlisted),
     }
+}
+
+/// Returns who proposes another text.
+fn proposed_by<'a>(name: &'a Text, is_unlisted: bool) -> [Part<'a>; 3]
+    ensures { map item_of result ≡ spec.proposed_by name.now is_unlisted }
+{
+    [
+        Part::Words("proposal by "),
+        Part::Code(name.as_str()),
+        unlisted_or(is_unlisted, ", unlisted", ""),
+    ]
 }
 
 /// Returns that a file is not listed, if it is not, or other words.

@@ -1,4 +1,4 @@
-use Rattle.std.proofs.Common.{◌≡◌, ◌++◌, ◌∙◌, [], ◌∷◌, ap, drop, length, map, refl, take}
+use Rattle.std.proofs.Common.{◌≡◌, ◌++◌, ◌∙◌, [], ◌∷◌, ap, drop, length, map, take}
 use Rattle.std.proofs.lemmas.List.{drop_min, take_min}
 use Rattle.page_html.specs.Items.{AndMore, Own}
 use Rattle.page_html.specs.Parts.{item_of}
