@@ -1,7 +1,7 @@
 -- How the page can be made again. (this project's own)
 use Rattle.std.specs.Prelude.{ℕ, List, [], ◌∷◌, ◌++◌, codes}
 use Rattle.page_html.specs.Blocks.{element_html}
-use Rattle.page_html.specs.Items.{Item, NewLine, Words, Own, Text}
+use Rattle.page_html.specs.Items.{NewLine, Words, Own, Text}
 use Rattle.page_html.specs.declared.blocks.Element.TheVariants.{Commands, Heading, Paragraph}
 use Rattle.desk_page_lists.specs.Shell.{shell_word}
 
